@@ -1,0 +1,34 @@
+-- Records of the worked examples.
+use Rattle.std.specs.Prelude.{codes, Some, None}
+use Rattle.sip_uri.specs.declared.aor.Aor.{Aor}
+use Rattle.sip_audit.specs.declared.record.Operation.TheVariants as Operation
+use Rattle.sip_audit.specs.declared.record.Outcome.TheVariants.{Challenge, Deny, Sent, Answer}
+use Rattle.sip_audit.specs.declared.record.Record.{Record}
+
+-- the user Mufasa of host.com
+abbrev pub mufasa : Aor
+mufasa = record { user = codes "Mufasa"; host = codes "host.com" }
+
+-- the user help of host.com
+abbrev pub help : Aor
+help = record { user = codes "help"; host = codes "host.com" }
+
+-- a REGISTER of nobody's that is challenged
+abbrev pub challenged : Record
+challenged = record { at = 1000; number = 1; method = codes "REGISTER"; who = None; target = mufasa; operation = Operation.Register; outcome = Challenge 401 }
+
+-- one of Mufasa's that is answered
+abbrev pub answered : Record
+answered = record challenged { at = 2000; number = 2; who = Some (codes "Mufasa"); outcome = Answer 1 200 }
+
+-- one of alice's that is denied, since no rule matches
+abbrev pub denied : Record
+denied = record answered { who = Some (codes "alice"); outcome = Deny 0 }
+
+-- an INVITE of nobody's that goes to one target
+abbrev pub sent : Record
+sent = record { at = 62000; number = 4; method = codes "INVITE"; who = None; target = help; operation = Operation.Send; outcome = Sent 4 1 }
+
+-- a REGISTER of Mufasa's without Contact
+abbrev pub listed : Record
+listed = record answered { operation = Operation.List }

@@ -1,0 +1,3 @@
+pub mod Names
+pub mod Lines
+pub mod Examples

@@ -1,0 +1,40 @@
+use sip_text::Bytes;
+use sip_uri::Aor;
+
+/// What a request asks for.
+#[derive(Clone, Copy, Debug, PartialEq, Eq)]
+pub enum Operation {
+    /// A REGISTER with a Contact.
+    Register,
+    /// A REGISTER without Contact.
+    List,
+    /// Any other method.
+    Send,
+}
+
+/// What became of a request, and by which rule of the policy; rule 0 says that none matched.
+#[derive(Clone, Copy, Debug, PartialEq, Eq)]
+pub enum Outcome {
+    /// It was challenged with this status; no rule decided.
+    Challenge { status: u16 },
+    /// The rule denied it.
+    Deny { rule: u32 },
+    /// The rule let it through, to so many targets.
+    Sent { rule: u32, targets: u32 },
+    /// The rule let it through, and it was answered here with this status.
+    Answer { rule: u32, status: u16 },
+}
+
+/// What is recorded of a request: the moment in milliseconds and the number of the datagram that brought
+/// it, its method, which is a token, the name of the user that was proven, the address of record that it
+/// is for, what it asks for and what became of it.
+#[derive(Debug, Drop)]
+pub struct Record {
+    pub at: u64,
+    pub number: u64,
+    pub method: Bytes,
+    pub who: Option<Bytes>,
+    pub target: Aor,
+    pub operation: Operation,
+    pub outcome: Outcome,
+}

@@ -1,0 +1,2 @@
+pub mod InviteTimers
+pub mod OtherTimers

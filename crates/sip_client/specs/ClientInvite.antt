@@ -1,0 +1,75 @@
+-- The client transaction of an INVITE: RFC 3261 17.1.1 and figure 5, with the Accepted state of RFC 6026
+-- 7.2. Times are in milliseconds.
+use Rattle.std.specs.Prelude.{ℕ, ◌*◌, min, Bool, true, false, ◌&&◌, nat_le, if◌then◌else◌, List, [], ◌∷◌}
+use Rattle.sip_client.specs.Lives.{alone}
+use Rattle.sip_client.specs.declared.actions.Action.{Action}
+use Rattle.sip_client.specs.declared.actions.Action.TheVariants.{Send, SendAgain, Ack, AckAgain, Up, Start}
+use Rattle.sip_client.specs.declared.actions.Report.TheVariants.{Response, Timeout, Unavailable}
+use Rattle.sip_client.specs.declared.actions.Timer.{Timer}
+use Rattle.sip_client.specs.declared.actions.Timer.TheVariants.{A, B, D, M}
+use Rattle.sip_client.specs.declared.client_invite.ClientInvite.{ClientInvite}
+use Rattle.sip_client.specs.declared.client_invite.ClientInvite.TheVariants.{Calling, Proceeding, Completed, Accepted, Terminated}
+use Rattle.sip_client.specs.declared.client_invite.ClientInviteInput.{ClientInviteInput}
+use Rattle.sip_client.specs.declared.client_invite.ClientInviteInput.TheVariants.{Received, Fired, Fault, GivenUp}
+
+-- what the figures tell apart
+pub data Heard : Type 0 where
+  provisional : Heard
+  success : Heard
+  failure : Heard
+  fired : Timer → Heard
+  fault : Heard
+  given_up : Heard
+  other : Heard
+
+-- responses by their status (RFC 3261 7.2)
+abbrev pub heard : ClientInviteInput → Heard
+heard (Received status) =
+    if nat_le 100 status && nat_le status 199 then provisional
+    else if nat_le 200 status && nat_le status 299 then success
+    else if nat_le 300 status && nat_le status 699 then failure
+    else other
+heard (Fired timer) = fired timer
+heard Fault = fault
+heard GivenUp = given_up
+
+-- an INVITE that is sent for the first time
+abbrev pub start : ClientInvite × List Action
+start = (Calling 500, Send ∷ Start A 500 ∷ Start B 32000 ∷ [])
+
+-- the rows of the figures; what has no row changes nothing
+-- `Calling a`: A was last set to a. `given_up`: the core ends the wait for a final response to an INVITE that
+-- it has cancelled (RFC 3261 9.1). In this project's profile A is at most 32,000, and a fault of a sending
+-- counts only while no response came.
+abbrev pub row : ClientInvite → Heard → ClientInvite × List Action
+row (Calling a) (fired A) = let next = min (2 * a) 32000 in (Calling next, SendAgain ∷ Start A next ∷ [])
+row (Calling a) (fired B) = (Terminated, Up Timeout ∷ [])
+row (Calling a) fault = (Terminated, Up Unavailable ∷ [])
+row (Calling a) provisional = (Proceeding, Up Response ∷ [])
+row Proceeding provisional = (Proceeding, Up Response ∷ [])
+row (Calling a) success = (Accepted, Up Response ∷ Start M 32000 ∷ [])
+row Proceeding success = (Accepted, Up Response ∷ Start M 32000 ∷ [])
+row (Calling a) failure = (Completed, Ack ∷ Up Response ∷ Start D 32000 ∷ [])
+row Proceeding failure = (Completed, Ack ∷ Up Response ∷ Start D 32000 ∷ [])
+row Proceeding given_up = (Terminated, [])
+row Completed failure = (Completed, AckAgain ∷ [])
+row Completed (fired D) = (Terminated, [])
+row Accepted success = (Accepted, Up Response ∷ [])
+row Accepted (fired M) = (Terminated, [])
+row state _ = (state, [])
+
+-- the next state, and what is to be done
+abbrev pub client_invite : ClientInvite → ClientInviteInput → ClientInvite × List Action
+client_invite state input = row state (heard input)
+
+-- the timers that run in a state; another is stopped when the state is entered
+abbrev pub runs : ClientInvite → Timer → Bool
+runs (Calling a) A = true
+runs (Calling a) B = true
+runs Completed D = true
+runs Accepted M = true
+runs _ _ = false
+
+-- a step at the moment 0, and the next `count` firings, where nothing but timers is heard
+abbrev pub left_alone : ℕ → ClientInvite × List Action → List (ℕ × ClientInvite × List Action)
+left_alone = alone (λ state timer. client_invite state (Fired timer)) runs

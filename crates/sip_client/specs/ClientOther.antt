@@ -1,0 +1,67 @@
+-- The client transaction of a request that isn't an INVITE: RFC 3261 17.1.2 and figure 6. Times are in
+-- milliseconds.
+use Rattle.std.specs.Prelude.{ℕ, ◌*◌, min, Bool, true, false, ◌&&◌, nat_le, if◌then◌else◌, List, [], ◌∷◌}
+use Rattle.sip_client.specs.Lives.{alone}
+use Rattle.sip_client.specs.declared.actions.Action.{Action}
+use Rattle.sip_client.specs.declared.actions.Action.TheVariants.{Send, SendAgain, Up, Start}
+use Rattle.sip_client.specs.declared.actions.Report.TheVariants.{Response, Timeout, Unavailable}
+use Rattle.sip_client.specs.declared.actions.Timer.{Timer}
+use Rattle.sip_client.specs.declared.actions.Timer.TheVariants.{E, F, K}
+use Rattle.sip_client.specs.declared.client_other.ClientOther.{ClientOther}
+use Rattle.sip_client.specs.declared.client_other.ClientOther.TheVariants.{Trying, Proceeding, Completed, Terminated}
+use Rattle.sip_client.specs.declared.client_other.ClientOtherInput.{ClientOtherInput}
+use Rattle.sip_client.specs.declared.client_other.ClientOtherInput.TheVariants.{Received, Fired, Fault}
+
+-- what the figure tells apart
+pub data Heard : Type 0 where
+  provisional : Heard
+  final : Heard
+  fired : Timer → Heard
+  fault : Heard
+  other : Heard
+
+-- responses by their status (RFC 3261 7.2)
+abbrev pub heard : ClientOtherInput → Heard
+heard (Received status) =
+    if nat_le 100 status && nat_le status 199 then provisional
+    else if nat_le 200 status && nat_le status 699 then final
+    else other
+heard (Fired timer) = fired timer
+heard Fault = fault
+
+-- a request that is sent for the first time
+abbrev pub start : ClientOther × List Action
+start = (Trying 500, Send ∷ Start E 500 ∷ Start F 32000 ∷ [])
+
+-- the rows of the figure; what has no row changes nothing
+-- `Trying e`: E was last set to e. In this project's profile a fault of a sending counts only while no
+-- response came.
+abbrev pub row : ClientOther → Heard → ClientOther × List Action
+row (Trying e) (fired E) = let next = min (2 * e) 4000 in (Trying next, SendAgain ∷ Start E next ∷ [])
+row (Trying e) fault = (Terminated, Up Unavailable ∷ [])
+row (Trying e) provisional = (Proceeding, Up Response ∷ [])
+row Proceeding (fired E) = (Proceeding, SendAgain ∷ Start E 4000 ∷ [])
+row Proceeding provisional = (Proceeding, Up Response ∷ [])
+row (Trying e) (fired F) = (Terminated, Up Timeout ∷ [])
+row Proceeding (fired F) = (Terminated, Up Timeout ∷ [])
+row (Trying e) final = (Completed, Up Response ∷ Start K 5000 ∷ [])
+row Proceeding final = (Completed, Up Response ∷ Start K 5000 ∷ [])
+row Completed (fired K) = (Terminated, [])
+row state _ = (state, [])
+
+-- the next state, and what is to be done
+abbrev pub client_other : ClientOther → ClientOtherInput → ClientOther × List Action
+client_other state input = row state (heard input)
+
+-- the timers that run in a state; another is stopped when the state is entered
+abbrev pub runs : ClientOther → Timer → Bool
+runs (Trying e) E = true
+runs (Trying e) F = true
+runs Proceeding E = true
+runs Proceeding F = true
+runs Completed K = true
+runs _ _ = false
+
+-- a step at the moment 0, and the next `count` firings, where nothing but timers is heard
+abbrev pub left_alone : ℕ → ClientOther × List Action → List (ℕ × ClientOther × List Action)
+left_alone = alone (λ state timer. client_other state (Fired timer)) runs

@@ -1,0 +1,4 @@
+pub mod Actions
+pub mod ClientInvite
+pub mod ClientOther
+pub mod Lives

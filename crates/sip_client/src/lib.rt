@@ -1,0 +1,14 @@
+//! The two client transactions of RFC 3261 17.1 as machines: from its state and what it hears, each
+//! answers with its next state and what is to be done. They hold no message, read no clock and take no
+//! memory: whoever runs one sends what it says and sets the timers that it names.
+#![tactic(auto)]
+
+mod actions;
+mod client_invite;
+mod client_other;
+
+pub use actions::{Action, Actions, Report, Timer};
+pub use client_invite::{
+    ClientInvite, ClientInviteInput, invite_timers_law, invite_unanswered_example,
+};
+pub use client_other::{ClientOther, ClientOtherInput, other_timers_law, other_unanswered_example};

@@ -1,0 +1,5 @@
+pub mod DialogId
+pub mod Addresses
+pub mod Dialogs
+pub mod Examples
+pub mod DialogError

@@ -1,0 +1,4 @@
+pub mod Counting
+pub mod HexNumbers
+pub mod NonceTexts
+pub mod Replays

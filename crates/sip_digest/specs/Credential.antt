@@ -1,0 +1,35 @@
+-- What a request says to prove its user (RFC 2617 3.2.2).
+use Rattle.std.specs.Prelude.{ℕ, Bool, ◌==◌, if◌then◌else◌, List, length, Option, Some, None}
+use Rattle.std.specs.Str.{bytes_eq}
+use Rattle.sip_digest.specs.Protection.{Protection, seen}
+use Rattle.sip_digest.specs.Answers.{answer_of}
+use Rattle.sip_digest.specs.NonceText.{hex_number_of}
+use Rattle.sip_digest.specs.declared.credentials.Credentials.{Credentials}
+
+-- a request's method, and of its credentials the URI, nonce, quality of protection and response
+pub record Credential : Type 0 where
+  pub method : List ℕ
+  pub uri : List ℕ
+  pub nonce : List ℕ
+  pub protection : Option Protection
+  pub response : List ℕ
+
+-- the bytes of credentials
+abbrev pub shown : Credentials → Credential
+shown c = record { method = c.method.now; uri = c.uri.now; nonce = c.nonce.now; protection = seen c.quality; response = c.response.now }
+
+-- whether the response is, byte by byte, the answer of the user of this H(A1)
+abbrev pub is_answer : List ℕ → Credential → Bool
+is_answer a1 c = bytes_eq c.response (answer_of a1 c.method c.uri c.nonce c.protection)
+
+-- the number in eight hexadecimal digits, in either case; other text counts nothing (RFC 2617 3.2.2)
+abbrev pub count_in : List ℕ → Option ℕ
+count_in nc = if length nc == 8 then hex_number_of nc else None
+
+-- which use of the nonce a credential says it is: without a quality of protection the first
+abbrev pub count_with : Option Protection → Option ℕ
+count_with None = Some 1
+count_with (Some protection) = count_in protection.nc
+
+abbrev pub count_of : Credential → Option ℕ
+count_of c = count_with c.protection

@@ -1,0 +1,5 @@
+pub mod Protection
+pub mod Answers
+pub mod NonceText
+pub mod Credential
+pub mod Nonces

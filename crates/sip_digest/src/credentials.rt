@@ -1,0 +1,48 @@
+ghost use Rattle.std.specs.Prelude.{◌≡◌};
+ghost use Rattle.sip_digest.specs.Credential.{shown, is_answer, count_of, count_in};
+
+use crate::answers::{Quality, answer};
+use crate::digits::hex_number;
+
+/// What a request says to prove its user: its method, the `uri`, `nonce` and `response` of its
+/// credentials, and their quality of protection, if they name one (RFC 2617 3.2.2).
+#[derive(Clone, Copy)]
+pub struct Credentials<'a> {
+    pub method: &'a [u8],
+    pub uri: &'a [u8],
+    pub nonce: &'a [u8],
+    pub quality: Option<Quality<'a>>,
+    pub response: &'a [u8],
+}
+
+impl Credentials<'_> {
+    /// Whether the response is, byte by byte, the answer of the user of this `a1`.
+    pub fn is_answer(&self, a1: &[u8]) -> bool
+        ensures { result ≡ is_answer a1.now (shown self.now) }
+    {
+        let expected = answer(a1, self.method, self.uri, self.nonce, self.quality);
+        self.response == expected.as_slice()
+    }
+
+    /// Which use of the nonce this is: the number in `nc`, if that is eight hexadecimal digits, and 1
+    /// without a quality of protection.
+    pub fn count(&self) -> Option<u64>
+        ensures { result ≡ count_of (shown self.now) }
+    {
+        match self.quality {
+            None => Some(1),
+            Some(quality) => count_in(quality.nc),
+        }
+    }
+}
+
+/// The number in eight hexadecimal digits.
+fn count_in(nc: &[u8]) -> Option<u64>
+    ensures { result ≡ count_in nc.now }
+{
+    if nc.len() != 8 {
+        return None;
+    }
+    let number = hex_number(nc)?;
+    Some(number as u64)
+}

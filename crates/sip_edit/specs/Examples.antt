@@ -1,0 +1,74 @@
+-- Worked examples.
+use Rattle.std.specs.Prelude.{ℕ, List, [], ◌∷◌, ◌++◌, codes, false}
+use Rattle.sip_message.specs.declared.field_name.FieldName.TheVariants as Name
+use Rattle.sip_message.specs.declared.field.Field.{Field}
+use Rattle.sip_message.specs.declared.message.Start.TheVariants.{Request}
+use Rattle.sip_message.specs.declared.message.Message.{Message}
+use Rattle.sip_hops.specs.declared.addr.Addr.{Addr}
+use Rattle.sip_edit.specs.Challenges.{challenge}
+use Rattle.sip_edit.specs.Received.{received}
+use Rattle.sip_edit.specs.Reply.{reply_of}
+use Rattle.sip_edit.specs.Tags.{to_tag}
+
+-- 127.0.0.1:5070
+abbrev pub client : Addr
+client = record { ip = 127 ∷ 0 ∷ 0 ∷ 1 ∷ []; port = 5070 }
+
+-- a REGISTER from 127.0.0.1:5062
+abbrev pub register : Message
+register = record {
+  start = Request (codes "REGISTER") (codes "sip:host.com") (codes "SIP/2.0");
+  fields =
+      record { name = Name.Via; value = codes "SIP/2.0/UDP 127.0.0.1:5062;branch=z9hG4bKreg1" }
+      ∷ record { name = Name.MaxForwards; value = codes "70" }
+      ∷ record { name = Name.From; value = codes "<sip:Mufasa@host.com>;tag=a1" }
+      ∷ record { name = Name.To; value = codes "<sip:Mufasa@host.com>" }
+      ∷ record { name = Name.CallId; value = codes "c1@127.0.0.1" }
+      ∷ record { name = Name.CSeq; value = codes "1 REGISTER" }
+      ∷ record { name = Name.Contact; value = codes "<sip:Mufasa@127.0.0.1:5062>" }
+      ∷ [];
+  body = [];
+}
+
+-- an OPTIONS whose one field is this Via
+abbrev pub with_via : List ℕ → Message
+with_via value = record {
+  start = Request (codes "OPTIONS") (codes "sip:host.com") (codes "SIP/2.0");
+  fields = record { name = Name.Via; value = value } ∷ [];
+  body = [];
+}
+
+-- an INVITE with a tag in its To and a Timestamp, without a CSeq
+abbrev pub timed_invite : Message
+timed_invite = record {
+  start = Request (codes "INVITE") (codes "sip:help@host.com") (codes "SIP/2.0");
+  fields =
+      record { name = Name.Timestamp; value = codes "54" }
+      ∷ record { name = Name.CallId; value = codes "k1" }
+      ∷ record { name = Name.To; value = codes "<sip:help@host.com>;tag=t1" }
+      ∷ record { name = Name.From; value = codes "<sip:x@away.net>;tag=f1" }
+      ∷ record { name = Name.Via; value = codes "SIP/2.0/UDP 127.0.0.1;branch=z9hG4bKinv1" }
+      ∷ record { name = Name.Via; value = codes "SIP/2.0/UDP pc.host.com;branch=z9hG4bKinv0" }
+      ∷ [];
+  body = codes "v=0";
+}
+
+-- the field that challenges
+abbrev pub first_challenge : Field
+first_challenge = record { name = Name.WwwAuthenticate; value = challenge (codes "testrealm@host.com") (codes "00000000000000000000000000000001") false }
+
+-- the REGISTER challenged by the first datagram's answer
+abbrev pub challenged : Message
+challenged = reply_of (received register (record client { port = 5062 })) 401 (to_tag 0 1) (first_challenge ∷ [])
+
+-- its written form
+abbrev pub challenged_text : List ℕ
+challenged_text =
+    codes "SIP/2.0 401 Unauthorized\r\n"
+    ++ codes "Via: SIP/2.0/UDP 127.0.0.1:5062;branch=z9hG4bKreg1\r\n"
+    ++ codes "From: <sip:Mufasa@host.com>;tag=a1\r\n"
+    ++ codes "To: <sip:Mufasa@host.com>;tag=0000000000000000.1\r\n"
+    ++ codes "Call-ID: c1@127.0.0.1\r\n"
+    ++ codes "CSeq: 1 REGISTER\r\n"
+    ++ codes "WWW-Authenticate: Digest realm=\"testrealm@host.com\", nonce=\"00000000000000000000000000000001\", algorithm=MD5, qop=\"auth\"\r\n"
+    ++ codes "Content-Length: 0\r\n\r\n"

@@ -1,0 +1,15 @@
+pub mod Challenges
+pub mod Contacts
+pub mod Reasons
+pub mod Tags
+pub mod Pieces
+pub mod ReceivedVia
+pub mod Reply
+pub mod Received
+pub mod Examples
+pub mod OwnVia
+pub mod Onward
+pub mod OwnRequests
+pub mod OnwardExamples
+pub mod Extras
+pub mod ExtrasExamples

@@ -1,0 +1,37 @@
+ghost use Rattle.std.specs.Prelude.{◌≡◌, codes, length, []};
+ghost use Rattle.sip_message.specs.Text.{text_of};
+ghost use Rattle.sip_edit.specs.Examples;
+ghost use Rattle.sip_edit.specs.Received.{response_address};
+ghost use Rattle.sip_edit.specs.ReceivedVia.{received_via};
+ghost use Rattle.sip_edit.specs.Reply.{reply_of};
+
+/// A Via with `rport` whose sent-by is a name.
+pub fn rport_example()
+    ensures { received_via (codes "SIP/2.0/UDP pc.host.com:5070;branch=z9hG4bKinv1;rport") Examples.client ≡ codes "SIP/2.0/UDP pc.host.com:5070;branch=z9hG4bKinv1;rport=5070;received=127.0.0.1" }
+{}
+
+/// A Via that came with another address in `received`, and whose sent-by is the source. What stands in
+/// quotes stays.
+pub fn received_example()
+    ensures { received_via (codes "SIP/2.0/UDP 127.0.0.1; Received = 10.0.0.1 ;branch=z9;x=\";received=1\"") Examples.client ≡ codes "SIP/2.0/UDP 127.0.0.1;branch=z9;x=\";received=1\"" }
+{}
+
+/// Where the answers to requests from 127.0.0.1:5070 go: with an `rport`, with a port in sent-by, and with
+/// neither.
+pub fn address_example()
+    ensures rport { response_address (Examples.with_via (codes "SIP/2.0/UDP pc.host.com:5062;rport")) Examples.client ≡ Examples.client }
+    ensures sent_by { response_address (Examples.with_via (codes "SIP/2.0/UDP pc.host.com:5062")) Examples.client ≡ record Examples.client { port = 5062 } }
+    ensures default { response_address (Examples.with_via (codes "SIP/2.0/UDP pc.host.com")) Examples.client ≡ record Examples.client { port = 5060 } }
+{}
+
+/// A 100 and a 200 to an INVITE whose To has a tag and which has no CSeq: the 100 alone has its Timestamp.
+pub fn timestamp_example()
+    ensures trying { text_of (reply_of Examples.timed_invite 100 (codes "x") []) ≡ codes "SIP/2.0 100 Trying\r\nVia: SIP/2.0/UDP 127.0.0.1;branch=z9hG4bKinv1\r\nVia: SIP/2.0/UDP pc.host.com;branch=z9hG4bKinv0\r\nFrom: <sip:x@away.net>;tag=f1\r\nTo: <sip:help@host.com>;tag=t1\r\nCall-ID: k1\r\nTimestamp: 54\r\nContent-Length: 0\r\n\r\n" }
+    ensures ok { text_of (reply_of Examples.timed_invite 200 (codes "x") []) ≡ codes "SIP/2.0 200 OK\r\nVia: SIP/2.0/UDP 127.0.0.1;branch=z9hG4bKinv1\r\nVia: SIP/2.0/UDP pc.host.com;branch=z9hG4bKinv0\r\nFrom: <sip:x@away.net>;tag=f1\r\nTo: <sip:help@host.com>;tag=t1\r\nCall-ID: k1\r\nContent-Length: 0\r\n\r\n" }
+{}
+
+/// A REGISTER that is challenged.
+pub fn challenge_example()
+    ensures text { text_of Examples.challenged ≡ Examples.challenged_text }
+    ensures length { length Examples.challenged_text ≡ 348 }
+{}

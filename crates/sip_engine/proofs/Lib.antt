@@ -1,0 +1,8 @@
+pub mod Counting
+pub mod Placing
+pub mod Ties
+pub mod Places
+pub mod Deadlines
+pub mod Values
+pub mod Later
+pub mod Asked

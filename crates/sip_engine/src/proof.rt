@@ -1,0 +1,284 @@
+ghost use Rattle.std.specs.Prelude.{◌≡◌, IfOk, Some, find, option_map};
+ghost use Rattle.std.specs.Option.{option_copied};
+ghost use Rattle.std.specs.Str.{bytes_eq};
+ghost use Rattle.sip_digest.specs.Credential.{shown};
+ghost use Rattle.sip_header.specs.Values.{values_of};
+ghost use Rattle.sip_header.specs.Credentials as Said;
+ghost use Rattle.sip_engine.specs.Registration.{is_named};
+ghost use Rattle.sip_engine.specs.Proof.{is_realm, matching, first_for_realm, is_md5, quality_of, claim_from, claim_of, credential_of, written, is_same_uri, judged, proof_by, proof_from, proof_in, proof_of};
+
+use crate::config::{Config, User};
+use sip_digest::{Nonces, Worth};
+use sip_header::{Credentials, HeaderError, credentials_of};
+use sip_message::{Field, FieldName, Message, Start};
+use sip_text::{Bytes, same_no_case};
+use sip_uri::{UriError, parse_uri, write_uri};
+use std::alloc::{AllocError, Global};
+
+/// The quality of protection `auth`: the count of the nonce's uses, and the client's own nonce.
+#[derive(Debug, Drop)]
+pub struct Quality {
+    pub nc: Bytes,
+    pub cnonce: Bytes,
+}
+
+/// What credentials claim: a user, who answers a nonce for a URI.
+#[derive(Debug, Drop)]
+pub struct Claim {
+    pub user: Bytes,
+    pub nonce: Bytes,
+    pub uri: Bytes,
+    pub quality: Option<Quality>,
+    pub response: Bytes,
+}
+
+/// Whom a request proves to come from: a user by a claim that is right, or nobody.
+#[derive(Debug, Drop)]
+pub enum Proof {
+    Right(Claim),
+    Stale,
+    Wrong,
+}
+
+impl Claim {
+    /// The claim as the digest crate takes it, on a request of this method.
+    pub fn on<'a>(&'a self, method: &'a [u8]) -> sip_digest::Credentials<'a>
+        ensures { shown result ≡ credential_of method.now self.now }
+    {
+        let quality = match &self.quality {
+            Some(quality) => Some(sip_digest::Quality {
+                nc: quality.nc.as_slice(),
+                cnonce: quality.cnonce.as_slice(),
+            }),
+            None => None,
+        };
+        sip_digest::Credentials {
+            method,
+            uri: self.uri.as_slice(),
+            nonce: self.nonce.as_slice(),
+            quality,
+            response: self.response.as_slice(),
+        }
+    }
+}
+
+/// Whether two texts are the same.
+fn is_same(left: &[u8], right: &[u8]) -> bool
+    ensures { result ≡ bytes_eq left.now right.now }
+{
+    left == right
+}
+
+fn is_realm(realm: &[u8], said: &Option<Bytes>) -> bool
+    ensures { result ≡ is_realm realm.now said.now }
+{
+    match said {
+        Some(said) => is_same(said.as_slice(), realm),
+        None => false,
+    }
+}
+
+/// The Digest credentials that a value has for a realm.
+fn matching(alloc: Global, realm: &[u8], value: &[u8]) -> Result<Option<Credentials>, AllocError>
+    ensures { IfOk result (λ found. found ≡ matching realm.now (Said.credentials_of value.now)) }
+{
+    match credentials_of(alloc, FieldName::Authorization, value) {
+        Ok(credentials) => {
+            if is_realm(realm, &credentials.realm) {
+                Ok(Some(credentials))
+            } else {
+                Ok(None)
+            }
+        }
+        Err(HeaderError::NoMemory) => Err(AllocError),
+        Err(_) => Ok(None),
+    }
+}
+
+/// The first Digest credentials for a realm among the fields.
+fn first_for_realm(
+    alloc: Global,
+    realm: &[u8],
+    fields: &[Field],
+) -> Result<Option<Credentials>, AllocError>
+    ensures { IfOk result (λ found. found ≡ first_for_realm realm.now (values_of FieldName.Authorization fields.now)) }
+{
+    for field in fields {
+        if field.name.is_same(&FieldName::Authorization) {
+            let found = matching(alloc, realm, field.value.as_slice())?;
+            if found.is_some() {
+                return Ok(found);
+            }
+        }
+    }
+    Ok(None)
+}
+
+fn is_md5(algorithm: &Option<Bytes>) -> bool
+    ensures { result ≡ is_md5 algorithm.now }
+{
+    match algorithm {
+        Some(algorithm) => same_no_case(algorithm.as_slice(), b"MD5"),
+        None => true,
+    }
+}
+
+/// The quality of protection that credentials name, if what they name is one that is taken.
+fn quality_of(
+    qop: Option<Bytes>,
+    nc: Option<Bytes>,
+    cnonce: Option<Bytes>,
+) -> Option<Option<Quality>>
+    ensures { result ≡ quality_of qop nc cnonce }
+{
+    let Some(qop) = qop else {
+        return Some(None);
+    };
+    if !is_same(qop.as_slice(), b"auth") {
+        return None;
+    }
+    let nc = nc?;
+    let cnonce = cnonce?;
+    Some(Some(Quality { nc, cnonce }))
+}
+
+fn claim_from(
+    quality: Option<Quality>,
+    user: Option<Bytes>,
+    nonce: Option<Bytes>,
+    uri: Option<Bytes>,
+    response: Option<Bytes>,
+) -> Option<Claim>
+    ensures { result ≡ claim_from quality user nonce uri response }
+{
+    let user = user?;
+    let nonce = nonce?;
+    let uri = uri?;
+    let response = response?;
+    Some(Claim {
+        user,
+        nonce,
+        uri,
+        quality,
+        response,
+    })
+}
+
+/// What credentials claim, if they have what an answer needs.
+fn claim_of(c: Credentials) -> Option<Claim>
+    ensures { result ≡ claim_of c }
+{
+    if !is_md5(&c.algorithm) {
+        return None;
+    }
+    let quality = quality_of(c.qop, c.nc, c.cnonce)?;
+    claim_from(quality, c.username, c.nonce, c.uri, c.response)
+}
+
+/// The written form of a URI.
+fn written(alloc: Global, text: &[u8]) -> Result<Option<Bytes>, AllocError>
+    ensures { IfOk result (λ uri. uri ≡ written text.now) }
+{
+    match parse_uri(alloc, text) {
+        Ok(uri) => Ok(Some(write_uri(alloc, &uri)?)),
+        Err(UriError::NoMemory) => Err(AllocError),
+        Err(_) => Ok(None),
+    }
+}
+
+/// Whether two texts are URIs of one written form.
+fn is_same_uri(alloc: Global, left: &[u8], right: &[u8]) -> Result<bool, AllocError>
+    ensures { IfOk result (λ same. same ≡ is_same_uri left.now right.now) }
+{
+    let Some(left) = written(alloc, left)? else {
+        return Ok(false);
+    };
+    let Some(right) = written(alloc, right)? else {
+        return Ok(false);
+    };
+    Ok(is_same(left.as_slice(), right.as_slice()))
+}
+
+fn user_named<'a>(users: &'a [User], name: &[u8]) -> Option<&'a User>
+    ensures { option_copied result ≡ find (is_named name.now) users.now }
+{
+    for user in users {
+        if is_same(user.name.as_slice(), name) {
+            return Some(user);
+        }
+    }
+    None
+}
+
+fn judged(claim: Claim, worth: Worth) -> Proof
+    ensures { result ≡ judged claim worth }
+{
+    match worth {
+        Worth::Right => Proof::Right(claim),
+        Worth::Stale => Proof::Stale,
+        Worth::Wrong => Proof::Wrong,
+    }
+}
+
+/// What a claim proves, by its user.
+fn proof_by(users: &[User], nonces: &Nonces, now: u64, method: &[u8], claim: Claim) -> Proof
+    ensures { result ≡ proof_by nonces.now now method.now claim (find (is_named claim.user) users.now) }
+{
+    let worth = match user_named(users, claim.user.as_slice()) {
+        Some(user) => nonces.check(&user.a1, &claim.on(method), now),
+        None => return Proof::Wrong,
+    };
+    judged(claim, worth)
+}
+
+/// What a claim on a request proves.
+fn proof_from(
+    alloc: Global,
+    config: &Config,
+    nonces: &Nonces,
+    now: u64,
+    method: &[u8],
+    uri: &[u8],
+    claim: Claim,
+) -> Result<Proof, AllocError>
+    ensures { IfOk result (λ proof. proof ≡ proof_from config.now nonces.now now method.now uri.now (Some claim)) }
+{
+    if claim.on(method).count().is_none() {
+        return Ok(Proof::Wrong);
+    }
+    if !is_same_uri(alloc, claim.uri.as_slice(), uri)? {
+        return Ok(Proof::Wrong);
+    }
+    Ok(proof_by(config.users.as_slice(), nonces, now, method, claim))
+}
+
+/// Whom a REGISTER proves to come from.
+pub fn proof_of(
+    alloc: Global,
+    config: &Config,
+    nonces: &Nonces,
+    now: u64,
+    message: &Message,
+) -> Result<Proof, AllocError>
+    ensures { IfOk result (λ proof. proof ≡ proof_of config.now nonces.now now message.now) }
+{
+    let Start::Request { method, uri, .. } = &message.start else {
+        return Ok(Proof::Wrong);
+    };
+    let found = first_for_realm(alloc, config.realm.as_slice(), message.fields.as_slice())?;
+    let Some(credentials) = found else {
+        return Ok(Proof::Wrong);
+    };
+    let Some(claim) = claim_of(credentials) else {
+        return Ok(Proof::Wrong);
+    };
+    proof_from(
+        alloc,
+        config,
+        nonces,
+        now,
+        method.as_slice(),
+        uri.as_slice(),
+        claim,
+    )
+}

@@ -1,0 +1,83 @@
+-- Name-addr and addr-spec with header parameters, as From, To, Contact and Route have them (RFC 3261 20.10 and 25.1).
+use Rattle.std.specs.Prelude.{ℕ, Bool, true, false, not, ◌&&◌, ◌||◌, ◌==◌, nat_le, is_some, if◌then◌else◌, List, [], ◌∷◌, codes, Option, Some, None, option_map, Result, Ok, Err}
+use Rattle.std.specs.Option.{option_and_then}
+use Rattle.std.specs.List.{list_all, list_any}
+use Rattle.std.specs.Str.{byte}
+use Rattle.sip_text.specs.Words.{is_token_byte}
+use Rattle.sip_text.specs.Lists.{is_blank, is_nil, trimmed}
+use Rattle.sip_text.specs.Escapes.{unquoted}
+use Rattle.sip_uri.specs.declared.uri.Uri.{Uri}
+use Rattle.sip_uri.specs.declared.error.UriError.{UriError}
+use Rattle.sip_uri.specs.declared.error.UriError.TheVariants as Fault
+use Rattle.sip_uri.specs.Reading.{reading_of}
+use Rattle.sip_header.specs.Cuts.{split_outside, parts_at}
+use Rattle.sip_header.specs.Parameters.{parameters_in}
+use Rattle.sip_header.specs.declared.parameters.Parameter.{Parameter}
+use Rattle.sip_header.specs.declared.name_addr.AnyUri.{AnyUri}
+use Rattle.sip_header.specs.declared.name_addr.AnyUri.TheVariants.{Sip, Other}
+use Rattle.sip_header.specs.declared.name_addr.NameAddr.{NameAddr}
+
+-- ---- the URI
+
+-- a byte from `!` to `~` other than `"`, `<` and `>`
+abbrev pub is_opaque_byte : ℕ → Bool
+is_opaque_byte b = nat_le 33 b && nat_le b 126 && not (list_any (λ c. b == c) (codes "\"<>"))
+
+abbrev pub is_opaque : Option (List ℕ × List ℕ) → Bool
+is_opaque None = false
+is_opaque (Some x) = if is_nil x.1 then false else list_all is_opaque_byte x.1
+
+-- a URI of another scheme is kept as it is (RFC 3261 25.1: absoluteURI): one or more bytes behind its `:`
+abbrev pub other_of : List ℕ → Option AnyUri
+other_of text = if is_opaque (split_outside (byte ":") text) then Some (Other text) else None
+
+abbrev pub uri_by : List ℕ → Result Uri UriError → Option AnyUri
+uri_by text (Ok uri) = Some (Sip uri)
+uri_by text (Err Fault.NoMemory) = None
+uri_by text (Err Fault.Scheme) = other_of text
+uri_by text (Err Fault.Syntax) = None
+
+-- a URI of any scheme
+abbrev pub any_uri_of : List ℕ → Option AnyUri
+any_uri_of text = uri_by text (reading_of text)
+
+-- ---- the whole
+
+-- a URI and its header parameters
+abbrev pub with_parameters : Option (List Parameter) → Option AnyUri → Option NameAddr
+with_parameters parameters uri = option_and_then (λ u. option_map (λ p. record { uri = u; parameters = p }) parameters) uri
+
+-- a byte that may stand without brackets
+abbrev pub is_bare_byte : ℕ → Bool
+is_bare_byte b = not (b == byte "?" || b == byte ",")
+
+-- a URI without brackets, which ends before the first `;`
+abbrev pub bare_in : List (List ℕ) → Option NameAddr
+bare_in [] = None
+bare_in (uri ∷ parameters) =
+    if list_all is_bare_byte uri then with_parameters (parameters_in parameters) (any_uri_of (trimmed uri)) else None
+
+-- a byte of tokens and the blanks between them
+abbrev pub is_word_byte : ℕ → Bool
+is_word_byte b = is_token_byte b || is_blank b
+
+-- tokens, quoted text or nothing (RFC 3261 25.1: display-name)
+abbrev pub is_display : List ℕ → Bool
+is_display text = if list_all is_word_byte text then true else is_some (unquoted (trimmed text))
+
+-- parameters behind the `>`
+abbrev pub behind_bracket : List (List ℕ) → Option (List Parameter)
+behind_bracket [] = None
+behind_bracket (gap ∷ parameters) = if is_nil (trimmed gap) then parameters_in parameters else None
+
+abbrev pub bracketed_by : Option (List ℕ × List ℕ) → Option NameAddr
+bracketed_by None = None
+bracketed_by (Some x) = with_parameters (behind_bracket (parts_at (byte ";") x.1)) (any_uri_of (trimmed x.0))
+
+abbrev pub name_addr_by : List ℕ → Option (List ℕ × List ℕ) → Option NameAddr
+name_addr_by text None = bare_in (parts_at (byte ";") text)
+name_addr_by text (Some x) = if is_display x.0 then bracketed_by (split_outside (byte ">") x.1) else None
+
+-- a display name, which isn't kept, `<`, a URI, `>` and parameters; or a URI without brackets and parameters
+abbrev pub name_addr_of : List ℕ → Option NameAddr
+name_addr_of value = name_addr_by value (split_outside (byte "<") value)

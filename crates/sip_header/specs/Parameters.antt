@@ -1,0 +1,70 @@
+-- Header parameters (RFC 3261 20 and 25.1, generic-param).
+use Rattle.std.specs.Prelude.{◌≡◌, ◌++◌, ℕ, Bool, true, false, ◌||◌, is_some, if◌then◌else◌, List, [], ◌∷◌, codes, Option, Some, None, option_map}
+use Rattle.std.specs.Option.{option_and_then}
+use Rattle.std.specs.Str.{byte}
+use Rattle.sip_text.specs.Words.{is_token_text, is_same_text}
+use Rattle.sip_text.specs.Lists.{trimmed}
+use Rattle.sip_text.specs.Escapes.{unquoted}
+use Rattle.sip_header.specs.Cuts.{split_outside}
+use Rattle.sip_header.specs.Hosts.{is_host}
+use Rattle.sip_header.specs.declared.parameters.Parameter.{Parameter}
+
+-- a token, a host or quoted text
+abbrev pub is_value : List ℕ → Bool
+is_value text = if is_token_text text then true else if is_host text then true else is_some (unquoted text)
+
+-- `tag` and `branch` mean nothing without a value
+abbrev pub needs_value : List ℕ → Bool
+needs_value name = is_same_text name (codes "tag") || is_same_text name (codes "branch")
+
+-- a text gives a name a value: behind the name's `=`, blanks around both
+pub record IsAssigned (text name value : List ℕ) : Type 0 where
+  pub left : List ℕ
+  pub right : List ℕ
+  pub whole : text ≡ left ++ byte "=" ∷ right
+  pub is_name : trimmed left ≡ name
+  pub is_value : trimmed right ≡ value
+
+abbrev pub IsParameterBy : List ℕ → List ℕ → Option (List ℕ) → Type 0
+IsParameterBy text name None = (trimmed text ≡ name) × (is_token_text name ≡ true) × (needs_value name ≡ false)
+IsParameterBy text name (Some value) = IsAssigned text name value × (is_token_text name ≡ true) × (is_value value ≡ true)
+
+-- a text writes a parameter
+abbrev pub IsParameter : List ℕ → Parameter → Type 0
+IsParameter text parameter = IsParameterBy text parameter.name parameter.value
+
+abbrev pub bare_parameter : List ℕ → Option Parameter
+bare_parameter name =
+    if is_token_text name then (if needs_value name then None else Some (record { name = name; value = None })) else None
+
+abbrev pub valued_parameter : List ℕ → List ℕ → Option Parameter
+valued_parameter name value =
+    if is_token_text name then (if is_value value then Some (record { name = name; value = Some value }) else None) else None
+
+abbrev pub parameter_by : List ℕ → Option (List ℕ × List ℕ) → Option Parameter
+parameter_by text None = bare_parameter (trimmed text)
+parameter_by text (Some x) = valued_parameter (trimmed x.0) (trimmed x.1)
+
+-- a name, and behind `=` its value as it was written
+abbrev pub parameter_in : List ℕ → Option Parameter
+parameter_in text = parameter_by text (split_outside (byte "=") text)
+
+-- the parameters that texts write, if each writes one
+abbrev pub parameters_in : List (List ℕ) → Option (List Parameter)
+parameters_in [] = Some []
+parameters_in (text ∷ texts) = option_and_then (λ parameter. option_map (λ others. parameter ∷ others) (parameters_in texts)) (parameter_in text)
+
+-- the first parameter of a name, without case
+abbrev pub parameter_of : List ℕ → List Parameter → Option Parameter
+parameter_of name [] = None
+parameter_of name (parameter ∷ others) = if is_same_text parameter.name name then Some parameter else parameter_of name others
+
+-- the value of the first parameter of a name, if it has one
+abbrev pub value_of : List ℕ → List Parameter → Option (List ℕ)
+value_of name parameters = option_and_then (λ parameter. parameter.value) (parameter_of name parameters)
+
+abbrev pub tag_of : List Parameter → Option (List ℕ)
+tag_of parameters = value_of (codes "tag") parameters
+
+abbrev pub branch_of : List Parameter → Option (List ℕ)
+branch_of parameters = value_of (codes "branch") parameters

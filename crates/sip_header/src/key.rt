@@ -1,0 +1,114 @@
+ghost use Rattle.std.specs.Prelude.{◌≡◌, ◌↔◌, IsTrue, [], IfOk};
+ghost use Rattle.sip_text.specs.Words.{without_case};
+ghost use Rattle.sip_message.specs.declared.message.Start.TheVariants.{Request};
+ghost use Rattle.sip_header.specs.Key.{key_method, key_from, start_key, key_of, same_key};
+
+use crate::values::first_value;
+use crate::via::{Via, read_via};
+use sip_message::{FieldName, Fields, Message, Start};
+use sip_text::Bytes;
+use std::alloc::{AllocError, Global};
+
+/// What a request's server transaction is found by (RFC 3261 17.2.3).
+#[derive(Debug, Drop)]
+pub struct Key {
+    /// The branch of the top Via, with the magic cookie.
+    pub branch: Bytes,
+    /// The host of its sent-by, in lower case.
+    pub host: Bytes,
+    /// The port of its sent-by, 5060 where none is written.
+    pub port: u16,
+    /// The method, INVITE for an ACK.
+    pub method: Bytes,
+}
+
+/// The bytes with each capital letter as a small one.
+fn lower_case(alloc: Global, bytes: &[u8]) -> Result<Bytes, AllocError>
+    ensures { IfOk result (λ lower. lower ≡ without_case bytes.now) }
+{
+    let mut lower = Bytes::new(alloc);
+    for byte in bytes {
+        lower.push(byte.to_ascii_lowercase())?;
+    }
+    Ok(lower)
+}
+
+/// The method as it counts in a key.
+fn method_in_key(method: &[u8]) -> &[u8]
+    ensures { result.now ≡ key_method method.now }
+{
+    if method == b"ACK".as_slice() {
+        b"INVITE"
+    } else {
+        method
+    }
+}
+
+/// The key of a request with this method, top Via and branch.
+fn key_from(
+    alloc: Global,
+    method: &[u8],
+    via: &Via,
+    branch: &[u8],
+) -> Result<Option<Key>, AllocError>
+    ensures { IfOk result (λ key. key ≡ key_from method.now via.now branch.now) }
+{
+    if !branch.starts_with(b"z9hG4bK") {
+        return Ok(None);
+    }
+    let branch = Bytes::copy(alloc, branch)?;
+    let host = lower_case(alloc, via.host.as_slice())?;
+    let method = Bytes::copy(alloc, method_in_key(method))?;
+    Ok(Some(Key {
+        branch,
+        host,
+        port: via.port.unwrap_or(5060),
+        method,
+    }))
+}
+
+/// The key of a request with this method and this value of its top Via.
+fn key_of_request(alloc: Global, method: &[u8], fields: &Fields) -> Result<Option<Key>, AllocError>
+    ensures { IfOk result (λ key. key ≡ start_key fields.now (Request method.now [] [])) }
+{
+    let Some(value) = first_value(fields, &FieldName::Via) else {
+        return Ok(None);
+    };
+    let Some(via) = read_via(alloc, value)? else {
+        return Ok(None);
+    };
+    let Some(branch) = via.parameters.branch() else {
+        return Ok(None);
+    };
+    key_from(alloc, method, &via, branch)
+}
+
+/// The key of a request. None of a response, and where the top Via is missing or unreadable or has no branch
+/// that begins with the magic cookie.
+pub fn key_of(alloc: Global, message: &Message) -> Result<Option<Key>, AllocError>
+    ensures { IfOk result (λ key. key ≡ key_of message.now) }
+{
+    match &message.start {
+        Start::Request { method, .. } => {
+            key_of_request(alloc, method.as_slice(), &message.fields)
+        }
+        Start::Status { .. } => Ok(None),
+    }
+}
+
+/// Whether two keys are the same.
+pub fn same_key(left: &Key, right: &Key) -> bool
+    ensures value { result ≡ same_key left.now right.now }
+    ensures equal { IsTrue result ↔ (left.now ≡ right.now) }
+{
+    if left.port != right.port {
+        return false;
+    }
+    if left.branch.as_slice() != right.branch.as_slice() {
+        return false;
+    }
+    if left.host.as_slice() != right.host.as_slice() {
+        return false;
+    }
+    left.method.as_slice() == right.method.as_slice()
+}

@@ -1,0 +1,35 @@
+-- Addresses.
+use Rattle.std.specs.Prelude.{ℕ, Bool, false, ◌&&◌, ◌==◌, nat_le, not, if◌then◌else◌, List, [], ◌∷◌, ◌++◌, length, slice_index, decimal, codes, Option, Some, None, option_map}
+use Rattle.std.specs.Option.{option_and_then}
+use Rattle.std.specs.Str.{byte}
+use Rattle.sip_text.specs.Words.{decimal_of}
+use Rattle.sip_text.specs.Lists.{onto}
+
+-- four decimal numbers joined by dots (RFC 3261 25.1, IPv4address)
+abbrev pub ip_text : List ℕ → List ℕ
+ip_text ip = decimal (slice_index ip 0) ++ codes "." ++ decimal (slice_index ip 1) ++ codes "." ++ decimal (slice_index ip 2) ++ codes "." ++ decimal (slice_index ip 3)
+
+-- ---- the address that a text writes: `ip_text_is_read` says that it is the one with that text
+
+-- what stands between the dots of a text
+abbrev pub between_dots : List ℕ → List (List ℕ)
+between_dots [] = [] ∷ []
+between_dots (b ∷ bs) = if b == byte "." then [] ∷ between_dots bs else onto (b ∷ []) (between_dots bs)
+
+-- two digits or more, the first of them 0
+abbrev pub has_leading_zero : List ℕ → Bool
+has_leading_zero [] = false
+has_leading_zero (d ∷ []) = false
+has_leading_zero (d ∷ e ∷ ds) = d == byte "0"
+
+-- a number of an address: 0 to 255, without leading zeros
+abbrev pub ip_number : List ℕ → Option ℕ
+ip_number digits = option_and_then (λ n. if nat_le n 255 && not (has_leading_zero digits) then Some n else None) (decimal_of digits)
+
+abbrev pub ip_numbers : List (List ℕ) → Option (List ℕ)
+ip_numbers [] = Some []
+ip_numbers (piece ∷ pieces) = option_and_then (λ n. option_map (λ ns. n ∷ ns) (ip_numbers pieces)) (ip_number piece)
+
+-- the address that a text writes: four numbers between dots (RFC 3261 25.1, IPv4address, without leading zeros in this project's profile)
+abbrev pub ip_of : List ℕ → Option (List ℕ)
+ip_of text = option_and_then (λ ip. if length ip == 4 then Some ip else None) (ip_numbers (between_dots text))

@@ -1,0 +1,4 @@
+pub mod Addresses
+pub mod HostAddress
+pub mod Hop
+pub mod Examples

@@ -1,0 +1,5 @@
+pub mod Binding
+pub mod Interval
+pub mod Registration
+pub mod Examples
+pub mod LocationError

@@ -1,0 +1,7 @@
+pub mod Datagrams
+pub mod Digits
+pub mod Firings
+pub mod Keeping
+pub mod LineEnds
+pub mod Replaying
+pub mod Written

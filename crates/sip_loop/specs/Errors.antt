@@ -1,0 +1,29 @@
+-- The numbers of refusals, and why an event wasn't replayed.
+use Rattle.std.specs.Prelude.{ℕ}
+use Rattle.sip_engine.specs.declared.error.StepError.{StepError}
+use Rattle.sip_engine.specs.declared.error.StepError.TheVariants as step_errors
+use Rattle.sip_loop.specs.declared.fault.Fault.{Fault}
+use Rattle.sip_loop.specs.declared.fault.Fault.TheVariants as faults
+use Rattle.sip_loop.specs.declared.error.ReplayError.{ReplayError}
+use Rattle.sip_loop.specs.declared.error.ReplayError.TheVariants.{NoMemory, Script, Read, Write}
+
+-- this project's profile
+abbrev pub number_of_error : ReplayError → ℕ
+number_of_error NoMemory = 1
+number_of_error (Script line) = 2
+number_of_error Read = 3
+number_of_error Write = 4
+
+-- the refusal of the event that begins with a line
+abbrev pub error_at : Fault → ℕ → ReplayError
+error_at faults.NoMemory line = NoMemory
+error_at faults.Script line = Script line
+error_at faults.Read line = Read
+error_at faults.Write line = Write
+
+-- want of memory stays that; any other refusal of a step is the script's
+abbrev pub fault_of_step : StepError → Fault
+fault_of_step step_errors.NoMemory = faults.NoMemory
+fault_of_step step_errors.MomentTooLarge = faults.Script
+fault_of_step step_errors.Shut = faults.Script
+fault_of_step step_errors.Worn = faults.Script

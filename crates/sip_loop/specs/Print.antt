@@ -1,0 +1,33 @@
+-- How the packets of a step are printed.
+use Rattle.std.specs.Prelude.{ℕ, Bool, true, false, List, ◌++◌, length, decimal, codes}
+use Rattle.std.specs.List.{flat_map}
+use Rattle.sip_hops.specs.Addresses.{ip_text}
+use Rattle.sip_hops.specs.declared.addr.Addr.{Addr}
+use Rattle.sip_engine.specs.declared.packet.Packet.{Packet}
+use Rattle.sip_engine.specs.declared.event.StepOut.{StepOut}
+
+-- IP:PORT
+abbrev pub addr_text : Addr → List ℕ
+addr_text a = ip_text a.ip ++ codes ":" ++ decimal a.port
+
+abbrev pub mark_of : Bool → List ℕ
+mark_of true = codes " again"
+mark_of false = codes " first"
+
+-- ` D/K first LEN`, or `again`, and LF
+abbrev pub tail_text : Packet → List ℕ
+tail_text p =
+    codes " " ++ decimal p.ticket.datagram ++ codes "/" ++ decimal p.ticket.branch
+    ++ mark_of p.again ++ codes " " ++ decimal (length p.bytes) ++ codes "\n"
+
+-- `packet AT IP:PORT D/K first LEN`, or `again`, and LF (this project's profile)
+abbrev pub head_text : ℕ → Packet → List ℕ
+head_text moment p = codes "packet " ++ decimal moment ++ codes " " ++ addr_text p.to ++ tail_text p
+
+-- the head line, the bytes, and LF
+abbrev pub packet_text : ℕ → Packet → List ℕ
+packet_text moment p = head_text moment p ++ p.bytes ++ codes "\n"
+
+-- all packets of a step, in order
+abbrev pub step_text : StepOut → List ℕ
+step_text out = flat_map (packet_text out.at) out.packets

@@ -1,0 +1,95 @@
+ghost use Rattle.std.specs.Prelude.{◌≡◌, ◌≤◌, ◌<◌, ◌++◌, length, take, OnOk, IfOk, IfSome, IfNone};
+ghost use Rattle.sip_loop.specs.Events;
+ghost use Rattle.sip_loop.specs.Events.{GivesEvent, GivesDatagram};
+ghost use Rattle.sip_loop.specs.Lines.{left, IsOver};
+ghost use Rattle.sip_loop.specs.Script;
+
+use crate::fault::Fault;
+use crate::lines::Lines;
+use crate::script::{DatagramHead, Line, line_of, unstuffed};
+use sip_engine::Event;
+use sip_text::Bytes;
+use std::alloc::Global;
+use std::io::Read;
+
+/// One byte more than a datagram has. What comes behind isn't kept: a datagram over 65,507 bytes is
+/// refused as too long, whatever its bytes are.
+const KEPT: usize = 65_508;
+
+/// The next event of a script; `None` at its end.
+pub fn next_event<R: Read>(
+    alloc: Global,
+    lines: &mut Lines,
+    reader: &mut R,
+    line: &mut Vec<u8>,
+) -> Result<Option<Event>, Fault>
+    ensures given { IfOk result (λ found. IfSome found (λ event. GivesEvent lines.old lines.new (R.remaining reader.old) (R.remaining reader.new) event)) }
+    ensures over { IfOk result (λ found. IfNone found (IsOver lines.old lines.new (R.remaining reader.old) (R.remaining reader.new))) }
+{
+    if !lines.next(reader, line)? {
+        return Ok(None);
+    }
+    match line_of(alloc, line)? {
+        None => Err(Fault::Script),
+        Some(Line::Whole(event)) => Ok(Some(event)),
+        Some(Line::Head(head)) => {
+            let bytes = datagram_bytes(alloc, lines, reader, line)?;
+            Ok(Some(datagram_at(head, bytes)))
+        }
+    }
+}
+
+/// A datagram whose bytes are known.
+fn datagram_at(head: DatagramHead, bytes: Bytes) -> Event
+    ensures { result ≡ Script.datagram_at head bytes }
+{
+    Event::Datagram {
+        at: head.at,
+        word: head.word,
+        from: head.from,
+        bytes,
+    }
+}
+
+/// The bytes that the lines up to a line `.` say.
+fn datagram_bytes<R: Read>(
+    alloc: Global,
+    lines: &mut Lines,
+    reader: &mut R,
+    line: &mut Vec<u8>,
+) -> Result<Bytes, Fault>
+    ensures given { IfOk result (λ bytes. GivesDatagram lines.old lines.new (R.remaining reader.old) (R.remaining reader.new) bytes) }
+    ensures fewer { OnOk result (left lines.new ≤ left lines.old) }
+{
+    let mut bytes = Bytes::new(alloc);
+    while lines.next(reader, line)? {
+        if is_dot(line) {
+            return Ok(bytes);
+        }
+        keep(&mut bytes, unstuffed(line))?;
+        keep(&mut bytes, b"\r\n")?;
+    }
+    Err(Fault::Script)
+}
+
+/// Whether a line ends a datagram.
+fn is_dot(line: &[u8]) -> bool
+    ensures { result ≡ Events.is_dot line.now }
+{
+    line == b".".as_slice()
+}
+
+/// Adds a part to a datagram, as far as it is kept.
+fn keep(bytes: &mut Bytes, part: &[u8]) -> Result<(), Fault>
+    requires { length bytes.old ≤ KEPT }
+    ensures kept { OnOk result (bytes.new ≡ take KEPT (bytes.old ++ part.now)) }
+    ensures most { OnOk result (length bytes.new ≤ KEPT) }
+{
+    let room = KEPT - bytes.as_slice().len();
+    if part.len() <= room {
+        bytes.extend(part)?;
+    } else {
+        bytes.extend(&part[..room])?;
+    }
+    Ok(())
+}

@@ -1,0 +1,11 @@
+pub mod Folds
+pub mod Cuts
+pub mod Steps
+pub mod CutLaws
+pub mod FieldLaws
+pub mod SaysLaws
+pub mod FieldsAgain
+pub mod StartAgain
+pub mod StartLaws
+pub mod Again
+pub mod FaultLaws

@@ -1,0 +1,9 @@
+pub mod Lines
+pub mod FieldName
+pub mod Start
+pub mod Field
+pub mod Body
+pub mod Text
+pub mod Says
+pub mod Reading
+pub mod ReadError

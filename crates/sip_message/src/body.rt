@@ -1,0 +1,49 @@
+ghost use Rattle.std.specs.Prelude.{◌≡◌, Some, None, Err};
+ghost use Rattle.std.specs.Option.{ok_or};
+ghost use Rattle.sip_message.specs.Body.{lengths, one_length, body_of, is_short};
+ghost use Rattle.sip_message.specs.Reading.{Gives};
+ghost use Rattle.sip_message.specs.declared.error.ReadError.TheVariants.{BadField};
+
+use crate::error::ReadError;
+use crate::fields::Fields;
+use sip_text::decimal;
+
+/// The one Content-Length, if there is one (RFC 3261, 20.14).
+pub(crate) fn length_of(entries: &Fields) -> Result<Option<u64>, ReadError>
+    ensures { Gives (λ length. length) result (ok_or (one_length (lengths entries.now)) BadField) }
+{
+    let mut length = None;
+    for field in entries.as_slice() {
+        if field.name.is_content_length() {
+            if length.is_some() {
+                return Err(ReadError::BadField);
+            }
+            length = Some(decimal(field.value.as_slice()).ok_or(ReadError::BadField)?);
+        }
+    }
+    Ok(length)
+}
+
+/// The body of some length, of what follows the empty line (RFC 3261, 18.3).
+pub(crate) fn body_part(length: Option<u64>, rest: &[u8]) -> &[u8]
+    ensures { result.now ≡ body_of length rest.now }
+{
+    let Some(length) = length else {
+        return rest;
+    };
+    if (rest.len() as u64) < length {
+        return rest;
+    }
+    let (body, _) = rest.split_at(length as usize);
+    body
+}
+
+/// Whether what follows the empty line is shorter than the length that is written.
+pub(crate) fn is_cut_short(length: Option<u64>, rest: &[u8]) -> bool
+    ensures { result ≡ is_short length rest.now }
+{
+    let Some(length) = length else {
+        return false;
+    };
+    (rest.len() as u64) < length
+}

@@ -1,0 +1,3 @@
+pub mod InviteTimers
+pub mod OtherTimers
+pub mod SingleFinal

@@ -1,0 +1,4 @@
+pub mod Actions
+pub mod Lives
+pub mod ServerInvite
+pub mod ServerOther

@@ -1,0 +1,67 @@
+-- The server transaction of an INVITE: RFC 3261 17.2.1 and figure 7, with the Accepted state of RFC 6026
+-- 7.1. Times are in milliseconds.
+use Rattle.std.specs.Prelude.{ℕ, ◌*◌, min, Bool, true, false, ◌&&◌, nat_le, if◌then◌else◌, List, [], ◌∷◌}
+use Rattle.sip_server.specs.Lives.{alone}
+use Rattle.sip_server.specs.declared.actions.Action.{Action}
+use Rattle.sip_server.specs.declared.actions.Action.TheVariants.{Send, SendAgain, Up, Start}
+use Rattle.sip_server.specs.declared.actions.Timer.{Timer}
+use Rattle.sip_server.specs.declared.actions.Timer.TheVariants.{G, H, I, L}
+use Rattle.sip_server.specs.declared.server_invite.ServerInvite.{ServerInvite}
+use Rattle.sip_server.specs.declared.server_invite.ServerInvite.TheVariants.{Proceeding, Completed, Confirmed, Accepted, Terminated}
+use Rattle.sip_server.specs.declared.server_invite.ServerInviteInput.{ServerInviteInput}
+use Rattle.sip_server.specs.declared.server_invite.ServerInviteInput.TheVariants.{Invite, Ack, Answer, Fired}
+
+-- what the figures tell apart
+pub data Heard : Type 0 where
+  invite : Heard
+  ack : Heard
+  provisional : Heard
+  success : Heard
+  failure : Heard
+  fired : Timer → Heard
+  other : Heard
+
+-- the core's answers by their status (RFC 3261 7.2)
+abbrev pub heard : ServerInviteInput → Heard
+heard Invite = invite
+heard Ack = ack
+heard (Answer status) =
+    if nat_le 100 status && nat_le status 199 then provisional
+    else if nat_le 200 status && nat_le status 299 then success
+    else if nat_le 300 status && nat_le status 699 then failure
+    else other
+heard (Fired timer) = fired timer
+
+-- the rows of the figures; what has no row changes nothing
+-- `Proceeding true`: the core has answered 100 to 199; `Completed g`: G was last set to g. In this project's
+-- profile nobody is told when H fires, and a fault of a sending changes nothing.
+abbrev pub row : ServerInvite → Heard → ServerInvite × List Action
+row (Proceeding true) invite = (Proceeding true, SendAgain ∷ [])
+row (Proceeding answered) provisional = (Proceeding true, Send ∷ [])
+row (Proceeding answered) success = (Accepted, Send ∷ Start L 32000 ∷ [])
+row (Proceeding answered) failure = (Completed 500, Send ∷ Start G 500 ∷ Start H 32000 ∷ [])
+row (Completed g) invite = (Completed g, SendAgain ∷ [])
+row (Completed g) (fired G) = let next = min (2 * g) 4000 in (Completed next, SendAgain ∷ Start G next ∷ [])
+row (Completed g) ack = (Confirmed, Start I 5000 ∷ [])
+row (Completed g) (fired H) = (Terminated, [])
+row Confirmed (fired I) = (Terminated, [])
+row Accepted success = (Accepted, Send ∷ [])
+row Accepted ack = (Accepted, Up ∷ [])
+row Accepted (fired L) = (Terminated, [])
+row state _ = (state, [])
+
+-- the next state, and what is to be done
+abbrev pub server_invite : ServerInvite → ServerInviteInput → ServerInvite × List Action
+server_invite state input = row state (heard input)
+
+-- the timers that run in a state; another is stopped when the state is entered
+abbrev pub runs : ServerInvite → Timer → Bool
+runs (Completed g) G = true
+runs (Completed g) H = true
+runs Confirmed I = true
+runs Accepted L = true
+runs _ _ = false
+
+-- a step at the moment 0, and the next `count` firings, where nothing but timers is heard
+abbrev pub left_alone : ℕ → ServerInvite × List Action → List (ℕ × ServerInvite × List Action)
+left_alone = alone (λ state timer. server_invite state (Fired timer)) runs

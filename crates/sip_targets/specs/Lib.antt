@@ -1,0 +1,3 @@
+pub mod Target
+pub mod Targets
+pub mod Examples

@@ -1,0 +1,10 @@
+pub mod Numbers
+pub mod Escaping
+pub mod Parts
+pub mod Cutting
+pub mod Trims
+pub mod Items
+pub mod EscapedLaws
+pub mod QuotedLaws
+pub mod ListLaws
+pub mod NoneLaws

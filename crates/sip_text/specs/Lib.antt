@@ -1,0 +1,9 @@
+pub mod Words
+pub mod Span
+pub mod Escapes
+pub mod Reading
+pub mod Lists
+pub mod QuotedText
+pub mod EscapedText
+pub mod ListText
+pub mod TextError

@@ -1,0 +1,145 @@
+ghost use Rattle.std.specs.Prelude.{◌≡◌, ◌≤◌, length, reverse, map, take_while, IfOk, All};
+ghost use Rattle.sip_text.specs.Lists.{is_blank, trimmed, front_trimmed, end_trimmed, place_after, is_cut, cut};
+ghost use Rattle.sip_text.specs.Span.{part, IsWithin};
+ghost use Rattle.sip_text.specs.Reading.{Reads};
+
+use crate::error::TextError;
+use crate::span::Span;
+use std::alloc::Global;
+
+/// Whether a byte is a space or a tab (RFC 3261 25.1, `WSP`).
+pub fn is_space_or_tab(byte: u8) -> bool
+    ensures { result ≡ is_blank byte }
+{
+    byte == b' ' || byte == b'\t'
+}
+
+fn blanks_before(bytes: &[u8]) -> usize
+    ensures { result ≡ length (take_while is_blank bytes.now) }
+{
+    bytes
+        .iter()
+        .take_while(|byte| is_space_or_tab(**byte))
+        .count()
+}
+
+fn blanks_behind(bytes: &[u8]) -> usize
+    ensures { result ≡ length (take_while is_blank (reverse bytes.now)) }
+{
+    bytes
+        .iter()
+        .rev()
+        .take_while(|byte| is_space_or_tab(**byte))
+        .count()
+}
+
+/// Where a byte of a list stands: outside, in quoted text, behind a `\` in it, or between `<` and the
+/// next `>`.
+#[derive(Clone, Copy)]
+enum Place {
+    Outside,
+    Quoted,
+    Escaped,
+    Bracketed,
+}
+
+impl Place {
+    fn is_cut(self, byte: u8) -> bool
+        ensures { result ≡ is_cut self byte }
+    {
+        matches!(self, Place::Outside) && byte == b','
+    }
+
+    fn after(self, byte: u8) -> Place
+        ensures { result ≡ place_after self byte }
+    {
+        match (self, byte) {
+            (Place::Outside, b'"') => Place::Quoted,
+            (Place::Outside, b'<') => Place::Bracketed,
+            (Place::Outside, _) => Place::Outside,
+            (Place::Quoted, b'"') => Place::Outside,
+            (Place::Quoted, b'\\') => Place::Escaped,
+            (Place::Quoted, _) => Place::Quoted,
+            (Place::Escaped, _) => Place::Quoted,
+            (Place::Bracketed, b'>') => Place::Outside,
+            (Place::Bracketed, _) => Place::Bracketed,
+        }
+    }
+}
+
+/// The part of a source from `start` up to `end`, without spaces and tabs at both ends.
+fn trimmed_part(source: &[u8], start: usize, end: usize) -> Span
+    requires ordered { start ≤ end }
+    requires inside { end ≤ length source.now }
+    ensures part { part source.now result ≡ trimmed (part source.now (record { start = start; end = end })) }
+    ensures within { IsWithin result source.now }
+{
+    let bytes = &source[start..end];
+    let before = blanks_before(bytes);
+    let behind = blanks_behind(bytes);
+    if before + behind < bytes.len() {
+        Span {
+            start: start + before,
+            end: end - behind,
+        }
+    } else {
+        Span { start, end: start }
+    }
+}
+
+/// The items of a list, as the parts of the source that hold them: what stands between its commas
+/// outside quoted text and angle brackets, trimmed (RFC 3261 7.3.1). Refused `Unbalanced` where a
+/// quote or a bracket is left open or an item is empty, `NoMemory` where memory runs out.
+///
+/// `items_are_between_commas` says the same by the grammar of the list.
+pub fn cut_list(alloc: Global, source: &[u8]) -> Result<Vec<Span>, TextError>
+    ensures items { Reads (λ spans. map (part source.now) spans.items) TextError.Unbalanced result (cut source.now) }
+    ensures within { IfOk result (λ spans. All (λ span. IsWithin span source.now) spans.items) }
+{
+    let mut spans = Vec::new(alloc);
+    let mut place = Place::Outside;
+    let mut start = 0;
+    for (at, byte) in source.iter().enumerate() {
+        if place.is_cut(*byte) {
+            let item = trimmed_part(source, start, at);
+            if item.start == item.end {
+                return Err(TextError::Unbalanced);
+            }
+            spans.push(item)?;
+            start = at + 1;
+        }
+        place = place.after(*byte);
+    }
+    let Place::Outside = place else {
+        return Err(TextError::Unbalanced);
+    };
+    let item = trimmed_part(source, start, source.len());
+    if item.start == item.end {
+        return Err(TextError::Unbalanced);
+    }
+    spans.push(item)?;
+    Ok(spans)
+}
+
+/// Bytes without the spaces and tabs at both ends (RFC 3261 25.1, `SWS` on one line).
+pub fn without_blanks(bytes: &[u8]) -> &[u8]
+    ensures { result.now ≡ trimmed bytes.now }
+{
+    trimmed_part(bytes, 0, bytes.len()).of(bytes)
+}
+
+/// Bytes without the spaces and tabs at the front.
+pub fn without_front_blanks(bytes: &[u8]) -> &[u8]
+    ensures { result.now ≡ front_trimmed bytes.now }
+{
+    let (_, rest) = bytes.split_at(blanks_before(bytes));
+    rest
+}
+
+/// Bytes without the spaces and tabs at the end.
+pub fn without_end_blanks(bytes: &[u8]) -> &[u8]
+    ensures { result.now ≡ end_trimmed bytes.now }
+{
+    let (front, _) = bytes.split_at(bytes.len() - blanks_behind(bytes));
+    front
+}

@@ -1,0 +1,19 @@
+/// A part of a source: the bytes from index `start` up to index `end`, which is not in it.
+#[derive(Clone, Copy, Debug, PartialEq, Eq)]
+pub struct Span {
+    pub start: usize,
+    pub end: usize,
+}
+
+impl Span {
+    ghost use Rattle.std.specs.Prelude.{◌≡◌};
+    ghost use Rattle.sip_text.specs.Span.{IsWithin, part};
+
+    /// The bytes of this part.
+    pub fn of(self, source: &[u8]) -> &[u8]
+        requires { IsWithin self source.now }
+        ensures { result.now ≡ part source.now self }
+    {
+        &source[self.start..self.end]
+    }
+}

@@ -1,0 +1,59 @@
+ghost use Rattle.std.specs.Prelude.{◌≡◌};
+ghost use Rattle.std.specs.List.{list_all};
+ghost use Rattle.sip_text.specs.Words.{is_token_text, decimal_of, is_same_text};
+
+/// Whether a byte may stand in a token (RFC 3261 25.1).
+fn is_token_byte(byte: u8) -> bool
+    ensures { result ≡ Rattle.sip_text.specs.Words.is_token_byte byte }
+{
+    byte.is_ascii_alphanumeric()
+        || matches!(
+            byte,
+            b'-' | b'.' | b'!' | b'%' | b'*' | b'_' | b'+' | b'`' | b'\'' | b'~'
+        )
+}
+
+fn all_token_bytes(bytes: &[u8]) -> bool
+    ensures { result ≡ list_all Rattle.sip_text.specs.Words.is_token_byte bytes.now }
+{
+    bytes.iter().all(|byte| is_token_byte(*byte))
+}
+
+/// Whether the bytes are a token (RFC 3261 25.1): one or more letters, digits and the ten marks.
+pub fn is_token(bytes: &[u8]) -> bool
+    ensures { result ≡ is_token_text bytes.now }
+{
+    if bytes.is_empty() {
+        return false;
+    }
+    all_token_bytes(bytes)
+}
+
+/// The number that one or more decimal digits write (RFC 3261 25.1, `1*DIGIT`), if it is below 2^64;
+/// leading zeros may stand. None of any other text.
+#[tactic(auto, using(crate::proofs::Numbers::decimal_is, std::proofs::lemmas::List::at_drop_more, std::proofs::lemmas::List::drop_all))]
+pub fn decimal(bytes: &[u8]) -> Option<u64>
+    ensures { result ≡ decimal_of bytes.now }
+{
+    if bytes.is_empty() {
+        return None;
+    }
+    let mut number: u64 = 0;
+    for byte in bytes {
+        if !byte.is_ascii_digit() {
+            return None;
+        }
+        number = number
+            .checked_mul(10)?
+            .checked_add(u64::from(*byte - b'0'))?;
+    }
+    Some(number)
+}
+
+/// Whether two texts are equal, the letters `A` to `Z` compared without case, as names and tokens are
+/// (RFC 3261 7.3.1).
+pub fn same_no_case(left: &[u8], right: &[u8]) -> bool
+    ensures { result ≡ is_same_text left.now right.now }
+{
+    left.eq_ignore_ascii_case(right)
+}

@@ -1,0 +1,4 @@
+pub mod Timers
+pub mod Queue
+pub mod Examples
+pub mod TimerError

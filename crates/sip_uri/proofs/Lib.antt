@@ -1,0 +1,6 @@
+pub mod Cuts
+pub mod Tests
+pub mod PartLaws
+pub mod ReadingLaws
+pub mod Equal
+pub mod Escapes

@@ -1,0 +1,8 @@
+pub mod Scheme
+pub mod Parts
+pub mod Uri
+pub mod Reading
+pub mod Aor
+pub mod Equality
+pub mod Examples
+pub mod UriError

@@ -1,0 +1,86 @@
+-- The texts that a URI is made of.
+use Rattle.std.specs.Prelude.{ℕ, Bool, true, false, ◌||◌, ◌&&◌, ◌==◌, nat_le, List, [], ◌∷◌, codes, Option, Some, None, if◌then◌else◌}
+use Rattle.std.specs.Option.{option_and_then, is_some}
+use Rattle.std.specs.List.{list_all, list_any}
+use Rattle.std.specs.Str.{byte}
+use Rattle.std.specs.Char.{is_ascii_alphanumeric, is_ascii_hexdigit}
+use Rattle.sip_text.specs.Words.{decimal_of}
+use Rattle.sip_text.specs.Lists.{is_nil}
+
+-- whether each byte of a text is of a class or begins an escape `%HH` (RFC 3261 25.1: escaped)
+abbrev pub are_escaped : (ℕ → Bool) → List ℕ → Bool
+are_escaped class [] = true
+are_escaped class (b ∷ h ∷ l ∷ rest) =
+    if class b then are_escaped class (h ∷ l ∷ rest)
+    else if b == byte "%" then is_ascii_hexdigit h && is_ascii_hexdigit l && are_escaped class rest
+    else false
+are_escaped class (b ∷ rest) = class b && are_escaped class rest
+
+-- the same of a text that isn't empty
+abbrev pub is_escaped : (ℕ → Bool) → List ℕ → Bool
+is_escaped class text = if is_nil text then false else are_escaped class text
+
+-- letters, digits and marks (RFC 3261 25.1: unreserved)
+abbrev pub is_unreserved : ℕ → Bool
+is_unreserved b = is_ascii_alphanumeric b || list_any (λ c. b == c) (codes "-_.!~*'()")
+
+-- RFC 3261 25.1: user-unreserved
+abbrev pub is_user_byte : ℕ → Bool
+is_user_byte b = is_unreserved b || list_any (λ c. b == c) (codes "&=+$,;?/")
+
+-- RFC 3261 25.1: user
+abbrev pub is_user : List ℕ → Bool
+is_user text = is_escaped is_user_byte text
+
+-- RFC 3261 25.1: password, which may be empty
+abbrev pub is_password_byte : ℕ → Bool
+is_password_byte b = is_unreserved b || list_any (λ c. b == c) (codes "&=+$,")
+
+abbrev pub is_password : List ℕ → Bool
+is_password text = are_escaped is_password_byte text
+
+-- RFC 3261 25.1: paramchar
+abbrev pub is_parameter_byte : ℕ → Bool
+is_parameter_byte b = is_unreserved b || list_any (λ c. b == c) (codes "[]/:&+$")
+
+-- RFC 3261 25.1: pname and pvalue
+abbrev pub is_parameter_part : List ℕ → Bool
+is_parameter_part text = is_escaped is_parameter_byte text
+
+-- RFC 3261 25.1: hname and hvalue
+abbrev pub is_header_byte : ℕ → Bool
+is_header_byte b = is_unreserved b || list_any (λ c. b == c) (codes "[]/?:+$")
+
+abbrev pub is_header_name : List ℕ → Bool
+is_header_name text = is_escaped is_header_byte text
+
+abbrev pub is_header_value : List ℕ → Bool
+is_header_value text = are_escaped is_header_byte text
+
+-- a byte of a host name (RFC 3261 25.1: hostname; this project's profile has `_`, too)
+abbrev pub is_host_byte : ℕ → Bool
+is_host_byte b = is_ascii_alphanumeric b || list_any (λ c. b == c) (codes "-._")
+
+-- a byte of an address in brackets (RFC 3261 25.1: IPv6address)
+abbrev pub is_address_byte : ℕ → Bool
+is_address_byte b = is_ascii_hexdigit b || list_any (λ c. b == c) (codes ":.")
+
+-- the rest of an address in brackets: one or more bytes, then the closing bracket
+abbrev pub is_address_rest : Bool → List ℕ → Bool
+is_address_rest has_begun [] = false
+is_address_rest has_begun (b ∷ bs) = if b == byte "]" then has_begun && is_nil bs else is_address_byte b && is_address_rest true bs
+
+-- a host name, or an address in square brackets (RFC 3261 25.1: host)
+abbrev pub is_host : List ℕ → Bool
+is_host [] = false
+is_host (b ∷ bs) = if b == byte "[" then is_address_rest false bs else list_all is_host_byte (b ∷ bs)
+
+abbrev pub in_port_range : ℕ → Option ℕ
+in_port_range n = if nat_le 1 n && nat_le n 65535 then Some n else None
+
+-- the number of a port, 1 to 65535; leading zeros are read (this project's profile of RFC 3261 25.1: port)
+abbrev pub port_value : List ℕ → Option ℕ
+port_value digits = option_and_then in_port_range (decimal_of digits)
+
+abbrev pub is_port : List ℕ → Bool
+is_port digits = is_some (port_value digits)

@@ -1,0 +1,4 @@
+pub mod Asked
+pub mod Faults
+pub mod Refusal
+pub mod Examples
