@@ -5,4 +5,4 @@ mod examples;
 mod record;
 
 pub use examples::{audit_line, audit_target};
-pub use record::{Operation, Outcome, Record};
+pub use record::{Operation, Outcome, Record, Records};

@@ -9,7 +9,9 @@ use Rattle.sip_message.specs.declared.field_name.FieldName.TheVariants as Name
 use Rattle.sip_message.specs.FieldName.{is_same_name}
 use Rattle.sip_header.specs.declared.name_addr.AnyUri.{AnyUri}
 use Rattle.sip_header.specs.declared.name_addr.AnyUri.TheVariants.{Sip, Other}
+use Rattle.sip_header.specs.declared.name_addr.NameAddr.{NameAddr}
 use Rattle.sip_header.specs.NameAddr.{name_addr_of}
+use Rattle.sip_header.specs.Route.{route_of}
 use Rattle.sip_hops.specs.declared.addr.Addr.{Addr}
 
 abbrev pub is_same_addr : Addr → Addr → Bool
@@ -30,11 +32,16 @@ abbrev pub address_by : (Uri → Option Addr) → AnyUri → Option Addr
 address_by address_of (Sip uri) = address_of uri
 address_by address_of (Other text) = None
 
+-- what a Contact or a Record-Route says; a Record-Route has brackets (RFC 3261 20.10, 20.30)
+abbrev pub item_in : Field → Option NameAddr
+item_in field =
+    if is_same_name field.name Name.Contact then name_addr_of field.value
+    else if is_same_name field.name Name.RecordRoute then route_of field.value
+    else None
+
 -- the address that a Contact or a Record-Route gives, by what gives a URI its address
 abbrev pub address_in : (Uri → Option Addr) → Field → Option Addr
-address_in address_of field =
-    if is_same_name field.name Name.Contact || is_same_name field.name Name.RecordRoute then option_and_then (λ item. address_by address_of item.uri) (name_addr_of field.value)
-    else None
+address_in address_of field = option_and_then (λ item. address_by address_of item.uri) (item_in field)
 
 -- the addresses that the fields of a message give, in their order (RFC 3261 12.1.1, 12.2)
 abbrev pub addresses_in : (Uri → Option Addr) → List Field → List Addr

@@ -1,5 +1,5 @@
 -- Bindings and registrations of the worked examples.
-use Rattle.std.specs.Prelude.{ℕ, List, [], ◌∷◌, map, codes, Some, Result}
+use Rattle.std.specs.Prelude.{ℕ, List, [], ◌∷◌, map, codes, Result}
 use Rattle.std.specs.Result.{result_map_both}
 use Rattle.sip_uri.specs.declared.aor.Aor.{Aor}
 use Rattle.sip_uri.specs.declared.uri.Uri.{Uri}
@@ -8,10 +8,10 @@ use Rattle.sip_location.specs.declared.binding.Binding.{Binding}
 use Rattle.sip_location.specs.declared.error.LocationError.{LocationError}
 use Rattle.sip_location.specs.declared.registration.Asked.{Asked}
 use Rattle.sip_location.specs.declared.registration.Asked.TheVariants.{Star, Contact}
+use Rattle.sip_location.specs.declared.registration.Interval.{Interval}
 use Rattle.sip_location.specs.declared.registration.Interval.TheVariants.{Absent, Seconds}
 use Rattle.sip_location.specs.declared.registration.Registration.{Registration}
 use Rattle.sip_location.specs.Binding.{live, seconds_left}
-use Rattle.sip_location.specs.Interval.{interval_of_parameter}
 use Rattle.sip_location.specs.Registration.{registered}
 
 -- the address of record Mufasa@host.com
@@ -50,9 +50,9 @@ asking call_id cseq contacts = record { aor = mufasa; contacts = contacts; expir
 abbrev pub contact_alone : Uri → Asked
 contact_alone uri = Contact uri Absent
 
--- a contact with this `expires` parameter
-abbrev pub contact_for : List ℕ → Asked
-contact_for expires = Contact first_contact (interval_of_parameter (Some (Some expires)))
+-- a contact whose `expires` parameter says this
+abbrev pub contact_for : Interval → Asked
+contact_for expires = Contact first_contact expires
 
 -- the contacts of Mufasa's live bindings after a REGISTER at 1,000
 abbrev pub contacts_after : List Binding → Registration → Result (List Uri) LocationError

@@ -10,7 +10,7 @@ use Rattle.sip_message.specs.declared.message.Start.{Start}
 use Rattle.sip_message.specs.declared.message.Start.TheVariants.{Request, Status}
 use Rattle.sip_message.specs.Lines.{split_at_byte}
 
--- a byte from `!` to `~` (VCHAR of RFC 3261 25.1)
+-- a byte from `!` to `~` (VCHAR of RFC 2234 6.1, which RFC 3261 25.1 cites)
 abbrev pub is_visible : ℕ → Bool
 is_visible b = nat_le 33 b && nat_le b 126
 

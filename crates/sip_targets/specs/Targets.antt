@@ -10,7 +10,7 @@ use Rattle.sip_targets.specs.declared.target.Target.{Target}
 use Rattle.sip_targets.specs.declared.targets.Targets.{Targets}
 use Rattle.sip_targets.specs.Target.{target_for}
 
--- no target; no request that is let through has this, since every rule's hop is configured
+-- no target: of a request that isn't let through
 abbrev pub no_targets : Targets
 no_targets = Targets.Bindings []
 
@@ -19,10 +19,10 @@ abbrev pub targets_at : List HostAddress → List Uri → Targets
 targets_at addresses [] = Targets.Unavailable
 targets_at addresses (contact ∷ contacts) = Targets.Bindings (map (target_for addresses) (contact ∷ contacts))
 
--- the Request-URI unchanged at the address of the hop
+-- the Request-URI unchanged at the address of the hop; a hop that isn't configured, which no rule names, is found nowhere
 abbrev pub target_by : Uri → Option Addr → Targets
 target_by request_uri (Some address) = Targets.Hop request_uri address
-target_by request_uri None = no_targets
+target_by request_uri None = Targets.NotFound
 
 -- Where a request goes that policy decided about: by a hop whoever is called; else to the live contacts of the address, if it is known as a configured user's in an own domain.
 -- A request that is denied or challenged goes nowhere.

@@ -24,9 +24,11 @@ pub trait Timers: Drop {
         ensures begins { IfOk result (λ timers. reached timers ≡ 0) }
         ensures refused { IfErr result (λ e. e ≡ NoMemory) };
 
-    /// Makes room, so that the next `more` timers that are added take no memory.
+    /// Makes room, so that the next `more` timers that are added take no memory. Room that was there
+    /// stays, also at an error.
     fn reserve(&mut self, more: usize) -> Result<(), TimerError>
         ensures ok { OnOk result (more ≤ room self.new) }
+        ensures kept { room self.old ≤ room self.new }
         ensures same { pending self.new ≡ pending self.old }
         ensures still { reached self.new ≡ reached self.old }
         ensures refused { IfErr result (λ e. e ≡ NoMemory) };

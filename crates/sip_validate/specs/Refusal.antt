@@ -26,7 +26,7 @@ use Rattle.sip_validate.specs.Faults.{has_sip_scheme, is_bad}
 
 -- ---- the tests behind those of a bad request
 
--- another version than SIP/2.0 (RFC 3261 7.1, 21.5.7)
+-- another version than SIP/2.0 (RFC 3261 7.1, 21.5.6)
 abbrev pub has_other_version : Asked → Bool
 has_other_version asked = not (bytes_eq asked.version (codes "SIP/2.0"))
 

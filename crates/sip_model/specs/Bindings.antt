@@ -1,0 +1,69 @@
+-- The bindings after a history: what its allowed REGISTERs alone make of them (RFC 3261 10.3).
+use Rattle.std.specs.Prelude.{ℕ, List, [], ◌∷◌, ◌++◌, Option, Some, None}
+use Rattle.std.specs.Option.{option_and_then, option_map_or, option_to_list}
+use Rattle.std.specs.Result.{result_ok}
+use Rattle.sip_message.specs.declared.message.Message.{Message}
+use Rattle.sip_message.specs.Reading.{reading_of}
+use Rattle.sip_header.specs.CoreFields.{core_of}
+use Rattle.sip_location.specs.declared.binding.Binding.{Binding}
+use Rattle.sip_model.specs.declared.event.Event.TheVariants.{Datagram, Time, Fault}
+use Rattle.sip_model.specs.Server.{Server}
+use Rattle.sip_model.specs.State.{ProxyState}
+use Rattle.sip_model.specs.Verdict.{Arrival, Registered, Bound, Refused, Verdict, Drop, Respond, Copy, AckOn, Cancel, Answer, InDialog, Challenge, Deny, Send, Register, registration_by, message_verdict, message_in}
+use Rattle.sip_model.specs.Step.{Act, Given, Passing, arrival_of}
+use Rattle.sip_model.specs.Run.{Link}
+
+-- ---- the bindings that REGISTERs make
+
+-- a REGISTER, and the moment at which it came
+pub record Arrived : Type 0 where
+  pub at : ℕ
+  pub request : Message
+
+-- the rows after a registration: as they were, where it is refused
+abbrev pub rows_after : List Binding → Registered → List Binding
+rows_after rows (Bound after) = after
+rows_after rows (Refused status extras) = rows
+
+abbrev pub after_register : Server → Arrived → List Binding → List Binding
+after_register server r rows = option_map_or (λ core. rows_after rows (registration_by server rows r.at r.request core)) (result_ok (core_of r.request)) rows
+
+-- The bindings after some REGISTERs that were let through, the newest first. Nothing else is known here: no transaction, no retransmission, no packet.
+abbrev pub bindings_by : Server → List Arrived → List Binding
+bindings_by server [] = []
+bindings_by server (r ∷ earlier) = after_register server r (bindings_by server earlier)
+
+-- ---- the REGISTERs of a history
+
+-- a REGISTER that was let through
+abbrev pub allowed_by : ℕ → Message → Verdict → Option Arrived
+allowed_by now m (Register q id outcome) = Some (record { at = now; request = m })
+allowed_by now m Drop = None
+allowed_by now m (Respond r b status) = None
+allowed_by now m (Copy r) = None
+allowed_by now m (AckOn address id) = None
+allowed_by now m (Cancel found) = None
+allowed_by now m (Answer status extras) = None
+allowed_by now m (InDialog address id) = None
+allowed_by now m (Challenge q) = None
+allowed_by now m (Deny q id) = None
+allowed_by now m (Send q id targets) = None
+
+abbrev pub allowed_in : Server → ProxyState → Arrival → List ℕ → Option Arrived
+allowed_in server state a bytes = option_and_then (λ x. allowed_by a.now x.0 (message_verdict server state a x.0 x.1)) (message_in (reading_of bytes))
+
+-- the REGISTER that a step lets through, if it does
+abbrev pub allowed_at : Server → ProxyState → Act → Option Arrived
+allowed_at server state (Given (Datagram at word from bytes)) = allowed_in server state (arrival_of state at word from) bytes
+allowed_at server state (Given (Time at)) = None
+allowed_at server state (Given (Fault at ticket)) = None
+allowed_at server state (Passing at) = None
+
+-- those of a history, the newest first
+abbrev pub allowed_registers : Server → List Link → List Arrived
+allowed_registers server [] = []
+allowed_registers server (link ∷ history) = option_to_list (allowed_at server link.before link.act) ++ allowed_registers server history
+
+-- the bindings after a history
+abbrev pub bindings_after : Server → List Link → List Binding
+bindings_after server history = bindings_by server (allowed_registers server history)

@@ -1,0 +1,325 @@
+-- What a verdict on a datagram, or a change of an open request, does: what is sent, what is recorded, and the state after it (RFC 3261 16, 17).
+use Rattle.std.specs.Prelude.{ℕ, ◌+◌, Bool, true, false, not, ◌&&◌, ◌==◌, is_some, if◌then◌else◌, List, [], ◌∷◌, ◌++◌, length, map, filter, codes, Option, Some, None}
+use Rattle.std.specs.Option.{option_map_or, unwrap_or}
+use Rattle.std.specs.List.{flat_map, list_any}
+use Rattle.std.specs.Str.{bytes_eq}
+use Rattle.sip_digest.specs.NonceText.{nonce_text}
+use Rattle.sip_digest.specs.Nonces.{issued}
+use Rattle.sip_uri.specs.declared.aor.Aor.{Aor}
+use Rattle.sip_uri.specs.Uri as UriText
+use Rattle.sip_message.specs.declared.field.Field.{Field}
+use Rattle.sip_message.specs.declared.field_name.FieldName.TheVariants as Name
+use Rattle.sip_message.specs.declared.message.Start.{Start}
+use Rattle.sip_message.specs.declared.message.Start.TheVariants.{Request, Status}
+use Rattle.sip_message.specs.declared.message.Message.{Message}
+use Rattle.sip_message.specs.Text.{text_of}
+use Rattle.sip_message.specs.Reading.{reading_of}
+use Rattle.sip_header.specs.declared.key.Key.{Key}
+use Rattle.sip_header.specs.Key.{key_of}
+use Rattle.sip_hops.specs.declared.addr.Addr.{Addr}
+use Rattle.sip_edit.specs.Challenges.{challenge}
+use Rattle.sip_edit.specs.Contacts.{contact_value}
+use Rattle.sip_edit.specs.Extras.{denial_warning}
+use Rattle.sip_edit.specs.Onward.{onward_uri}
+use Rattle.sip_policy.specs.declared.operation.Operation.TheVariants as Asked
+use Rattle.sip_policy.specs.declared.operation.Operation.{Operation}
+use Rattle.sip_location.specs.declared.binding.Binding.{Binding}
+use Rattle.sip_location.specs.Binding.{live, seconds_left}
+use Rattle.sip_targets.specs.declared.target.Target.{Target}
+use Rattle.sip_targets.specs.declared.targets.Targets.{Targets}
+use Rattle.sip_targets.specs.Targets.{target_list}
+use Rattle.sip_best.specs.declared.final_answer.Final.{Final}
+use Rattle.sip_dialog.specs.declared.dialog.DialogId.{DialogId}
+use Rattle.sip_dialog.specs.declared.dialog.Dialog.{Dialog}
+use Rattle.sip_audit.specs.declared.record.Record.{Record}
+use Rattle.sip_audit.specs.declared.record.Operation.TheVariants as RecordedAs
+use Rattle.sip_audit.specs.declared.record.Operation as AuditOperation
+use Rattle.sip_audit.specs.declared.record.Outcome.{Outcome}
+use Rattle.sip_model.specs.declared.packet.Packet.{Packet}
+use Rattle.sip_model.specs.Server.{Server}
+use Rattle.sip_model.specs.Proof.{proven, is_stale, used}
+use Rattle.sip_model.specs.State.{Unheard, Ended, Answering, Closing, Branch, OpenRequest, ProxyState, is_invite, has_left}
+use Rattle.sip_model.specs.Sending.{made_answer, answer_packet, answer_to, onward_as, branch_packets}
+use Rattle.sip_model.specs.Dialogs.{Upward, after_request, after_answers, after_leaving}
+use Rattle.sip_model.specs.Branches.{Change, settled, responded, cancelled, acknowledged, answered}
+use Rattle.sip_model.specs.Verdict.{Arrival, Question, Registered, Bound, Refused, Verdict, Drop, Respond, Copy, AckOn, Cancel, Answer, InDialog, Challenge, Deny, Send, Register, is_full, message_verdict, message_in}
+
+-- what is sent for the first time, in its order; what is recorded; and the state after it
+pub record Effect : Type 0 where
+  pub originals : List Packet
+  pub records : List Record
+  pub state : ProxyState
+
+-- ---- an open request changes
+
+-- an open request in place of the one of its number, unless it stays open no longer
+abbrev pub replaced : OpenRequest → List OpenRequest → List OpenRequest
+replaced r [] = []
+replaced r (x ∷ xs) = if x.number == r.number then (if has_left r then xs else r ∷ xs) else x ∷ replaced r xs
+
+-- what goes to the caller, as packets
+abbrev pub upward_packets : OpenRequest → List Upward → List Packet
+upward_packets r upward = map (λ (u : Upward). answer_to false r (text_of u.message)) upward
+
+-- the dialogs after what went to the caller, and after the request left if it did
+abbrev pub dialogs_after : Server → ℕ → Change → List Dialog → List Dialog
+dialogs_after server now change dialogs = after_leaving now change.request (after_answers server now change.request change.upward dialogs)
+
+-- ACKs go first, then what goes to the caller, then requests and CANCELs (this project's profile)
+abbrev pub change_packets : Change → List Packet
+change_packets change = change.acks ++ upward_packets change.request change.upward ++ change.cancels
+
+-- the effect of a change of an open request
+abbrev pub changed : Server → ℕ → ProxyState → Change → Effect
+changed server now state change =
+    record {
+      originals = change_packets change;
+      records = [];
+      state = record state { moment = now; requests = replaced change.request state.requests; dialogs = dialogs_after server now change state.dialogs };
+    }
+
+-- nothing is sent and nothing changes
+abbrev pub nothing : ProxyState → Effect
+nothing state = record { originals = []; records = []; state = state }
+
+-- ---- a request is answered at once
+
+-- the key of a request; each one that is opened has one
+abbrev pub request_key : Message → Key
+request_key m = unwrap_or (key_of m) (record { branch = []; host = []; port = 0; method = [] })
+
+-- a request that comes, before anything was sent for it
+abbrev pub arriving : Arrival → Message → OpenRequest
+arriving a m =
+    record { key = request_key m; request = m; source = a.from; number = a.number; arrived_at = a.now; answer = None; side = Answering; finals = []; branches = [] }
+
+-- the same, with its final answer
+abbrev pub closing : Arrival → Message → ℕ → List ℕ → OpenRequest
+closing a m status text = record (arriving a m) { answer = Some (record { status = status; text = text }); side = Closing (a.now + 32000) }
+
+-- the open requests with one more, while there is room
+abbrev pub opened : OpenRequest → ProxyState → List OpenRequest
+opened r state = if is_full state then state.requests else state.requests ++ r ∷ []
+
+-- A request gets its final answer at once, and is open from now on, while there is room (RFC 3261 8.2.6, 17.2)
+abbrev pub replied : Server → Arrival → Message → ℕ → List Field → List Record → ProxyState → Effect
+replied server a m status extras records state =
+    let text : List ℕ = text_of (made_answer server a.number m a.from status extras) in
+    record {
+      originals = answer_packet false a.number m a.from text ∷ [];
+      records = records;
+      state = record state { requests = opened (closing a m status text) state };
+    }
+
+-- ---- what is recorded of a request that policy was asked about
+
+abbrev pub method_of : Start → List ℕ
+method_of (Request method uri version) = method
+method_of (Status code reason) = []
+
+abbrev pub recorded : Operation → AuditOperation.Operation
+recorded Asked.Register = RecordedAs.Register
+recorded Asked.List = RecordedAs.List
+recorded (Asked.Send method) = RecordedAs.Send
+
+abbrev pub record_of : Arrival → Message → Question → Outcome → Record
+record_of a m q outcome =
+    record {
+      at = a.now;
+      number = a.number;
+      method = method_of m.start;
+      who = proven q.proof;
+      target = q.target;
+      operation = recorded q.operation;
+      outcome = outcome;
+    }
+
+-- ---- challenge and denial
+
+-- a registrar challenges as a user agent server, everyone else is challenged as by a proxy (RFC 3261 22.2, 22.3)
+abbrev pub is_registration : Operation → Bool
+is_registration Asked.Register = true
+is_registration Asked.List = true
+is_registration (Asked.Send method) = false
+
+abbrev pub challenge_status : Operation → ℕ
+challenge_status operation = if is_registration operation then 401 else 407
+
+abbrev pub challenge_field : Server → Arrival → Question → Field
+challenge_field server a q =
+    record {
+      name = if is_registration q.operation then Name.WwwAuthenticate else Name.ProxyAuthenticate;
+      value = challenge server.realm (nonce_text a.word) (is_stale q.proof);
+    }
+
+-- the state after policy was asked: a right credential is used up, whatever was decided
+abbrev pub asked : Arrival → Question → ProxyState → ProxyState
+asked a q state = record state { nonces = used state.nonces a.now q.proof }
+
+-- a challenge issues its nonce
+abbrev pub issuing : Arrival → ProxyState → ProxyState
+issuing a state = record state { nonces = issued state.nonces a.word a.now }
+
+abbrev pub challenged : Server → Arrival → Message → Question → ProxyState → Effect
+challenged server a m q state =
+    replied server a m (challenge_status q.operation) (challenge_field server a q ∷ []) (record_of a m q (Outcome.Challenge (challenge_status q.operation)) ∷ []) (issuing a (asked a q state))
+
+-- a denial names its rule (this project's profile)
+abbrev pub denied : Server → Arrival → Message → Question → ℕ → ProxyState → Effect
+denied server a m q id state = replied server a m 403 (denial_warning server.own id ∷ []) (record_of a m q (Outcome.Deny id) ∷ []) (asked a q state)
+
+-- an answer to a request that was let through
+abbrev pub refused : Server → Arrival → Message → Question → ℕ → ℕ → List Field → ProxyState → Effect
+refused server a m q id status extras state = replied server a m status extras (record_of a m q (Outcome.Answer id status) ∷ []) (asked a q state)
+
+-- ---- registration
+
+-- the Contact fields that list bindings (RFC 3261 10.3 step 8)
+abbrev pub contact_field : ℕ → Binding → Field
+contact_field now b = record { name = Name.Contact; value = contact_value (UriText.text_of b.uri) (seconds_left now b) }
+
+abbrev pub contact_fields : ℕ → Aor → List Binding → List Field
+contact_fields now aor rows = map (contact_field now) (live aor now rows)
+
+-- a REGISTER that was let through: the bindings are made, and the 200 lists those that live
+abbrev pub registering : Server → Arrival → Message → Question → ℕ → Registered → ProxyState → Effect
+registering server a m q id (Bound rows) state = refused server a m q id 200 (contact_fields a.now q.target rows) (record state { bindings = rows })
+registering server a m q id (Refused status extras) state = refused server a m q id status extras state
+
+-- ---- a request is sent on
+
+-- the branch to a target; one without an address has ended
+abbrev pub branch_to : ℕ → ℕ → Target → Branch
+branch_to now number t =
+    record {
+      number = number;
+      is_cancel = false;
+      uri = UriText.text_of t.uri;
+      address = t.address;
+      wants_cancel = false;
+      phase = if is_some t.address then Unheard (now + 32000) else Ended;
+    }
+
+-- the branches to targets, numbered from a number
+abbrev pub branches_from : ℕ → ℕ → List Target → List Branch
+branches_from now number [] = []
+branches_from now number (t ∷ ts) = branch_to now number t ∷ branches_from now (number + 1) ts
+
+-- a branch without an address has answered 503 (RFC 3261 16.9)
+abbrev pub unsent : List Branch → List Final
+unsent branches = map (λ (b : Branch). record { status = 503; message = None }) (filter (λ (b : Branch). not (is_some b.address)) branches)
+
+-- an open request with its branches
+abbrev pub forking : Arrival → Message → List Branch → OpenRequest
+forking a m branches = record (arriving a m) { branches = branches; finals = unsent branches }
+
+-- an INVITE that is sent to anybody gets a 100 first (RFC 3261 16.2)
+abbrev pub is_tried : OpenRequest → Bool
+is_tried r = is_invite r && list_any (λ (b : Branch). is_some b.address) r.branches
+
+abbrev pub trying : Server → OpenRequest → List Upward
+trying server r = if is_tried r then record { status = 100; message = made_answer server r.number r.request r.source 100 []; target = None } ∷ [] else []
+
+abbrev pub tried : ℕ → List Upward → OpenRequest → OpenRequest
+tried now [] r = r
+tried now (u ∷ us) r = tried now us (answered now u r)
+
+-- a request is sent to its branches, and is open from now on (RFC 3261 16.6)
+abbrev pub forked : Server → ℕ → OpenRequest → List Record → ProxyState → Effect
+forked server now r records state =
+    let change : Change = settled server now [] None (tried now (trying server r) r) in
+    record {
+      originals = upward_packets r (trying server r) ++ change_packets change ++ flat_map (branch_packets server false r) r.branches;
+      records = records;
+      state = record state { requests = opened change.request state; dialogs = dialogs_after server now change state.dialogs };
+    }
+
+abbrev pub sent_to : Server → Arrival → Message → Question → ℕ → List Target → ProxyState → Effect
+sent_to server a m q id targets state =
+    forked server a.now (forking a m (branches_from a.now 1 targets)) (record_of a m q (Outcome.Sent id (length targets)) ∷ []) (asked a q state)
+
+-- a request that was let through goes to its targets; without a user 404, without a live binding 480 (RFC 3261 16.5)
+abbrev pub sending : Server → Arrival → Message → Question → ℕ → Targets → ProxyState → Effect
+sending server a m q id Targets.NotFound state = refused server a m q id 404 [] state
+sending server a m q id Targets.Unavailable state = refused server a m q id 480 [] state
+sending server a m q id (Targets.Bindings targets) state = sent_to server a m q id (target_list (Targets.Bindings targets)) state
+sending server a m q id (Targets.Hop uri address) state = sent_to server a m q id (target_list (Targets.Hop uri address)) state
+
+-- ---- in a dialog
+
+-- the branch of a request in a dialog: its own Request-URI, to the address that the dialog holds (RFC 3261 16.12)
+abbrev pub dialog_branch : Server → ℕ → Message → Addr → Branch
+dialog_branch server now m address =
+    record { number = 1; is_cancel = false; uri = onward_uri server.own m; address = Some address; wants_cancel = false; phase = Unheard (now + 32000) }
+
+-- the dialog of a request that is sent on is renewed
+abbrev pub renewing : Server → Arrival → Message → DialogId → ProxyState → ProxyState
+renewing server a m id state = record state { dialogs = after_request server a.now id m state.dialogs }
+
+abbrev pub sent_within : Server → Arrival → Message → Addr → DialogId → ProxyState → Effect
+sent_within server a m address id state =
+    forked server a.now (forking a m (dialog_branch server a.now m address ∷ [])) [] (renewing server a m id state)
+
+-- an ACK goes on without a transaction (RFC 3261 16.11, 17)
+abbrev pub ack_packet : Server → Arrival → Message → Addr → Packet
+ack_packet server a m address =
+    record {
+      to = address;
+      bytes = text_of (onward_as server a.number m a.from (onward_uri server.own m) 1);
+      ticket = record { datagram = a.number; branch = 0 };
+      again = false;
+    }
+
+abbrev pub ack_sent : Server → Arrival → Message → Addr → DialogId → ProxyState → Effect
+ack_sent server a m address id state = record { originals = ack_packet server a m address ∷ []; records = []; state = renewing server a m id state }
+
+-- ---- copies and CANCEL
+
+-- a copy of an open request; an ACK acknowledges its answer
+abbrev pub copied : Arrival → Message → OpenRequest → ProxyState → Effect
+copied a m r state =
+    record {
+      originals = [];
+      records = [];
+      state = if bytes_eq (method_of m.start) (codes "ACK") then record state { requests = replaced (acknowledged a.now r) state.requests } else state;
+    }
+
+-- one effect behind another: what the second sends goes behind what the first does
+abbrev pub behind : Effect → Effect → Effect
+behind first second = record { originals = first.originals ++ second.originals; records = first.records ++ second.records; state = second.state }
+
+-- a CANCEL: 481 without the request that it names; else 200, and that request is cancelled (RFC 3261 9.2, 16.10)
+abbrev pub cancelling : Server → Arrival → Message → Option OpenRequest → ProxyState → Effect
+cancelling server a m None state = replied server a m 481 [] [] state
+cancelling server a m (Some r) state =
+    let answer : Effect = replied server a m 200 [] [] state in
+    behind answer (changed server a.now answer.state (cancelled server a.now r))
+
+-- ---- a datagram
+
+-- the moment is the datagram's, and its number is taken
+abbrev pub counted : Arrival → ProxyState → ProxyState
+counted a state = record state { moment = a.now; next = a.number + 1 }
+
+-- what a verdict on a message does
+abbrev pub effect_of : Server → Arrival → Message → Verdict → ProxyState → Effect
+effect_of server a m Drop state = nothing state
+effect_of server a m (Respond r b status) state = changed server a.now state (responded server a.now r b status m)
+effect_of server a m (Copy r) state = copied a m r state
+effect_of server a m (AckOn address id) state = ack_sent server a m address id state
+effect_of server a m (Cancel found) state = cancelling server a m found state
+effect_of server a m (Answer status extras) state = replied server a m status extras [] state
+effect_of server a m (InDialog address id) state = sent_within server a m address id state
+effect_of server a m (Challenge q) state = challenged server a m q state
+effect_of server a m (Deny q id) state = denied server a m q id state
+effect_of server a m (Send q id targets) state = sending server a m q id targets state
+effect_of server a m (Register q id outcome) state = registering server a m q id outcome state
+
+-- what a message does, of whose body fewer bytes may have come than its length says
+abbrev pub message_effect : Server → ProxyState → Arrival → Message → Bool → Effect
+message_effect server state a m short = effect_of server a m (message_verdict server state a m short) (counted a state)
+
+-- what the bytes of a datagram do
+abbrev pub datagram_effect : Server → ProxyState → Arrival → List ℕ → Effect
+datagram_effect server state a bytes =
+    option_map_or (λ x. message_effect server state a x.0 x.1) (message_in (reading_of bytes)) (nothing (counted a state))

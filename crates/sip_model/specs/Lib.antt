@@ -1,0 +1,15 @@
+pub mod Server
+pub mod Proof
+pub mod Registering
+pub mod State
+pub mod Sending
+pub mod Dialogs
+pub mod Branches
+pub mod Verdict
+pub mod Effect
+pub mod Retransmission
+pub mod Step
+pub mod Run
+pub mod Bindings
+pub mod Access
+pub mod Lives

@@ -1,0 +1,40 @@
+-- Whole runs of a proxy, as histories of links, the newest first.
+use Rattle.std.specs.Prelude.{◌≡◌, List, [], ◌∷◌, reverse}
+use Rattle.sip_model.specs.declared.event.StepOut.{StepOut}
+use Rattle.sip_model.specs.declared.event.Event.{Event}
+use Rattle.sip_model.specs.Server.{Server}
+use Rattle.sip_model.specs.State.{ProxyState}
+use Rattle.sip_model.specs.Step.{Act, Given, Passing, IsStep}
+
+-- a step: the state before it, what it was taken for, what it put out, and the state after it
+pub record Link : Type 0 where
+  pub before : ProxyState
+  pub act : Act
+  pub out : StepOut
+  pub after : ProxyState
+
+-- a history from one state to another: each step is a proxy's, and begins where the one before it ended
+abbrev pub IsChain : Server → ProxyState → List Link → ProxyState → Type 0
+IsChain server first [] last = last ≡ first
+IsChain server first (link ∷ history) last =
+    (last ≡ link.after) × IsStep server link.before link.act link.out link.after × IsChain server first history link.before
+
+-- the events of a history, newest first
+abbrev pub event_of : Act → List Event → List Event
+event_of (Given event) events = event ∷ events
+event_of (Passing at) events = events
+
+abbrev pub events_of : List Link → List Event
+events_of [] = []
+events_of (link ∷ history) = event_of link.act (events_of history)
+
+-- its steps, newest first
+abbrev pub steps_of : List Link → List StepOut
+steps_of [] = []
+steps_of (link ∷ history) = link.out ∷ steps_of history
+
+-- These steps, for these events, are a run of a proxy: each event has its own step, before which time may pass step by step. No step's moment passes a deadline that stands.
+pub record IsRun (server : Server) (first : ProxyState) (events : List Event) (steps : List StepOut) (history : List Link) (last : ProxyState) : Type 0 where
+  pub chain : IsChain server first history last
+  pub of_events : reverse (events_of history) ≡ events
+  pub of_steps : reverse (steps_of history) ≡ steps
