@@ -1,5 +1,5 @@
 -- What a datagram opens closes later.
-use Rattle.std.proofs.Common.{◌≡◌, ℕ, ◌+◌, ◌<◌, ◌∙◌, ap, List, [], ◌∷◌, ◌++◌, length, leb, cond, sym, subst, Bool, true, false, Option, Some, None, refl, arith}
+use Rattle.std.proofs.Common.{◌≡◌, ℕ, ◌+◌, ◌∙◌, ap, List, [], ◌∷◌, ◌++◌, length, leb, cond, sym, subst, Bool, true, false, Option, Some, None, refl, arith}
 use Rattle.std.specs.Prelude.{count_by, find, codes}
 use Rattle.std.proofs.lemmas.Bool.Decides.{nat_tests}
 use Rattle.std.proofs.lemmas.List.Sums.{sum_by_push}
@@ -68,8 +68,7 @@ heard-later config word t t' a m o packets e none =
 
 -- what is asked of a request with room for it
 pub asked_some : (config : Config) (word : ℕ) (t : Tables) (a : Arrival) (m : Message) (key : Key) (o : Option Registration) (r : Registration) (proof : Proof) (step : List Packet × Tables)
-    → Some r ≡ o → length t.requests < 1024 → proof ≡ proof_of config t.nonces a.now m → step ≡ judged_by config word a m key r t proof → step ≡ asked config word t a m key o
+    → Some r ≡ o → leb 1024 (length t.requests) ≡ false → proof ≡ proof_of config t.nonces a.now m → step ≡ judged_by config word a m key r t proof → step ≡ asked config word t a m key o
 asked_some config word t a m key o r proof step is room proved e =
-    let has_room : leb 1024 (length t.requests) ≡ false = grind (arith, nat_tests) in
     subst (λ (o : Option Registration). step ≡ asked config word t a m key o) is
-    (rw has_room (e ∙ ap (judged_by config word a m key r t) proved))
+    (rw room (e ∙ ap (judged_by config word a m key r t) proved))

@@ -1,4 +1,4 @@
-ghost use Rattle.std.specs.Prelude.{◌≡◌, ◌≤◌, ◌<◌, ◌^◌, ◌++◌, false, [], ◌∷◌, IfOk};
+ghost use Rattle.std.specs.Prelude.{◌≡◌, ◌≤◌, ◌<◌, ◌^◌, ◌++◌, false, [], ◌∷◌, length, nat_le, IfOk};
 ghost use Rattle.std.specs.Str.{bytes_eq};
 ghost use Rattle.sip_message.specs.Says.{Says, IsWithinLimits};
 ghost use Rattle.sip_header.specs.Key as Keys;
@@ -211,6 +211,13 @@ fn answer_by(
     }
 }
 
+/// Whether as many requests are open as may be.
+fn is_full(requests: &Requests) -> bool
+    ensures { result ≡ nat_le 1024 (length requests.now) }
+{
+    MOST_OPEN <= requests.len()
+}
+
 /// Serves a request that isn't open.
 fn serve_new(
     alloc: Global,
@@ -225,7 +232,7 @@ fn serve_new(
     let Some(registration) = registration_of(alloc, config, &request.message)? else {
         return Ok(Packets::none(alloc));
     };
-    if MOST_OPEN <= tables.requests.len() {
+    if is_full(&tables.requests) {
         return Ok(Packets::none(alloc));
     }
     let now = request.arrival.now;

@@ -1,7 +1,7 @@
 ghost use Rattle.std.specs.Prelude.{◌≡◌, ◌≤◌, IfOk};
 
-use crate::scripts::{CHALLENGE, LISTED, REGISTER, REGISTER_AGAIN};
-use sip_engine::{Boot, Engine, StepError, StepOut, Ticket};
+use crate::scripts::{CHALLENGE, LISTED, REGISTER, REGISTER_AGAIN, STALE_CHALLENGE};
+use sip_engine::{Binding, Boot, Engine, StepError, StepOut, Ticket};
 use sip_hops::Addr;
 use sip_loop::sample;
 use sip_text::Bytes;
@@ -66,6 +66,7 @@ fn is_same(left: &[u8], right: &[u8]) -> bool {
 /// Whether the answers to three datagrams are those of the worked example.
 fn is_registered(alloc: Global, engine: &mut Engine) -> Result<bool, StepError>
     requires { engine.old.state.moment ≤ 1000 }
+    ensures { IfOk result (λ _. engine.new.state.moment ≡ 3000) }
 {
     let challenged = answer(alloc, engine, 1_000, 1, REGISTER)?;
     let accepted = answer(alloc, engine, 2_000, 2, REGISTER_AGAIN)?;
@@ -77,11 +78,58 @@ fn is_registered(alloc: Global, engine: &mut Engine) -> Result<bool, StepError>
     )
 }
 
-/// A REGISTER is challenged and registers, and a copy gets its answer again.
+/// The moment at which the first timer that is due fired.
+fn fire_first(engine: &mut Engine, at: u64) -> Result<u64, StepError>
+    ensures { IfOk result (λ moment. engine.new.state.moment ≡ moment) }
+{
+    let out = engine.fire(at)?;
+    Ok(out.at)
+}
+
+/// Whether the transactions of the first two datagrams end 32 s after their answers, and the second
+/// one's bytes, sent once more, are then challenged as stale.
+fn is_stale_later(alloc: Global, engine: &mut Engine) -> Result<bool, StepError> {
+    let first = fire_first(engine, 34_000)?;
+    let second = fire_first(engine, 34_000)?;
+    if first != 33_000 {
+        return Ok(false);
+    }
+    if second != 34_000 {
+        return Ok(false);
+    }
+    let challenged = answer(alloc, engine, 40_000, 4, REGISTER_AGAIN)?;
+    Ok(is_same(challenged.as_slice(), STALE_CHALLENGE))
+}
+
+/// Whether a binding is the one that the second datagram made.
+fn is_made(binding: &Binding) -> bool {
+    is_same(binding.uri.as_slice(), b"sip:Mufasa@127.0.0.1:5062")
+        && is_same(binding.call_id.as_slice(), b"c1@127.0.0.1")
+        && binding.cseq == 2
+        && binding.expires_at == 3_602_000
+}
+
+/// Whether the user has that binding alone.
+fn is_bound(alloc: Global, engine: &Engine) -> Result<bool, AllocError> {
+    let aor = Aor {
+        user: Bytes::copy(alloc, b"Mufasa")?,
+        host: Bytes::copy(alloc, b"host.com")?,
+    };
+    match engine.bindings(&aor)?.as_slice() {
+        [binding] => Ok(is_made(binding)),
+        _ => Ok(false),
+    }
+}
+
+/// A REGISTER is challenged and registers, and a copy gets its answer again. Once the transaction has
+/// ended, the same bytes are challenged as stale, and the binding stays as it was.
 #[test]
 fn registered(rt: HostRuntime) -> Result<(), Fail> {
     let mut engine = opened(rt.alloc())?;
     assert!(rt; is_registered(rt.alloc(), &mut engine)?);
+    assert!(rt; is_bound(rt.alloc(), &engine)?);
+    assert!(rt; is_stale_later(rt.alloc(), &mut engine)?);
+    assert!(rt; is_bound(rt.alloc(), &engine)?);
     Ok(())
 }
 

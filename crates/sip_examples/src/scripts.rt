@@ -245,3 +245,16 @@ Contact: <sip:Mufasa@127.0.0.1:5062>;expires=3600\r\n\
 Content-Length: 0\r\n\
 \r\n\
 ";
+
+/// What the second is answered once its transaction has ended.
+pub const STALE_CHALLENGE: &[u8] = b"\
+SIP/2.0 401 Unauthorized\r\n\
+Via: SIP/2.0/UDP 127.0.0.1:5062;branch=z9hG4bKreg2\r\n\
+From: <sip:Mufasa@host.com>;tag=a1\r\n\
+To: <sip:Mufasa@host.com>;tag=0000000000000000.4\r\n\
+Call-ID: c1@127.0.0.1\r\n\
+CSeq: 2 REGISTER\r\n\
+WWW-Authenticate: Digest realm=\"testrealm@host.com\", nonce=\"00000000000000000000000000000004\", algorithm=MD5, qop=\"auth\", stale=true\r\n\
+Content-Length: 0\r\n\
+\r\n\
+";
