@@ -3,7 +3,7 @@ ghost use Rattle.sip_message.specs.Text.{text_of};
 ghost use Rattle.sip_edit.specs.Examples;
 ghost use Rattle.sip_edit.specs.Received.{response_address};
 ghost use Rattle.sip_edit.specs.ReceivedVia.{received_via};
-ghost use Rattle.sip_edit.specs.Reply.{reply_of};
+ghost use Rattle.sip_edit.specs.Reply.{answered_to, reply_of};
 
 /// A Via with `rport` whose sent-by is a name.
 pub fn rport_example()
@@ -22,6 +22,16 @@ pub fn address_example()
     ensures rport { response_address (Examples.with_via (codes "SIP/2.0/UDP pc.host.com:5062;rport")) Examples.client ≡ Examples.client }
     ensures sent_by { response_address (Examples.with_via (codes "SIP/2.0/UDP pc.host.com:5062")) Examples.client ≡ record Examples.client { port = 5062 } }
     ensures default { response_address (Examples.with_via (codes "SIP/2.0/UDP pc.host.com")) Examples.client ≡ record Examples.client { port = 5060 } }
+{}
+
+/// A To gets a tag, also where its URI has parameters, of which a `tag` is none of the To's; one with a tag, one that
+/// can't be read, and that of a 100 stay.
+#[tactic(auto, unfolding(sip_uri::specs::Reading::reading_of, sip_uri::specs::Reading::rest_of))]
+pub fn to_example()
+    ensures parameters { answered_to 200 (codes "t1") (codes "<sip:help@host.com;tag=x>") ≡ codes "<sip:help@host.com;tag=x>;tag=t1" }
+    ensures tagged { answered_to 200 (codes "t1") (codes "sip:help@host.com;tag=x") ≡ codes "sip:help@host.com;tag=x" }
+    ensures unreadable { answered_to 200 (codes "t1") (codes "<sip:help@host.com;lr;LR>") ≡ codes "<sip:help@host.com;lr;LR>" }
+    ensures trying { answered_to 100 (codes "t1") (codes "<sip:help@host.com>") ≡ codes "<sip:help@host.com>" }
 {}
 
 /// A 100 and a 200 to an INVITE whose To has a tag and which has no CSeq: the 100 alone has its Timestamp.

@@ -19,6 +19,7 @@ pub use challenges::challenge;
 pub use contacts::contact_value;
 pub use examples::{
     address_example, challenge_example, received_example, rport_example, timestamp_example,
+    to_example,
 };
 pub use extras_examples::{dotted_is_ip_text, extras_example};
 pub use onward_examples::{

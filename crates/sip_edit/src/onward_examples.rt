@@ -4,7 +4,7 @@ ghost use Rattle.sip_message.specs.declared.message.Start.TheVariants.{Request};
 ghost use Rattle.sip_message.specs.Text.{text_of};
 ghost use Rattle.sip_header.specs.RoutingExamples.{own};
 ghost use Rattle.sip_edit.specs.OwnVia.{branch_text, own_via_field, without_top_via};
-ghost use Rattle.sip_edit.specs.Onward.{onward_of, onward_uri};
+ghost use Rattle.sip_edit.specs.Onward.{onward_of, onward_uri, written_uri};
 ghost use Rattle.sip_edit.specs.OwnRequests.{ack_of, cancel_of};
 ghost use Rattle.sip_edit.specs.OnwardExamples;
 
@@ -34,9 +34,10 @@ pub fn ack_and_cancel_example()
 {}
 
 /// What changes of a request to its own Request-URI: this server's Route and the well-formed credentials for its realm
-/// go, and the scheme is in lower case. A Max-Forwards that isn't there comes last, and one that is stays in its place.
+/// go, and the scheme is in lower case, all else of the URI being kept. A Max-Forwards that isn't there comes last, and one that is stays in its place.
 pub fn onward_fields_example()
     ensures uri { onward_uri own (OnwardExamples.options []) ≡ codes "sip:a@far.net" }
+    ensures kept { written_uri (codes "SIP:9@Host.com;User=phone?a=") ≡ codes "sip:9@Host.com;User=phone?a=" }
     ensures request { onward_of own OnwardExamples.realm (codes "sip:a@far.net") (codes "z9hG4bK1") (OnwardExamples.options OnwardExamples.changing) ≡ record { start = Request (codes "OPTIONS") (codes "sip:a@far.net") (codes "SIP/2.0"); fields = own_via_field own (codes "z9hG4bK1") ∷ OnwardExamples.changed; body = codes "x" } }
     ensures hops { onward_of own OnwardExamples.realm (codes "sip:a@far.net") (codes "z9hG4bK1") (OnwardExamples.options (OnwardExamples.hops (codes "010"))) ≡ record { start = Request (codes "OPTIONS") (codes "sip:a@far.net") (codes "SIP/2.0"); fields = own_via_field own (codes "z9hG4bK1") ∷ OnwardExamples.hops (codes "9"); body = codes "x" } }
     ensures back { without_top_via (onward_of own OnwardExamples.realm (codes "sip:a@far.net") (codes "z9hG4bK1") (OnwardExamples.options OnwardExamples.changing)) ≡ record { start = Request (codes "OPTIONS") (codes "sip:a@far.net") (codes "SIP/2.0"); fields = OnwardExamples.changed; body = codes "x" } }

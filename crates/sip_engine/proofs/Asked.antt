@@ -6,7 +6,7 @@ use Rattle.sip_message.specs.declared.message.Message.{Message}
 use Rattle.sip_header.specs.declared.key.Key.{Key}
 use Rattle.sip_header.specs.Key.{key_of}
 use Rattle.sip_engine.specs.declared.config.Config.{Config}
-use Rattle.sip_engine.specs.declared.packet.Packet.{Packet}
+use Rattle.sip_model.specs.declared.packet.Packet.{Packet}
 use Rattle.sip_engine.specs.declared.registration.Registration.{Registration}
 use Rattle.sip_engine.specs.declared.tables.Tables.{Tables}
 use Rattle.sip_engine.specs.declared.tables.Arrival.{Arrival}

@@ -7,7 +7,7 @@ use Rattle.sip_message.specs.declared.field.Field.{Field}
 use Rattle.sip_message.specs.declared.message.Message.{Message}
 use Rattle.sip_header.specs.declared.key.Key.{Key}
 use Rattle.sip_engine.specs.declared.config.Config.{Config}
-use Rattle.sip_engine.specs.declared.packet.Packet.{Packet}
+use Rattle.sip_model.specs.declared.packet.Packet.{Packet}
 use Rattle.sip_engine.specs.declared.proof.Proof.{Proof}
 use Rattle.sip_engine.specs.declared.proof.Proof.TheVariants.{Right, Stale, Wrong}
 use Rattle.sip_engine.specs.declared.registration.Registration.{Registration}

@@ -9,7 +9,7 @@ use Rattle.sip_server.specs.declared.actions.Timer.TheVariants.{G, H, I, J, L}
 use Rattle.sip_server.specs.declared.server_other.ServerOther.{ServerOther}
 use Rattle.sip_server.specs.declared.server_other.ServerOther.TheVariants.{Trying, Proceeding, Completed, Terminated}
 use Rattle.sip_engine.specs.declared.timers.Timer.{Timer}
-use Rattle.sip_engine.specs.declared.packet.Packet.{Packet}
+use Rattle.sip_model.specs.declared.packet.Packet.{Packet}
 use Rattle.sip_engine.specs.declared.requests.OpenRequest.{OpenRequest}
 use Rattle.sip_engine.specs.declared.requests.Answered.{Answered}
 use Rattle.sip_engine.specs.declared.requests.Kept.{Kept}

@@ -18,7 +18,7 @@ use Rattle.sip_edit.specs.Reply.{reply_of}
 use Rattle.sip_edit.specs.Tags.{to_tag}
 use Rattle.sip_engine.specs.declared.config.Config.{Config}
 use Rattle.sip_engine.specs.declared.bindings.Binding.{Binding}
-use Rattle.sip_engine.specs.declared.packet.Packet.{Packet}
+use Rattle.sip_model.specs.declared.packet.Packet.{Packet}
 use Rattle.sip_engine.specs.declared.proof.Claim.{Claim}
 use Rattle.sip_engine.specs.declared.proof.Proof.{Proof}
 use Rattle.sip_engine.specs.declared.proof.Proof.TheVariants.{Right, Stale, Wrong}

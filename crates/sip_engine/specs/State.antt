@@ -2,10 +2,10 @@
 use Rattle.std.specs.Prelude.{ℕ, ◌≡◌, ◌+◌, ◌^◌, ◌<◌, ◌≤◌, nat_le, max, Bool, true, false, List, [], ◌∷◌, Option, Some, None, Result, Ok, Err, if◌then◌else◌}
 use Rattle.sip_hops.specs.declared.Addr.{Addr}
 use Rattle.sip_engine.specs.declared.config.Config.{Config}
-use Rattle.sip_engine.specs.declared.event.StepOut.{StepOut}
+use Rattle.sip_engine.specs.declared.step.StepOut.{StepOut}
 use Rattle.sip_engine.specs.declared.error.StepError.{StepError}
 use Rattle.sip_engine.specs.declared.error.StepError.TheVariants.{NoMemory, MomentTooLarge, Shut, Worn}
-use Rattle.sip_engine.specs.declared.packet.Packet.{Packet}
+use Rattle.sip_model.specs.declared.packet.Packet.{Packet}
 use Rattle.sip_engine.specs.declared.tables.Tables.{Tables}
 use Rattle.sip_engine.specs.declared.tables.Arrival.{Arrival}
 use Rattle.sip_engine.specs.Requests.{HasClosed, closing_before, closing_by}

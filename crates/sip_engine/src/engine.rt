@@ -10,13 +10,13 @@ ghost use Rattle.sip_engine.specs.declared.error.StepError.TheVariants.{NoMemory
 use crate::bindings::Bindings;
 use crate::config::Config;
 use crate::error::StepError;
-use crate::event::{Boot, StepOut};
-use crate::packet::{Packets, Ticket};
 use crate::requests::Requests;
 use crate::serving::take_datagram;
+use crate::step::StepOut;
 use crate::tables::{Arrival, Tables};
 use sip_digest::Nonces;
 use sip_hops::Addr;
+use sip_model::{Boot, Packets, Ticket};
 use sip_uri::Aor;
 use std::alloc::{AllocError, Global};
 use std::marker::Model;

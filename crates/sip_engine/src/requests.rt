@@ -2,10 +2,10 @@ ghost use Rattle.std.specs.Prelude.{◌≡◌, ◌≤◌, ◌<◌, ◌+◌, ◌^
 ghost use Rattle.std.specs.Option.{option_copied};
 ghost use Rattle.sip_engine.specs.Requests.{has_key, answer_packet, opened, IsNextDeadline, HasClosed, closing_by, packets_of, interval_of_j, IsNamed, is_timer_of, is_completed};
 
-use crate::packet::{Packet, Packets, Ticket};
 use crate::timers::{Timer, Timers};
 use sip_header::{Key, same_key};
 use sip_hops::Addr;
+use sip_model::{Packet, Packets, Ticket};
 use sip_server::{Action, ServerOther, ServerOtherInput};
 use sip_text::Bytes;
 use std::alloc::{AllocError, Global};

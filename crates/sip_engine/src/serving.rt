@@ -8,7 +8,6 @@ ghost use Rattle.sip_engine.specs.Serving.{answer_text, answered, challenge_fiel
 
 use crate::bindings::Binding;
 use crate::config::Config;
-use crate::packet::Packets;
 use crate::proof::{Claim, Proof, proof_of};
 use crate::registration::{Registration, registration_of};
 use crate::requests::{Answered, Requests};
@@ -17,6 +16,7 @@ use sip_digest::nonce_text;
 use sip_edit::{challenge, contact_value, received, respond, response_address, to_tag};
 use sip_header::{Key, key_of};
 use sip_message::{Field, FieldName, Fields, Message, ReadError, read, write};
+use sip_model::Packets;
 use sip_text::Bytes;
 use sip_uri::Aor;
 use std::alloc::{AllocError, Global};

@@ -76,3 +76,26 @@ fn values(rt: HostRuntime) -> Result<(), Fail> {
     assert!(rt; credentials.qop.is_none());
     Ok(())
 }
+
+fn count_of_uri_parameters(uri: &AnyUri) -> usize {
+    match uri {
+        AnyUri::Sip(uri) => uri.parameters.as_slice().len(),
+        AnyUri::Other(_) => 0,
+    }
+}
+
+#[test]
+fn routes(rt: HostRuntime) -> Result<(), Fail> {
+    let route = name_addr_of(
+        rt.alloc(),
+        FieldName::Route,
+        b"<sip:sip.host.com:5060;lr>;x=1",
+    )
+    .ok()
+    .ok_or("a Route")?;
+    assert_eq!(rt; route.parameters.as_slice().len(), 1);
+    assert_eq!(rt; count_of_uri_parameters(&route.uri), 1);
+    let bare = name_addr_of(rt.alloc(), FieldName::To, b"sip:bob@host.com?a=b");
+    assert!(rt; bare.is_err());
+    Ok(())
+}

@@ -7,3 +7,4 @@ pub mod NumberLaws
 pub mod PartLaws
 pub mod ParameterLaws
 pub mod CredentialLaws
+pub mod NameAddrLaws

@@ -60,6 +60,12 @@ pub record IsParted (mark : ℕ) (text : List ℕ) (parts : List (List ℕ)) : T
   pub uncut : AllByRecursion (λ part. split_outside mark part ≡ None) parts
   pub closed : AreClosed parts
 
+-- A text is cut at the first of a byte outside quoted text: that byte between a front and a rest, where the front has none and closes the quotes that it opens (RFC 3261 25.1).
+pub record IsCutAt (mark : ℕ) (text front rest : List ℕ) : Type 0 where
+  pub whole : text ≡ front ++ mark ∷ rest
+  pub uncut : split_outside mark front ≡ None
+  pub closed : quoting_behind Outside front ≡ Outside
+
 -- the parts of what follows a first part, if anything does
 abbrev pub parts_behind : ℕ → Option (List ℕ) → List (List ℕ)
 parts_behind mark None = []

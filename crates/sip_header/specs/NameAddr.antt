@@ -1,17 +1,19 @@
 -- Name-addr and addr-spec with header parameters, as From, To, Contact and Route have them (RFC 3261 20.10 and 25.1).
-use Rattle.std.specs.Prelude.{ℕ, Bool, true, false, not, ◌&&◌, ◌||◌, ◌==◌, nat_le, is_some, if◌then◌else◌, List, [], ◌∷◌, codes, Option, Some, None, option_map, Result, Ok, Err}
+use Rattle.std.specs.Prelude.{◌≡◌, ◌≢◌, ◌⊎◌, ℕ, Bool, true, false, not, ◌&&◌, ◌||◌, ◌==◌, nat_le, is_some, if◌then◌else◌, List, [], ◌∷◌, ◌++◌, codes, Option, Some, None, option_map, Result, Ok, Err}
 use Rattle.std.specs.Option.{option_and_then}
-use Rattle.std.specs.List.{list_all, list_any}
+use Rattle.std.specs.List.{AllByRecursion, AllZip, list_all, list_any}
 use Rattle.std.specs.Str.{byte}
-use Rattle.sip_text.specs.Words.{is_token_byte}
+use Rattle.sip_text.specs.Words.{is_token_byte, is_same_text}
 use Rattle.sip_text.specs.Lists.{is_blank, is_nil, trimmed}
 use Rattle.sip_text.specs.Escapes.{unquoted}
 use Rattle.sip_uri.specs.declared.uri.Uri.{Uri}
 use Rattle.sip_uri.specs.declared.error.UriError.{UriError}
 use Rattle.sip_uri.specs.declared.error.UriError.TheVariants as Fault
+use Rattle.sip_uri.specs.Scheme.{is_scheme_name}
+use Rattle.sip_uri.specs.Uri.{IsWritten}
 use Rattle.sip_uri.specs.Reading.{reading_of}
-use Rattle.sip_header.specs.Cuts.{split_outside, parts_at}
-use Rattle.sip_header.specs.Parameters.{parameters_in}
+use Rattle.sip_header.specs.Cuts.{split_outside, parts_at, IsCutAt, IsParted}
+use Rattle.sip_header.specs.Parameters.{parameters_in, IsParameter}
 use Rattle.sip_header.specs.declared.parameters.Parameter.{Parameter}
 use Rattle.sip_header.specs.declared.name_addr.AnyUri.{AnyUri}
 use Rattle.sip_header.specs.declared.name_addr.AnyUri.TheVariants.{Sip, Other}
@@ -81,3 +83,53 @@ name_addr_by text (Some x) = if is_display x.0 then bracketed_by (split_outside 
 -- a display name, which isn't kept, `<`, a URI, `>` and parameters; or a URI without brackets and parameters
 abbrev pub name_addr_of : List ℕ → Option NameAddr
 name_addr_of value = name_addr_by value (split_outside (byte "<") value)
+
+-- ---- what a value writes
+
+-- A text is a URI of another scheme: the name of a scheme other than `sip` and `sips` in any case, `:`, and one or more bytes that a URI may have (RFC 3261 25.1: absoluteURI).
+pub record IsOtherUri (text : List ℕ) : Type 0 where
+  pub scheme : List ℕ
+  pub rest : List ℕ
+  pub whole : text ≡ scheme ++ byte ":" ∷ rest
+  pub is_name : is_scheme_name scheme ≡ true
+  pub not_sip : is_same_text scheme (codes "sip") ≡ false
+  pub not_sips : is_same_text scheme (codes "sips") ≡ false
+  pub more : rest ≢ []
+  pub are_opaque : AllByRecursion (λ b. is_opaque_byte b ≡ true) rest
+
+-- A text writes a URI of any scheme: one of SIP by its grammar, another as it is (RFC 3261 25.1: addr-spec).
+abbrev pub IsAnyUri : List ℕ → AnyUri → Type 0
+IsAnyUri text (Sip uri) = IsWritten text uri
+IsAnyUri text (Other kept) = IsOtherUri text × (kept ≡ text)
+
+-- A value writes an address in brackets (RFC 3261 20.10 and 25.1: name-addr): a display name, `<`, a URI and `>`, both cut outside quoted text,
+-- and behind them parts at `;`, of which the first is blank and each other writes a parameter. Blanks round the URI are read, too (this project's profile).
+pub record IsBracketed (value : List ℕ) (address : NameAddr) : Type 0 where
+  pub display : List ℕ
+  pub rest : List ℕ
+  pub inner : List ℕ
+  pub behind : List ℕ
+  pub gap : List ℕ
+  pub texts : List (List ℕ)
+  pub begins : IsCutAt (byte "<") value display rest
+  pub is_display_name : is_display display ≡ true
+  pub ends : IsCutAt (byte ">") rest inner behind
+  pub is_uri : IsAnyUri (trimmed inner) address.uri
+  pub parted : IsParted (byte ";") behind (gap ∷ texts)
+  pub blank : AllByRecursion (λ b. is_blank b ≡ true) gap
+  pub are_parameters : AllZip IsParameter texts address.parameters
+
+-- A value writes an address without brackets (RFC 3261 20.10 and 25.1: addr-spec): it has no `<` outside quoted text, and parts at `;`,
+-- of which the first is a URI without `?` and `,`, blanks round it, and each other writes a parameter.
+pub record IsBare (value : List ℕ) (address : NameAddr) : Type 0 where
+  pub first : List ℕ
+  pub texts : List (List ℕ)
+  pub no_bracket : split_outside (byte "<") value ≡ None
+  pub parted : IsParted (byte ";") value (first ∷ texts)
+  pub plain : AllByRecursion (λ b. (b ≢ byte "?") × (b ≢ byte ",")) first
+  pub is_uri : IsAnyUri (trimmed first) address.uri
+  pub are_parameters : AllZip IsParameter texts address.parameters
+
+-- A value writes an address, in brackets or without (RFC 3261 20.10 and 25.1: name-addr, addr-spec).
+abbrev pub IsNameAddr : List ℕ → NameAddr → Type 0
+IsNameAddr value address = IsBracketed value address ⊎ IsBare value address

@@ -25,6 +25,10 @@ uri_at host port = record { scheme = Scheme.Sip; userinfo = None; host = host; p
 abbrev pub contact_with : Parameter → ContactItem
 contact_with parameter = Address (record { uri = Sip (uri_at (codes "host.com") None); parameters = parameter ∷ [] })
 
+-- an address without header parameters
+abbrev pub contact_to : Uri → ContactItem
+contact_to uri = Address (record { uri = Sip uri; parameters = [] })
+
 -- fields of one name
 abbrev pub fields_of : FieldName → List (List ℕ) → List Field
 fields_of name values = map (λ value. record { name = name; value = value }) values

@@ -10,7 +10,7 @@ ghost use Rattle.sip_header.specs.CoreFields.{core_of};
 ghost use Rattle.sip_header.specs.Examples.{address_with, tag_a1, register_with, register_numbered};
 
 /// The core fields of a REGISTER; without CSeq, and with a number of 2^31.
-#[tactic(auto, unfolding(sip_uri::specs::Reading::reading_of, sip_uri::specs::Reading::plain_of, crate::specs::CoreFields::core_in))]
+#[tactic(auto, unfolding(sip_uri::specs::Reading::reading_of, sip_uri::specs::Reading::rest_of, crate::specs::CoreFields::core_in))]
 pub fn core_fields_example()
     ensures read { core_of (register_numbered (codes "1 REGISTER")) ≡ Ok (record { from = address_with (tag_a1 ∷ []); to = address_with []; call_id = codes "c1@127.0.0.1"; cseq = record { number = 1; method = codes "REGISTER" } }) }
     ensures tags { (tag_of (tag_a1 ∷ []) ≡ Some (codes "a1")) × (tag_of [] ≡ None) }

@@ -9,6 +9,11 @@ ghost use Rattle.sip_header.specs.Credentials.{IsCredentials, credentials_of};
 ghost use Rattle.sip_header.specs.declared.credentials.Credentials.{Credentials};
 ghost use Rattle.sip_header.specs.CSeq.{IsCSeq, cseq_of};
 ghost use Rattle.sip_header.specs.declared.cseq.CSeq.{CSeq};
+ghost use Rattle.sip_header.specs.NameAddr.{IsNameAddr, name_addr_of};
+ghost use Rattle.sip_header.specs.declared.name_addr.NameAddr.{NameAddr};
+ghost use Rattle.sip_header.specs.ContactItem.{IsContact, contact_of};
+ghost use Rattle.sip_header.specs.declared.contact_item.ContactItem.{ContactItem};
+ghost use Rattle.sip_header.specs.Route.{IsRoute, route_of};
 
 /// A value is read as a CSeq exactly where it writes that: digits, one or more blanks, a token (RFC 3261 20.16).
 #[tactic(auto, using(crate::proofs::NumberLaws::read_back, crate::proofs::NumberLaws::is_written))]
@@ -39,4 +44,22 @@ pub fn via_law()
 pub fn credentials_law()
     ensures read { (value : List ℕ) (credentials : Credentials) → IsCredentials value credentials → credentials_of value ≡ Some credentials }
     ensures written { (value : List ℕ) (credentials : Credentials) → credentials_of value ≡ Some credentials → IsCredentials value credentials }
+{}
+
+/// A value is read as an address exactly where it writes that, in brackets or without (RFC 3261 20.10).
+pub fn name_addr_law()
+    ensures read { (value : List ℕ) (address : NameAddr) → IsNameAddr value address → name_addr_of value ≡ Some address }
+    ensures written { (value : List ℕ) (address : NameAddr) → name_addr_of value ≡ Some address → IsNameAddr value address }
+{}
+
+/// A value is read as an item of Contact exactly where it writes that (RFC 3261 20.10).
+pub fn contact_law()
+    ensures read { (value : List ℕ) (item : ContactItem) → IsContact value item → contact_of value ≡ Some item }
+    ensures written { (value : List ℕ) (item : ContactItem) → contact_of value ≡ Some item → IsContact value item }
+{}
+
+/// A value is read as an item of Route or Record-Route exactly where it writes an address in brackets (RFC 3261 20.30, 20.34).
+pub fn route_law()
+    ensures read { (value : List ℕ) (address : NameAddr) → IsRoute value address → route_of value ≡ Some address }
+    ensures written { (value : List ℕ) (address : NameAddr) → route_of value ≡ Some address → IsRoute value address }
 {}

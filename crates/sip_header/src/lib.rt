@@ -34,7 +34,10 @@ pub use examples::{
 };
 pub use expires::Expires;
 pub use key::{Key, key_of, same_key};
-pub use laws::{credentials_law, cseq_law, parameters_law, parts_law, via_law};
+pub use laws::{
+    contact_law, credentials_law, cseq_law, name_addr_law, parameters_law, parts_law, route_law,
+    via_law,
+};
 pub use max_forwards::MaxForwards;
 pub use name_addr::{AnyUri, NameAddr, name_addr_of};
 pub use own::{Domains, Own};
@@ -42,7 +45,7 @@ pub use parameters::{Parameter, Parameters};
 pub use prepared::{Prepared, Routes};
 pub use routing_examples::{
     contact_example, expires_example, max_forwards_example, own_place_example, prepared_example,
-    record_route_example,
+    record_route_example, restored_example,
 };
 pub use values::{count_of, first_value};
 pub use via::{Via, via_of};

@@ -8,14 +8,18 @@ ghost use Rattle.sip_header.specs.ContactItem.{contact_of};
 ghost use Rattle.sip_header.specs.MaxForwards.{max_forwards_of};
 ghost use Rattle.sip_header.specs.Expires.{expires_of, contact_expires};
 ghost use Rattle.sip_header.specs.Own.{is_own_place, record_route_uri};
-ghost use Rattle.sip_header.specs.Prepared.{is_record_route, last_route, with_last_route, prepared_of};
+ghost use Rattle.sip_header.specs.Prepared.{is_record_route, prepared_of};
 ghost use Rattle.sip_header.specs.RoutingExamples;
 
-/// `*`, an address with a parameter, and what is neither.
-#[tactic(auto, unfolding(sip_uri::specs::Reading::reading_of, sip_uri::specs::Reading::plain_of))]
+/// `*`, an address with a parameter, and what is neither. In brackets parameters and headers are the URI's; without them a `;` begins parameters of the field,
+/// and no `?` may stand.
+#[tactic(auto, unfolding(sip_uri::specs::Reading::reading_of, sip_uri::specs::Reading::rest_of))]
 pub fn contact_example()
     ensures star { contact_of (codes "*") ≡ Some Star }
     ensures address { contact_of (codes "<sip:host.com>;expires=60") ≡ Some (RoutingExamples.contact_with (record { name = codes "expires"; value = Some (codes "60") })) }
+    ensures of_uri { contact_of (codes "<sip:host.com;expires=60?a=>") ≡ Some (RoutingExamples.contact_to (record (RoutingExamples.uri_at (codes "host.com") None) { parameters = record { name = codes "expires"; value = Some (codes "60") } ∷ []; headers = record { name = codes "a"; value = [] } ∷ [] })) }
+    ensures bare { contact_of (codes "sip:host.com;expires=60") ≡ Some (RoutingExamples.contact_with (record { name = codes "expires"; value = Some (codes "60") })) }
+    ensures bare_headers { contact_of (codes "sip:host.com?a=") ≡ None }
     ensures star_with_parameter { contact_of (codes "*;expires=0") ≡ None }
 {}
 
@@ -60,12 +64,22 @@ pub fn record_route_example()
     ensures no_port { is_record_route RoutingExamples.own (record (record_route_uri RoutingExamples.own) { port = None }) ≡ false }
 {}
 
-/// A first Route that names this server is taken off, and a second one isn't; one behind another place stays, and so does one of another scheme. What a strict
-/// router put last comes back into the Request-URI, with its scheme in lower case.
-#[tactic(auto, unfolding(sip_uri::specs::Reading::reading_of, sip_uri::specs::Reading::plain_of))]
+/// A first Route that names this server is taken off, and a second one isn't; one behind another place stays, and so does one of another scheme.
+#[tactic(auto, unfolding(sip_uri::specs::Reading::reading_of, sip_uri::specs::Reading::rest_of))]
 pub fn prepared_example()
     ensures first { prepared_of RoutingExamples.own (RoutingExamples.invite_by (codes "sip:a@far.net") (codes "<sips:x@host.com>" ∷ codes "<sip:sip.host.com:5060>" ∷ [])) ≡ record { uri = codes "sip:a@far.net"; routes = codes "<sip:sip.host.com:5060>" ∷ [] } }
     ensures behind { prepared_of RoutingExamples.own (RoutingExamples.invite_by (codes "sip:a@far.net") (codes "<sip:far.net>" ∷ codes "<sip:host.com>" ∷ [])) ≡ record { uri = codes "sip:a@far.net"; routes = codes "<sip:far.net>" ∷ codes "<sip:host.com>" ∷ [] } }
     ensures other_scheme { prepared_of RoutingExamples.own (RoutingExamples.invite_by (codes "tel:+1") (codes "<x:host.com>" ∷ [])) ≡ record { uri = codes "tel:+1"; routes = codes "<x:host.com>" ∷ [] } }
-    ensures last { with_last_route (last_route (RoutingExamples.fields_of Name.Route (codes "<sip:far.net>" ∷ codes "\"B\" <SIP:b@far.net>" ∷ []))) (record { uri = codes "sip:sip.host.com:5060;lr"; fields = RoutingExamples.fields_of Name.Route (codes "<sip:far.net>" ∷ codes "\"B\" <SIP:b@far.net>" ∷ []) }) ≡ record { uri = codes "sip:b@far.net"; fields = RoutingExamples.fields_of Name.Route (codes "<sip:far.net>" ∷ []) } }
+{}
+
+/// Where a strict router put this server's own Record-Route into the Request-URI, the last Route comes back there, with its scheme in lower case; then a first
+/// Route of this server is taken off. Without a Route the Request-URI stays, and so it does without `lr`. This server's own Record-Route is taken off Route.
+#[tactic(auto, unfolding(sip_uri::specs::Reading::reading_of, sip_uri::specs::Reading::rest_of))]
+pub fn restored_example()
+    ensures last { prepared_of RoutingExamples.own (RoutingExamples.invite_by (codes "sip:sip.host.com:5060;lr") (codes "<sip:far.net;lr>" ∷ codes "\"B\" <SIP:b@far.net;user=phone>" ∷ [])) ≡ record { uri = codes "sip:b@far.net;user=phone"; routes = codes "<sip:far.net;lr>" ∷ [] } }
+    ensures only { prepared_of RoutingExamples.own (RoutingExamples.invite_by (codes "sip:sip.host.com:5060;lr") (codes "<sip:help@host.com>" ∷ [])) ≡ record { uri = codes "sip:help@host.com"; routes = [] } }
+    ensures own_and_last { prepared_of RoutingExamples.own (RoutingExamples.invite_by (codes "sip:sip.host.com:5060;lr") (codes "<sip:host.com;lr>" ∷ codes "<sip:a@far.net>" ∷ [])) ≡ record { uri = codes "sip:a@far.net"; routes = [] } }
+    ensures no_route { prepared_of RoutingExamples.own (RoutingExamples.invite_by (codes "sip:sip.host.com:5060;lr") []) ≡ record { uri = codes "sip:sip.host.com:5060;lr"; routes = [] } }
+    ensures no_lr { prepared_of RoutingExamples.own (RoutingExamples.invite_by (codes "sip:sip.host.com:5060") (codes "<sip:a@far.net>" ∷ [])) ≡ record { uri = codes "sip:sip.host.com:5060"; routes = codes "<sip:a@far.net>" ∷ [] } }
+    ensures own_route { prepared_of RoutingExamples.own (RoutingExamples.invite_by (codes "sip:a@far.net") (codes "<sip:sip.host.com:5060;lr>" ∷ codes "<sip:far.net;lr>" ∷ [])) ≡ record { uri = codes "sip:a@far.net"; routes = codes "<sip:far.net;lr>" ∷ [] } }
 {}

@@ -3,8 +3,8 @@ use Rattle.std.specs.Prelude.{ℕ, Bool, true, false, List, ◌++◌, length, de
 use Rattle.std.specs.List.{flat_map}
 use Rattle.sip_hops.specs.Addresses.{ip_text}
 use Rattle.sip_hops.specs.declared.addr.Addr.{Addr}
-use Rattle.sip_engine.specs.declared.packet.Packet.{Packet}
-use Rattle.sip_engine.specs.declared.event.StepOut.{StepOut}
+use Rattle.sip_model.specs.declared.packet.Packet.{Packet}
+use Rattle.sip_engine.specs.declared.step.StepOut.{StepOut}
 
 -- IP:PORT
 abbrev pub addr_text : Addr → List ℕ

@@ -2,8 +2,8 @@
 use Rattle.std.specs.Prelude.{◌≡◌, ℕ, max, false, List, [], ◌∷◌, ◌++◌, Option, IfSome}
 use Rattle.std.specs.Io.KnownBytes.{Appends}
 use Rattle.sip_engine.specs.declared.config.Config.{Config}
-use Rattle.sip_engine.specs.declared.event.Event.{Event}
-use Rattle.sip_engine.specs.declared.event.StepOut.{StepOut}
+use Rattle.sip_model.specs.declared.event.Event.{Event}
+use Rattle.sip_engine.specs.declared.step.StepOut.{StepOut}
 use Rattle.sip_engine.specs.State.{Server, NothingDueBy, IsFiring}
 use Rattle.sip_loop.specs.Print.{step_text}
 use Rattle.sip_loop.specs.Steps.{at_of_event, IsOwnStep}

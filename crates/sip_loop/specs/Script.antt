@@ -2,9 +2,9 @@
 use Rattle.std.specs.Prelude.{ℕ, ◌^◌, ◌==◌, ◌&&◌, nat_lt, Option, Some, None, List, [], ◌∷◌, length, slice_index, drop, codes, if◌then◌else◌}
 use Rattle.std.specs.Str.{bytes_eq}
 use Rattle.sip_hops.specs.declared.addr.Addr.{Addr}
-use Rattle.sip_engine.specs.declared.packet.Ticket.{Ticket}
-use Rattle.sip_engine.specs.declared.event.Event.{Event}
-use Rattle.sip_engine.specs.declared.event.Event.TheVariants.{Datagram, Time, Fault}
+use Rattle.sip_model.specs.declared.packet.Ticket.{Ticket}
+use Rattle.sip_model.specs.declared.event.Event.{Event}
+use Rattle.sip_model.specs.declared.event.Event.TheVariants.{Datagram, Time, Fault}
 use Rattle.sip_loop.specs.declared.script.DatagramHead.{DatagramHead}
 use Rattle.sip_loop.specs.declared.script.Line.{Line}
 use Rattle.sip_loop.specs.declared.script.Line.TheVariants.{Head, Whole}

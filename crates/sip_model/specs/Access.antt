@@ -1,5 +1,5 @@
 -- The law of whole runs: who was sent what, which bindings changed, and which rule denied.
-use Rattle.std.specs.Prelude.{◌≡◌, ◌⊎◌, ℕ, ◌==◌, true, false, not, if◌then◌else◌, List, [], ◌∷◌, filter, find, codes, Contains, Option, Some, None, Ok}
+use Rattle.std.specs.Prelude.{◌≡◌, ℕ, ◌==◌, Bool, true, false, not, if◌then◌else◌, List, [], ◌∷◌, filter, find, codes, Contains, Option, Some, None, Ok}
 use Rattle.std.specs.List.{AllByRecursion, flat_map}
 use Rattle.std.specs.Str.{bytes_eq}
 use Rattle.sip_message.specs.declared.field.Field.{Field}
@@ -13,14 +13,17 @@ use Rattle.sip_header.specs.Key.{key_of}
 use Rattle.sip_header.specs.CoreFields.{core_of}
 use Rattle.sip_hops.specs.declared.addr.Addr.{Addr}
 use Rattle.sip_edit.specs.Extras.{denial_warning}
-use Rattle.sip_edit.specs.OwnRequests.{cancel_of, ack_of}
+use Rattle.sip_edit.specs.Onward.{onward_uri}
+use Rattle.sip_edit.specs.OwnRequests.{cancel_of}
 use Rattle.sip_edit.specs.OwnVia.{without_top_via}
 use Rattle.sip_policy.specs.declared.decision.Decision.{Decision}
+use Rattle.sip_policy.specs.Operation.{operation_of}
 use Rattle.sip_location.specs.declared.binding.Binding.{Binding}
 use Rattle.sip_targets.specs.declared.target.Target.{Target}
+use Rattle.sip_targets.specs.declared.targets.Targets.{Targets}
 use Rattle.sip_targets.specs.Targets.{target_list}
 use Rattle.sip_validate.specs.Refusal.{refusal_of}
-use Rattle.sip_best.specs.Best.{taking_along}
+use Rattle.sip_best.specs.Best.{is_challenge_field, taking_along}
 use Rattle.sip_dialog.specs.declared.dialog.DialogId.{DialogId}
 use Rattle.sip_dialog.specs.Dialogs.{IsInDialog}
 use Rattle.sip_model.specs.declared.packet.Packet.{Packet}
@@ -28,13 +31,13 @@ use Rattle.sip_model.specs.declared.event.StepOut.{StepOut}
 use Rattle.sip_model.specs.declared.event.Event.TheVariants.{Datagram, Time, Fault}
 use Rattle.sip_model.specs.Server.{Server}
 use Rattle.sip_model.specs.Registering.{to_aor}
-use Rattle.sip_model.specs.State.{ProxyState, OpenRequest, Branch, has_key}
-use Rattle.sip_model.specs.Sending.{made_answer, answer_packet, branch_packets, request_of, dialog_of}
-use Rattle.sip_model.specs.Verdict.{Arrival, Bound, is_full, is_register, is_outside, question_of, answer_of, request_targets, registration_by, next_address, message_in}
-use Rattle.sip_model.specs.Effect.{arriving, branches_from, contact_fields}
+use Rattle.sip_model.specs.State.{ProxyState, OpenRequest, Branch, is_invite, has_key}
+use Rattle.sip_model.specs.Sending.{made_answer, answer_packet, answer_to, to_branch, ack_packets, branch_packets, onward_as, request_of, dialog_of, is_failure}
+use Rattle.sip_model.specs.Verdict.{Arrival, Bound, Refused, has_contact, is_full, is_register, is_outside, question_of, answer_of, request_targets, registration_by, next_address, responding, message_in}
+use Rattle.sip_model.specs.Effect.{arriving, branches_from, contact_fields, challenge_status, challenge_field, method_of}
 use Rattle.sip_model.specs.Step.{Act, Given, Passing, originals, arrival_of}
 use Rattle.sip_model.specs.Run.{Link}
-use Rattle.sip_model.specs.Bindings.{bindings_after}
+use Rattle.sip_model.specs.Bindings.{Arrived, bindings_after}
 
 -- ---- a valid new request outside a dialog
 
@@ -59,11 +62,16 @@ pub record IsNewRequest (server : Server) (state : ProxyState) (bytes : List ℕ
 abbrev pub decision_on : Server → ProxyState → ℕ → Message → List ℕ → CoreFields → Decision
 decision_on server state now m method core = answer_of server (question_of server state.nonces now m method core)
 
+-- where the first matching rule lets it go, over some bindings
+abbrev pub targets_given : Server → List Binding → ProxyState → ℕ → Message → List ℕ → CoreFields → Targets
+targets_given server rows state now m method core =
+    request_targets server rows now m (question_of server state.nonces now m method core) (decision_on server state now m method core)
+
 -- the targets that the first matching rule gives it over some bindings: none at a challenge, a denial, a 404 or a 480, and none of a REGISTER
 abbrev pub targets_on : Server → List Binding → ProxyState → ℕ → Message → List ℕ → CoreFields → List Target
 targets_on server rows state now m method core =
     if is_register method then []
-    else target_list (request_targets server rows now m (question_of server state.nonces now m method core) (decision_on server state now m method core))
+    else target_list (targets_given server rows state now m method core)
 
 -- the request to each target that has an address, in the order of the targets
 abbrev pub requests_to : Server → Arrival → Message → List Target → List Packet
@@ -80,16 +88,37 @@ rule_of (Decision.Via id hop) = Some id
 rule_of (Decision.Deny id) = None
 rule_of Decision.Challenge = None
 
+-- a datagram says a REGISTER that is valid and new, and that a rule lets through
+pub record IsAllowedRegister (server : Server) (state : ProxyState) (a : Arrival) (bytes : List ℕ) (r : Arrived) : Type 0 where
+  pub m : Message
+  pub method : List ℕ
+  pub core : CoreFields
+  pub id : ℕ
+  pub is_new : IsNewRequest server state bytes m method core
+  pub registers : is_register method ≡ true
+  pub is_let_through : rule_of (decision_on server state a.now m method core) ≡ Some id
+  pub is_it : r ≡ record { at = a.now; request = m }
+
 -- the one answer of a request that is answered at once
 abbrev pub answer_alone : Server → Arrival → Message → ℕ → List Field → List Packet
 answer_alone server a m status extras = answer_packet false a.number m a.from (text_of (made_answer server a.number m a.from status extras)) ∷ []
 
 -- What becomes of it, over the bindings that its history gives: it was sent to exactly its targets; a REGISTER that was let through and made bindings got the 200 that lists those that
--- live then; a request that was denied got the 403 whose Warning names the rule, and nothing else was sent.
+-- live then, and one that the registrar refuses its status; without a user it got 404, without a live binding 480; a request that was challenged got the challenge alone, and one that
+-- was denied the 403 whose Warning names the rule.
 pub record IsServed (server : Server) (rows : List Binding) (state : ProxyState) (a : Arrival) (m : Message) (method : List ℕ) (core : CoreFields) (out : StepOut) : Type 0 where
   pub reaches : branch_originals out.packets ≡ requests_to server a m (targets_on server rows state a.now m method core)
   pub lists : (id : ℕ) (after : List Binding) → is_register method ≡ true → rule_of (decision_on server state a.now m method core) ≡ Some id
       → registration_by server rows a.now m core ≡ Bound after → originals out.packets ≡ answer_alone server a m 200 (contact_fields a.now (to_aor core) after)
+  pub refuses : (id status : ℕ) (extras : List Field) → is_register method ≡ true → rule_of (decision_on server state a.now m method core) ≡ Some id
+      → registration_by server rows a.now m core ≡ Refused status extras → originals out.packets ≡ answer_alone server a m status extras
+  pub finds_nobody : (id : ℕ) → is_register method ≡ false → rule_of (decision_on server state a.now m method core) ≡ Some id
+      → targets_given server rows state a.now m method core ≡ Targets.NotFound → originals out.packets ≡ answer_alone server a m 404 []
+  pub finds_no_binding : (id : ℕ) → is_register method ≡ false → rule_of (decision_on server state a.now m method core) ≡ Some id
+      → targets_given server rows state a.now m method core ≡ Targets.Unavailable → originals out.packets ≡ answer_alone server a m 480 []
+  pub challenges : decision_on server state a.now m method core ≡ Decision.Challenge
+      → originals out.packets
+      ≡ answer_alone server a m (challenge_status (operation_of method (has_contact m.fields))) (challenge_field server a (question_of server state.nonces a.now m method core) ∷ [])
   pub denies : (id : ℕ) → decision_on server state a.now m method core ≡ Decision.Deny id → originals out.packets ≡ answer_alone server a m 403 (denial_warning server.own id ∷ [])
 
 -- the same of a step: where it is taken for such a request
@@ -103,69 +132,103 @@ Serves server rows state (Passing at) out = Unit {0}
 -- ---- what else is sent
 
 -- a step is taken for a datagram that says a message, of whose body fewer bytes may have come than its length says
-pub record IsSaidAt (state : ProxyState) (act : Act) (a : Arrival) (bytes : List ℕ) (m : Message) : Type 0 where
+pub record IsSaidAt (state : ProxyState) (act : Act) (a : Arrival) (bytes : List ℕ) (m : Message) (short : Bool) : Type 0 where
   pub at : ℕ
   pub word : ℕ
   pub from : Addr
   pub is_act : act ≡ Given (Datagram at word from bytes)
   pub is_arrival : a ≡ arrival_of state at word from
-  pub says : (message_in (reading_of bytes) ≡ Some (m, false)) ⊎ (message_in (reading_of bytes) ≡ Some (m, true))
+  pub says : message_in (reading_of bytes) ≡ Some (m, short)
 
--- a response came in a datagram of a history
-pub record CameIn (history : List Link) (m : Message) : Type 0 where
+-- A response came in a datagram of a history, for a branch to a target of the request of a number, which was open then: its top Via is the one that this server put on that branch's
+-- request, and its CSeq has the request's method (RFC 3261 17.1.3). Nobody looks at the address that it came from.
+pub record CameFor (server : Server) (history : List Link) (number status : ℕ) (response : Message) : Type 0 where
   pub link : Link
   pub a : Arrival
   pub bytes : List ℕ
-  pub code : ℕ
   pub reason : List ℕ
+  pub request : OpenRequest
+  pub branch : Branch
   pub is_there : Contains history link
-  pub is_said : IsSaidAt link.before link.act a bytes m
-  pub is_response : m.start ≡ Status code reason
+  pub is_said : IsSaidAt link.before link.act a bytes response false
+  pub is_response : response.start ≡ Status status reason
+  pub is_for : responding server link.before.requests response.fields ≡ Some (request, branch)
+  pub is_number : request.number ≡ number
+  pub is_target : branch.is_cancel ≡ false
 
--- A request is open in a step: it was before, or the step's datagram brings it. One that is answered at once is open in its own step.
+-- a challenge of an answer to the same request
+pub record IsTakenAlong (server : Server) (history : List Link) (number : ℕ) (field : Field) : Type 0 where
+  pub status : ℕ
+  pub response : Message
+  pub came : CameFor server history number status response
+  pub is_challenge : is_challenge_field field ≡ true
+  pub is_there : Contains response.fields field
+
+-- A request is answered here in a step: it is open, or the step's datagram brings it, new and no ACK. One that is answered at once is open in its own step.
 pub data IsOpen (state : ProxyState) (act : Act) : ℕ → Message → Addr → Type 0 where
   Before : (r : OpenRequest) → Contains state.requests r → IsOpen state act r.number r.request r.source
-  Brought : (a : Arrival) (bytes : List ℕ) (m : Message) → IsSaidAt state act a bytes m → IsOpen state act a.number m a.from
+  Brought : (a : Arrival) (bytes : List ℕ) (m : Message) (short : Bool) (key : Key) → IsSaidAt state act a bytes m short → key_of m ≡ Some key
+      → find (has_key key) state.requests ≡ None → bytes_eq (method_of m.start) (codes "ACK") ≡ false → IsOpen state act a.number m a.from
 
--- the step denies a request by the rule of a number
-pub record IsDenied (server : Server) (state : ProxyState) (act : Act) (id : ℕ) : Type 0 where
+-- the step denies this request, by the rule that these fields name
+pub record IsDenied (server : Server) (state : ProxyState) (act : Act) (number : ℕ) (m : Message) (extras : List Field) : Type 0 where
   pub a : Arrival
   pub bytes : List ℕ
-  pub m : Message
   pub method : List ℕ
   pub core : CoreFields
-  pub is_said : IsSaidAt state act a bytes m
+  pub id : ℕ
+  pub is_said : IsSaidAt state act a bytes m false
+  pub is_number : a.number ≡ number
   pub is_new : IsNewRequest server state bytes m method core
   pub denial : decision_on server state a.now m method core ≡ Decision.Deny id
+  pub names_rule : extras ≡ denial_warning server.own id ∷ []
 
--- An answer to a request: one that is made here, which is a 403 only as a denial whose rule its Warning names; or one that came from a branch, without its top Via, and with the
--- challenges that it takes along.
-pub data IsAnswer (server : Server) (history : List Link) (state : ProxyState) (act : Act) (number : ℕ) (m : Message) (from : Addr) : Message → Type 0 where
-  Made : (status : ℕ) (extras : List Field) → ((status ≡ 403) → (id : ℕ) × IsDenied server state act id × (extras ≡ denial_warning server.own id ∷ []))
-      → IsAnswer server history state act number m from (made_answer server number m from status extras)
-  Came : (response : Message) (challenges : List Field) → CameIn history response
-      → IsAnswer server history state act number m from (taking_along (without_top_via response) challenges)
+-- A step is taken for a request of a known dialog, or an ACK of one, that passes every check; neither REGISTER nor CANCEL. It is to go to an address that the dialog holds.
+pub record IsWithin (server : Server) (state : ProxyState) (act : Act) (a : Arrival) (m : Message) (address : Addr) : Type 0 where
+  pub bytes : List ℕ
+  pub method : List ℕ
+  pub uri : List ℕ
+  pub version : List ℕ
+  pub id : DialogId
+  pub is_said : IsSaidAt state act a bytes m false
+  pub is_request : m.start ≡ Request method uri version
+  pub is_no_register : is_register method ≡ false
+  pub is_no_cancel : bytes_eq method (codes "CANCEL") ≡ false
+  pub is_valid : refusal_of server.own m false ≡ None
+  pub dialog_is : dialog_of m ≡ Some id
+  pub address_is : next_address server m ≡ Some address
+  pub is_known : IsInDialog a.now state.dialogs id address
 
--- What may be sent for the first time in a step: the request to a target of a valid new request outside a dialog; an answer to an open request at its response address; an ACK or a
--- CANCEL at the address of a branch; or a request or an ACK of a known dialog, to an address that the dialog holds.
+-- What may be sent for the first time in a step:
+-- the request to a target of a valid new request outside a dialog;
+-- an answer that is made here to an open request, at its response address: a 403 only as a denial whose rule its Warning names;
+-- an answer that came for a branch of an open request, to that request's response address, without its top Via and with the challenges that it takes along;
+-- the ACK of such an answer of 300 to 699 to an INVITE, and the CANCEL of a branch, at the address of the branch;
+-- a request or an ACK of a known dialog, as it goes onward, to the address that the dialog holds.
 pub data IsOwed (server : Server) (history : List Link) (state : ProxyState) (act : Act) (rows : List Binding) (p : Packet) : Type 0 where
-  ToTarget : (a : Arrival) (bytes : List ℕ) (m : Message) (method : List ℕ) (core : CoreFields) → IsSaidAt state act a bytes m → IsNewRequest server state bytes m method core
+  ToTarget : (a : Arrival) (bytes : List ℕ) (m : Message) (method : List ℕ) (core : CoreFields) → IsSaidAt state act a bytes m false → IsNewRequest server state bytes m method core
       → Contains (requests_to server a m (targets_on server rows state a.now m method core)) p → IsOwed server history state act rows p
-  ToCaller : (number : ℕ) (m : Message) (from : Addr) (answer : Message) → IsOpen state act number m from → IsAnswer server history state act number m from answer
-      → p ≡ answer_packet false number m from (text_of answer) → IsOwed server history state act rows p
-  Acknowledges : (r : OpenRequest) (b : Branch) (address : Addr) (response : Message) → Contains state.requests r → Contains r.branches b → b.address ≡ Some address
-      → p.to ≡ address → p.bytes ≡ text_of (ack_of (request_of server r b) response) → IsOwed server history state act rows p
-  Cancels : (r : OpenRequest) (b : Branch) (address : Addr) → Contains state.requests r → Contains r.branches b → b.address ≡ Some address
-      → p.to ≡ address → p.bytes ≡ text_of (cancel_of (request_of server r b)) → IsOwed server history state act rows p
-  InKnownDialog : (a : Arrival) (bytes : List ℕ) (m : Message) (id : DialogId) (address : Addr) → IsSaidAt state act a bytes m → dialog_of m ≡ Some id → next_address server m ≡ Some address
-      → IsInDialog a.now state.dialogs id address → p.to ≡ address → IsOwed server history state act rows p
+  Answers : (number : ℕ) (m : Message) (from : Addr) (status : ℕ) (extras : List Field) → IsOpen state act number m from
+      → ((status ≡ 403) → IsDenied server state act number m extras)
+      → p ≡ answer_packet false number m from (text_of (made_answer server number m from status extras)) → IsOwed server history state act rows p
+  Forwards : (r : OpenRequest) (status : ℕ) (response : Message) (challenges : List Field) → Contains state.requests r → CameFor server history r.number status response
+      → AllByRecursion (IsTakenAlong server history r.number) challenges
+      → p ≡ answer_to false r (text_of (taking_along (without_top_via response) challenges)) → IsOwed server history state act rows p
+  Acknowledges : (a : Arrival) (bytes : List ℕ) (r : OpenRequest) (b : Branch) (status : ℕ) (reason : List ℕ) (response : Message) → IsSaidAt state act a bytes response false
+      → response.start ≡ Status status reason → responding server state.requests response.fields ≡ Some (r, b) → is_invite r ≡ true → is_failure status ≡ true
+      → Contains (ack_packets server false r b response) p → IsOwed server history state act rows p
+  Cancels : (r : OpenRequest) (b : Branch) → Contains state.requests r → Contains r.branches b → b.is_cancel ≡ false
+      → Contains (to_branch r b 0 false (cancel_of (request_of server r b))) p → IsOwed server history state act rows p
+  InKnownDialog : (a : Arrival) (m : Message) (address : Addr) → IsWithin server state act a m address → p.to ≡ address
+      → p.bytes ≡ text_of (onward_as server a.number m a.from (onward_uri server.own m) 1) → p.ticket.datagram ≡ a.number → IsOwed server history state act rows p
 
 -- ---- the law
 
--- A step is lawful by its history: the bindings before it are those that the allowed REGISTERs of its history make; what it is taken for is served by these; and all that it sends for
--- the first time is owed.
+-- A step is lawful by its history: the bindings before it are those that the allowed REGISTERs of its history make, and those after it are so with its own; what it is taken for is
+-- served by these; and all that it sends for the first time is owed.
 pub record IsLawful (server : Server) (history : List Link) (link : Link) : Type 0 where
   pub bindings : link.before.bindings ≡ bindings_after server history
+  pub binds : link.after.bindings ≡ bindings_after server (link ∷ history)
   pub serves : Serves server (bindings_after server history) link.before link.act link.out
   pub owed : AllByRecursion (IsOwed server (link ∷ history) link.before link.act (bindings_after server history)) (originals link.out.packets)
 

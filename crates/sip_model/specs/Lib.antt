@@ -12,4 +12,6 @@ pub mod Step
 pub mod Run
 pub mod Bindings
 pub mod Access
+pub mod Order
 pub mod Lives
+pub mod Examples

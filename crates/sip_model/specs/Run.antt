@@ -1,7 +1,8 @@
 -- Whole runs of a proxy, as histories of links, the newest first.
-use Rattle.std.specs.Prelude.{◌≡◌, List, [], ◌∷◌, reverse}
+use Rattle.std.specs.Prelude.{◌≡◌, ℕ, List, [], ◌∷◌, reverse, Option, Some, None}
 use Rattle.sip_model.specs.declared.event.StepOut.{StepOut}
 use Rattle.sip_model.specs.declared.event.Event.{Event}
+use Rattle.sip_model.specs.declared.event.Event.TheVariants.{Datagram, Time, Fault}
 use Rattle.sip_model.specs.Server.{Server}
 use Rattle.sip_model.specs.State.{ProxyState}
 use Rattle.sip_model.specs.Step.{Act, Given, Passing, IsStep}
@@ -33,8 +34,32 @@ abbrev pub steps_of : List Link → List StepOut
 steps_of [] = []
 steps_of (link ∷ history) = link.out ∷ steps_of history
 
--- These steps, for these events, are a run of a proxy: each event has its own step, before which time may pass step by step. No step's moment passes a deadline that stands.
+-- the moment of an event
+abbrev pub event_moment : Event → ℕ
+event_moment (Datagram at word from bytes) = at
+event_moment (Time at) = at
+event_moment (Fault at ticket) = at
+
+-- the moment of the event that comes next, seen from before a step
+abbrev pub next_moment : Option ℕ → Act → Option ℕ
+next_moment next (Given event) = Some (event_moment event)
+next_moment next (Passing at) = next
+
+-- time passes up to the moment of the event that comes next, and behind the last event not at all
+abbrev pub IsUpTo : Option ℕ → Act → Type 0
+IsUpTo next (Given event) = Unit {0}
+IsUpTo None (Passing at) = ⊥
+IsUpTo (Some moment) (Passing at) = at ≡ moment
+
+-- the same of each step of a history: no step runs ahead of the events
+abbrev pub IsPaced : Option ℕ → List Link → Type 0
+IsPaced next [] = Unit {0}
+IsPaced next (link ∷ history) = IsUpTo next link.act × IsPaced (next_moment next link.act) history
+
+-- These steps, for these events, are a run of a proxy: each event has its own step, before which time passes step by step up to the event's moment. No step's moment passes a deadline
+-- that stands.
 pub record IsRun (server : Server) (first : ProxyState) (events : List Event) (steps : List StepOut) (history : List Link) (last : ProxyState) : Type 0 where
   pub chain : IsChain server first history last
+  pub paced : IsPaced None history
   pub of_events : reverse (events_of history) ≡ events
   pub of_steps : reverse (steps_of history) ≡ steps

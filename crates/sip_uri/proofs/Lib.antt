@@ -1,6 +1,8 @@
+pub mod Collecting
 pub mod Cuts
 pub mod Tests
 pub mod PartLaws
+pub mod ListLaws
 pub mod ReadingLaws
 pub mod Equal
 pub mod Escapes

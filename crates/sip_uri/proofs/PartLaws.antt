@@ -1,7 +1,7 @@
--- Each part of a URI is cut from a text exactly where it is written there.
+-- Scheme, user, host and port are cut from a text exactly where they are written there.
 use Rattle.std.proofs.Common.{◌≡◌, ℕ, ◌+◌, Bool, true, false, cond, List, [], ◌∷◌, ◌++◌, length, take, drop, Option, Some, None, refl, sym, ap, ◌∙◌, append_assoc, arith}
-use Rattle.std.specs.Prelude.{◌==◌, ◌&&◌, not, nat_lt, ◌^◌, codes, Result, Ok, Err}
-use Rattle.std.specs.Option.{option_and_then, is_some}
+use Rattle.std.specs.Prelude.{◌==◌, ◌&&◌, not, nat_lt, ◌^◌, codes, option_map, Result, Ok, Err}
+use Rattle.std.specs.Option.{option_and_then, is_some, ok_or}
 use Rattle.std.specs.List.{list_all, prefix_len}
 use Rattle.std.specs.Str.{bytes_eq}
 use Rattle.std.specs.Str.Parse.{digits_value}
@@ -17,15 +17,20 @@ use Rattle.sip_uri.specs.declared.scheme.Scheme.{Scheme}
 use Rattle.sip_uri.specs.declared.scheme.Scheme.TheVariants.{Sip, Sips}
 use Rattle.sip_uri.specs.declared.user.UserInfo.{UserInfo}
 use Rattle.sip_uri.specs.Scheme.{scheme_text, is_scheme_name, scheme_of}
-use Rattle.sip_uri.specs.Parts.{are_escaped, is_user_byte, is_user, is_host_byte, is_address_byte, is_address_rest, is_host, in_port_range, is_port}
-use Rattle.sip_uri.specs.Uri.{userinfo_text, port_text, is_userinfo, is_port_or_none}
-use Rattle.sip_uri.specs.Reading.{split_at_byte, user_from, user_of, is_not, host_length, host_of, port_of, has_no_password}
-use Rattle.sip_uri.proofs.Tests.{some_is, pair_is, and_both, and_is, is_other, others, all_join, split_again, never_split, split_is, take_front, drop_front, front_length}
+use Rattle.sip_uri.specs.Parts.{are_escaped, is_escaped, is_user_byte, is_user, is_password_byte, is_host_byte, is_address_byte, is_address_rest, is_host, in_port_range, is_port}
+use Rattle.sip_uri.specs.Uri.{behind_mark, userinfo_text, port_text, is_password_or_none, is_userinfo, is_port_or_none}
+use Rattle.sip_uri.specs.Reading.{◌>>=◌, split_at_byte, part_before, userinfo_from, valid_userinfo, userinfo_of, user_from, user_of, is_not, host_length, host_of, port_of, place_of}
+use Rattle.sip_uri.proofs.Tests.{some_is, pair_is, valid_is, and_both, and_is, is_other, others, all_join, split_again, never_split, split_is, part_whole, part_again, take_front, drop_front, front_length}
 
 -- ---- the scheme
 
 ok_is : {A : Type 0} (x y : A) → ◌≡◌ {A = Result A UriError} (Ok x) (Ok y) → x ≡ y
 ok_is x y e = cc
+
+ok_pair : {A B : Type 0} (x y : A × B) → ◌≡◌ {A = Result (A × B) UriError} (Ok x) (Ok y) → (x.0 ≡ y.0) × (x.1 ≡ y.1)
+ok_pair x y e =
+    let p : x ≡ y = ok_is x y e in
+    (ap (λ q. q.0) p, ap (λ q. q.1) p)
 
 scheme_by : (name : List ℕ) (s : Scheme) (a b c : Bool) → is_same_text name (codes "sip") ≡ a → is_same_text name (codes "sips") ≡ b
     → cond a (Ok Sip) (cond b (Ok Sips) (cond c (Err UriError.Scheme) (Err Syntax))) ≡ Ok s → is_same_text name (scheme_text s) ≡ true
@@ -66,26 +71,36 @@ same_scheme Sips = refl
 pub record IsUserCut (text : List ℕ) (userinfo : Option UserInfo) (rest : List ℕ) : Type 0 where
   pub whole : text ≡ userinfo_text userinfo ++ rest
   pub valid : is_userinfo userinfo ≡ true
-  pub no_password : has_no_password userinfo
 
-user_either : (text user rest : List ℕ) (x : Option UserInfo × List ℕ) (t : Bool) → text ≡ user ++ 64 ∷ rest → is_user user ≡ t
-    → cond t (Some (Some (record { user = user; password = None }), rest)) None ≡ Some x → IsUserCut text x.0 x.1
-user_either text user rest x true whole is e =
-    let p = pair_is (Some (record { user = user; password = None }), rest) x e in
-    rw (← p.0, ← p.1) (record { whole = whole ∙ sym (ap (λ (w : List ℕ). w ++ rest) (append_assoc user [] (64 ∷ [])) ∙ append_assoc user (64 ∷ []) rest); valid = and_is (is_user user) true is refl; no_password = refl })
-user_either text user rest x false whole is e = absurd cc
+userinfo_is : (text : List ℕ) (info : UserInfo) → userinfo_of text ≡ Some info → (text ≡ info.user ++ behind_mark 58 info.password) × (is_userinfo (Some info) ≡ true)
+userinfo_is text info e =
+    let x = part_before 58 text in
+    let v = valid_is (λ i. is_userinfo (Some i)) (userinfo_from x) info (is_userinfo (Some (userinfo_from x))) refl e in
+    (part_whole 58 text ∙ ap (λ (i : UserInfo). i.user ++ behind_mark 58 i.password) v.0, v.1)
 
-user_by : (text : List ℕ) (x : Option UserInfo × List ℕ) (o : Option (List ℕ × List ℕ)) → split_at_byte 64 text ≡ o → user_from text o ≡ Some x → IsUserCut text x.0 x.1
+-- a user, its `@` and a rest
+grouped : (front rest : List ℕ) → (front ++ 64 ∷ []) ++ rest ≡ front ++ 64 ∷ rest
+grouped front rest = append_assoc front (64 ∷ []) rest
+
+info_by : (text front rest : List ℕ) (x : Option UserInfo × List ℕ) (o : Option UserInfo) → text ≡ front ++ 64 ∷ rest → userinfo_of front ≡ o
+    → (ok_or o Syntax >>= λ info. Ok (Some info, rest)) ≡ Ok x → IsUserCut text x.0 x.1
+info_by text front rest x None whole is e = absurd cc
+info_by text front rest x (Some info) whole is e =
+    let p = ok_pair (Some info, rest) x e in
+    let i = userinfo_is front info is in
+    rw (← p.0, ← p.1) (record { whole = whole ∙ ap (λ (w : List ℕ). w ++ 64 ∷ rest) i.0 ∙ sym (grouped (info.user ++ behind_mark 58 info.password) rest); valid = i.1 })
+
+user_by : (text : List ℕ) (x : Option UserInfo × List ℕ) (o : Option (List ℕ × List ℕ)) → split_at_byte 64 text ≡ o → user_from text o ≡ Ok x → IsUserCut text x.0 x.1
 user_by text x None is e =
-    let p = pair_is (None, text) x e in
-    rw (← p.0, ← p.1) (record { whole = refl; valid = refl; no_password = tt })
-user_by text x (Some y) is e = user_either text y.0 y.1 x (is_user y.0) (split_is 64 text y.0 y.1 is) refl e
+    let p = ok_pair (None, text) x e in
+    rw (← p.0, ← p.1) (record { whole = refl; valid = refl })
+user_by text x (Some y) is e = info_by text y.0 y.1 x (userinfo_of y.0) (split_is 64 text y.0 y.1 is) refl e
 
-pub user_is : (text : List ℕ) (x : Option UserInfo × List ℕ) → user_of text ≡ Some x → IsUserCut text x.0 x.1
+pub user_is : (text : List ℕ) (x : Option UserInfo × List ℕ) → user_of text ≡ Ok x → IsUserCut text x.0 x.1
 user_is text x e = user_by text x (split_at_byte 64 text) refl e
 
 -- a byte that is neither of the class nor in an escape stands nowhere
-escape_others : (class : ℕ → Bool) (mark : ℕ) → class mark ≡ false → (37 == mark) ≡ false → is_ascii_hexdigit mark ≡ false → (text : List ℕ) → are_escaped class text ≡ true → list_all (is_not mark) text ≡ true
+pub escape_others : (class : ℕ → Bool) (mark : ℕ) → class mark ≡ false → (37 == mark) ≡ false → is_ascii_hexdigit mark ≡ false → (text : List ℕ) → are_escaped class text ≡ true → list_all (is_not mark) text ≡ true
 escape_others class mark none percent hex [] e = refl
 escape_others class mark none percent hex (b ∷ []) e = and_is (is_not mark b) true (is_other class mark none b (and_both (class b) true e).0) refl
 escape_others class mark none percent hex (b ∷ h ∷ []) e =
@@ -109,19 +124,27 @@ escape_others class mark none percent hex (b ∷ h ∷ l ∷ rest) e = by_first 
         let never : false ≡ true = sym (rw (p, q) refl) ∙ e in
         absurd cc
 
-user_others : (user : List ℕ) → is_user user ≡ true → list_all (is_not 64) user ≡ true
-user_others [] e = absurd cc
-user_others (b ∷ user) e = escape_others is_user_byte 64 refl refl refl (b ∷ user) e
+-- the same of a text that isn't empty
+pub full_others : (class : ℕ → Bool) (mark : ℕ) → class mark ≡ false → (37 == mark) ≡ false → is_ascii_hexdigit mark ≡ false → (text : List ℕ) → is_escaped class text ≡ true → list_all (is_not mark) text ≡ true
+full_others class mark none percent hex [] e = refl
+full_others class mark none percent hex (b ∷ text) e = escape_others class mark none percent hex (b ∷ text) e
 
-pub user_again : (userinfo : Option UserInfo) (rest : List ℕ) → is_userinfo userinfo ≡ true → has_no_password userinfo → list_all (is_not 64) rest ≡ true → user_of (userinfo_text userinfo ++ rest) ≡ Some (userinfo, rest)
-user_again None rest valid none other = ap (user_from rest) (never_split 64 rest other)
-user_again (Some info) rest valid none other = by_password info.user info.password none (and_both (is_user info.user) _ valid).0
-  where
-    by_password : (user : List ℕ) (password : Option (List ℕ)) → password ≡ None → is_user user ≡ true → user_of (userinfo_text (Some (record { user = user; password = password })) ++ rest) ≡ Some (Some (record { user = user; password = password }), rest)
-    by_password user (Some password) absent is = absurd cc
-    by_password user None absent is =
-        let grouped : ((user ++ []) ++ 64 ∷ []) ++ rest ≡ user ++ 64 ∷ rest = ap (λ (w : List ℕ). w ++ rest) (append_assoc user [] (64 ∷ [])) ∙ append_assoc user (64 ∷ []) rest in
-        ap user_of grouped ∙ ap (user_from (user ++ 64 ∷ rest)) (split_again 64 user rest (user_others user is) refl) ∙ rw is refl
+password_others : (password : Option (List ℕ)) → is_password_or_none password ≡ true → list_all (is_not 64) (behind_mark 58 password) ≡ true
+password_others None e = refl
+password_others (Some text) e = escape_others is_password_byte 64 refl refl refl text e
+
+userinfo_again : (info : UserInfo) → is_userinfo (Some info) ≡ true → userinfo_of (info.user ++ behind_mark 58 info.password) ≡ Some info
+userinfo_again info valid =
+    let both = and_both (is_user info.user) (is_password_or_none info.password) valid in
+    ap (λ x. valid_userinfo (userinfo_from x)) (part_again 58 info.user info.password (full_others is_user_byte 58 refl refl refl info.user both.0) refl) ∙ rw valid refl
+
+pub user_again : (userinfo : Option UserInfo) (rest : List ℕ) → is_userinfo userinfo ≡ true → list_all (is_not 64) rest ≡ true → user_of (userinfo_text userinfo ++ rest) ≡ Ok (userinfo, rest)
+user_again None rest valid other = ap (user_from rest) (never_split 64 rest other)
+user_again (Some info) rest valid other =
+    let both = and_both (is_user info.user) (is_password_or_none info.password) valid in
+    let front : List ℕ = info.user ++ behind_mark 58 info.password in
+    let none : list_all (is_not 64) front ≡ true = all_join (is_not 64) info.user (behind_mark 58 info.password) (full_others is_user_byte 64 refl refl refl info.user both.0) (password_others info.password both.1) in
+    ap user_of (grouped front rest) ∙ ap (user_from (front ++ 64 ∷ rest)) (split_again 64 front rest none refl) ∙ ap (λ (o : Option UserInfo). ok_or o Syntax >>= λ i. Ok (Some i, rest)) (userinfo_again info valid)
 
 -- ---- the host
 
@@ -201,36 +224,67 @@ pub port_again : (port : Option (List ℕ)) → is_port_or_none port ≡ true �
 port_again None e = refl
 port_again (Some digits) e = rw e refl
 
--- ---- no `@` in host and port
+-- ---- host and port
 
-address_others : (has_begun : Bool) (bs : List ℕ) → is_address_rest has_begun bs ≡ true → list_all (is_not 64) bs ≡ true
-address_others has_begun [] e = absurd cc
-address_others has_begun (b ∷ bs) e = by_end (b == 93) bs refl e (λ h. address_others true bs h)
+pub record IsPlace (text host : List ℕ) (port : Option (List ℕ)) : Type 0 where
+  pub whole : text ≡ host ++ port_text port
+  pub is_one : is_host host ≡ true
+  pub has_port : is_port_or_none port ≡ true
+
+place_end : (text host rest : List ℕ) (x : List ℕ × Option (List ℕ)) (o : Option (Option (List ℕ))) → IsHostCut text host rest → port_of rest ≡ o → option_map (λ port. (host, port)) o ≡ Some x → IsPlace text x.0 x.1
+place_end text host rest x None cut is e = absurd cc
+place_end text host rest x (Some port) cut is e =
+    let p = pair_is (host, port) x e in
+    let q : IsPortCut rest port = port_is rest port is in
+    rw (← p.0, ← p.1) (record { whole = cut.whole ∙ ap (λ (w : List ℕ). host ++ w) q.whole; is_one = cut.valid; has_port = q.valid })
+
+place_by : (text : List ℕ) (x : List ℕ × Option (List ℕ)) (o : Option (List ℕ × List ℕ)) → host_of text ≡ o → option_and_then (λ host. option_map (λ port. (host.0, port)) (port_of host.1)) o ≡ Some x → IsPlace text x.0 x.1
+place_by text x None is e = absurd cc
+place_by text x (Some y) is e = place_end text y.0 y.1 x (port_of y.1) (host_is text y is) refl e
+
+pub place_is : (text : List ℕ) (x : List ℕ × Option (List ℕ)) → place_of text ≡ Some x → IsPlace text x.0 x.1
+place_is text x e = place_by text x (host_of text) refl e
+
+pub place_again : (host : List ℕ) (port : Option (List ℕ)) → is_host host ≡ true → is_port_or_none port ≡ true → place_of (host ++ port_text port) ≡ Some (host, port)
+place_again host port h p = rw (host_again host port h, port_again port p) refl
+
+-- a byte that neither a host nor a port has
+pub record IsNoPlaceByte (mark : ℕ) : Type 0 where
+  pub name : is_host_byte mark ≡ false
+  pub address : is_address_byte mark ≡ false
+  pub opening : is_not mark 91 ≡ true
+  pub closing : is_not mark 93 ≡ true
+  pub digit : is_ascii_digit mark ≡ false
+  pub colon : is_not mark 58 ≡ true
+
+address_others : (mark : ℕ) → IsNoPlaceByte mark → (has_begun : Bool) (bs : List ℕ) → is_address_rest has_begun bs ≡ true → list_all (is_not mark) bs ≡ true
+address_others mark apart has_begun [] e = absurd cc
+address_others mark apart has_begun (b ∷ bs) e = by_end (b == 93) bs refl e (λ h. address_others mark apart true bs h)
   where
-    last : (bs : List ℕ) → is_nil bs ≡ true → list_all (is_not 64) bs ≡ true
+    last : (bs : List ℕ) → is_nil bs ≡ true → list_all (is_not mark) bs ≡ true
     last [] e = refl
     last (c ∷ bs) e = absurd cc
 
-    by_end : (t : Bool) (bs : List ℕ) → (b == 93) ≡ t → is_address_rest has_begun (b ∷ bs) ≡ true → (is_address_rest true bs ≡ true → list_all (is_not 64) bs ≡ true) → list_all (is_not 64) (b ∷ bs) ≡ true
+    by_end : (t : Bool) (bs : List ℕ) → (b == 93) ≡ t → is_address_rest has_begun (b ∷ bs) ≡ true → (is_address_rest true bs ≡ true → list_all (is_not mark) bs ≡ true) → list_all (is_not mark) (b ∷ bs) ≡ true
     by_end true bs is e on =
         let here : (has_begun && is_nil bs) ≡ true = sym (rw is refl) ∙ e in
-        and_is (is_not 64 b) (list_all (is_not 64) bs) (ap (is_not 64) (eqb-true b 93 is)) (last bs (and_both has_begun (is_nil bs) here).1)
+        and_is (is_not mark b) (list_all (is_not mark) bs) (ap (is_not mark) (eqb-true b 93 is) ∙ apart.closing) (last bs (and_both has_begun (is_nil bs) here).1)
     by_end false bs is e on =
         let here : (is_address_byte b && is_address_rest true bs) ≡ true = sym (rw is refl) ∙ e in
         let both = and_both (is_address_byte b) (is_address_rest true bs) here in
-        and_is (is_not 64 b) (list_all (is_not 64) bs) (is_other is_address_byte 64 refl b both.0) (on both.1)
+        and_is (is_not mark b) (list_all (is_not mark) bs) (is_other is_address_byte mark apart.address b both.0) (on both.1)
 
-host_others : (host : List ℕ) → is_host host ≡ true → list_all (is_not 64) host ≡ true
-host_others [] e = absurd cc
-host_others (b ∷ bs) e = by_bracket (b == 91) refl e
+host_others : (mark : ℕ) → IsNoPlaceByte mark → (host : List ℕ) → is_host host ≡ true → list_all (is_not mark) host ≡ true
+host_others mark apart [] e = absurd cc
+host_others mark apart (b ∷ bs) e = by_bracket (b == 91) refl e
   where
-    by_bracket : (t : Bool) → (b == 91) ≡ t → is_host (b ∷ bs) ≡ true → list_all (is_not 64) (b ∷ bs) ≡ true
+    by_bracket : (t : Bool) → (b == 91) ≡ t → is_host (b ∷ bs) ≡ true → list_all (is_not mark) (b ∷ bs) ≡ true
     by_bracket true is e =
         let here : is_address_rest false bs ≡ true = sym (rw is refl) ∙ e in
-        and_is (is_not 64 b) (list_all (is_not 64) bs) (ap (is_not 64) (eqb-true b 91 is)) (address_others false bs here)
+        and_is (is_not mark b) (list_all (is_not mark) bs) (ap (is_not mark) (eqb-true b 91 is) ∙ apart.opening) (address_others mark apart false bs here)
     by_bracket false is e =
         let here : list_all is_host_byte (b ∷ bs) ≡ true = sym (rw is refl) ∙ e in
-        others is_host_byte 64 refl (b ∷ bs) here
+        others is_host_byte mark apart.name (b ∷ bs) here
 
 number_digits : (d : ℕ) (ds : List ℕ) (s t : Bool) → list_all is_ascii_digit (d ∷ ds) ≡ s → is_some (option_and_then in_port_range (cond (s && t) (Some (digits_value 10 (d ∷ ds))) None)) ≡ true → list_all is_ascii_digit (d ∷ ds) ≡ true
 number_digits d ds true t are e = are
@@ -240,9 +294,9 @@ port_digits : (digits : List ℕ) → is_port digits ≡ true → list_all is_as
 port_digits [] e = refl
 port_digits (d ∷ ds) e = number_digits d ds (list_all is_ascii_digit (d ∷ ds)) (nat_lt (digits_value 10 (d ∷ ds)) (2 ^ 64)) refl e
 
-port_others : (port : Option (List ℕ)) → is_port_or_none port ≡ true → list_all (is_not 64) (port_text port) ≡ true
-port_others None e = refl
-port_others (Some digits) e = others is_ascii_digit 64 refl digits (port_digits digits e)
+port_others : (mark : ℕ) → IsNoPlaceByte mark → (port : Option (List ℕ)) → is_port_or_none port ≡ true → list_all (is_not mark) (port_text port) ≡ true
+port_others mark apart None e = refl
+port_others mark apart (Some digits) e = and_is (is_not mark 58) (list_all (is_not mark) digits) apart.colon (others is_ascii_digit mark apart.digit digits (port_digits digits e))
 
-pub place_others : (host : List ℕ) (port : Option (List ℕ)) → is_host host ≡ true → is_port_or_none port ≡ true → list_all (is_not 64) (host ++ port_text port) ≡ true
-place_others host port h p = all_join (is_not 64) host (port_text port) (host_others host h) (port_others port p)
+pub place_others : (mark : ℕ) → IsNoPlaceByte mark → (host : List ℕ) (port : Option (List ℕ)) → is_host host ≡ true → is_port_or_none port ≡ true → list_all (is_not mark) (host ++ port_text port) ≡ true
+place_others mark apart host port h p = all_join (is_not mark) host (port_text port) (host_others mark apart host h) (port_others mark apart port p)

@@ -1,9 +1,11 @@
 -- Texts whose bytes pass a test, and where they are split.
-use Rattle.std.proofs.Common.{◌≡◌, ℕ, Bool, true, false, List, [], ◌∷◌, ◌++◌, length, take, drop, Option, Some, None, refl, sym, ap, ◌∙◌, arith}
+use Rattle.std.proofs.Common.{◌≡◌, ℕ, Bool, true, false, cond, List, [], ◌∷◌, ◌++◌, length, take, drop, Option, Some, None, refl, sym, ap, ◌∙◌, arith}
 use Rattle.std.specs.Prelude.{◌==◌, ◌&&◌, not}
 use Rattle.std.specs.List.{list_all, prefix_len}
 use Rattle.std.proofs.lemmas.Bool.{eqb-true}
-use Rattle.sip_uri.specs.Reading.{in_front, split_at_byte, is_not}
+use Rattle.std.proofs.lemmas.List.{append-nil}
+use Rattle.sip_uri.specs.Uri.{behind_mark}
+use Rattle.sip_uri.specs.Reading.{in_front, split_at_byte, first_part, part_before, is_not}
 
 pub some_is : {A : Type 0} (x y : A) → Some x ≡ Some y → x ≡ y
 some_is x y e = cc
@@ -23,6 +25,13 @@ and_is a b e f = rw (e, f) refl
 pub not_is : (t : Bool) → not t ≡ true → t ≡ false
 not_is true e = absurd cc
 not_is false e = refl
+
+-- what is kept only if it's valid
+pub valid_is : {X : Type 0} (valid : X → Bool) (x y : X) (t : Bool) → valid x ≡ t → cond t (Some x) None ≡ Some y → (x ≡ y) × (valid y ≡ true)
+valid_is valid x y true is e =
+    let same : x ≡ y = some_is x y e in
+    (same, rw (← same) is)
+valid_is valid x y false is e = absurd cc
 
 -- a byte that doesn't pass is no byte that does
 pub differs : (p : ℕ → Bool) (mark : ℕ) → p mark ≡ false → (b : ℕ) → p b ≡ true → (b == mark) ≡ false
@@ -82,6 +91,18 @@ split_either mark b bytes front back false is e on =
 pub split_is : (mark : ℕ) (bytes front back : List ℕ) → split_at_byte mark bytes ≡ Some (front, back) → bytes ≡ front ++ mark ∷ back
 split_is mark [] front back e = absurd cc
 split_is mark (b ∷ bytes) front back e = split_either mark b bytes front back (b == mark) refl e (λ f g h. split_is mark bytes f g h)
+
+part_by : (mark : ℕ) (text : List ℕ) (o : Option (List ℕ × List ℕ)) → split_at_byte mark text ≡ o → text ≡ (first_part text o).0 ++ behind_mark mark (first_part text o).1
+part_by mark text None is = sym (append-nil text)
+part_by mark text (Some x) is = split_is mark text x.0 x.1 is
+
+-- a part and what follows it make up the text
+pub part_whole : (mark : ℕ) (text : List ℕ) → text ≡ (part_before mark text).0 ++ behind_mark mark (part_before mark text).1
+part_whole mark text = part_by mark text (split_at_byte mark text) refl
+
+pub part_again : (mark : ℕ) (front : List ℕ) (after : Option (List ℕ)) → list_all (is_not mark) front ≡ true → (mark == mark) ≡ true → part_before mark (front ++ behind_mark mark after) ≡ (front, after)
+part_again mark front None e same = ap (part_before mark) (append-nil front) ∙ ap (first_part front) (never_split mark front e)
+part_again mark front (Some back) e same = ap (first_part (front ++ mark ∷ back)) (split_again mark front back e same)
 
 -- ---- fronts
 

@@ -1,7 +1,8 @@
 -- URIs of the worked examples.
 use Rattle.std.specs.Prelude.{ℕ, List, [], ◌∷◌, codes, Some, None}
-use Rattle.sip_uri.specs.declared.scheme.Scheme.TheVariants.{Sip}
+use Rattle.sip_uri.specs.declared.scheme.Scheme.TheVariants.{Sip, Sips}
 use Rattle.sip_uri.specs.declared.parameters.Parameter.{Parameter}
+use Rattle.sip_uri.specs.declared.headers.UriHeader.{UriHeader}
 use Rattle.sip_uri.specs.declared.uri.Uri.{Uri}
 
 -- `sip:`, a user, `@` and a host
@@ -54,3 +55,26 @@ carol_secured = with_parameter carol (valued (codes "security") (codes "on"))
 -- `sip:carol@chicago.com;security=off`
 abbrev pub carol_unsecured : Uri
 carol_unsecured = with_parameter carol (valued (codes "security") (codes "off"))
+
+abbrev pub header : List ℕ → List ℕ → UriHeader
+header name value = record { name = name; value = value }
+
+-- `sips:a;b?c/d:p$%20@[::1]:05060;x=[1];LR?Subject=&to=b?`
+abbrev pub each_part : Uri
+each_part =
+    record {
+      scheme = Sips;
+      userinfo = Some (record { user = codes "a;b?c/d"; password = Some (codes "p$%20") });
+      host = codes "[::1]";
+      port = Some (codes "05060");
+      parameters = valued (codes "x") (codes "[1]") ∷ record { name = codes "LR"; value = None } ∷ [];
+      headers = header (codes "Subject") [] ∷ header (codes "to") (codes "b?") ∷ [];
+    }
+
+-- `sip:a:@h`, whose password is empty
+abbrev pub empty_password : Uri
+empty_password = record { scheme = Sip; userinfo = Some (record { user = codes "a"; password = Some [] }); host = codes "h"; port = None; parameters = []; headers = [] }
+
+-- `sip:h;x=1;%78=2`, whose names differ as they are written
+abbrev pub escaped_name : Uri
+escaped_name = record { scheme = Sip; userinfo = None; host = codes "h"; port = None; parameters = valued (codes "x") (codes "1") ∷ valued (codes "%78") (codes "2") ∷ []; headers = [] }

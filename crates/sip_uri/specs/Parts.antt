@@ -6,6 +6,8 @@ use Rattle.std.specs.Str.{byte}
 use Rattle.std.specs.Char.{is_ascii_alphanumeric, is_ascii_hexdigit}
 use Rattle.sip_text.specs.Words.{decimal_of}
 use Rattle.sip_text.specs.Lists.{is_nil}
+use Rattle.sip_uri.specs.declared.escaped.Class.{Class}
+use Rattle.sip_uri.specs.declared.escaped.Class.TheVariants.{User, Password, Parameter, Header}
 
 -- whether each byte of a text is of a class or begins an escape `%HH` (RFC 3261 25.1: escaped)
 abbrev pub are_escaped : (ℕ → Bool) → List ℕ → Bool
@@ -56,6 +58,13 @@ is_header_name text = is_escaped is_header_byte text
 
 abbrev pub is_header_value : List ℕ → Bool
 is_header_value text = are_escaped is_header_byte text
+
+-- the bytes of a class
+abbrev pub is_of : Class → ℕ → Bool
+is_of User = is_user_byte
+is_of Password = is_password_byte
+is_of Parameter = is_parameter_byte
+is_of Header = is_header_byte
 
 -- a byte of a host name (RFC 3261 25.1: hostname; this project's profile has `_`, too)
 abbrev pub is_host_byte : ℕ → Bool

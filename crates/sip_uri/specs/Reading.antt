@@ -1,15 +1,19 @@
--- The URI that bytes write, or why they write none. For now a password, parameters and headers aren't read.
+-- The URI that bytes write, or why they write none.
 use Rattle.std.specs.Prelude.{◌≡◌, ◌⊎◌, ℕ, ◌+◌, Bool, false, ◌&&◌, ◌==◌, not, List, [], ◌∷◌, ◌++◌, take, drop, Option, Some, None, option_map, Result, Ok, Err, if◌then◌else◌}
-use Rattle.std.specs.Option.{ok_or}
+use Rattle.std.specs.Option.{ok_or, option_and_then}
 use Rattle.std.specs.List.{prefix_len}
 use Rattle.std.specs.Str.{byte}
+use Rattle.sip_text.specs.Lists.{onto}
 use Rattle.sip_uri.specs.declared.error.UriError.{UriError}
 use Rattle.sip_uri.specs.declared.error.UriError.TheVariants.{NoMemory, Syntax}
 use Rattle.sip_uri.specs.declared.scheme.Scheme.{Scheme}
 use Rattle.sip_uri.specs.declared.user.UserInfo.{UserInfo}
+use Rattle.sip_uri.specs.declared.parameters.Parameter.{Parameter}
+use Rattle.sip_uri.specs.declared.headers.UriHeader.{UriHeader}
 use Rattle.sip_uri.specs.declared.uri.Uri.{Uri}
 use Rattle.sip_uri.specs.Scheme.{scheme_of}
-use Rattle.sip_uri.specs.Parts.{is_user, is_host, is_port}
+use Rattle.sip_uri.specs.Parts.{is_host, is_port}
+use Rattle.sip_uri.specs.Uri.{is_userinfo, is_parameter, names_differ, is_header}
 
 infixl 10 ◌>>=◌
 abbrev pub ◌>>=◌ : {A B : Type 0} → Result A UriError → (A → Result B UriError) → Result B UriError
@@ -30,21 +34,62 @@ abbrev pub split_at_byte : ℕ → List ℕ → Option (List ℕ × List ℕ)
 split_at_byte mark [] = None
 split_at_byte mark (b ∷ bs) = if b == mark then Some ([], bs) else in_front (b ∷ []) (split_at_byte mark bs)
 
--- ---- the parts, from left to right
+-- what stands before a split and what follows it; the whole text, and nothing behind it, where it isn't split
+abbrev pub first_part : List ℕ → Option (List ℕ × List ℕ) → List ℕ × Option (List ℕ)
+first_part text None = (text, None)
+first_part text (Some x) = (x.0, Some x.1)
+
+-- what stands before the first of a byte, and what follows it, if that byte stands there
+abbrev pub part_before : ℕ → List ℕ → List ℕ × Option (List ℕ)
+part_before mark text = first_part text (split_at_byte mark text)
+
+-- what stands between the bytes of one kind: one part more than there are of them
+abbrev pub parts_between : ℕ → List ℕ → List (List ℕ)
+parts_between mark [] = [] ∷ []
+parts_between mark (b ∷ bs) = if b == mark then [] ∷ parts_between mark bs else onto (b ∷ []) (parts_between mark bs)
+
+-- one thing before others, if it and they were read
+abbrev pub with_first : {X : Type 0} → Option X → Option (List X) → Option (List X)
+with_first first others = option_and_then (λ x. option_map (λ xs. x ∷ xs) others) first
+
+-- what each text says, if each says something
+abbrev pub each_of : {X : Type 0} → (List ℕ → Option X) → List (List ℕ) → Option (List X)
+each_of says [] = Some []
+each_of says (text ∷ texts) = with_first (says text) (each_of says texts)
+
+-- ---- the user
+
+-- the user and the password that two texts are
+abbrev pub userinfo_from : List ℕ × Option (List ℕ) → UserInfo
+userinfo_from x = record { user = x.0; password = x.1 }
+
+-- these, if they are of the grammar (RFC 3261 25.1: user, password)
+abbrev pub valid_userinfo : UserInfo → Option UserInfo
+valid_userinfo info = if is_userinfo (Some info) then Some info else None
+
+-- a user, and behind a first `:` a password (RFC 3261 25.1: userinfo)
+abbrev pub userinfo_of : List ℕ → Option UserInfo
+userinfo_of text = valid_userinfo (userinfo_from (part_before (byte ":") text))
 
 -- a user and what follows its `@`
-abbrev pub user_from : List ℕ → Option (List ℕ × List ℕ) → Option (Option UserInfo × List ℕ)
-user_from text None = Some (None, text)
-user_from text (Some x) = if is_user x.0 then Some (Some (record { user = x.0; password = None }), x.1) else None
+abbrev pub user_from : List ℕ → Option (List ℕ × List ℕ) → Result (Option UserInfo × List ℕ) UriError
+user_from text None = Ok (None, text)
+user_from text (Some x) = do
+  info ← ok_or (userinfo_of x.0) Syntax
+  Ok (Some info, x.1)
 
--- the user before the first `@` if there is one, and what follows (RFC 3261 25.1: userinfo)
-abbrev pub user_of : List ℕ → Option (Option UserInfo × List ℕ)
+-- the user before the first `@` if there is one, and what follows. It is looked for first, since a user may have `;` and `?` (RFC 3261 25.1: userinfo).
+abbrev pub user_of : List ℕ → Result (Option UserInfo × List ℕ) UriError
 user_of text = user_from text (split_at_byte (byte "@") text)
 
+-- ---- the host and the port
+
+-- whether a text begins with `[`
 abbrev pub begins_bracket : List ℕ → Bool
 begins_bracket [] = false
 begins_bracket (b ∷ bs) = b == byte "["
 
+-- whether a byte is another
 abbrev pub is_not : ℕ → ℕ → Bool
 is_not mark b = not (b == mark)
 
@@ -63,29 +108,94 @@ abbrev pub port_of : List ℕ → Option (Option (List ℕ))
 port_of [] = Some None
 port_of (b ∷ digits) = if b == byte ":" && is_port digits then Some (Some digits) else None
 
+-- a host, and perhaps a port behind it (RFC 3261 25.1: hostport)
+abbrev pub place_of : List ℕ → Option (List ℕ × Option (List ℕ))
+place_of text = option_and_then (λ host. option_map (λ port. (host.0, port)) (port_of host.1)) (host_of text)
+
+-- ---- the parameters
+
+-- the parameter that two texts are
+abbrev pub parameter_from : List ℕ × Option (List ℕ) → Parameter
+parameter_from x = record { name = x.0; value = x.1 }
+
+-- it, if it is of the grammar (RFC 3261 25.1: other-param, as which each parameter is read)
+abbrev pub valid_parameter : Parameter → Option Parameter
+valid_parameter p = if is_parameter p then Some p else None
+
+-- a name, and behind a first `=` a value (RFC 3261 25.1: uri-parameter)
+abbrev pub parameter_of : List ℕ → Option Parameter
+parameter_of text = valid_parameter (parameter_from (part_before (byte "=") text))
+
+-- no name may stand twice (RFC 3261 19.1.1)
+abbrev pub if_different : List Parameter → Option (List Parameter)
+if_different ps = if names_differ ps then Some ps else None
+
+-- the parameters between the `;` of a text (RFC 3261 25.1: uri-parameters)
+abbrev pub listed_parameters : List ℕ → Option (List Parameter)
+listed_parameters text = each_of parameter_of (parts_between (byte ";") text)
+
+-- the same where no name stands twice
+abbrev pub parameters_of : List ℕ → Option (List Parameter)
+parameters_of text = option_and_then if_different (listed_parameters text)
+
+-- the parameters behind a first `;`, if one stands there
+abbrev pub parameters_behind : Option (List ℕ) → Option (List Parameter)
+parameters_behind None = Some []
+parameters_behind (Some text) = parameters_of text
+
+-- ---- the headers
+
+-- the header that two texts are
+abbrev pub header_from : List ℕ × List ℕ → UriHeader
+header_from x = record { name = x.0; value = x.1 }
+
+-- it, if it is of the grammar (RFC 3261 25.1: hname, hvalue)
+abbrev pub valid_header : UriHeader → Option UriHeader
+valid_header h = if is_header h then Some h else None
+
+-- a name, `=` and a value, which may be empty (RFC 3261 25.1: header)
+abbrev pub header_of : List ℕ → Option UriHeader
+header_of text = option_and_then (λ x. valid_header (header_from x)) (split_at_byte (byte "=") text)
+
+-- the headers between the `&` of a text (RFC 3261 25.1: headers)
+abbrev pub headers_of : List ℕ → Option (List UriHeader)
+headers_of text = each_of header_of (parts_between (byte "&") text)
+
+-- the headers behind a first `?`, if one stands there
+abbrev pub headers_behind : Option (List ℕ) → Option (List UriHeader)
+headers_behind None = Some []
+headers_behind (Some text) = headers_of text
+
 -- ---- the whole
 
--- the URI of a text behind its scheme, if it has no password, parameters or headers
-unfoldable pub plain_of : Scheme → List ℕ → Result Uri UriError
-plain_of scheme text = do
-  user ← ok_or (user_of text) Syntax
-  host ← ok_or (host_of user.1) Syntax
-  port ← ok_or (port_of host.1) Syntax
-  Ok (record { scheme = scheme; userinfo = user.0; host = host.0; port = port; parameters = []; headers = [] })
+-- host, port and parameters: what stands behind a user, up to a first `?`
+abbrev pub before_headers : List ℕ → List ℕ
+before_headers text = (part_before (byte "?") text).0
 
--- what bytes write: a scheme, `:`, and the rest
+-- the text of the headers, if a `?` stands there
+abbrev pub header_text_of : List ℕ → Option (List ℕ)
+header_text_of text = (part_before (byte "?") text).1
+
+-- host and port: what stands behind a user, up to a first `;` that isn't of the headers
+abbrev pub before_parameters : List ℕ → List ℕ
+before_parameters text = (part_before (byte ";") (before_headers text)).0
+
+-- the text of the parameters, if such a `;` stands there
+abbrev pub parameter_text_of : List ℕ → Option (List ℕ)
+parameter_text_of text = (part_before (byte ";") (before_headers text)).1
+
+-- the URI of a text behind its scheme (RFC 3261 25.1: SIP-URI)
+unfoldable pub rest_of : Scheme → List ℕ → Result Uri UriError
+rest_of scheme text = do
+  user ← user_of text
+  place ← ok_or (place_of (before_parameters user.1)) Syntax
+  parameters ← ok_or (parameters_behind (parameter_text_of user.1)) Syntax
+  headers ← ok_or (headers_behind (header_text_of user.1)) Syntax
+  Ok (record { scheme = scheme; userinfo = user.0; host = place.0; port = place.1; parameters = parameters; headers = headers })
+
+-- what bytes write: a scheme, `:`, and the rest (RFC 3261 19.1.1)
 unfoldable pub reading_of : List ℕ → Result Uri UriError
 reading_of bytes = do
   parts ← ok_or (split_at_byte (byte ":") bytes) Syntax
   scheme ← scheme_of parts.0
-  plain_of scheme parts.1
-
--- neither a password, nor parameters, nor headers
-abbrev pub has_no_password : Option UserInfo → Type 0
-has_no_password None = Unit {0}
-has_no_password (Some info) = info.password ≡ None
-
-pub record IsPlain (u : Uri) : Type 0 where
-  pub no_password : has_no_password u.userinfo
-  pub no_parameters : u.parameters ≡ []
-  pub no_headers : u.headers ≡ []
+  rest_of scheme parts.1

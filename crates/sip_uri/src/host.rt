@@ -1,7 +1,15 @@
 ghost use Rattle.std.specs.Prelude.{◌≡◌, ◌≤◌, false, length, take, drop};
 ghost use Rattle.std.specs.List.{list_all, prefix_len};
 ghost use Rattle.sip_uri.specs.Parts;
+ghost use Rattle.std.specs.Option.{ok_or};
 ghost use Rattle.sip_uri.specs.Reading;
+ghost use Rattle.sip_uri.specs.Reading.{Gives, place_of};
+ghost use Rattle.sip_uri.specs.declared.error.UriError.TheVariants.{Syntax};
+
+use crate::error::UriError;
+use crate::parts::port_behind;
+use sip_text::Bytes;
+use std::alloc::Global;
 
 /// Whether all bytes may stand in a host name.
 fn are_host_bytes(bytes: &[u8]) -> bool
@@ -35,7 +43,7 @@ fn is_address_rest(rest: &[u8]) -> bool
 }
 
 /// Whether bytes are a host: a name, or an address in square brackets.
-pub(crate) fn is_host(host: &[u8]) -> bool
+fn is_host(host: &[u8]) -> bool
     ensures { result ≡ Parts.is_host host.now }
 {
     let Some((first, rest)) = host.split_first() else {
@@ -76,10 +84,23 @@ fn host_length(text: &[u8]) -> usize
 }
 
 /// A text up to the end of the host at its front, and what follows.
-pub(crate) fn cut_host(text: &[u8]) -> (&[u8], &[u8])
+fn cut_host(text: &[u8]) -> (&[u8], &[u8])
     ensures front { result.0.now ≡ take (Reading.host_length text.now) text.now }
     ensures rest { result.1.now ≡ drop (Reading.host_length text.now) text.now }
 {
     let end = host_length(text).min(text.len());
     text.split_at(end)
+}
+
+/// The host that a text writes, and perhaps a port behind it.
+pub(crate) fn read_place(alloc: Global, text: &[u8]) -> Result<(Bytes, Option<Bytes>), UriError>
+    ensures { Gives (λ x. (x.0, x.1)) result (ok_or (place_of text.now) Syntax) }
+{
+    let (host, rest) = cut_host(text);
+    if !is_host(host) {
+        return Err(UriError::Syntax);
+    }
+    let port = port_behind(alloc, rest)?;
+    let host = Bytes::copy(alloc, host)?;
+    Ok((host, port))
 }

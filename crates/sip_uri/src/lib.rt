@@ -5,6 +5,7 @@
 mod aor;
 mod equality;
 mod error;
+mod escaped;
 mod examples;
 mod headers;
 mod host;
@@ -21,7 +22,10 @@ pub use equality::{
     equality_is_not_transitive, equality_is_reflexive, equality_is_symmetric, uri_equality,
 };
 pub use error::UriError;
-pub use examples::{uri_text, uri_text_with_parameter};
+pub use examples::{
+    bad_parameters_and_headers, bad_places, uri_text, uri_text_with_each_part,
+    uri_text_with_parameter,
+};
 pub use headers::{Headers, UriHeader};
 pub use parameters::{Parameter, Parameters};
 pub use reading::{parse_uri, written_again};

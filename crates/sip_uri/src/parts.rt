@@ -1,7 +1,7 @@
-ghost use Rattle.std.specs.Prelude.{◌≡◌, ◌<◌, IfOk, length, MatchOption, option_map};
+ghost use Rattle.std.specs.Prelude.{◌≡◌, IfOk, option_map};
 ghost use Rattle.std.specs.Option.{ok_or};
 ghost use Rattle.sip_uri.specs.Parts;
-ghost use Rattle.sip_text.specs.Lists.{is_nil};
+ghost use Rattle.sip_uri.specs.Reading;
 ghost use Rattle.sip_uri.specs.Reading.{Gives, split_at_byte, port_of};
 ghost use Rattle.sip_uri.specs.declared.error.UriError.TheVariants.{Syntax};
 
@@ -23,6 +23,16 @@ pub(crate) fn copy_optional(
     }
 }
 
+/// A text as a value's own, if there is one.
+pub(crate) fn copy_part(alloc: Global, text: Option<&[u8]>) -> Result<Option<Bytes>, AllocError>
+    ensures { IfOk result (λ copy. copy ≡ option_map (λ x. x.now) text.entry) }
+{
+    match text {
+        Some(text) => Ok(Some(Bytes::copy(alloc, text)?)),
+        None => Ok(None),
+    }
+}
+
 /// What stands before the first of a byte, and what follows it.
 pub(crate) fn split_once(bytes: &[u8], mark: u8) -> Option<(&[u8], &[u8])>
     ensures { option_map (λ x. (x.0.now, x.1.now)) result ≡ split_at_byte mark bytes.now }
@@ -31,6 +41,17 @@ pub(crate) fn split_once(bytes: &[u8], mark: u8) -> Option<(&[u8], &[u8])>
     let (front, rest) = bytes.split_at(at);
     let (_, rest) = rest.split_first()?;
     Some((front, rest))
+}
+
+/// What stands before the first of a byte, and what follows it, if that byte stands there.
+pub(crate) fn part_before(bytes: &[u8], mark: u8) -> (&[u8], Option<&[u8]>)
+    ensures front { result.0.now ≡ (Reading.part_before mark bytes.now).0 }
+    ensures behind { option_map (λ x. x.now) result.1 ≡ (Reading.part_before mark bytes.now).1 }
+{
+    match split_once(bytes, mark) {
+        Some((front, rest)) => (front, Some(rest)),
+        None => (bytes, None),
+    }
 }
 
 /// The number that a port's digits write, if it is one of 1 to 65535.
@@ -59,56 +80,4 @@ pub(crate) fn port_behind(alloc: Global, rest: &[u8]) -> Result<Option<Bytes>, U
         return Err(UriError::Syntax);
     }
     Ok(Some(Bytes::copy(alloc, digits)?))
-}
-
-/// Whether a byte is a letter, a digit or a mark.
-fn is_unreserved(byte: u8) -> bool
-    ensures { result ≡ Parts.is_unreserved byte }
-{
-    byte.is_ascii_alphanumeric()
-        || matches!(
-            byte,
-            b'-' | b'_' | b'.' | b'!' | b'~' | b'*' | b'\'' | b'(' | b')'
-        )
-}
-
-/// Whether a byte may stand in a user without an escape.
-fn is_user_byte(byte: u8) -> bool
-    ensures { result ≡ Parts.is_user_byte byte }
-{
-    is_unreserved(byte) || matches!(byte, b'&' | b'=' | b'+' | b'$' | b',' | b';' | b'?' | b'/')
-}
-
-/// What follows the byte or the escape at the front of a user. None at its end, or at another byte.
-fn after_user_byte(rest: &[u8]) -> Option<&[u8]>
-    ensures { MatchOption result (Parts.are_escaped Parts.is_user_byte rest.now ≡ is_nil rest.now) (λ after. (length after.now < length rest.now) × (Parts.are_escaped Parts.is_user_byte rest.now ≡ Parts.are_escaped Parts.is_user_byte after.now)) }
-{
-    let (first, after) = rest.split_first()?;
-    if is_user_byte(*first) {
-        return Some(after);
-    }
-    if *first != b'%' {
-        return None;
-    }
-    let (high, after) = after.split_first()?;
-    let (low, after) = after.split_first()?;
-    if high.is_ascii_hexdigit() && low.is_ascii_hexdigit() {
-        Some(after)
-    } else {
-        None
-    }
-}
-
-/// Whether bytes are a user: one or more bytes and escapes.
-pub(crate) fn is_user(user: &[u8]) -> bool
-    ensures { result ≡ Parts.is_user user.now }
-{
-    if user.is_empty() {
-        return false;
-    }
-    let mut rest = user;
-    while let Some(after) = after_user_byte(rest) {
-        rest = after;
-    }
-    rest.is_empty()
 }

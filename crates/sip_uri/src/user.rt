@@ -1,4 +1,12 @@
-use crate::parts::copy_optional;
+ghost use Rattle.std.specs.Prelude.{◌≡◌, IfOk, option_map};
+ghost use Rattle.std.specs.Option.{ok_or};
+ghost use Rattle.sip_uri.specs.Uri as Definitions;
+ghost use Rattle.sip_uri.specs.Reading.{Gives, userinfo_of, user_of};
+ghost use Rattle.sip_uri.specs.declared.error.UriError.TheVariants.{Syntax};
+
+use crate::error::UriError;
+use crate::escaped::{Class, are_escaped, is_escaped};
+use crate::parts::{copy_optional, copy_part, part_before, split_once};
 use sip_text::Bytes;
 use std::alloc::{AllocError, Global};
 
@@ -12,8 +20,6 @@ pub struct UserInfo {
 }
 
 impl UserInfo {
-    ghost use Rattle.std.specs.Prelude.{◌≡◌, IfOk};
-
     /// The same user and password.
     pub fn copy(&self, alloc: Global) -> Result<UserInfo, AllocError>
         ensures { IfOk result (λ copy. copy ≡ self.now) }
@@ -22,4 +28,41 @@ impl UserInfo {
         let password = copy_optional(alloc, &self.password)?;
         Ok(UserInfo { user, password })
     }
+}
+
+/// Whether a text is a password, which may be empty, or there is none.
+fn is_password_or_none(password: Option<&[u8]>) -> bool
+    ensures { result ≡ Definitions.is_password_or_none (option_map (λ x. x.now) password.entry) }
+{
+    match password {
+        Some(password) => are_escaped(Class::Password, password),
+        None => true,
+    }
+}
+
+/// The user that a text writes, and behind a `:` its password.
+fn read_userinfo(alloc: Global, text: &[u8]) -> Result<UserInfo, UriError>
+    ensures { Gives (λ info. info) result (ok_or (userinfo_of text.now) Syntax) }
+{
+    let (user, password) = part_before(text, b':');
+    if !is_escaped(Class::User, user) {
+        return Err(UriError::Syntax);
+    }
+    if !is_password_or_none(password) {
+        return Err(UriError::Syntax);
+    }
+    let user = Bytes::copy(alloc, user)?;
+    let password = copy_part(alloc, password)?;
+    Ok(UserInfo { user, password })
+}
+
+/// The user and the password before the first `@`, if there is one, and what follows it.
+pub(crate) fn user_before(alloc: Global, text: &[u8]) -> Result<(Option<UserInfo>, &[u8]), UriError>
+    ensures { Gives (λ x. (x.0, x.1.now)) result (user_of text.now) }
+{
+    let Some((info, rest)) = split_once(text, b'@') else {
+        return Ok((None, text));
+    };
+    let info = read_userinfo(alloc, info)?;
+    Ok((Some(info), rest))
 }

@@ -1,0 +1,91 @@
+-- What settling makes of an open request, after every event of it.
+use Rattle.std.proofs.Common.{◌≡◌, ℕ, ◌+◌, ◌≤◌, Bool, true, false, not, ◌&&◌, cond, List, [], ◌∷◌, ◌++◌, map, filter, Option, Some, None, refl, sym, ap, subst, ◌∙◌, arith}
+use Rattle.std.specs.List.{AllByRecursion}
+use Rattle.sip_model.specs.declared.packet.Packet.{Packet}
+use Rattle.sip_model.specs.Server.{Server}
+use Rattle.sip_model.specs.State.{Cancelled, Side, Closing, Branch, OpenRequest, is_answering, phase_deadline, side_deadline}
+use Rattle.sip_model.specs.Sending.{is_provisional}
+use Rattle.sip_model.specs.Dialogs.{Upward}
+use Rattle.sip_model.specs.Branches.{Change, best_upward, is_cancellable, cancel_branch, new_cancels, with_cancels, after_upward, settled}
+use Rattle.sip_model.proofs.Events.{DueFrom, IsDue, IsEvent, all_map}
+
+-- ---- the name of a request
+
+-- an answer leaves the key
+pub upward_key : (now : ℕ) (o : Option Upward) (r : OpenRequest) → (after_upward now o r).key ≡ r.key
+upward_key now None r = refl
+upward_key now (Some u) r = refl
+
+-- and the number
+pub upward_number : (now : ℕ) (o : Option Upward) (r : OpenRequest) → (after_upward now o r).number ≡ r.number
+upward_number now None r = refl
+upward_number now (Some u) r = refl
+
+-- settling leaves the key
+pub settled_key : (server : Server) (now : ℕ) (acks : List Packet) (relayed : Option Upward) (r : OpenRequest) → (settled server now acks relayed r).request.key ≡ r.key
+settled_key server now acks relayed r =
+    let told : OpenRequest = after_upward now relayed r in
+    upward_key now (best_upward server told) told ∙ upward_key now relayed r
+
+-- and the number
+pub settled_number : (server : Server) (now : ℕ) (acks : List Packet) (relayed : Option Upward) (r : OpenRequest) → (settled server now acks relayed r).request.number ≡ r.number
+settled_number server now acks relayed r =
+    let told : OpenRequest = after_upward now relayed r in
+    upward_number now (best_upward server told) told ∙ upward_number now relayed r
+
+-- so an event leaves the key
+pub event_key : (server : Server) (now : ℕ) (r : OpenRequest) (change : Change) → IsEvent server now r change → change.request.key ≡ r.key
+event_key server now r change e = ap (λ (c : Change). c.request.key) e.is_change ∙ settled_key server now e.acks e.relayed e.between ∙ e.key_is
+
+-- and the number
+pub event_number : (server : Server) (now : ℕ) (r : OpenRequest) (change : Change) → IsEvent server now r change → change.request.number ≡ r.number
+event_number server now r change e = ap (λ (c : Change). c.request.number) e.is_change ∙ settled_number server now e.acks e.relayed e.between ∙ e.number_is
+
+-- ---- deadlines
+
+-- a side that closes does so later
+closing_due : (floor now : ℕ) (side : Side) (t : Bool) → floor ≤ now + 1 → DueFrom floor (side_deadline side) → DueFrom floor (side_deadline (cond t (Closing (now + 32000)) side))
+closing_due floor now side true low h = omega arith
+closing_due floor now side false low h = h
+
+-- an answer arms nothing before
+pub upward_due : (floor now : ℕ) (o : Option Upward) (r : OpenRequest) → floor ≤ now + 1 → IsDue floor r → IsDue floor (after_upward now o r)
+upward_due floor now None r low h = h
+upward_due floor now (Some u) r low h = record { side_due = closing_due floor now r.side (is_answering r.side && not (is_provisional u.status)) low h.side_due; branches_due = h.branches_due }
+
+-- what holds of two lists holds of both together
+pub all_append : {X : Type 0} (P : X → Type 0) (xs ys : List X) → AllByRecursion P xs → AllByRecursion P ys → AllByRecursion P (xs ++ ys)
+all_append P [] ys first second = second
+all_append P (x ∷ xs) ys first second = (first.0, all_append P xs ys first.1 second)
+
+-- what holds of each image
+each_map : (P : Branch → Type 0) (f : Branch → Branch) (xs : List Branch) → ((x : Branch) → P (f x)) → AllByRecursion P (map f xs)
+each_map P f [] each = tt
+each_map P f (x ∷ xs) each = (each x, each_map P f xs each)
+
+-- a branch that is sent a CANCEL has time
+cancelled_due : (floor now : ℕ) (x : Branch) (t : Bool) → floor ≤ now + 1 → DueFrom floor (phase_deadline x.phase) → DueFrom floor (phase_deadline (cond t (record x { phase = Cancelled (now + 32000) }) x).phase)
+cancelled_due floor now x true low h = omega arith
+cancelled_due floor now x false low h = h
+
+-- CANCELs arm nothing before
+cancels_due : (floor now : ℕ) (r : OpenRequest) → floor ≤ now + 1 → IsDue floor r → IsDue floor (with_cancels now r)
+cancels_due floor now r low h = record {
+  side_due = h.side_due;
+  branches_due = all_append (λ b. DueFrom floor (phase_deadline b.phase)) (map (λ (b : Branch). cond (is_cancellable b) (record b { phase = Cancelled (now + 32000) }) b) r.branches) (new_cancels now r)
+      (all_map (λ b. DueFrom floor (phase_deadline b.phase)) (λ b. DueFrom floor (phase_deadline b.phase)) (λ (b : Branch). cond (is_cancellable b) (record b { phase = Cancelled (now + 32000) }) b) r.branches
+      (λ x before. cancelled_due floor now x (is_cancellable x) low before) h.branches_due)
+      (each_map (λ b. DueFrom floor (phase_deadline b.phase)) (cancel_branch now) (filter is_cancellable r.branches) (λ x. let due : floor ≤ now + 32000 = omega arith in due));
+}
+
+-- nor does settling
+pub settled_due : (server : Server) (floor now : ℕ) (acks : List Packet) (relayed : Option Upward) (r : OpenRequest) → floor ≤ now + 1 → IsDue floor r → IsDue floor (settled server now acks relayed r).request
+settled_due server floor now acks relayed r low h =
+    let told : OpenRequest = after_upward now relayed r in
+    let best : Option Upward = best_upward server told in
+    cancels_due floor now (after_upward now best told) low (upward_due floor now best told low (upward_due floor now relayed r low h))
+
+-- no new deadline is before a moment that the event stands at, or one after it
+pub event_due : (server : Server) (floor now : ℕ) (r : OpenRequest) (change : Change) → IsEvent server now r change → floor ≤ now + 1 → IsDue floor r → IsDue floor change.request
+event_due server floor now r change e low h =
+    subst (λ (c : Change). IsDue floor c.request) (sym e.is_change) (settled_due server floor now e.acks e.relayed e.between low (e.due floor low h))

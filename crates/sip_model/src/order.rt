@@ -1,0 +1,54 @@
+ghost use Rattle.std.specs.Prelude.{◌≡◌, ◌≤◌, ◌+◌, ℕ, true, false, List};
+ghost use Rattle.std.specs.List.{AllByRecursion};
+ghost use Rattle.sip_model.specs.Server.{Server};
+ghost use Rattle.sip_model.specs.State.{OpenRequest, ProxyState, first_state, is_answering};
+ghost use Rattle.sip_model.specs.Branches.{Change};
+ghost use Rattle.sip_model.specs.Step.{NoneBefore, IsOverdue};
+ghost use Rattle.sip_model.specs.Run.{Link, IsChain};
+ghost use Rattle.sip_model.specs.Order.{KeysDiffer, AreNumbered, HasFired, IsChangeOf, AddsSuccessesAlone, AnswersOnce, AreOneAnswer, CanEnd, deadlines_left, finals_to, history_finals};
+
+/// No key is that of two open requests, whatever happened before: a copy of a request is taken for the
+/// one that it copies.
+pub fn keys_are_open_once()
+    ensures { (server : Server) (first : ℕ) (history : List Link) (last : ProxyState)
+        → IsChain server (first_state first) history last → KeysDiffer last.requests }
+{}
+
+/// No number is that of two open requests, and each is below the number of the next datagram.
+pub fn numbers_differ()
+    ensures { (server : Server) (first : ℕ) (history : List Link) (last : ProxyState)
+        → IsChain server (first_state first) history last → AreNumbered last.next last.requests }
+{}
+
+/// No deadline of an open request stands before the moment of its state; once a datagram was taken, or
+/// time passed up to a moment, none stands at it either: what had to fire has fired, and what was armed
+/// since is later.
+pub fn no_deadline_passed()
+    ensures none_before { (server : Server) (first : ℕ) (history : List Link) (last : ProxyState)
+        → IsChain server (first_state first) history last → NoneBefore last.moment last.requests }
+    ensures has_fired { (server : Server) (first : ℕ) (history : List Link) (last : ProxyState)
+        → IsChain server (first_state first) history last
+        → AllByRecursion (λ (link : Link). HasFired link.act link.after) history }
+{}
+
+/// Of each request at most one final answer goes up in a whole history, or several 2xx to an INVITE. A
+/// change of an open request that has had its final answer sends nothing final but further 2xx to an INVITE
+/// whose last answer was a 2xx; a change of one that hasn't sends at most one, with which it has.
+pub fn one_final_answer()
+    ensures whole { (server : Server) (first : ℕ) (history : List Link) (last : ProxyState)
+        (chain : IsChain server (first_state first) history last) (number : ℕ)
+        → AreOneAnswer (finals_to number (history_finals server (first_state first) history last chain)) }
+    ensures later { (server : Server) (now : ℕ) (r : OpenRequest) (change : Change)
+        → IsChangeOf server now r change → is_answering r.side ≡ false → AddsSuccessesAlone r change }
+    ensures first { (server : Server) (now : ℕ) (r : OpenRequest) (change : Change)
+        → IsChangeOf server now r change → is_answering r.side ≡ true → AnswersOnce change }
+{}
+
+/// Each open request can end by the passing of time alone: one of its deadlines stands, and each that
+/// passes leaves fewer that may still pass.
+pub fn requests_can_end()
+    ensures has_deadline { (server : Server) (first : ℕ) (history : List Link) (last : ProxyState)
+        → IsChain server (first_state first) history last → AllByRecursion CanEnd last.requests }
+    ensures fewer_left { (server : Server) (due : ℕ) (r : OpenRequest) (change : Change)
+        → IsOverdue server due r change → deadlines_left change.request + 1 ≤ deadlines_left r }
+{}
