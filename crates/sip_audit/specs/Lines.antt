@@ -28,6 +28,7 @@ abbrev pub who_text : Option (List ℕ) → List ℕ
 who_text None = codes "-"
 who_text (Some name) = name
 
+-- the word for an operation
 abbrev pub operation_text : Operation → List ℕ
 operation_text Operation.Register = codes "register"
 operation_text Operation.List = codes "list"

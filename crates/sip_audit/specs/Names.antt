@@ -12,6 +12,7 @@ abbrev pub is_name : List ℕ → Bool
 is_name [] = false
 is_name (b ∷ bs) = is_ascii_alphanumeric b && list_all is_name_byte bs && nat_le (length bs) 63
 
+-- a user's name, or nobody's
 abbrev pub is_name_or_none : Option (List ℕ) → Bool
 is_name_or_none None = true
 is_name_or_none (Some name) = is_name name

@@ -33,12 +33,15 @@ pub record IsChosen (finals : List Final) (f : Final) (others : List Final) : Ty
 
 -- ---- challenges (RFC 3261 16.7 step 7)
 
+-- whether a status challenges (RFC 3261 21.4.2, 21.4.8)
 abbrev pub is_challenge_status : ℕ → Bool
 is_challenge_status status = status == 401 || status == 407
 
+-- whether a field is a challenge (RFC 3261 20.44, 20.27)
 abbrev pub is_challenge_field : Field → Bool
 is_challenge_field field = is_same_name field.name WwwAuthenticate || is_same_name field.name ProxyAuthenticate
 
+-- the challenges of a message, if there is one
 abbrev pub challenge_fields : Option Message → List Field
 challenge_fields None = []
 challenge_fields (Some m) = filter is_challenge_field m.fields
@@ -47,6 +50,7 @@ challenge_fields (Some m) = filter is_challenge_field m.fields
 abbrev pub challenges_of : Final → List Field
 challenges_of f = if is_challenge_status f.status then challenge_fields f.message else []
 
+-- a message with one more field behind the others
 abbrev pub with_field : Message → Field → Message
 with_field m field = record m { fields = m.fields ++ field ∷ [] }
 

@@ -14,6 +14,7 @@ use Rattle.sip_header.specs.NameAddr.{name_addr_of}
 use Rattle.sip_header.specs.Route.{route_of}
 use Rattle.sip_hops.specs.declared.addr.Addr.{Addr}
 
+-- whether two addresses are one
 abbrev pub is_same_addr : Addr → Addr → Bool
 is_same_addr a b = bytes_eq a.ip b.ip && a.port == b.port
 
@@ -28,6 +29,7 @@ with_addresses held (a ∷ more) = with_addresses (with_address held a) more
 
 -- ---- what a message tells
 
+-- the address of a SIP URI; another has none
 abbrev pub address_by : (Uri → Option Addr) → AnyUri → Option Addr
 address_by address_of (Sip uri) = address_of uri
 address_by address_of (Other text) = None

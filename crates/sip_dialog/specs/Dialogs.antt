@@ -20,6 +20,7 @@ known now dialogs = filter (is_known now) dialogs
 abbrev pub is_named : DialogId → Dialog → Bool
 is_named id d = is_same_dialog d.id id
 
+-- whether a dialog holds an address
 abbrev pub holds : Addr → Dialog → Bool
 holds address d = list_any (is_same_addr address) d.addresses
 

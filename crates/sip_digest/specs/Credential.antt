@@ -31,5 +31,6 @@ abbrev pub count_with : Option Protection → Option ℕ
 count_with None = Some 1
 count_with (Some protection) = count_in protection.nc
 
+-- the same of a credential
 abbrev pub count_of : Credential → Option ℕ
 count_of c = count_with c.protection

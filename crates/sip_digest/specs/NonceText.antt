@@ -28,5 +28,6 @@ pub record IsBelowDigits (number digits : ℕ) : Type 0 where
 abbrev pub named : List ℕ → ℕ → Option ℕ
 named text word = if bytes_eq (nonce_text word) text then Some word else None
 
+-- the word whose nonce a text is, if it is one's
 abbrev pub word_of : List ℕ → Option ℕ
 word_of text = if length text == 32 then option_and_then (named text) (hex_number_of text) else None

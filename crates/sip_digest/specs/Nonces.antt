@@ -22,6 +22,7 @@ IsLive now row = now - row.since < 300000
 abbrev pub IsNonceOf : ℕ → ℕ → Nonce → Type 0
 IsNonceOf word now row = (row.word ≡ word) × IsLive now row
 
+-- the same as a test
 abbrev pub is_this : ℕ → ℕ → Nonce → Bool
 is_this word now row = row.word == word && is_live now row
 

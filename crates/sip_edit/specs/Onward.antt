@@ -55,6 +55,7 @@ lowered Malformed fields = fields
 
 -- ---- credentials (RFC 3261 22.3)
 
+-- whether a realm was named, and is this one
 abbrev pub is_realm : List ℕ → Option (List ℕ) → Bool
 is_realm realm None = false
 is_realm realm (Some said) = bytes_eq said realm
@@ -82,6 +83,7 @@ onward_of own realm uri branch m =
 
 -- ---- Record-Route (step 4)
 
+-- this server's Record-Route (RFC 3261 20.30)
 abbrev pub record_route_field : Own → Field
 record_route_field own = record { name = Name.RecordRoute; value = codes "<" ++ text_of (record_route_uri own) ++ codes ">" }
 

@@ -24,6 +24,7 @@ fields_like method to sent =
     first_of Name.Via sent ++ seventy ∷ (first_of Name.From sent ++ to ++ first_of Name.CallId sent ++ cseq_with method (option_and_then cseq_of (first_value Name.CSeq sent))
     ++ all_named Name.Route sent)
 
+-- the request that these fields belong to
 abbrev pub request_like : List ℕ → List Field → Message → Message
 request_like method to sent =
     record { start = Request method (request_uri sent.start) (codes "SIP/2.0"); fields = fields_like method to sent.fields; body = [] }

@@ -18,6 +18,7 @@ branch_text boot number target =
 abbrev pub own_via : Own → List ℕ → List ℕ
 own_via own branch = codes "SIP/2.0/UDP " ++ own.host ++ codes ":" ++ decimal own.port ++ codes ";branch=" ++ branch
 
+-- the same as a field
 abbrev pub own_via_field : Own → List ℕ → Field
 own_via_field own branch = record { name = Name.Via; value = own_via own branch }
 

@@ -18,6 +18,7 @@ pub record IsCSeq (value : List ℕ) (cseq : CSeq) : Type 0 where
   pub is_below : cseq.number < 2 ^ 31
   pub is_token : is_token_text cseq.method ≡ true
 
+-- a number below 2 ^ 31 and a method
 abbrev pub cseq_from : List ℕ → ℕ → Option CSeq
 cseq_from method number =
     if nat_lt number (2 ^ 31) then (if is_token_text method then Some (record { number = number; method = method }) else None) else None

@@ -35,6 +35,7 @@ the_one name (value ∷ next ∷ others) = Err (Malformed name)
 abbrev pub only_value : FieldName → List Field → Result (List ℕ) HeaderError
 only_value name fields = the_one name (values_of name fields)
 
+-- the one address that a field of a name says
 abbrev pub name_addr_in : FieldName → List Field → Result NameAddr HeaderError
 name_addr_in name fields = only_value name fields >>= λ value. ok_or (name_addr_of value) (Malformed name)
 
@@ -42,9 +43,11 @@ name_addr_in name fields = only_value name fields >>= λ value. ok_or (name_addr
 abbrev pub call_id_from : List ℕ → Result (List ℕ) HeaderError
 call_id_from value = if is_nil value then Err (Malformed Name.CallId) else Ok value
 
+-- the one Call-ID (RFC 3261 20.8)
 abbrev pub call_id_in : List Field → Result (List ℕ) HeaderError
 call_id_in fields = only_value Name.CallId fields >>= call_id_from
 
+-- the one CSeq (RFC 3261 20.16)
 abbrev pub cseq_in : List Field → Result CSeq HeaderError
 cseq_in fields = only_value Name.CSeq fields >>= λ value. ok_or (cseq_of value) (Malformed Name.CSeq)
 

@@ -23,9 +23,11 @@ pub record IsItem (text : List ℕ) (item : Item) : Type 0 where
   pub is_token : is_token_text item.name ≡ true
   pub is_value : value_said (trimmed right) ≡ Some item.value
 
+-- a token and what a value says
 abbrev pub item_from : List ℕ → List ℕ → Option Item
 item_from name text = if is_token_text name then option_map (λ value. record { name = name; value = value }) (value_said text) else None
 
+-- the same of two parts, blanks round them taken off
 abbrev pub item_by : Option (List ℕ × List ℕ) → Option Item
 item_by None = None
 item_by (Some x) = item_from (trimmed x.0) (trimmed x.1)
@@ -49,6 +51,7 @@ abbrev pub names_differ : List Item → Bool
 names_differ [] = true
 names_differ (item ∷ others) = if is_some (item_value item.name others) then false else names_differ others
 
+-- what the names that count say
 abbrev pub credentials_from : List Item → Credentials
 credentials_from items =
     record {
@@ -63,6 +66,7 @@ credentials_from items =
       cnonce = item_value (codes "cnonce") items;
     }
 
+-- the credentials that items make, if no name stands twice
 abbrev pub from_items : List Item → Option Credentials
 from_items items = if names_differ items then Some (credentials_from items) else None
 

@@ -21,6 +21,7 @@ is_mark quoting mark b = false
 abbrev pub in_front : List ℕ → Option (List ℕ × List ℕ) → Option (List ℕ × List ℕ)
 in_front front parts = option_map (λ x. (front ++ x.0, x.1)) parts
 
+-- what stands before the first of a byte outside quoted text, and what follows it, where the text begins inside it or outside
 abbrev pub split_from : Quoting → ℕ → List ℕ → Option (List ℕ × List ℕ)
 split_from quoting mark [] = None
 split_from quoting mark (b ∷ bs) = if is_mark quoting mark b then Some ([], bs) else in_front (b ∷ []) (split_from (quoting_after quoting b) mark bs)
@@ -34,6 +35,7 @@ abbrev pub onto : List ℕ → List (List ℕ) → List (List ℕ)
 onto front [] = []
 onto front (part ∷ parts) = (front ++ part) ∷ parts
 
+-- what stands between the bytes of one kind outside quoted text, where the text begins inside it or outside
 abbrev pub parts_from : Quoting → ℕ → List ℕ → List (List ℕ)
 parts_from quoting mark [] = [] ∷ []
 parts_from quoting mark (b ∷ bs) = if is_mark quoting mark b then [] ∷ parts_from Outside mark bs else onto (b ∷ []) (parts_from (quoting_after quoting b) mark bs)

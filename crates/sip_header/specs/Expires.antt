@@ -16,6 +16,7 @@ use Rattle.sip_header.specs.Parameters.{parameter_of}
 abbrev pub seconds_of : List ℕ → Option ℕ
 seconds_of text = decimal_of text
 
+-- a number of seconds, or what is none
 abbrev pub expires_from : Option ℕ → Expires
 expires_from None = Malformed
 expires_from (Some n) = Seconds n
@@ -30,6 +31,7 @@ expires_in (value ∷ next ∷ others) = Malformed
 abbrev pub expires_of : List Field → Expires
 expires_of fields = expires_in (values_of Name.Expires fields)
 
+-- what an `expires` parameter says, if there is one
 abbrev pub parameter_expires : Option Parameter → Expires
 parameter_expires None = Absent
 parameter_expires (Some parameter) = expires_from (option_and_then seconds_of parameter.value)

@@ -23,6 +23,7 @@ has_cookie branch = starts_with nat_eq branch (codes "z9hG4bK")
 abbrev pub key_method : List ℕ → List ℕ
 key_method method = if bytes_eq method (codes "ACK") then codes "INVITE" else method
 
+-- the key with this branch, if it has the magic cookie
 abbrev pub key_from : List ℕ → Via → List ℕ → Option Key
 key_from method via branch =
     if has_cookie branch then Some (record { branch = branch; host = without_case via.host; port = unwrap_or via.port 5060; method = key_method method })
@@ -32,6 +33,7 @@ key_from method via branch =
 abbrev pub via_key : List ℕ → Via → Option Key
 via_key method via = option_and_then (key_from method via) (branch_of via.parameters)
 
+-- the key of a request line and fields; a response has none
 abbrev pub start_key : List Field → Start → Option Key
 start_key fields (Request method uri version) = option_and_then (λ value. option_and_then (via_key method) (via_of value)) (first_value Name.Via fields)
 start_key fields (Status code reason) = None
@@ -40,5 +42,6 @@ start_key fields (Status code reason) = None
 abbrev pub key_of : Message → Option Key
 key_of m = start_key m.fields m.start
 
+-- whether two keys are one, part by part
 abbrev pub same_key : Key → Key → Bool
 same_key left right = bytes_eq left.branch right.branch && bytes_eq left.host right.host && left.port == right.port && bytes_eq left.method right.method

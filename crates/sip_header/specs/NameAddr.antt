@@ -25,6 +25,7 @@ use Rattle.sip_header.specs.declared.name_addr.NameAddr.{NameAddr}
 abbrev pub is_opaque_byte : ℕ → Bool
 is_opaque_byte b = nat_le 33 b && nat_le b 126 && not (list_any (λ c. b == c) (codes "\"<>"))
 
+-- whether something stands behind the `:`, of such bytes alone
 abbrev pub is_opaque : Option (List ℕ × List ℕ) → Bool
 is_opaque None = false
 is_opaque (Some x) = if is_nil x.1 then false else list_all is_opaque_byte x.1
@@ -33,6 +34,7 @@ is_opaque (Some x) = if is_nil x.1 then false else list_all is_opaque_byte x.1
 abbrev pub other_of : List ℕ → Option AnyUri
 other_of text = if is_opaque (split_outside (byte ":") text) then Some (Other text) else None
 
+-- a SIP or SIPS URI, or one of another scheme
 abbrev pub uri_by : List ℕ → Result Uri UriError → Option AnyUri
 uri_by text (Ok uri) = Some (Sip uri)
 uri_by text (Err Fault.NoMemory) = None
@@ -72,10 +74,12 @@ abbrev pub behind_bracket : List (List ℕ) → Option (List Parameter)
 behind_bracket [] = None
 behind_bracket (gap ∷ parameters) = if is_nil (trimmed gap) then parameters_in parameters else None
 
+-- the URI before the `>`, and the parameters behind it
 abbrev pub bracketed_by : Option (List ℕ × List ℕ) → Option NameAddr
 bracketed_by None = None
 bracketed_by (Some x) = with_parameters (behind_bracket (parts_at (byte ";") x.1)) (any_uri_of (trimmed x.0))
 
+-- an address with brackets, or without
 abbrev pub name_addr_by : List ℕ → Option (List ℕ × List ℕ) → Option NameAddr
 name_addr_by text None = bare_in (parts_at (byte ";") text)
 name_addr_by text (Some x) = if is_display x.0 then bracketed_by (split_outside (byte ">") x.1) else None

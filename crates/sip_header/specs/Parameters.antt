@@ -25,6 +25,7 @@ pub record IsAssigned (text name value : List ℕ) : Type 0 where
   pub is_name : trimmed left ≡ name
   pub is_value : trimmed right ≡ value
 
+-- a text writes a name alone, which may stand without a value, or a name and a value
 abbrev pub IsParameterBy : List ℕ → List ℕ → Option (List ℕ) → Type 0
 IsParameterBy text name None = (trimmed text ≡ name) × (is_token_text name ≡ true) × (needs_value name ≡ false)
 IsParameterBy text name (Some value) = IsAssigned text name value × (is_token_text name ≡ true) × (is_value value ≡ true)
@@ -33,14 +34,17 @@ IsParameterBy text name (Some value) = IsAssigned text name value × (is_token_t
 abbrev pub IsParameter : List ℕ → Parameter → Type 0
 IsParameter text parameter = IsParameterBy text parameter.name parameter.value
 
+-- a parameter without a value
 abbrev pub bare_parameter : List ℕ → Option Parameter
 bare_parameter name =
     if is_token_text name then (if needs_value name then None else Some (record { name = name; value = None })) else None
 
+-- a parameter with a value
 abbrev pub valued_parameter : List ℕ → List ℕ → Option Parameter
 valued_parameter name value =
     if is_token_text name then (if is_value value then Some (record { name = name; value = Some value }) else None) else None
 
+-- a parameter by whether there is a `=`
 abbrev pub parameter_by : List ℕ → Option (List ℕ × List ℕ) → Option Parameter
 parameter_by text None = bare_parameter (trimmed text)
 parameter_by text (Some x) = valued_parameter (trimmed x.0) (trimmed x.1)
@@ -63,8 +67,10 @@ parameter_of name (parameter ∷ others) = if is_same_text parameter.name name t
 abbrev pub value_of : List ℕ → List Parameter → Option (List ℕ)
 value_of name parameters = option_and_then (λ parameter. parameter.value) (parameter_of name parameters)
 
+-- the tag (RFC 3261 19.3)
 abbrev pub tag_of : List Parameter → Option (List ℕ)
 tag_of parameters = value_of (codes "tag") parameters
 
+-- the branch (RFC 3261 8.1.1.7)
 abbrev pub branch_of : List Parameter → Option (List ℕ)
 branch_of parameters = value_of (codes "branch") parameters

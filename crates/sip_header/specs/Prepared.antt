@@ -37,6 +37,7 @@ without_last name fields = reverse (without_first name (reverse fields))
 abbrev pub first_route : List Field → Option NameAddr
 first_route fields = option_and_then route_of (first_value Name.Route fields)
 
+-- the last one
 abbrev pub last_route : List Field → Option NameAddr
 last_route fields = option_and_then route_of (first_value Name.Route (reverse fields))
 
@@ -50,6 +51,7 @@ has_lr uri = list_any (λ p. says_same_no_case p.name (codes "lr")) uri.paramete
 abbrev pub is_record_route : Own → Uri → Bool
 is_record_route own uri = has_lr uri && same uri (record_route_uri own)
 
+-- whether a URI of any scheme names this server
 abbrev pub names_own_place : Own → AnyUri → Bool
 names_own_place own (Sip uri) = is_own_place own uri
 names_own_place own (Other text) = false
@@ -86,9 +88,11 @@ abbrev pub request_uri : Start → List ℕ
 request_uri (Request method uri version) = uri
 request_uri (Status code reason) = []
 
+-- the way that is left of a message
 abbrev pub way_of : Own → Message → Way
 way_of own m = way_from own (record { uri = request_uri m.start; fields = m.fields })
 
+-- a way as its Request-URI and its Routes
 abbrev pub prepared_by : Way → Prepared
 prepared_by way = record { uri = way.uri; routes = values_of Name.Route way.fields }
 

@@ -4,6 +4,7 @@ use Rattle.sip_message.specs.declared.field_name.FieldName.{FieldName}
 use Rattle.sip_header.specs.declared.error.HeaderError.{HeaderError}
 use Rattle.sip_header.specs.declared.error.HeaderError.TheVariants.{NoMemory, Missing, Malformed}
 
+-- the numbers of the refusals
 abbrev pub number_of : HeaderError → ℕ
 number_of NoMemory = 1
 number_of (Missing name) = 2

@@ -27,9 +27,11 @@ versioned protocol version text =
 abbrev pub sender_of : List ℕ → Option Sender
 sender_of text = option_and_then (λ first. option_and_then (λ second. versioned (trimmed first.0) (trimmed second.0) (trimmed second.1)) (split_outside (byte "/") first.1)) (split_outside (byte "/") text)
 
+-- a Via of its parts
 abbrev pub via_from : Sender → List Parameter → Via
 via_from sender parameters = record { transport = sender.transport; host = sender.sent_by.host; port = sender.sent_by.port; parameters = parameters }
 
+-- the same of the parts between the `;`
 abbrev pub via_in : List (List ℕ) → Option Via
 via_in [] = None
 via_in (sender ∷ parameters) = option_and_then (λ s. option_map (λ p. via_from s p) (parameters_in parameters)) (sender_of sender)

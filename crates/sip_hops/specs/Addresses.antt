@@ -26,6 +26,7 @@ has_leading_zero (d ∷ e ∷ ds) = d == byte "0"
 abbrev pub ip_number : List ℕ → Option ℕ
 ip_number digits = option_and_then (λ n. if nat_le n 255 && not (has_leading_zero digits) then Some n else None) (decimal_of digits)
 
+-- the four numbers of a dotted address
 abbrev pub ip_numbers : List (List ℕ) → Option (List ℕ)
 ip_numbers [] = Some []
 ip_numbers (piece ∷ pieces) = option_and_then (λ n. option_map (λ ns. n ∷ ns) (ip_numbers pieces)) (ip_number piece)

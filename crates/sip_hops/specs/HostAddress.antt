@@ -13,6 +13,7 @@ use Rattle.sip_hops.specs.declared.addr.Addr.{Addr}
 use Rattle.sip_hops.specs.declared.host_address.HostAddress.{HostAddress}
 use Rattle.sip_hops.specs.Addresses.{ip_of}
 
+-- whether a transport is udp, in any case, escapes resolved
 abbrev pub is_udp : Option (List ℕ) → Bool
 is_udp None = false
 is_udp (Some value) = says_same_no_case value (codes "udp")
@@ -21,6 +22,7 @@ is_udp (Some value) = says_same_no_case value (codes "udp")
 abbrev pub leads_elsewhere : Parameter → Bool
 leads_elsewhere p = says_same_no_case p.name (codes "maddr") || (says_same_no_case p.name (codes "transport") && not (is_udp p.value))
 
+-- whether a scheme is `sip`
 abbrev pub is_sip : Scheme → Bool
 is_sip Sip = true
 is_sip Sips = false
@@ -43,6 +45,7 @@ abbrev pub address_from : List HostAddress → List ℕ → ℕ → Option (List
 address_from rows host port (Some ip) = Some (record { ip = ip; port = port })
 address_from rows host port None = option_map (λ row. row.address) (find (is_row_for host port) rows)
 
+-- the address of a host and a port
 abbrev pub address_at : List HostAddress → List ℕ → ℕ → Option Addr
 address_at rows host port = address_from rows host port (ip_of host)
 

@@ -16,10 +16,12 @@ use Rattle.sip_location.specs.Interval.{own_or, granted, is_brief, is_zero}
 
 -- ---- the refusals, in their order
 
+-- whether a Contact is `*`
 abbrev pub is_star : Asked → Bool
 is_star Star = true
 is_star (Contact uri interval) = false
 
+-- whether there is one Contact alone
 abbrev pub is_alone : List Asked → Bool
 is_alone [] = false
 is_alone (contact ∷ []) = true
@@ -33,6 +35,7 @@ has_bad_star r = list_any is_star r.contacts && not (is_alone r.contacts && is_z
 abbrev pub seconds_for : Interval → Interval → ℕ
 seconds_for own expires = granted (own_or own expires)
 
+-- whether a contact asks for less than a minute, and for no removal
 abbrev pub asks_briefly : Interval → Asked → Bool
 asks_briefly expires Star = false
 asks_briefly expires (Contact uri interval) = is_brief (seconds_for interval expires)
@@ -85,6 +88,7 @@ updated rows r now =
     else if nat_lt 16 (length (edited rows r now)) then Err TooMany
     else Ok (of_others r.aor rows ++ edited rows r now)
 
+-- whether there is no Contact: a query (RFC 3261 10.2.3)
 abbrev pub asks_nothing : List Asked → Bool
 asks_nothing [] = true
 asks_nothing (contact ∷ others) = false

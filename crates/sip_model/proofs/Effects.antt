@@ -1,5 +1,5 @@
 -- What a verdict on a datagram does sends what is owed.
-use Rattle.std.proofs.Common.{◌≡◌, ◌∙◌, ℕ, ◌+◌, ◌&&◌, not, is_some, List, [], ◌∷◌, ◌++◌, map, filter, flat_map, cond, codes, bytes_eq, Bool, true, false, refl, sym, ap, ap₂, subst, Contains, Option, Some, None, IfSome, arith}
+use Rattle.std.proofs.Common.{◌≡◌, ◌∙◌, ℕ, ◌+◌, ◌&&◌, not, is_some, List, [], ◌∷◌, ◌++◌, map, filter, flat_map, cond, codes, bytes_eq, Bool, true, false, refl, sym, ap, ap₂, subst, Contains, Option, Some, None, IfSome, true≢false, arith}
 use Rattle.std.specs.List.{AllByRecursion}
 use Rattle.sip_message.specs.declared.field.Field.{Field}
 use Rattle.sip_message.specs.declared.message.Message.{Message}
@@ -27,9 +27,10 @@ use Rattle.sip_model.specs.Effect.{Effect, arriving, replaced, upward_packets, c
 use Rattle.sip_model.specs.Step.{Act}
 use Rattle.sip_model.specs.Run.{Link}
 use Rattle.sip_model.specs.Access.{CameFor, IsNewRequest, IsSaidAt, IsOpen, IsDenied, IsWithin, Brought, Before, ToTarget, Answers, InKnownDialog, decision_on, targets_on, requests_to}
+use Rattle.sip_model.proofs.Apart.{TargetsDiffer, one_differs, from_differ}
 use Rattle.sip_model.proofs.Lists.{all_append, all_map, all_weaker, all_every, all_contains, all_there}
-use Rattle.sip_model.proofs.Finals.{IsHonest, AreHonest, honest_anyway}
-use Rattle.sip_model.proofs.Later.{IsLater, later_itself, later_tried, later_acknowledged}
+use Rattle.sip_model.proofs.Finals.{IsHonest, IsMarked, IsHonestRequest, AreHonest, honest_anyway}
+use Rattle.sip_model.proofs.Later.{IsLater, later_itself, later_tried, later_acknowledged, later_honest}
 use Rattle.sip_model.proofs.Due.{Owed, MayGoUp, Made, IsDue, IsAcknowledgeable, new_goes_up, settled_due, responded_due, cancelled_due, upward_owed, change_owed, replaced_honest}
 use Rattle.sip_model.proofs.Fitting.{Fits, IsResponding, IsBrought, IsPassing, IsInside, IsAsked, IsSending, RefusesOtherwise, brought, registration_other}
 
@@ -77,26 +78,31 @@ module _ (server : Server) (history : List Link) (state : ProxyState) (act : Act
   pub nothing_good : (s : ProxyState) → AreHonest server history s.requests → IsGood (nothing s)
   nothing_good s h = record { sends = tt; honest = h }
 
-  -- what a change keeps is honest
-  own_finals : (r : OpenRequest) (c : Change) → IsDue server history state act state.bindings r c → AllByRecursion (IsHonest server history c.request.number) c.request.finals
-  own_finals r c due = subst (λ (q : OpenRequest). AllByRecursion (IsHonest server history q.number) c.request.finals) (sym due.is_same) due.finals
+  -- what a change leaves is honest
+  left_honest : (r : OpenRequest) (c : Change) → IsDue server history state act state.bindings r c → IsHonestRequest server history c.request
+  left_honest r c due =
+      record {
+        finals = subst (λ (q : OpenRequest). AllByRecursion (IsHonest server history q.number) c.request.finals) (sym due.is_same) due.finals;
+        marks = subst (λ (q : OpenRequest). AllByRecursion (IsMarked q) c.request.branches) (sym due.is_same) due.marks;
+        differ = due.differ;
+      }
 
   -- the change of an open request
   pub changed_good : (now : ℕ) (s : ProxyState) (r : OpenRequest) (c : Change) → Contains state.requests r → IsDue server history state act state.bindings r c → AreHonest server history s.requests
       → IsGood (changed server now s c)
   changed_good now s r c there due h =
-      record { sends = change_owed server history state act state.bindings r c (Before r there) due; honest = replaced_honest server history c.request s.requests (own_finals r c due) h }
+      record { sends = change_owed server history state act state.bindings r c (Before r there) due; honest = replaced_honest server history c.request s.requests (left_honest r c due) h }
 
-  -- what is kept of an open request is honest
-  pub kept_honest : (r : OpenRequest) → Contains state.requests r → AreHonest server history state.requests → AllByRecursion (IsHonest server history r.number) r.finals
-  kept_honest r there h = all_contains (λ (q : OpenRequest). AllByRecursion (IsHonest server history q.number) q.finals) state.requests r h there
+  -- an open request is honest
+  pub kept_honest : (r : OpenRequest) → Contains state.requests r → AreHonest server history state.requests → IsHonestRequest server history r
+  kept_honest r there h = all_contains (IsHonestRequest server history) state.requests r h there
 
   -- one more open request
-  opened_honest : (r : OpenRequest) (s : ProxyState) → AllByRecursion (IsHonest server history r.number) r.finals → AreHonest server history s.requests → AreHonest server history (opened r s)
+  opened_honest : (r : OpenRequest) (s : ProxyState) → IsHonestRequest server history r → AreHonest server history s.requests → AreHonest server history (opened r s)
   opened_honest r s own h = by_test (is_full s) where
     by_test : (t : Bool) → AreHonest server history (cond t s.requests (s.requests ++ r ∷ []))
     by_test true = h
-    by_test false = all_append (λ (q : OpenRequest). AllByRecursion (IsHonest server history q.number) q.finals) s.requests (r ∷ []) h (own, tt)
+    by_test false = all_append (IsHonestRequest server history) s.requests (r ∷ []) h (own, tt)
 
   module _ (a : Arrival) (bytes : List ℕ) (m : Message) (short : Bool) (said : IsSaidAt state act a bytes m short) where
     -- a request that the step's datagram brings is answered here
@@ -125,7 +131,7 @@ module _ (server : Server) (history : List Link) (state : ProxyState) (act : Act
     replied_good status extras records s opened denial h =
         record {
           sends = (Answers a.number m a.from status extras opened denial refl, tt);
-          honest = opened_honest _ s tt h;
+          honest = opened_honest _ s (record { finals = tt; marks = tt; differ = λ number. omega arith }) h;
         }
 
     -- by another status than 403
@@ -177,14 +183,21 @@ module _ (server : Server) (history : List Link) (state : ProxyState) (act : Act
           never false = refl
 
     -- a request is sent to its branches, and is open from now on
-    forked_good : (branches : List Branch) (records : List Record) (s : ProxyState) → AllByRecursion (λ (b : Branch). b.wants_cancel ≡ false) branches
+    forked_good : (branches : List Branch) (records : List Record) (s : ProxyState) → AllByRecursion (λ (b : Branch). b.wants_cancel ≡ false) branches → TargetsDiffer branches
         → AllByRecursion (Owed server history state act state.bindings) (flat_map (branch_packets server false (forking a m branches)) branches) → IsOpen state act a.number m a.from
         → AreHonest server history s.requests → IsGood (forked server a.now (forking a m branches) records s)
-    forked_good branches records s unwanted sent opened h =
+    forked_good branches records s unwanted differ sent opened h =
         let r : OpenRequest = forking a m branches in
         let begun : OpenRequest = tried a.now (trying server r) r in
         let owed : Packet → Type 0 = Owed server history state act state.bindings in
-        let later : IsLater server history r begun = later_tried server history r a.now (trying server r) r (later_itself server history r (honest_anyway server history a.number (unsent branches) (unsent_honest server [] a.number branches))) in
+        let fresh : IsHonestRequest server history r =
+        record {
+          finals = honest_anyway server history a.number (unsent branches) (unsent_honest server [] a.number branches);
+          marks = all_weaker (λ (b : Branch). b.wants_cancel ≡ false) (IsMarked r) (λ b unmarked wanted. absurd (true≢false (sym wanted ∙ unmarked))) branches unwanted;
+          differ = differ;
+        }
+        in
+        let later : IsLater server history state act r begun = later_tried server history state act r a.now (trying server r) r (later_itself server history state act r fresh) in
         let no_cancels : (after : OpenRequest) → after.branches ≡ begun.branches → new_cancels a.now after ≡ [] =
         λ after same.
         ap (λ (bs : List Branch). map (cancel_branch a.now) (filter is_cancellable bs)) (same ∙ tried_branches a.now (trying server r) r)
@@ -203,7 +216,7 @@ module _ (server : Server) (history : List Link) (state : ProxyState) (act : Act
               (all_append owed (upward_packets r (trying server r)) (change_packets (settled server a.now [] None begun))
               (upward_owed server history state act state.bindings r r (trying server r) opened refl (trying_answers (is_tried r)))
               (change_owed server history state act state.bindings r (settled server a.now [] None begun) opened due)) sent;
-          honest = opened_honest (settled server a.now [] None begun).request s (own_finals r (settled server a.now [] None begun) due) h;
+          honest = opened_honest (settled server a.now [] None begun).request s (left_honest r (settled server a.now [] None begun) due) h;
         } where
           trying_answers : (t : Bool) → AllByRecursion (MayGoUp server history state act state.bindings (forking a m branches))
               (cond t (record { status = 100; message = made_answer server a.number m a.from 100 []; target = None } ∷ []) [])
@@ -214,7 +227,7 @@ module _ (server : Server) (history : List Link) (state : ProxyState) (act : Act
     targets_good : (targets : List Target) (q : Question) (id : ℕ) (s : ProxyState)
         → AllByRecursion (Owed server history state act state.bindings) (requests_to server a m targets) → IsOpen state act a.number m a.from → AreHonest server history s.requests
         → IsGood (sent_to server a m q id targets s)
-    targets_good targets q id s sent opened h = forked_good (branches_from a.now 1 targets) _ (asked a q s) (targets_uncancelled a.now 1 targets) sent opened h
+    targets_good targets q id s sent opened h = forked_good (branches_from a.now 1 targets) _ (asked a q s) (targets_uncancelled a.now 1 targets) (from_differ a.now 1 targets) sent opened h
 
     -- a request that was let through is sent to its targets, or answered by 404 or 480
     sending_good : (q : Question) (id : ℕ) (targets : Targets) (s : ProxyState) → AllByRecursion (Owed server history state act state.bindings) (requests_to server a m (target_list targets))
@@ -247,13 +260,13 @@ module _ (server : Server) (history : List Link) (state : ProxyState) (act : Act
     registering_good q id (Refused status extras) s other opened h = answered_good status extras _ (asked a q s) opened other h
 
     -- a copy of an open request
-    copied_good : (r : OpenRequest) (s : ProxyState) → AllByRecursion (IsHonest server history r.number) r.finals → AreHonest server history s.requests → IsGood (copied a m r s)
+    copied_good : (r : OpenRequest) (s : ProxyState) → IsHonestRequest server history r → AreHonest server history s.requests → IsGood (copied a m r s)
     copied_good r s own h = record { sends = tt; honest = by_test (bytes_eq (method_of m.start) (codes "ACK")) } where
       by_test : (t : Bool) → AreHonest server history (cond t (record s { requests = replaced (acknowledged a.now r) s.requests }) s).requests
       by_test true =
-          let later : IsLater server history r (acknowledged a.now r) = later_acknowledged server history r a.now r (later_itself server history r own) in
+          let later : IsLater server history state act r (acknowledged a.now r) = later_acknowledged server history state act r a.now r (later_itself server history state act r own) in
           replaced_honest server history (acknowledged a.now r) s.requests
-          (subst (λ (q : OpenRequest). AllByRecursion (IsHonest server history q.number) (acknowledged a.now r).finals) (sym later.is_same) later.finals) h
+          (later_honest server history state act r (acknowledged a.now r) later) h
       by_test false = h
 
     -- a CANCEL
@@ -298,7 +311,7 @@ module _ (server : Server) (history : List Link) (state : ProxyState) (act : Act
         → AreHonest server history state.requests → IsGood (changed server a.now (counted a state) (responded server a.now r b status m))
     responded_good r b status fits came h =
         let ack : IsAcknowledgeable server history state act state.bindings r b status m =
-        record { a = a; bytes = bytes; reason = fits.reason; is_said = said_whole fits.is_whole; is_response = fits.is_response; is_for = fits.is_for }
+        record { in_it = fits.in_it; a = a; bytes = bytes; reason = fits.reason; is_said = said_whole fits.is_whole; is_response = fits.is_response; is_for = fits.is_for }
         in
         changed_good a.now (counted a state) r (responded server a.now r b status m) fits.there
         (responded_due server history state act state.bindings a.now r b status m fits.there ack came (kept_honest r fits.there h)) h
@@ -314,7 +327,7 @@ module _ (server : Server) (history : List Link) (state : ProxyState) (act : Act
     effect_good (Cancel found) fits came h = cancelling_good found (counted a state) fits.1 (opened_by fits.0) h h
     effect_good (Answer status extras) fits came h = answered_good status extras [] (counted a state) (opened_by fits.0) fits.1 h
     effect_good (InDialog address id) fits came h =
-        forked_good (dialog_branch server a.now m address ∷ []) [] (renewing server a m id (counted a state)) (refl, tt)
+        forked_good (dialog_branch server a.now m address ∷ []) [] (renewing server a m id (counted a state)) (refl, tt) (one_differs (dialog_branch server a.now m address))
         (within_owed address id fits.1 _ refl (plain_onward address id fits.1) refl, tt) (opened_by fits.0) h
     effect_good (Challenge q) fits came h =
         answered_good (challenge_status q.operation) _ _ (issuing a (asked a q (counted a state))) (opened_new fits.method fits.core fits.is_new) (challenge_other q.operation) h

@@ -1,5 +1,5 @@
--- The final answers that open requests keep: where they come from, and what goes up of them.
-use Rattle.std.proofs.Common.{◌≡◌, ℕ, ◌==◌, List, [], ◌∷◌, cond, Bool, true, false, ap, subst, sym, Contains, Option, Some, None, IfSome, option_map, arith}
+-- What open requests keep: where their final answers come from, what goes up of these, and which branches are to be cancelled.
+use Rattle.std.proofs.Common.{◌≡◌, ℕ, ◌==◌, List, [], ◌∷◌, cond, Bool, true, false, refl, true≢false, ◌∙◌, ap, subst, sym, Contains, Option, Some, None, IfSome, option_map, arith}
 use Rattle.std.specs.List.{AllByRecursion, flat_map}
 use Rattle.sip_message.specs.declared.field_name.FieldName.{FieldName}
 use Rattle.sip_message.specs.declared.field_name.FieldName.TheVariants as Name
@@ -11,9 +11,10 @@ use Rattle.sip_edit.specs.OwnVia.{without_top_via}
 use Rattle.sip_best.specs.declared.final_answer.Final.{Final}
 use Rattle.sip_best.specs.Best.{picked, chosen_of, is_unbeaten, is_challenge_status, is_challenge_field, challenge_fields, challenges_of, challenging, going_up, best_of, taking_along}
 use Rattle.sip_model.specs.Server.{Server}
-use Rattle.sip_model.specs.State.{OpenRequest}
+use Rattle.sip_model.specs.State.{Branch, OpenRequest, is_invite}
 use Rattle.sip_model.specs.Run.{Link}
 use Rattle.sip_model.specs.Access.{CameFor, IsTakenAlong}
+use Rattle.sip_model.proofs.Apart.{TargetsDiffer}
 use Rattle.sip_model.proofs.Lists.{all_weaker, all_there, all_passing, all_flat_map, head_there, tail_there}
 
 -- ---- where they come from
@@ -33,9 +34,19 @@ IsHonestAs server history number status (Some m) = IsResponse server history num
 abbrev pub IsHonest : Server → List Link → ℕ → Final → Type 0
 IsHonest server history number f = IsHonestAs server history number f.status f.message
 
--- all that open requests keep are
+-- a branch of a request is to be cancelled only if that is an INVITE
+abbrev pub IsMarked : OpenRequest → Branch → Type 0
+IsMarked r b = b.wants_cancel ≡ true → is_invite r ≡ true
+
+-- an open request keeps honest answers, has branches that are to be cancelled only as an INVITE, and no two branches to one target
+pub record IsHonestRequest (server : Server) (history : List Link) (r : OpenRequest) : Type 0 where
+  pub finals : AllByRecursion (IsHonest server history r.number) r.finals
+  pub marks : AllByRecursion (IsMarked r) r.branches
+  pub differ : TargetsDiffer r.branches
+
+-- all open requests are honest
 abbrev pub AreHonest : Server → List Link → List OpenRequest → Type 0
-AreHonest server history requests = AllByRecursion (λ r. AllByRecursion (IsHonest server history r.number) r.finals) requests
+AreHonest server history requests = AllByRecursion (IsHonestRequest server history) requests
 
 -- ---- a longer history
 
@@ -74,8 +85,8 @@ finals_before server link history number finals h =
 -- so do those of all open requests
 pub honest_before : (server : Server) (link : Link) (history : List Link) (requests : List OpenRequest) → AreHonest server history requests → AreHonest server (link ∷ history) requests
 honest_before server link history requests h =
-    all_weaker (λ (r : OpenRequest). AllByRecursion (IsHonest server history r.number) r.finals) (λ (r : OpenRequest). AllByRecursion (IsHonest server (link ∷ history) r.number) r.finals)
-    (λ r. finals_before server link history r.number r.finals) requests h
+    all_weaker (IsHonestRequest server history) (IsHonestRequest server (link ∷ history))
+    (λ r own. record { finals = finals_before server link history r.number r.finals own.finals; marks = own.marks; differ = own.differ }) requests h
 
 -- nothing came in an empty history
 pub came_never : (server : Server) (number status : ℕ) (m : Message) → CameFor server [] number status m → ⊥
@@ -103,25 +114,25 @@ left_there name (field ∷ fields) = by_test (is_same_name field.name name) (lef
   by_test true rest = later fields (all_there fields)
   by_test false rest = (head_there field fields, later (without_first name fields) rest)
 
--- the challenges of a response of a history are its
-response_challenges : (server : Server) (history : List Link) (number status : ℕ) (m : Message) → IsResponse server history number status m
+-- the challenges of a 401 or 407 of a history are its
+response_challenges : (server : Server) (history : List Link) (number status : ℕ) (m : Message) → is_challenge_status status ≡ true → IsResponse server history number status m
     → AllByRecursion (IsTakenAlong server history number) (challenge_fields (Some m))
-response_challenges server history number status m h =
+response_challenges server history number status m asks h =
     subst (λ (v : Message). AllByRecursion (IsTakenAlong server history number) (challenge_fields (Some v))) (sym h.is_same)
     (all_passing (Contains h.response.fields) (IsTakenAlong server history number) is_challenge_field
-    (λ field passes there. record { status = status; response = h.response; came = h.came; is_challenge = passes; is_there = there })
+    (λ field passes there. record { status = status; response = h.response; came = h.came; is_challenging = asks; is_challenge = passes; is_there = there })
     (without_first Name.Via h.response.fields) (left_there Name.Via h.response.fields))
 
 -- the challenges of an honest answer are those of a response of a history
 honest_challenges : (server : Server) (history : List Link) (number : ℕ) (f : Final) → IsHonest server history number f → AllByRecursion (IsTakenAlong server history number) (challenges_of f)
-honest_challenges server history number f h = by_test (is_challenge_status f.status) where
-  by_message : (o : Option Message) → IsHonestAs server history number f.status o → AllByRecursion (IsTakenAlong server history number) (challenge_fields o)
-  by_message None own = tt
-  by_message (Some m) own = response_challenges server history number f.status m own
+honest_challenges server history number f h = by_test (is_challenge_status f.status) refl where
+  by_message : is_challenge_status f.status ≡ true → (o : Option Message) → IsHonestAs server history number f.status o → AllByRecursion (IsTakenAlong server history number) (challenge_fields o)
+  by_message asks None own = tt
+  by_message asks (Some m) own = response_challenges server history number f.status m asks own
 
-  by_test : (t : Bool) → AllByRecursion (IsTakenAlong server history number) (cond t (challenge_fields f.message) [])
-  by_test true = by_message f.message h
-  by_test false = tt
+  by_test : (t : Bool) → is_challenge_status f.status ≡ t → AllByRecursion (IsTakenAlong server history number) (cond t (challenge_fields f.message) [])
+  by_test true asks = by_message asks f.message h
+  by_test false asks = tt
 
 -- so are those of several
 honest_all_challenges : (server : Server) (history : List Link) (number : ℕ) (fs : List Final) → AllByRecursion (IsHonest server history number) fs
@@ -132,12 +143,13 @@ honest_all_challenges server history number fs h =
 
 -- ---- what goes up
 
--- a message is a response of a history without its top Via, with challenges of answers to the same request
+-- a message is a response of a history without its top Via, and one of 401 or 407 with challenges of answers to the same request
 pub record IsTaken (server : Server) (history : List Link) (number status : ℕ) (m : Message) : Type 0 where
   pub response : Message
   pub came : CameFor server history number status response
   pub challenges : List Field
   pub along : AllByRecursion (IsTakenAlong server history number) challenges
+  pub only_challenging : is_challenge_status status ≡ false → challenges ≡ []
   pub is_same : m ≡ taking_along (without_top_via response) challenges
 
 -- a status and what may be its message: that of a response of a history, with challenges; or none, and the status is no 403
@@ -159,26 +171,26 @@ picked_all P test (f ∷ fs) h = by_test (test f) (picked test fs) (picked_all P
   by_test false None rest = tt
   by_test false (Some x) rest = (rest.0, (h.0, rest.1))
 
--- an honest answer takes challenges along
+-- an honest 401 or 407 takes challenges along
 taken_with : (server : Server) (history : List Link) (number : ℕ) (status : ℕ) (o : Option Message) (challenges : List Field) → AllByRecursion (IsTakenAlong server history number) challenges
-    → IsHonestAs server history number status o → IsTakenAs server history number status (option_map (λ m. taking_along m challenges) o)
-taken_with server history number status None challenges along h = h
-taken_with server history number status (Some m) challenges along h =
-    record { response = h.response; came = h.came; challenges = challenges; along = along; is_same = ap (λ v. taking_along v challenges) h.is_same }
+    → is_challenge_status status ≡ true → IsHonestAs server history number status o → IsTakenAs server history number status (option_map (λ m. taking_along m challenges) o)
+taken_with server history number status None challenges along asks h = h
+taken_with server history number status (Some m) challenges along asks h =
+    record { response = h.response; came = h.came; challenges = challenges; along = along; only_challenging = λ other. absurd (true≢false (sym asks ∙ other)); is_same = ap (λ v. taking_along v challenges) h.is_same }
 
 -- an honest answer goes up as it is
 taken_alone : (server : Server) (history : List Link) (number : ℕ) (status : ℕ) (o : Option Message) → IsHonestAs server history number status o → IsTakenAs server history number status o
 taken_alone server history number status None h = h
-taken_alone server history number status (Some m) h = record { response = h.response; came = h.came; challenges = []; along = tt; is_same = h.is_same }
+taken_alone server history number status (Some m) h = record { response = h.response; came = h.came; challenges = []; along = tt; only_challenging = λ other. refl; is_same = h.is_same }
 
 -- the chosen answer goes up, as it is, with challenges, or as a 500 made here
 going_up_taken : (server : Server) (history : List Link) (number : ℕ) (others : List Final) (f : Final) → IsHonest server history number f → AllByRecursion (IsHonest server history number) others
     → GoesUp server history number (going_up others f)
-going_up_taken server history number others f h rest = by_tests (f.status == 503) (is_challenge_status f.status) where
-  by_tests : (t u : Bool) → GoesUp server history number (cond t (record { status = 500; message = None }) (cond u (challenging others f) f))
-  by_tests true u = λ e. omega arith
-  by_tests false true = taken_with server history number f.status f.message (flat_map challenges_of others) (honest_all_challenges server history number others rest) h
-  by_tests false false = taken_alone server history number f.status f.message h
+going_up_taken server history number others f h rest = by_tests (f.status == 503) (is_challenge_status f.status) refl where
+  by_tests : (t u : Bool) → is_challenge_status f.status ≡ u → GoesUp server history number (cond t (record { status = 500; message = None }) (cond u (challenging others f) f))
+  by_tests true u asks = λ e. omega arith
+  by_tests false true asks = taken_with server history number f.status f.message (flat_map challenges_of others) (honest_all_challenges server history number others rest) asks h
+  by_tests false false asks = taken_alone server history number f.status f.message h
 
 -- the best of honest answers goes up
 pub best_taken : (server : Server) (history : List Link) (number : ℕ) (finals : List Final) → AllByRecursion (IsHonest server history number) finals → IfSome (best_of finals) (GoesUp server history number)

@@ -13,6 +13,7 @@ pub mod Steps
 pub mod Orders
 pub mod Deadlines
 pub mod Answers
+pub mod Apart
 pub mod Waits
 pub mod Ends
 pub mod FinalAnswers
@@ -26,3 +27,4 @@ pub mod Fitting
 pub mod Effects
 pub mod Owing
 pub mod Lawful
+pub mod Reaching

@@ -1,5 +1,5 @@
 -- The law of whole runs: who was sent what, which bindings changed, and which rule denied.
-use Rattle.std.specs.Prelude.{◌≡◌, ℕ, ◌==◌, Bool, true, false, not, if◌then◌else◌, List, [], ◌∷◌, filter, find, codes, Contains, Option, Some, None, Ok}
+use Rattle.std.specs.Prelude.{◌≡◌, ◌⊎◌, ℕ, ◌==◌, Bool, true, false, not, if◌then◌else◌, List, [], ◌∷◌, filter, find, codes, Contains, Option, Some, None, Ok}
 use Rattle.std.specs.List.{AllByRecursion, flat_map}
 use Rattle.std.specs.Str.{bytes_eq}
 use Rattle.sip_message.specs.declared.field.Field.{Field}
@@ -23,7 +23,7 @@ use Rattle.sip_targets.specs.declared.target.Target.{Target}
 use Rattle.sip_targets.specs.declared.targets.Targets.{Targets}
 use Rattle.sip_targets.specs.Targets.{target_list}
 use Rattle.sip_validate.specs.Refusal.{refusal_of}
-use Rattle.sip_best.specs.Best.{is_challenge_field, taking_along}
+use Rattle.sip_best.specs.Best.{is_challenge_status, is_challenge_field, taking_along}
 use Rattle.sip_dialog.specs.declared.dialog.DialogId.{DialogId}
 use Rattle.sip_dialog.specs.Dialogs.{IsInDialog}
 use Rattle.sip_model.specs.declared.packet.Packet.{Packet}
@@ -32,7 +32,8 @@ use Rattle.sip_model.specs.declared.event.Event.TheVariants.{Datagram, Time, Fau
 use Rattle.sip_model.specs.Server.{Server}
 use Rattle.sip_model.specs.Registering.{to_aor}
 use Rattle.sip_model.specs.State.{ProxyState, OpenRequest, Branch, is_invite, has_key}
-use Rattle.sip_model.specs.Sending.{made_answer, answer_packet, answer_to, to_branch, ack_packets, branch_packets, onward_as, request_of, dialog_of, is_failure}
+use Rattle.sip_model.specs.Sending.{made_answer, answer_packet, answer_to, to_branch, ack_packets, branch_packets, onward_as, request_of, dialog_of, is_failure, is_provisional}
+use Rattle.sip_model.specs.Branches.{is_ready}
 use Rattle.sip_model.specs.Verdict.{Arrival, Bound, Refused, has_contact, is_full, is_register, is_outside, question_of, answer_of, request_targets, registration_by, next_address, responding, message_in}
 use Rattle.sip_model.specs.Effect.{arriving, branches_from, contact_fields, challenge_status, challenge_field, method_of}
 use Rattle.sip_model.specs.Step.{Act, Given, Passing, originals, arrival_of}
@@ -156,11 +157,12 @@ pub record CameFor (server : Server) (history : List Link) (number status : ℕ)
   pub is_number : request.number ≡ number
   pub is_target : branch.is_cancel ≡ false
 
--- a challenge of an answer to the same request
+-- a challenge of a 401 or 407 that came for the same request (RFC 3261 16.7 step 7)
 pub record IsTakenAlong (server : Server) (history : List Link) (number : ℕ) (field : Field) : Type 0 where
   pub status : ℕ
   pub response : Message
   pub came : CameFor server history number status response
+  pub is_challenging : is_challenge_status status ≡ true
   pub is_challenge : is_challenge_field field ≡ true
   pub is_there : Contains response.fields field
 
@@ -199,11 +201,30 @@ pub record IsWithin (server : Server) (state : ProxyState) (act : Act) (a : Arri
   pub address_is : next_address server m ≡ Some address
   pub is_known : IsInDialog a.now state.dialogs id address
 
+-- a step's datagram says a provisional response for the branch of an open request (RFC 3261 9.1)
+pub record IsHeardNow (server : Server) (state : ProxyState) (act : Act) (r : OpenRequest) (b : Branch) : Type 0 where
+  pub a : Arrival
+  pub bytes : List ℕ
+  pub status : ℕ
+  pub reason : List ℕ
+  pub response : Message
+  pub is_said : IsSaidAt state act a bytes response false
+  pub is_response : response.start ≡ Status status reason
+  pub is_before_final : is_provisional status ≡ true
+  pub is_for : responding server state.requests response.fields ≡ Some (r, b)
+
+-- a branch was heard: its phase before a step is Heard, or the step's datagram says a provisional response for it (RFC 3261 9.1)
+abbrev pub WasHeard : Server → ProxyState → Act → OpenRequest → Branch → Type 0
+WasHeard server state act r b = (is_ready b.phase ≡ true) ⊎ IsHeardNow server state act r b
+
 -- What may be sent for the first time in a step:
 -- the request to a target of a valid new request outside a dialog;
 -- an answer that is made here to an open request, at its response address: a 403 only as a denial whose rule its Warning names;
--- an answer that came for a branch of an open request, to that request's response address, without its top Via and with the challenges that it takes along;
--- the ACK of such an answer of 300 to 699 to an INVITE, and the CANCEL of a branch, at the address of the branch;
+-- an answer that came for a branch of an open request, to that request's response address, without its top Via; a 401 or 407 with challenges that it takes along, each of which came in
+-- a 401 or 407 for the same request, and an answer of any other status with none;
+-- the ACK of such an answer of 300 to 699 to an INVITE, at the address of the branch;
+-- the CANCEL of a branch to a target of an open INVITE, of no other request, at the address of the branch: before the step its phase is Heard, or the step's datagram says a provisional
+-- response for that very branch;
 -- a request or an ACK of a known dialog, as it goes onward, to the address that the dialog holds.
 pub data IsOwed (server : Server) (history : List Link) (state : ProxyState) (act : Act) (rows : List Binding) (p : Packet) : Type 0 where
   ToTarget : (a : Arrival) (bytes : List ℕ) (m : Message) (method : List ℕ) (core : CoreFields) → IsSaidAt state act a bytes m false → IsNewRequest server state bytes m method core
@@ -212,12 +233,12 @@ pub data IsOwed (server : Server) (history : List Link) (state : ProxyState) (ac
       → ((status ≡ 403) → IsDenied server state act number m extras)
       → p ≡ answer_packet false number m from (text_of (made_answer server number m from status extras)) → IsOwed server history state act rows p
   Forwards : (r : OpenRequest) (status : ℕ) (response : Message) (challenges : List Field) → Contains state.requests r → CameFor server history r.number status response
-      → AllByRecursion (IsTakenAlong server history r.number) challenges
+      → AllByRecursion (IsTakenAlong server history r.number) challenges → (is_challenge_status status ≡ false → challenges ≡ [])
       → p ≡ answer_to false r (text_of (taking_along (without_top_via response) challenges)) → IsOwed server history state act rows p
   Acknowledges : (a : Arrival) (bytes : List ℕ) (r : OpenRequest) (b : Branch) (status : ℕ) (reason : List ℕ) (response : Message) → IsSaidAt state act a bytes response false
       → response.start ≡ Status status reason → responding server state.requests response.fields ≡ Some (r, b) → is_invite r ≡ true → is_failure status ≡ true
       → Contains (ack_packets server false r b response) p → IsOwed server history state act rows p
-  Cancels : (r : OpenRequest) (b : Branch) → Contains state.requests r → Contains r.branches b → b.is_cancel ≡ false
+  Cancels : (r : OpenRequest) (b : Branch) → Contains state.requests r → Contains r.branches b → b.is_cancel ≡ false → is_invite r ≡ true → WasHeard server state act r b
       → Contains (to_branch r b 0 false (cancel_of (request_of server r b))) p → IsOwed server history state act rows p
   InKnownDialog : (a : Arrival) (m : Message) (address : Addr) → IsWithin server state act a m address → p.to ≡ address
       → p.bytes ≡ text_of (onward_as server a.number m a.from (onward_uri server.own m) 1) → p.ticket.datagram ≡ a.number → IsOwed server history state act rows p

@@ -25,6 +25,7 @@ abbrev pub rows_after : List Binding → Registered → List Binding
 rows_after rows (Bound after) = after
 rows_after rows (Refused status extras) = rows
 
+-- the rows after one REGISTER; one whose core fields can't be read changes nothing, and none such is let through
 abbrev pub after_register : Server → Arrived → List Binding → List Binding
 after_register server r rows = option_map_or (λ core. rows_after rows (registration_by server rows r.at r.request core)) (result_ok (core_of r.request)) rows
 
@@ -49,6 +50,7 @@ allowed_by now m (Challenge q) = None
 allowed_by now m (Deny q id) = None
 allowed_by now m (Send q id targets) = None
 
+-- the REGISTER that a datagram lets through, if it does
 abbrev pub allowed_in : Server → ProxyState → Arrival → List ℕ → Option Arrived
 allowed_in server state a bytes = option_and_then (λ x. allowed_by a.now x.0 (message_verdict server state a x.0 x.1)) (message_in (reading_of bytes))
 

@@ -76,6 +76,7 @@ is_ready (Cancelled due) = false
 is_ready (Done due f) = false
 is_ready Ended = false
 
+-- whether a branch to a target is sent its CANCEL now (RFC 3261 9.1)
 abbrev pub is_cancellable : Branch → Bool
 is_cancellable b = not b.is_cancel && b.wants_cancel && is_ready b.phase
 
@@ -99,6 +100,7 @@ abbrev pub after_upward : ℕ → Option Upward → OpenRequest → OpenRequest
 after_upward now None r = r
 after_upward now (Some u) r = answered now u r
 
+-- what goes to the caller, as a list
 abbrev pub upward_list : Option Upward → List Upward
 upward_list None = []
 upward_list (Some u) = u ∷ []
@@ -134,6 +136,7 @@ other_heard (Cancelled due) = Cancelled due
 other_heard (Done due f) = Done due f
 other_heard Ended = Ended
 
+-- the phase after a provisional response, by the request's method (RFC 3261 17.1)
 abbrev pub heard : OpenRequest → ℕ → ℕ → Phase → Phase
 heard r now status phase = if is_invite r then invite_heard now status phase else other_heard phase
 
@@ -146,10 +149,12 @@ abbrev pub relayed_provisional : OpenRequest → Branch → ℕ → Message → 
 relayed_provisional r b status m =
     if not (status == 100) && not (is_final b.phase) && is_answering r.side then Some (relayed_from b status m) else None
 
+-- whether the answer that was sent last is a 2xx
 abbrev pub has_success : Option LastAnswer → Bool
 has_success None = false
 has_success (Some a) = is_success a.status
 
+-- whether a final answer was sent, and its transaction lives
 abbrev pub is_closing : Side → Bool
 is_closing Answering = false
 is_closing (Closing due) = true
@@ -236,6 +241,7 @@ side_overdue server now r = settled server now [] None (record r { side = Closed
 
 -- ---- a fault, and a CANCEL of the caller's
 
+-- whether no response came to a branch
 abbrev pub is_unheard : Phase → Bool
 is_unheard (Unheard due) = true
 is_unheard (Heard due) = false
@@ -253,12 +259,14 @@ cancelled server now r = settled server now [] None (if is_invite r && is_answer
 
 -- ---- an ACK that has the key of an open request
 
+-- the answering side after an ACK of its final answer: Timer I (RFC 3261 17.2.1)
 abbrev pub acknowledged_side : ℕ → Side → Side
 acknowledged_side now (Closing due) = Acknowledged (now + 5000)
 acknowledged_side now Answering = Answering
 acknowledged_side now (Acknowledged due) = Acknowledged due
 acknowledged_side now Closed = Closed
 
+-- whether the answer that was sent last is one of 300 to 699
 abbrev pub was_refused : Option LastAnswer → Bool
 was_refused None = false
 was_refused (Some a) = is_failure a.status

@@ -57,10 +57,12 @@ after_invite_answer server now r u id dialogs =
 abbrev pub answered_dialog : OpenRequest → Message → Option DialogId
 answered_dialog r answer = option_and_then (λ core. answer_id core answer.fields) (result_ok (core_of r.request))
 
+-- an answer to a request without a To tag tells of a dialog only if the request is an INVITE (RFC 3261 12.1)
 abbrev pub after_first_answer : Server → ℕ → OpenRequest → Upward → List Dialog → List Dialog
 after_first_answer server now r u dialogs =
     if is_invite r then option_map_or (λ id. after_invite_answer server now r u id dialogs) (answered_dialog r u.message) dialogs else dialogs
 
+-- an answer to a request of a dialog, or to one outside
 abbrev pub after_answer_of : Server → ℕ → OpenRequest → Upward → Option DialogId → List Dialog → List Dialog
 after_answer_of server now r u (Some id) dialogs = after_answer_within server now r u id dialogs
 after_answer_of server now r u None dialogs = after_first_answer server now r u dialogs

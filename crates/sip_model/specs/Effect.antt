@@ -113,15 +113,18 @@ replied server a m status extras records state =
 
 -- ---- what is recorded of a request that policy was asked about
 
+-- the method of a request; a response has none
 abbrev pub method_of : Start → List ℕ
 method_of (Request method uri version) = method
 method_of (Status code reason) = []
 
+-- an operation as it is recorded
 abbrev pub recorded : Operation → AuditOperation.Operation
 recorded Asked.Register = RecordedAs.Register
 recorded Asked.List = RecordedAs.List
 recorded (Asked.Send method) = RecordedAs.Send
 
+-- what is recorded of a request: when and as which datagram it came, its method, who proved to ask, for which address of record, and what became of it
 abbrev pub record_of : Arrival → Message → Question → Outcome → Record
 record_of a m q outcome =
     record {
@@ -142,9 +145,11 @@ is_registration Asked.Register = true
 is_registration Asked.List = true
 is_registration (Asked.Send method) = false
 
+-- 401 by a registrar, 407 by a proxy (RFC 3261 21.4.2, 21.4.8)
 abbrev pub challenge_status : Operation → ℕ
 challenge_status operation = if is_registration operation then 401 else 407
 
+-- the challenge: WWW-Authenticate by a registrar, Proxy-Authenticate by a proxy (RFC 3261 20.44, 20.27)
 abbrev pub challenge_field : Server → Arrival → Question → Field
 challenge_field server a q =
     record {
@@ -160,6 +165,7 @@ asked a q state = record state { nonces = used state.nonces a.now q.proof }
 abbrev pub issuing : Arrival → ProxyState → ProxyState
 issuing a state = record state { nonces = issued state.nonces a.word a.now }
 
+-- a challenge answers the request, and its nonce is issued (RFC 3261 22.1)
 abbrev pub challenged : Server → Arrival → Message → Question → ProxyState → Effect
 challenged server a m q state =
     replied server a m (challenge_status q.operation) (challenge_field server a q ∷ []) (record_of a m q (Outcome.Challenge (challenge_status q.operation)) ∷ []) (issuing a (asked a q state))
@@ -178,6 +184,7 @@ refused server a m q id status extras state = replied server a m status extras (
 abbrev pub contact_field : ℕ → Binding → Field
 contact_field now b = record { name = Name.Contact; value = contact_value (UriText.text_of b.uri) (seconds_left now b) }
 
+-- one field for each live binding of an address of record, in their order
 abbrev pub contact_fields : ℕ → Aor → List Binding → List Field
 contact_fields now aor rows = map (contact_field now) (live aor now rows)
 
@@ -217,9 +224,11 @@ forking a m branches = record (arriving a m) { branches = branches; finals = uns
 abbrev pub is_tried : OpenRequest → Bool
 is_tried r = is_invite r && list_any (λ (b : Branch). is_some b.address) r.branches
 
+-- the 100 of a request, if it gets one
 abbrev pub trying : Server → OpenRequest → List Upward
 trying server r = if is_tried r then record { status = 100; message = made_answer server r.number r.request r.source 100 []; target = None } ∷ [] else []
 
+-- the request after it
 abbrev pub tried : ℕ → List Upward → OpenRequest → OpenRequest
 tried now [] r = r
 tried now (u ∷ us) r = tried now us (answered now u r)
@@ -234,6 +243,7 @@ forked server now r records state =
       state = record state { requests = opened change.request state; dialogs = dialogs_after server now change state.dialogs };
     }
 
+-- a request that was let through gets one branch for each of its targets, in their order
 abbrev pub sent_to : Server → Arrival → Message → Question → ℕ → List Target → ProxyState → Effect
 sent_to server a m q id targets state =
     forked server a.now (forking a m (branches_from a.now 1 targets)) (record_of a m q (Outcome.Sent id (length targets)) ∷ []) (asked a q state)
@@ -256,6 +266,7 @@ dialog_branch server now m address =
 abbrev pub renewing : Server → Arrival → Message → DialogId → ProxyState → ProxyState
 renewing server a m id state = record state { dialogs = after_request server a.now id m state.dialogs }
 
+-- a request of a dialog gets one branch, and renews its dialog
 abbrev pub sent_within : Server → Arrival → Message → Addr → DialogId → ProxyState → Effect
 sent_within server a m address id state =
     forked server a.now (forking a m (dialog_branch server a.now m address ∷ [])) [] (renewing server a m id state)
@@ -270,6 +281,7 @@ ack_packet server a m address =
       again = false;
     }
 
+-- an ACK of a dialog goes to the address that the dialog holds, and renews the dialog
 abbrev pub ack_sent : Server → Arrival → Message → Addr → DialogId → ProxyState → Effect
 ack_sent server a m address id state = record { originals = ack_packet server a m address ∷ []; records = []; state = renewing server a m id state }
 

@@ -29,6 +29,7 @@ use Rattle.sip_digest.specs.Answers.{answer_of}
 
 -- ---- the server
 
+-- a configured user
 abbrev pub user_of : List ℕ → List ℕ → List (List ℕ) → User
 user_of name a1 groups = record { name = name; a1 = a1; groups = groups }
 
@@ -59,14 +60,17 @@ packet_of port number branch text = record { to = Places.local port; bytes = tex
 
 -- ---- a REGISTER without credentials
 
+-- the first REGISTER, which has no credential
 abbrev pub challenge_effect : Effect
 challenge_effect = message_effect sample (first_state 1) (arriving_at 1 1000 5062) Edits.register false
 
 -- ---- a MESSAGE to the one binding of help@host.com
 
+-- the address of record help@host.com
 abbrev pub help : Aor
 help = record { user = codes "help"; host = codes "host.com" }
 
+-- its contact at port 5082
 abbrev pub help_contact : Uri
 help_contact = Places.at_port (Uris.user_at (codes "help") (codes "127.0.0.1")) (codes "5082")
 
@@ -78,6 +82,7 @@ binding_until expires_at = record { aor = help; uri = help_contact; call_id = co
 abbrev pub knowing_help : ℕ → ℕ → ProxyState
 knowing_help number expires_at = record (first_state number) { bindings = binding_until expires_at ∷ [] }
 
+-- the MESSAGE, while help's binding is live
 abbrev pub message_sent : Effect
 message_sent = message_effect sample (knowing_help 3 3602000) (arriving_at 3 5000 5070) Onward.text_message false
 
@@ -87,9 +92,11 @@ message_sent = message_effect sample (knowing_help 3 3602000) (arriving_at 3 500
 abbrev pub contact_at : List ℕ → Uri
 contact_at port = Places.at_port (Uris.user_at (codes "help") (codes "127.0.0.1")) port
 
+-- a binding of help's at a port
 abbrev pub binding_at : List ℕ → Binding
 binding_at port = record { aor = help; uri = contact_at port; call_id = codes "c2"; cseq = 2; expires_at = 3602000 }
 
+-- a server that knows help's bindings at some ports
 abbrev pub knowing : List (List ℕ) → ProxyState
 knowing ports = record (first_state 4) { bindings = map binding_at ports }
 
@@ -117,9 +124,11 @@ answer_with target code reason more =
       body = [];
     }
 
+-- a 180 from the branch to a target
 abbrev pub ringing_from : ℕ → Message
 ringing_from target = answer_with target 180 (codes "Ringing") []
 
+-- a 200 from it
 abbrev pub accepted_from : ℕ → Message
 accepted_from target = answer_with target 200 (codes "OK") (record { name = Name.Contact; value = codes "<sip:help@127.0.0.1:5082>" } ∷ [])
 
@@ -127,6 +136,7 @@ accepted_from target = answer_with target 200 (codes "OK") (record { name = Name
 abbrev pub hearing : ProxyState → ℕ → Message → Effect
 hearing state now m = message_effect sample state (arriving_at state.next now 5082) m false
 
+-- whether a deadline is at a moment
 abbrev pub has_deadline : ℕ → Option ℕ → Bool
 has_deadline due None = false
 has_deadline due (Some deadline) = deadline == due
@@ -138,6 +148,7 @@ passing_in state due (r ∷ rs) =
     option_map_or (λ b. changed sample due state (overdue sample due r b)) (find (λ (b : Branch). has_deadline due (phase_deadline b.phase)) r.branches)
     (changed sample due state (side_overdue sample due r))
 
+-- the first open request's deadline at a moment passes
 abbrev pub passing : ProxyState → ℕ → Effect
 passing state due = passing_in state due state.requests
 
@@ -147,9 +158,11 @@ passing state due = passing_in state due state.requests
 abbrev pub Seen : Type 0
 Seen = ℕ × ℕ × ℕ
 
+-- where a packet is sent, its branch, and its length
 abbrev pub seen_of : Packet → Seen
 seen_of p = (p.to.port, p.ticket.branch, length p.bytes)
 
+-- the same of each packet of an effect
 abbrev pub seen : Effect → List Seen
 seen effect = map seen_of effect.originals
 
@@ -157,6 +170,7 @@ seen effect = map seen_of effect.originals
 abbrev pub first_line : Packet → List ℕ
 first_line p = take_while (λ b. not (b == byte "\r")) p.bytes
 
+-- the start lines of all packets of an effect
 abbrev pub first_lines : Effect → List (List ℕ)
 first_lines effect = map first_line effect.originals
 
@@ -177,6 +191,7 @@ cancel_request =
       body = [];
     }
 
+-- that CANCEL comes from an address
 abbrev pub cancelled_call : ProxyState → Addr → Effect
 cancelled_call state from = message_effect sample state (record (arriving_at state.next 62500 5070) { from = from }) cancel_request false
 
@@ -193,14 +208,17 @@ credential name a1 method uri count =
     ++ answer_of a1 method uri (codes "00000000000000000000000000000001") (Some (record { nc = count; cnonce = codes "0a4f113b" }))
     ++ codes "\", algorithm=MD5, cnonce=\"0a4f113b\", qop=auth, nc=" ++ count
 
+-- one of Mufasa's
 abbrev pub mufasas : List ℕ → List ℕ → List ℕ
 mufasas method uri = credential (codes "Mufasa") (codes "939e7578ed9e3c518a452acee763bce9") method uri (codes "00000001")
 
+-- one of alice's
 abbrev pub alices : List ℕ → List ℕ → List ℕ
 alices method uri = credential (codes "alice") (replicate 32 (byte "1")) method uri (codes "00000001")
 
 -- ---- the second REGISTER, with a credential
 
+-- the REGISTER with this credential
 abbrev pub authorized : List ℕ → Message
 authorized value =
     record Edits.register {
@@ -216,9 +234,11 @@ authorized value =
           ∷ [];
     }
 
+-- it comes after the first challenge
 abbrev pub registering_by : List ℕ → Effect
 registering_by value = message_effect sample challenge_effect.state (arriving_at 2 2000 5062) (authorized value) false
 
+-- it comes with Mufasa's own credential
 abbrev pub register_effect : Effect
 register_effect = registering_by (mufasas (codes "REGISTER") (codes "sip:host.com"))
 
@@ -245,9 +265,11 @@ invite_by uri value =
       body = [];
     }
 
+-- such an INVITE comes after the first challenge
 abbrev pub calling_by : List ℕ → List ℕ → Effect
 calling_by uri value = message_effect sample challenge_effect.state (arriving_at 2 2000 5070) (invite_by uri value) false
 
+-- a number that is reached by the gateway
 abbrev pub to_911 : List ℕ
 to_911 = codes "sip:911@host.com"
 
@@ -270,6 +292,7 @@ to_vault =
       body = [];
     }
 
+-- it comes from nobody who proved anything
 abbrev pub vault_effect : Effect
 vault_effect = message_effect sample (first_state 1) (arriving_at 1 1000 5070) to_vault false
 
@@ -300,12 +323,15 @@ request_within method number uri branch tag routes =
       body = [];
     }
 
+-- a BYE in the call
 abbrev pub bye : List ℕ → List ℕ → List Field → Message
 bye uri tag routes = request_within (codes "BYE") (codes "8") uri (codes "z9hG4bKbye1") tag routes
 
+-- the ACK of the 200
 abbrev pub acknowledging : List ℕ → Message
 acknowledging uri = request_within (codes "ACK") (codes "7") uri (codes "z9hG4bKack1") (codes "t1") (own_route ∷ [])
 
+-- the Request-URI of the binding
 abbrev pub help_text : List ℕ
 help_text = codes "sip:help@127.0.0.1:5082"
 

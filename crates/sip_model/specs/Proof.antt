@@ -31,13 +31,16 @@ pub data Proof : Type 0 where
 
 -- ---- the credential that counts
 
+-- whether credentials are for a realm
 abbrev pub is_realm : List ℕ → Option (List ℕ) → Bool
 is_realm realm None = false
 is_realm realm (Some said) = bytes_eq said realm
 
+-- credentials, if they are for a realm
 abbrev pub for_realm : List ℕ → Option Credentials → Option Credentials
 for_realm realm credentials = option_and_then (λ c. if is_realm realm c.realm then Some c else None) credentials
 
+-- the first of two, if it is there
 abbrev pub or_else : Option Credentials → Option Credentials → Option Credentials
 or_else None others = others
 or_else (Some c) others = Some c
@@ -69,6 +72,7 @@ protection_of None _ _ = Some None
 protection_of (Some qop) (Some count) (Some client) = if bytes_eq qop (codes "auth") then Some (Some (record { nc = count; cnonce = client })) else None
 protection_of (Some qop) _ _ = None
 
+-- a claim with all its parts, or none
 abbrev pub claim_with : List ℕ → Option Protection → Option (List ℕ) → Option (List ℕ) → Option (List ℕ) → Option (List ℕ) → Option Claim
 claim_with method protection (Some name) (Some text) (Some uri) (Some response) =
     Some (record { name = name; credential = record { method = method; uri = uri; nonce = text; protection = protection; response = response } })
@@ -82,6 +86,7 @@ claim_of method c =
 
 -- ---- what it is worth
 
+-- whether two URIs are there and are equal
 abbrev pub are_equal_uris : Option Uri → Option Uri → Bool
 are_equal_uris (Some left) (Some right) = same left right
 are_equal_uris left right = false
@@ -90,6 +95,7 @@ are_equal_uris left right = false
 abbrev pub is_equal_uri : List ℕ → List ℕ → Bool
 is_equal_uri left right = are_equal_uris (result_ok (reading_of left)) (result_ok (reading_of right))
 
+-- what a claim proves by what its credential is worth
 abbrev pub judged : Claim → Worth → Proof
 judged claim Worth.Right = Right claim.name claim.credential
 judged claim Worth.Stale = Stale
@@ -100,6 +106,7 @@ abbrev pub proof_by : List Nonce → ℕ → Claim → Option User → Proof
 proof_by nonces now claim None = Wrong
 proof_by nonces now claim (Some user) = judged claim (worth_of nonces user.a1 claim.credential now)
 
+-- whether a user has this name, byte by byte
 abbrev pub is_named : List ℕ → User → Bool
 is_named name user = bytes_eq user.name name
 
@@ -110,6 +117,7 @@ proof_from server nonces now uri (Some claim) =
     if is_some (count_of claim.credential) && is_equal_uri claim.credential.uri uri then proof_by nonces now claim (find (is_named claim.name) server.users)
     else Wrong
 
+-- what a request line and fields prove
 abbrev pub proof_in : Server → List Nonce → ℕ → List Field → Start → Proof
 proof_in server nonces now fields (Request method uri version) =
     proof_from server nonces now uri (option_and_then (claim_of method) (first_for_realm server.realm (values_of (credentials_field method) fields)))

@@ -49,6 +49,7 @@ interval_of Said.Malformed = Interval.Malformed
 abbrev pub asked_address : NameAddr → Option Asked
 asked_address address = option_map (λ uri. Asked.Contact uri (interval_of (contact_expires (Item.Address address)))) (sip_uri address.uri)
 
+-- what a Contact item asks
 abbrev pub asked_item : ContactItem → Option Asked
 asked_item Item.Star = Some Asked.Star
 asked_item (Item.Address address) = asked_address address

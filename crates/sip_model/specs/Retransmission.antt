@@ -10,6 +10,7 @@ use Rattle.sip_model.specs.Sending.{answer_to, branch_packets, ack_packets, is_s
 
 -- ---- answers
 
+-- whether the last answer may still be sent again
 abbrev pub is_lasting : Side → Bool
 is_lasting Answering = true
 is_lasting (Closing due) = true
@@ -39,6 +40,7 @@ is_cancelled_again (Cancelled due) = false
 is_cancelled_again (Done due f) = false
 is_cancelled_again Ended = false
 
+-- whether what a branch sends goes out again
 abbrev pub goes_again : OpenRequest → Branch → Bool
 goes_again r b = if b.is_cancel then is_cancelled_again b.phase else is_sent_again r b.phase
 
@@ -47,6 +49,7 @@ abbrev pub ack_for : Server → OpenRequest → Branch → Final → Option Mess
 ack_for server r b f None = []
 ack_for server r b f (Some answer) = if is_failure f.status then ack_packets server true r b answer else []
 
+-- the ACK of a branch's final answer, again
 abbrev pub acks_again : Server → OpenRequest → Branch → Phase → List Packet
 acks_again server r b (Done due f) = if is_invite r && not b.is_cancel then ack_for server r b f f.message else []
 acks_again server r b (Unheard due) = []
@@ -56,6 +59,7 @@ acks_again server r b Ended = []
 
 -- ---- the whole
 
+-- all that may be sent again of a branch
 abbrev pub branch_again : Server → OpenRequest → Branch → List Packet
 branch_again server r b = (if goes_again r b then branch_packets server true r b else []) ++ acks_again server r b b.phase
 

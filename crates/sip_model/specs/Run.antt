@@ -25,6 +25,7 @@ abbrev pub event_of : Act → List Event → List Event
 event_of (Given event) events = event ∷ events
 event_of (Passing at) events = events
 
+-- the events of a history, newest first
 abbrev pub events_of : List Link → List Event
 events_of [] = []
 events_of (link ∷ history) = event_of link.act (events_of history)

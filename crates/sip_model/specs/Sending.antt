@@ -77,14 +77,18 @@ ack_packets server again r b answer = to_branch r b 0 again (ack_of (request_of 
 
 -- ---- statuses (RFC 3261 7.2)
 
+-- 2xx
 abbrev pub is_success : ℕ → Bool
 is_success status = nat_le 200 status && nat_le status 299
 
+-- 3xx and above
 abbrev pub is_failure : ℕ → Bool
 is_failure status = nat_le 300 status
 
+-- 6xx
 abbrev pub is_decline : ℕ → Bool
 is_decline status = nat_le 600 status
 
+-- 1xx
 abbrev pub is_provisional : ℕ → Bool
 is_provisional status = nat_le status 199

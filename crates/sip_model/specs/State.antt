@@ -70,6 +70,7 @@ first_state first = record { moment = 0; next = first; bindings = []; nonces = [
 
 -- ---- deadlines
 
+-- the deadline of a branch
 abbrev pub phase_deadline : Phase → Option ℕ
 phase_deadline (Unheard due) = Some due
 phase_deadline (Heard due) = Some due
@@ -77,6 +78,7 @@ phase_deadline (Cancelled due) = Some due
 phase_deadline (Done due f) = Some due
 phase_deadline Ended = None
 
+-- the deadline of the answering side
 abbrev pub side_deadline : Side → Option ℕ
 side_deadline Answering = None
 side_deadline (Closing due) = Some due
@@ -93,6 +95,7 @@ deadlines requests = flat_map deadlines_of requests
 
 -- ---- tests
 
+-- whether a request is an INVITE
 abbrev pub is_invite : OpenRequest → Bool
 is_invite r = bytes_eq r.key.method (codes "INVITE")
 
@@ -104,6 +107,7 @@ is_final (Cancelled due) = false
 is_final (Done due f) = true
 is_final Ended = true
 
+-- whether a branch has ended
 abbrev pub is_ended : Phase → Bool
 is_ended (Unheard due) = false
 is_ended (Heard due) = false
@@ -111,12 +115,14 @@ is_ended (Cancelled due) = false
 is_ended (Done due f) = false
 is_ended Ended = true
 
+-- whether a request has no final answer yet
 abbrev pub is_answering : Side → Bool
 is_answering Answering = true
 is_answering (Closing due) = false
 is_answering (Acknowledged due) = false
 is_answering Closed = false
 
+-- whether the answering side has ended
 abbrev pub is_closed : Side → Bool
 is_closed Answering = false
 is_closed (Closing due) = false

@@ -20,6 +20,7 @@ use Rattle.sip_model.specs.Retransmission.{IsRetransmission}
 abbrev pub originals : List Packet → List Packet
 originals packets = filter (λ (p : Packet). not p.again) packets
 
+-- what is sent again
 abbrev pub retransmissions : List Packet → List Packet
 retransmissions packets = filter (λ (p : Packet). p.again) packets
 
@@ -48,6 +49,7 @@ NoneBefore moment requests = AllByRecursion (λ due. moment ≤ due) (deadlines 
 abbrev pub moment_of : ProxyState → ℕ → ℕ
 moment_of state at = max state.moment at
 
+-- a datagram that comes in a state
 abbrev pub arrival_of : ProxyState → ℕ → ℕ → Addr → Arrival
 arrival_of state at word from = record { number = state.next; now = moment_of state at; word = word; from = from }
 
@@ -84,10 +86,12 @@ pub record IsDeadline (server : Server) (old : ProxyState) (at : ℕ) (out : Ste
 abbrev pub is_failed : ℕ → Branch → Bool
 is_failed number b = not b.is_cancel && b.number == number && is_unheard b.phase
 
+-- a branch that could not be sent to, if the ticket names one
 abbrev pub failed_branch : Server → ℕ → ProxyState → OpenRequest → Option Branch → Effect
 failed_branch server now state r None = nothing state
 failed_branch server now state r (Some b) = changed server now state (send_failed server now r b)
 
+-- the open request of a ticket, if there is one
 abbrev pub failed_request : Server → ℕ → Ticket → ProxyState → Option OpenRequest → Effect
 failed_request server now ticket state None = nothing state
 failed_request server now ticket state (Some r) = failed_branch server now state r (find (is_failed ticket.branch) r.branches)

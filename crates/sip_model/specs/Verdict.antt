@@ -71,6 +71,8 @@ pub data Registered : Type 0 where
   Bound : List Binding → Registered
   Refused : ℕ → List Field → Registered
 
+-- What is to be done with a datagram: nothing; a response to a branch is taken; a request belongs to an open one; an ACK is sent on in a dialog; a CANCEL, with the request that it
+-- names; an answer with a status and further fields; a request is sent on in a dialog; a challenge; a denial by a rule; a request is sent to its targets, or a REGISTER taken, by a rule.
 pub data Verdict : Type 0 where
   Drop : Verdict
   Respond : OpenRequest → Branch → ℕ → Verdict
@@ -91,6 +93,7 @@ abbrev pub is_branch : Server → List ℕ → List ℕ → OpenRequest → Bran
 is_branch server text method r b =
     bytes_eq (branch_text server.word r.number b.number) text && bytes_eq (if b.is_cancel then codes "CANCEL" else r.key.method) method
 
+-- the branch of an open request with this text and method
 abbrev pub branch_in : Server → List ℕ → List ℕ → OpenRequest → Option Branch
 branch_in server text method r = find (is_branch server text method r) r.branches
 
@@ -99,6 +102,7 @@ abbrev pub found_branch : Server → List ℕ → List ℕ → List OpenRequest 
 found_branch server text method [] = None
 found_branch server text method (r ∷ rs) = option_map_or (λ b. Some (r, b)) (branch_in server text method r) (found_branch server text method rs)
 
+-- whether there are two or more
 abbrev pub is_many : List (List ℕ) → Bool
 is_many [] = false
 is_many (value ∷ []) = false
@@ -113,6 +117,7 @@ response_verdict fields status (Some x) = if x.1.is_cancel || is_many (values_of
 abbrev pub own_branch : Server → Via → Option (List ℕ)
 own_branch server via = if is_own_via server.own via then branch_of via.parameters else None
 
+-- the branch of this server's Via on top of a response (RFC 3261 16.7 step 1, 18.1.2)
 abbrev pub top_branch : Server → List Field → Option (List ℕ)
 top_branch server fields = option_and_then (own_branch server) (option_and_then via_of (first_value Name.Via fields))
 
@@ -127,9 +132,11 @@ responding server requests fields =
 abbrev pub next_uri : Way → Option Uri
 next_uri way = option_map_or (λ route. sip_uri route.uri) (first_route way.fields) (result_ok (Uris.reading_of way.uri))
 
+-- the address where a request is to go next
 abbrev pub next_address : Server → Message → Option Addr
 next_address server m = option_and_then (address_of server.addresses) (next_uri (way_of server.own m))
 
+-- the same for a dialog and an address, if there are such
 abbrev pub within_at : ProxyState → ℕ → (Addr → DialogId → Verdict) → Verdict → Option DialogId → Option Addr → Verdict
 within_at state now on none None _ = none
 within_at state now on none (Some id) None = none
@@ -158,6 +165,7 @@ is_cancelled_by key r =
 abbrev pub found_for_cancel : ProxyState → Key → Addr → Option OpenRequest
 found_for_cancel state key from = option_and_then (λ r. if bytes_eq r.source.ip from.ip then Some r else None) (find (is_cancelled_by key) state.requests)
 
+-- a CANCEL: 400 if it is a bad request, 503 without room, else by what it names (RFC 3261 9.2, 16.10)
 abbrev pub cancel_verdict : Server → ProxyState → Arrival → Message → Bool → Key → Verdict
 cancel_verdict server state a m short key =
     if is_bad_request server.own m short then Answer 400 []
@@ -170,13 +178,19 @@ cancel_verdict server state a m short key =
 abbrev pub has_contact : List Field → Bool
 has_contact fields = is_some (first_value Name.Contact fields)
 
+-- whether a method is REGISTER
 abbrev pub is_register : List ℕ → Bool
 is_register method = bytes_eq method (codes "REGISTER")
 
+-- the SIP URI that the Request-URI is, without this server's own part of the way (RFC 3261 16.4)
+abbrev pub request_uri_of : Server → Message → Option Uri
+request_uri_of server m = result_ok (Uris.reading_of (way_of server.own m).uri)
+
 -- the address of record that a request is for: To's of a REGISTER, the Request-URI's of any other
 abbrev pub target_of : Server → Message → List ℕ → CoreFields → Aor
-target_of server m method core = if is_register method then to_aor core else aor_or_nobody (result_ok (Uris.reading_of (way_of server.own m).uri))
+target_of server m method core = if is_register method then to_aor core else aor_or_nobody (request_uri_of server m)
 
+-- what policy is asked about a request
 abbrev pub question_of : Server → List Nonce → ℕ → Message → List ℕ → CoreFields → Question
 question_of server nonces now m method core =
     record { proof = proof_of server nonces now m; operation = operation_of method (has_contact m.fields); target = target_of server m method core }
@@ -195,6 +209,7 @@ refused_by TooBrief = Refused 423 (min_expires ∷ [])
 refused_by OldCSeq = Refused 500 []
 refused_by TooMany = Refused 503 []
 
+-- what a registration comes to
 abbrev pub registered_by : Result (List Binding) LocationError → Registered
 registered_by (Ok rows) = Bound rows
 registered_by (Err e) = refused_by e
@@ -207,7 +222,7 @@ is_own_uri server (Some uri) = is_own_domain server.own.domains uri.host
 -- What becomes of a REGISTER that was let through: 404 unless the Request-URI names an own domain and To a configured user of one, else what the registrar does (RFC 3261 10.3)
 abbrev pub registration_by : Server → List Binding → ℕ → Message → CoreFields → Registered
 registration_by server rows now m core =
-    if is_own_uri server (result_ok (Uris.reading_of (way_of server.own m).uri)) && is_users_address (policy_users server) server.own.domains (to_aor core)
+    if is_own_uri server (request_uri_of server m) && is_users_address (policy_users server) server.own.domains (to_aor core)
     then registered_by (registered rows (registration_of core m.fields) now)
     else Refused 404 []
 
@@ -225,7 +240,7 @@ targets_by server rows now target decision (Some uri) =
 
 -- the targets of a request outside a dialog
 abbrev pub request_targets : Server → List Binding → ℕ → Message → Question → Decision → Targets
-request_targets server rows now m q decision = targets_by server rows now q.target decision (result_ok (Uris.reading_of (way_of server.own m).uri))
+request_targets server rows now m q decision = targets_by server rows now q.target decision (request_uri_of server m)
 
 -- ---- a request outside a dialog
 
@@ -235,12 +250,14 @@ let_through server state now m method core q id decision =
     if is_register method then Register q id (registration_by server state.bindings now m core)
     else Send q id (request_targets server state.bindings now m q decision)
 
+-- what a decision makes of a request
 abbrev pub decided : Server → ProxyState → ℕ → Message → List ℕ → CoreFields → Question → Decision → Verdict
 decided server state now m method core q Decision.Challenge = Challenge q
 decided server state now m method core q (Decision.Deny id) = Deny q id
 decided server state now m method core q (Decision.Allow id) = let_through server state now m method core q id (Decision.Allow id)
 decided server state now m method core q (Decision.Via id hop) = let_through server state now m method core q id (Decision.Via id hop)
 
+-- what policy says of a request outside a dialog
 abbrev pub policy_verdict : Server → ProxyState → ℕ → Message → List ℕ → CoreFields → Verdict
 policy_verdict server state now m method core =
     let q : Question = question_of server state.nonces now m method core in
@@ -262,6 +279,7 @@ core_verdict server state now m method (Some core) =
 abbrev pub refusal_fields : ℕ × List ℕ → List Field
 refusal_fields refusal = if refusal.0 == 420 then unsupported_field refusal.1 ∷ [] else []
 
+-- a refusal of the checks; else 503 without room (this project's profile); else the request is served
 abbrev pub checked_verdict : Server → ProxyState → ℕ → Message → List ℕ → Option (ℕ × List ℕ) → Verdict
 checked_verdict server state now m method (Some refusal) = Answer refusal.0 (refusal_fields refusal)
 checked_verdict server state now m method None =

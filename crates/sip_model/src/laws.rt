@@ -1,12 +1,23 @@
-ghost use Rattle.std.specs.Prelude.{◌≡◌, ◌↔◌, ℕ, List, Some};
-ghost use Rattle.sip_model.specs.Server.{Server};
+ghost use Rattle.std.specs.Prelude.{◌≡◌, ◌↔◌, ℕ, true, false, List, [], ◌∷◌, map, Some};
+ghost use Rattle.sip_uri.specs.declared.uri.Uri.{Uri};
+ghost use Rattle.sip_uri.specs.Aor.{aor_of};
+ghost use Rattle.sip_message.specs.declared.message.Message.{Message};
+ghost use Rattle.sip_header.specs.declared.core_fields.CoreFields.{CoreFields};
+ghost use Rattle.sip_hops.specs.declared.addr.Addr.{Addr};
+ghost use Rattle.sip_hops.specs.Hop.{hop_of};
+ghost use Rattle.sip_policy.specs.declared.decision.Decision.{Decision};
+ghost use Rattle.sip_policy.specs.PolicyUser.{is_users_address};
+ghost use Rattle.sip_location.specs.declared.binding.Binding.{Binding};
+ghost use Rattle.sip_location.specs.Binding.{live};
+ghost use Rattle.sip_targets.specs.Target.{target_for};
+ghost use Rattle.sip_model.specs.Server.{Server, policy_users};
 ghost use Rattle.sip_model.specs.declared.event.Event.{Event};
 ghost use Rattle.sip_model.specs.declared.event.StepOut.{StepOut};
 ghost use Rattle.sip_model.specs.State.{ProxyState, first_state};
-ghost use Rattle.sip_model.specs.Verdict.{Arrival};
+ghost use Rattle.sip_model.specs.Verdict.{Arrival, is_register, request_uri_of};
 ghost use Rattle.sip_model.specs.Run.{Link, IsRun};
 ghost use Rattle.sip_model.specs.Bindings.{Arrived, allowed_in};
-ghost use Rattle.sip_model.specs.Access.{IsAllowedRegister, Access};
+ghost use Rattle.sip_model.specs.Access.{IsAllowedRegister, decision_on, targets_on, Access};
 
 /// The REGISTERs of which the bindings after a history are made are exactly those that are valid, new, and
 /// let through by the first rule that matches.
@@ -23,4 +34,21 @@ pub fn allowed_registers_are_allowed()
 pub fn every_run_has_access()
     ensures { (server : Server) (first : ℕ) (events : List Event) (steps : List StepOut) (history : List Link) (last : ProxyState)
         → IsRun server (first_state first) events steps history last → Access server history }
+{}
+
+/// The targets of a request outside a dialog, in the words of the headline: where the first rule that matches
+/// allows it and its Request-URI names a user, exactly the unexpired bindings of that address of record, in
+/// their order, each with the address of its contact; where that rule sends it by a hop, its Request-URI at
+/// the hop's configured address; and of a REGISTER none.
+pub fn targets_are_bindings_or_hop()
+    ensures bindings { (server : Server) (rows : List Binding) (state : ProxyState) (now : ℕ) (m : Message) (method : List ℕ) (core : CoreFields) (id : ℕ) (uri : Uri)
+        → is_register method ≡ false → decision_on server state now m method core ≡ Decision.Allow id
+        → request_uri_of server m ≡ Some uri → is_users_address (policy_users server) server.own.domains (aor_of uri) ≡ true
+        → targets_on server rows state now m method core ≡ map (λ (b : Binding). target_for server.addresses b.uri) (live (aor_of uri) now rows) }
+    ensures hop { (server : Server) (rows : List Binding) (state : ProxyState) (now : ℕ) (m : Message) (method : List ℕ) (core : CoreFields) (id : ℕ) (hop : List ℕ) (uri : Uri) (address : Addr)
+        → is_register method ≡ false → decision_on server state now m method core ≡ Decision.Via id hop
+        → request_uri_of server m ≡ Some uri → hop_of server.hops hop ≡ Some address
+        → targets_on server rows state now m method core ≡ record { uri = uri; address = Some address } ∷ [] }
+    ensures none_of_register { (server : Server) (rows : List Binding) (state : ProxyState) (now : ℕ) (m : Message) (method : List ℕ) (core : CoreFields)
+        → is_register method ≡ true → targets_on server rows state now m method core ≡ [] }
 {}

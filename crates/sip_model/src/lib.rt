@@ -14,7 +14,7 @@ pub use examples::{
     first_challenge, message_to_help, no_answer, registered, send_faults, stale_challenge,
     third_party_register, timer_c, two_answers, vault_denied,
 };
-pub use laws::{allowed_registers_are_allowed, every_run_has_access};
+pub use laws::{allowed_registers_are_allowed, every_run_has_access, targets_are_bindings_or_hop};
 pub use order::{
     keys_are_open_once, no_deadline_passed, numbers_differ, one_final_answer, requests_can_end,
 };

@@ -30,10 +30,12 @@ pub record IsFirst (test : Rule → Bool) (rules : List Rule) (rule : Rule) : Ty
 abbrev pub is_numbered : Rule → Bool
 is_numbered rule = nat_lt 0 rule.id
 
+-- whether a user pattern is `anyone`
 abbrev pub is_anyone : Who → Bool
 is_anyone Anyone = true
 is_anyone who = false
 
+-- whether a target pattern is `self`
 abbrev pub is_self : TargetPattern → Bool
 is_self SelfTarget = true
 is_self target = false

@@ -41,6 +41,7 @@ Stands t ts = (p : Timer → Bool) → p t ≡ true → 1 ≤ count_by p ts
 abbrev pub due_before : ℕ → List Timer → ℕ
 due_before moment ts = count_by (λ t. nat_lt t.due moment) ts
 
+-- how many are due by a moment
 abbrev pub due_by : ℕ → List Timer → ℕ
 due_by moment ts = count_by (λ t. nat_le t.due moment) ts
 

@@ -34,10 +34,12 @@ symbols (b ∷ h ∷ l ∷ rest) =
     else Plain b ∷ symbols (h ∷ l ∷ rest)
 symbols (b ∷ rest) = Plain b ∷ symbols rest
 
+-- a byte with a capital letter as a small one
 abbrev pub small : Symbol → Symbol
 small (Plain b) = Plain (to_ascii_lowercase b)
 small (EscapedReserved b) = EscapedReserved b
 
+-- whether two bytes are the same, both escaped reserved ones or neither
 abbrev pub is_same_symbol : Symbol → Symbol → Bool
 is_same_symbol (Plain a) (Plain b) = a == b
 is_same_symbol (Plain a) (EscapedReserved b) = false
@@ -61,6 +63,7 @@ both_or_none is_same (Some left) None = false
 
 -- ---- the parts of a URI
 
+-- whether two schemes are the same
 abbrev pub is_same_scheme : Scheme → Scheme → Bool
 is_same_scheme Sip Sip = true
 is_same_scheme Sips Sips = true
@@ -90,6 +93,7 @@ is_answered others p = not (is_never_ignored p.name) || list_any (λ q. says_sam
 abbrev pub are_same_parameters : List Parameter → List Parameter → Bool
 are_same_parameters ps qs = list_all (λ p. list_all (λ q. agrees p q) qs) ps && (list_all (is_answered qs) ps && list_all (is_answered ps) qs)
 
+-- whether two headers are the same without case
 abbrev pub is_same_header : UriHeader → UriHeader → Bool
 is_same_header h g = says_same_no_case h.name g.name && says_same_no_case h.value g.value
 

@@ -38,6 +38,7 @@ is_user text = is_escaped is_user_byte text
 abbrev pub is_password_byte : ℕ → Bool
 is_password_byte b = is_unreserved b || list_any (λ c. b == c) (codes "&=+$,")
 
+-- a password of the grammar, which may be empty
 abbrev pub is_password : List ℕ → Bool
 is_password text = are_escaped is_password_byte text
 
@@ -53,9 +54,11 @@ is_parameter_part text = is_escaped is_parameter_byte text
 abbrev pub is_header_byte : ℕ → Bool
 is_header_byte b = is_unreserved b || list_any (λ c. b == c) (codes "[]/?:+$")
 
+-- a header's name
 abbrev pub is_header_name : List ℕ → Bool
 is_header_name text = is_escaped is_header_byte text
 
+-- a header's value, which may be empty
 abbrev pub is_header_value : List ℕ → Bool
 is_header_value text = are_escaped is_header_byte text
 
@@ -84,6 +87,7 @@ abbrev pub is_host : List ℕ → Bool
 is_host [] = false
 is_host (b ∷ bs) = if b == byte "[" then is_address_rest false bs else list_all is_host_byte (b ∷ bs)
 
+-- whether a number may be a port
 abbrev pub in_port_range : ℕ → Option ℕ
 in_port_range n = if nat_le 1 n && nat_le n 65535 then Some n else None
 
@@ -91,5 +95,6 @@ in_port_range n = if nat_le 1 n && nat_le n 65535 then Some n else None
 abbrev pub port_value : List ℕ → Option ℕ
 port_value digits = option_and_then in_port_range (decimal_of digits)
 
+-- the digits of a port
 abbrev pub is_port : List ℕ → Bool
 is_port digits = is_some (port_value digits)

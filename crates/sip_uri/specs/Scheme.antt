@@ -12,6 +12,7 @@ abbrev pub scheme_text : Scheme → List ℕ
 scheme_text Sip = codes "sip"
 scheme_text Sips = codes "sips"
 
+-- a byte of a scheme's name behind its first letter
 abbrev pub is_scheme_byte : ℕ → Bool
 is_scheme_byte b = is_ascii_alphanumeric b || list_any (λ c. b == c) (codes "+-.")
 

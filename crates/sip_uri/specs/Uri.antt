@@ -18,16 +18,20 @@ abbrev pub behind_mark : ℕ → Option (List ℕ) → List ℕ
 behind_mark mark None = []
 behind_mark mark (Some text) = mark ∷ text
 
+-- the user with the password and `@`, if there is one
 abbrev pub userinfo_text : Option UserInfo → List ℕ
 userinfo_text None = []
 userinfo_text (Some info) = info.user ++ behind_mark (byte ":") info.password ++ codes "@"
 
+-- the port behind its `:`, if there is one
 abbrev pub port_text : Option (List ℕ) → List ℕ
 port_text port = behind_mark (byte ":") port
 
+-- a parameter behind its `;`
 abbrev pub parameter_text : Parameter → List ℕ
 parameter_text p = byte ";" ∷ (p.name ++ behind_mark (byte "=") p.value)
 
+-- a header's name, `=` and its value
 abbrev pub header_text : UriHeader → List ℕ
 header_text h = h.name ++ byte "=" ∷ h.value
 
@@ -46,22 +50,27 @@ text_of u = scheme_text u.scheme ++ byte ":" ∷ rest_text u
 
 -- ---- the grammar (RFC 3261 25.1: SIP-URI, as this project narrows it)
 
+-- no password, or one of the grammar
 abbrev pub is_password_or_none : Option (List ℕ) → Bool
 is_password_or_none None = true
 is_password_or_none (Some password) = is_password password
 
+-- no user, or one of the grammar with its password
 abbrev pub is_userinfo : Option UserInfo → Bool
 is_userinfo None = true
 is_userinfo (Some info) = is_user info.user && is_password_or_none info.password
 
+-- no port, or one of the grammar
 abbrev pub is_port_or_none : Option (List ℕ) → Bool
 is_port_or_none None = true
 is_port_or_none (Some digits) = is_port digits
 
+-- no value, or one of the grammar
 abbrev pub is_value_or_none : Option (List ℕ) → Bool
 is_value_or_none None = true
 is_value_or_none (Some value) = is_parameter_part value
 
+-- a parameter of the grammar
 abbrev pub is_parameter : Parameter → Bool
 is_parameter p = is_parameter_part p.name && is_value_or_none p.value
 
@@ -70,6 +79,7 @@ abbrev pub names_differ : List Parameter → Bool
 names_differ [] = true
 names_differ (p ∷ ps) = not (list_any (λ q. is_same_text p.name q.name) ps) && names_differ ps
 
+-- a header of the grammar
 abbrev pub is_header : UriHeader → Bool
 is_header h = is_header_name h.name && is_header_value h.value
 

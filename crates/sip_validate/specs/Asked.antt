@@ -17,6 +17,7 @@ pub record Asked : Type 0 where
   pub fields : List Field
   pub short : Bool
 
+-- whether it is a REGISTER
 abbrev pub is_register : Asked → Bool
 is_register asked = bytes_eq asked.method (codes "REGISTER")
 

@@ -32,6 +32,7 @@ lacks_core_field asked = not (is_some (core asked))
 abbrev pub has_other_cseq_method : Asked → Bool
 has_other_cseq_method asked = option_map_or (λ c. not (bytes_eq c.cseq.method asked.method)) (core asked) false
 
+-- whether a Max-Forwards is malformed
 abbrev pub is_malformed : MaxForwards → Bool
 is_malformed Absent = false
 is_malformed (Hops n) = false
@@ -58,6 +59,7 @@ has_bad_item asked =
     && list_all (λ value. is_some (route_of value)) (values_of Name.RecordRoute asked.fields)
     && list_all (λ value. is_some (contact_of value)) (values_of Name.Contact asked.fields))
 
+-- whether a URI is a SIP or SIPS URI
 abbrev pub is_sip : AnyUri → Bool
 is_sip (Sip uri) = true
 is_sip (Other text) = false

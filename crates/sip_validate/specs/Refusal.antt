@@ -34,6 +34,7 @@ has_other_version asked = not (bytes_eq asked.version (codes "SIP/2.0"))
 abbrev pub has_other_scheme : Asked → Bool
 has_other_scheme asked = not (has_sip_scheme (prepared asked).uri)
 
+-- whether a Max-Forwards is 0
 abbrev pub is_zero : MaxForwards → Bool
 is_zero Absent = false
 is_zero (Hops n) = n == 0
@@ -97,6 +98,7 @@ refusal asked = option_map (λ row. (row.status, row.extra asked)) (find (λ row
 
 -- ---- a message
 
+-- a request line and fields as a request that is checked; a response is none
 abbrev pub asked_by : Own → List Field → Bool → Start → Option Asked
 asked_by own fields short (Request method uri version) =
     Some (record { own = own; method = method; uri = uri; version = version; fields = fields; short = short })
