@@ -21,6 +21,7 @@ use Rattle.sip_message.specs.declared.message.Message.{Message}
 use Rattle.sip_header.specs.declared.credentials.Credentials.{Credentials}
 use Rattle.sip_header.specs.Values.{values_of}
 use Rattle.sip_header.specs.Credentials.{credentials_of}
+use Rattle.sip_edit.specs.Onward.{is_realm}
 use Rattle.sip_model.specs.Server.{User, Server}
 
 -- A request proves to come from the user of a name by a credential; or would, but for the nonce of it; or proves nothing.
@@ -30,11 +31,6 @@ pub data Proof : Type 0 where
   Wrong : Proof
 
 -- ---- the credential that counts
-
--- whether credentials are for a realm
-abbrev pub is_realm : List ℕ → Option (List ℕ) → Bool
-is_realm realm None = false
-is_realm realm (Some said) = bytes_eq said realm
 
 -- credentials, if they are for a realm
 abbrev pub for_realm : List ℕ → Option Credentials → Option Credentials

@@ -136,7 +136,7 @@ next_uri way = option_map_or (λ route. sip_uri route.uri) (first_route way.fiel
 abbrev pub next_address : Server → Message → Option Addr
 next_address server m = option_and_then (address_of server.addresses) (next_uri (way_of server.own m))
 
--- the same for a dialog and an address, if there are such
+-- a verdict on a request that names a dialog and has an address, if the dialog is known and holds that; else another verdict
 abbrev pub within_at : ProxyState → ℕ → (Addr → DialogId → Verdict) → Verdict → Option DialogId → Option Addr → Verdict
 within_at state now on none None _ = none
 within_at state now on none (Some id) None = none
