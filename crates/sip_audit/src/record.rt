@@ -1,9 +1,5 @@
-ghost use Rattle.std.specs.Prelude.{◌≡◌, [], ◌∷◌, ◌++◌, OnOk, OnErr};
-
 use sip_text::Bytes;
 use sip_uri::Aor;
-use std::alloc::{AllocError, Global};
-use std::marker::Model;
 
 /// What a request asks for.
 #[derive(Clone, Copy, Debug, PartialEq, Eq)]
@@ -41,46 +37,4 @@ pub struct Record {
     pub target: Aor,
     pub operation: Operation,
     pub outcome: Outcome,
-}
-
-/// Records in the order in which they were made, seen as the list of them.
-#[derive(Debug, Drop)]
-pub struct Records {
-    list: Vec<Record>,
-}
-
-impl Model for Records {
-    ghost use Rattle.std.specs.Prelude.{List};
-    ghost use Rattle.sip_audit.specs.declared.record.Record.{Record};
-
-    ghost Value = { List Record };
-
-    ghost view = { λ r. r.list.items };
-}
-
-impl Records {
-    /// No record. Takes no memory.
-    pub fn new(alloc: Global) -> Self
-        ensures { result ≡ [] }
-    {
-        Records {
-            list: Vec::new(alloc),
-        }
-    }
-
-    /// Adds a record at the end. At an error the records are as before.
-    pub fn push(&mut self, entry: Record) -> Result<(), AllocError>
-        ensures ok { OnOk result (self.new ≡ self.old ++ entry ∷ []) }
-        ensures err { OnErr result (self.new ≡ self.old) }
-    {
-        self.list.push(entry)?;
-        Ok(())
-    }
-
-    /// The records.
-    pub fn as_slice(&self) -> &[Record]
-        ensures { result.now ≡ self.now }
-    {
-        self.list.as_slice()
-    }
 }

@@ -1,12 +1,13 @@
 -- The client transaction of an INVITE: RFC 3261 17.1.1 and figure 5, with the Accepted state of RFC 6026
 -- 7.2. Times are in milliseconds.
-use Rattle.std.specs.Prelude.{ℕ, ◌*◌, min, Bool, true, false, ◌&&◌, nat_le, if◌then◌else◌, List, [], ◌∷◌}
-use Rattle.sip_client.specs.Lives.{alone}
+use Rattle.std.specs.Prelude.{◌*◌, min, Bool, true, false, ◌&&◌, nat_le, if◌then◌else◌, List, [], ◌∷◌}
+use Rattle.sip_transaction.specs.Machine.{Machine}
+use Rattle.sip_transaction.specs.declared.letter.Letter.{Letter}
+use Rattle.sip_client.specs.Action.{start_of, sends_request}
 use Rattle.sip_client.specs.declared.actions.Action.{Action}
 use Rattle.sip_client.specs.declared.actions.Action.TheVariants.{Send, SendAgain, Ack, AckAgain, Up, Start}
 use Rattle.sip_client.specs.declared.actions.Report.TheVariants.{Response, Timeout, Unavailable}
-use Rattle.sip_client.specs.declared.actions.Timer.{Timer}
-use Rattle.sip_client.specs.declared.actions.Timer.TheVariants.{A, B, D, M}
+use Rattle.sip_transaction.specs.declared.letter.Letter.TheVariants.{A, B, D, M}
 use Rattle.sip_client.specs.declared.client_invite.ClientInvite.{ClientInvite}
 use Rattle.sip_client.specs.declared.client_invite.ClientInvite.TheVariants.{Calling, Proceeding, Completed, Accepted, Terminated}
 use Rattle.sip_client.specs.declared.client_invite.ClientInviteInput.{ClientInviteInput}
@@ -17,7 +18,7 @@ pub data Heard : Type 0 where
   provisional : Heard
   success : Heard
   failure : Heard
-  fired : Timer → Heard
+  fired : Letter → Heard
   fault : Heard
   given_up : Heard
   other : Heard
@@ -29,7 +30,7 @@ heard (Received status) =
     else if nat_le 200 status && nat_le status 299 then success
     else if nat_le 300 status && nat_le status 699 then failure
     else other
-heard (Fired timer) = fired timer
+heard (Fired letter) = fired letter
 heard Fault = fault
 heard GivenUp = given_up
 
@@ -63,13 +64,13 @@ abbrev pub client_invite : ClientInvite → ClientInviteInput → ClientInvite �
 client_invite state input = row state (heard input)
 
 -- the timers that run in a state; another is stopped when the state is entered
-abbrev pub runs : ClientInvite → Timer → Bool
+abbrev pub runs : ClientInvite → Letter → Bool
 runs (Calling a) A = true
 runs (Calling a) B = true
 runs Completed D = true
 runs Accepted M = true
 runs _ _ = false
 
--- a step at the moment 0, and the next `count` firings, where nothing but timers is heard
-abbrev pub left_alone : ℕ → ClientInvite × List Action → List (ℕ × ClientInvite × List Action)
-left_alone = alone (λ state timer. client_invite state (Fired timer)) runs
+-- the machine of these
+abbrev pub invite_machine : Machine ClientInvite ClientInviteInput Action
+invite_machine = record { on = client_invite; fired = Fired; runs = runs; start_of = start_of; sends = sends_request }

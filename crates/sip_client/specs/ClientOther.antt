@@ -1,12 +1,13 @@
 -- The client transaction of a request that isn't an INVITE: RFC 3261 17.1.2 and figure 6. Times are in
 -- milliseconds.
-use Rattle.std.specs.Prelude.{ℕ, ◌*◌, min, Bool, true, false, ◌&&◌, nat_le, if◌then◌else◌, List, [], ◌∷◌}
-use Rattle.sip_client.specs.Lives.{alone}
+use Rattle.std.specs.Prelude.{◌*◌, min, Bool, true, false, ◌&&◌, nat_le, if◌then◌else◌, List, [], ◌∷◌}
+use Rattle.sip_transaction.specs.Machine.{Machine}
+use Rattle.sip_transaction.specs.declared.letter.Letter.{Letter}
+use Rattle.sip_client.specs.Action.{start_of, sends_request}
 use Rattle.sip_client.specs.declared.actions.Action.{Action}
 use Rattle.sip_client.specs.declared.actions.Action.TheVariants.{Send, SendAgain, Up, Start}
 use Rattle.sip_client.specs.declared.actions.Report.TheVariants.{Response, Timeout, Unavailable}
-use Rattle.sip_client.specs.declared.actions.Timer.{Timer}
-use Rattle.sip_client.specs.declared.actions.Timer.TheVariants.{E, F, K}
+use Rattle.sip_transaction.specs.declared.letter.Letter.TheVariants.{E, F, K}
 use Rattle.sip_client.specs.declared.client_other.ClientOther.{ClientOther}
 use Rattle.sip_client.specs.declared.client_other.ClientOther.TheVariants.{Trying, Proceeding, Completed, Terminated}
 use Rattle.sip_client.specs.declared.client_other.ClientOtherInput.{ClientOtherInput}
@@ -16,7 +17,7 @@ use Rattle.sip_client.specs.declared.client_other.ClientOtherInput.TheVariants.{
 pub data Heard : Type 0 where
   provisional : Heard
   final : Heard
-  fired : Timer → Heard
+  fired : Letter → Heard
   fault : Heard
   other : Heard
 
@@ -26,7 +27,7 @@ heard (Received status) =
     if nat_le 100 status && nat_le status 199 then provisional
     else if nat_le 200 status && nat_le status 699 then final
     else other
-heard (Fired timer) = fired timer
+heard (Fired letter) = fired letter
 heard Fault = fault
 
 -- a request that is sent for the first time
@@ -54,7 +55,7 @@ abbrev pub client_other : ClientOther → ClientOtherInput → ClientOther × Li
 client_other state input = row state (heard input)
 
 -- the timers that run in a state; another is stopped when the state is entered
-abbrev pub runs : ClientOther → Timer → Bool
+abbrev pub runs : ClientOther → Letter → Bool
 runs (Trying e) E = true
 runs (Trying e) F = true
 runs Proceeding E = true
@@ -62,6 +63,6 @@ runs Proceeding F = true
 runs Completed K = true
 runs _ _ = false
 
--- a step at the moment 0, and the next `count` firings, where nothing but timers is heard
-abbrev pub left_alone : ℕ → ClientOther × List Action → List (ℕ × ClientOther × List Action)
-left_alone = alone (λ state timer. client_other state (Fired timer)) runs
+-- the machine of these
+abbrev pub other_machine : Machine ClientOther ClientOtherInput Action
+other_machine = record { on = client_other; fired = Fired; runs = runs; start_of = start_of; sends = sends_request }

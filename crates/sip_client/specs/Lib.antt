@@ -1,4 +1,3 @@
-pub mod Actions
+pub mod Action
 pub mod ClientInvite
 pub mod ClientOther
-pub mod Lives

@@ -1,13 +1,8 @@
-ghost use Rattle.std.specs.Prelude.{◌≡◌, ◌⊎◌, [], ◌∷◌, true, drop};
-ghost use Rattle.sip_client.specs.Actions.{Starts};
-ghost use Rattle.sip_client.specs.Lives.{sends};
-ghost use Rattle.sip_client.specs.ClientInvite.{client_invite, start, left_alone, runs};
-ghost use Rattle.sip_client.specs.declared.actions.Action.TheVariants.{Up};
-ghost use Rattle.sip_client.specs.declared.actions.Report.TheVariants.{Timeout};
-ghost use Rattle.sip_client.specs.declared.client_invite.ClientInvite.TheVariants.{Terminated};
-ghost use Rattle.sip_client.specs.declared.client_invite.ClientInviteInput.TheVariants.{Fired};
+ghost use Rattle.std.specs.Prelude.{◌≡◌};
+ghost use Rattle.sip_client.specs.ClientInvite.{client_invite, start, runs};
 
-use crate::actions::{Action, Actions, Report, T1, Timer, doubled};
+use crate::actions::{Action, Report};
+use sip_transaction::{Actions, Letter, T1, doubled};
 
 /// A client transaction of an INVITE (RFC 3261 17.1.1, with the Accepted state of RFC 6026 7.2).
 ///
@@ -67,7 +62,7 @@ pub enum ClientInviteInput {
     /// A response of this status came.
     Received(u16),
     /// A timer fired.
-    Fired(Timer),
+    Fired(Letter),
     /// The INVITE could not be sent.
     Fault,
     /// The core waits no longer for a final response to an INVITE that it has cancelled (RFC 3261 9.1).
@@ -76,18 +71,18 @@ pub enum ClientInviteInput {
 
 impl ClientInvite {
     /// The transaction of an INVITE that is to be sent now.
-    pub fn start() -> (ClientInvite, Actions)
+    pub fn start() -> (ClientInvite, Actions<Action>)
         ensures { result ≡ start }
     {
         use Action::{Send, Start};
         (
             ClientInvite::Calling { interval: T1 },
-            Actions::of(&[Send, Start(Timer::A, T1), Start(Timer::B, 64 * T1)]),
+            Actions::of(&[Send, Start(Letter::A, T1), Start(Letter::B, 64 * T1)]),
         )
     }
 
     /// The next state, and what is to be done. What the figures don't name changes nothing.
-    pub fn on(self, input: ClientInviteInput) -> (ClientInvite, Actions)
+    pub fn on(self, input: ClientInviteInput) -> (ClientInvite, Actions<Action>)
         ensures { result ≡ client_invite self input }
     {
         use Action::{Ack, AckAgain, SendAgain, Start, Up};
@@ -95,59 +90,42 @@ impl ClientInvite {
         use ClientInviteInput::{Fault, Fired, GivenUp, Received};
         use Report::{Response, Timeout, Unavailable};
         match (self, input) {
-            (Calling { interval }, Fired(Timer::A)) => {
+            (Calling { interval }, Fired(Letter::A)) => {
                 let interval = doubled(interval, 64 * T1);
-                let actions = Actions::of(&[SendAgain, Start(Timer::A, interval)]);
+                let actions = Actions::of(&[SendAgain, Start(Letter::A, interval)]);
                 (Calling { interval }, actions)
             }
-            (Calling { .. }, Fired(Timer::B)) => (Terminated, Actions::of(&[Up(Timeout)])),
+            (Calling { .. }, Fired(Letter::B)) => (Terminated, Actions::of(&[Up(Timeout)])),
             (Calling { .. }, Fault) => (Terminated, Actions::of(&[Up(Unavailable)])),
             (Calling { .. } | Proceeding, Received(100..=199)) => {
                 (Proceeding, Actions::of(&[Up(Response)]))
             }
             (Calling { .. } | Proceeding, Received(200..=299)) => (
                 Accepted,
-                Actions::of(&[Up(Response), Start(Timer::M, 64 * T1)]),
+                Actions::of(&[Up(Response), Start(Letter::M, 64 * T1)]),
             ),
             (Calling { .. } | Proceeding, Received(300..=699)) => (
                 Completed,
-                Actions::of(&[Ack, Up(Response), Start(Timer::D, 64 * T1)]),
+                Actions::of(&[Ack, Up(Response), Start(Letter::D, 64 * T1)]),
             ),
             (Proceeding, GivenUp) => (Terminated, Actions::of(&[])),
             (Completed, Received(300..=699)) => (Completed, Actions::of(&[AckAgain])),
-            (Completed, Fired(Timer::D)) => (Terminated, Actions::of(&[])),
+            (Completed, Fired(Letter::D)) => (Terminated, Actions::of(&[])),
             (Accepted, Received(200..=299)) => (Accepted, Actions::of(&[Up(Response)])),
-            (Accepted, Fired(Timer::M)) => (Terminated, Actions::of(&[])),
+            (Accepted, Fired(Letter::M)) => (Terminated, Actions::of(&[])),
             (state, _) => (state, Actions::of(&[])),
         }
     }
 
     /// Whether a timer runs in this state. One that doesn't is stopped when the state is entered.
-    pub fn runs(self, timer: Timer) -> bool
-        ensures { result ≡ runs self timer }
+    pub fn runs(self, letter: Letter) -> bool
+        ensures { result ≡ runs self letter }
     {
         match self {
-            ClientInvite::Calling { .. } => matches!(timer, Timer::A | Timer::B),
-            ClientInvite::Completed => matches!(timer, Timer::D),
-            ClientInvite::Accepted => matches!(timer, Timer::M),
+            ClientInvite::Calling { .. } => matches!(letter, Letter::A | Letter::B),
+            ClientInvite::Completed => matches!(letter, Letter::D),
+            ClientInvite::Accepted => matches!(letter, Letter::M),
             ClientInvite::Proceeding | ClientInvite::Terminated => false,
         }
     }
 }
-
-/// An INVITE that nobody answers is sent at these moments, and given up after 32,000 ms.
-pub fn invite_unanswered_example()
-    ensures sent { sends (left_alone 8 start) ≡ 0 ∷ 500 ∷ 1500 ∷ 3500 ∷ 7500 ∷ 15500 ∷ 31500 ∷ [] }
-    ensures given_up { drop 7 (left_alone 8 start) ≡ (32000, Terminated, Up Timeout ∷ []) ∷ [] }
-{}
-
-/// Each timer that runs after a step ran before it, or is started by it; one that is started runs; and
-/// one that fires is started anew, or runs no more.
-#[tactic(auto, using(crate::proofs::InviteTimers::kept, crate::proofs::InviteTimers::started, crate::proofs::InviteTimers::anew))]
-pub fn invite_timers_law(state: ClientInvite, input: ClientInviteInput, timer: Timer)
-    ensures kept { let next = client_invite state input in
-        runs next.0 timer ≡ true → (runs state timer ≡ true) ⊎ Starts next.1 timer }
-    ensures started { let next = client_invite state input in Starts next.1 timer → runs next.0 timer ≡ true }
-    ensures fired { let next = client_invite state (Fired timer) in
-        runs next.0 timer ≡ true → Starts next.1 timer }
-{}

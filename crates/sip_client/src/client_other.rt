@@ -1,13 +1,8 @@
-ghost use Rattle.std.specs.Prelude.{◌≡◌, ◌⊎◌, [], ◌∷◌, true, drop};
-ghost use Rattle.sip_client.specs.Actions.{Starts};
-ghost use Rattle.sip_client.specs.Lives.{sends};
-ghost use Rattle.sip_client.specs.ClientOther.{client_other, start, left_alone, runs};
-ghost use Rattle.sip_client.specs.declared.actions.Action.TheVariants.{Up};
-ghost use Rattle.sip_client.specs.declared.actions.Report.TheVariants.{Timeout};
-ghost use Rattle.sip_client.specs.declared.client_other.ClientOther.TheVariants.{Terminated};
-ghost use Rattle.sip_client.specs.declared.client_other.ClientOtherInput.TheVariants.{Fired};
+ghost use Rattle.std.specs.Prelude.{◌≡◌};
+ghost use Rattle.sip_client.specs.ClientOther.{client_other, start, runs};
 
-use crate::actions::{Action, Actions, Report, T1, T2, T4, Timer, doubled};
+use crate::actions::{Action, Report};
+use sip_transaction::{Actions, Letter, T1, T2, T4, doubled};
 
 /// A client transaction of a request that isn't an INVITE (RFC 3261 17.1.2).
 ///
@@ -62,25 +57,25 @@ pub enum ClientOtherInput {
     /// A response of this status came.
     Received(u16),
     /// A timer fired.
-    Fired(Timer),
+    Fired(Letter),
     /// The request could not be sent.
     Fault,
 }
 
 impl ClientOther {
     /// The transaction of a request that is to be sent now.
-    pub fn start() -> (ClientOther, Actions)
+    pub fn start() -> (ClientOther, Actions<Action>)
         ensures { result ≡ start }
     {
         use Action::{Send, Start};
         (
             ClientOther::Trying { interval: T1 },
-            Actions::of(&[Send, Start(Timer::E, T1), Start(Timer::F, 64 * T1)]),
+            Actions::of(&[Send, Start(Letter::E, T1), Start(Letter::F, 64 * T1)]),
         )
     }
 
     /// The next state, and what is to be done. What the figure doesn't name changes nothing.
-    pub fn on(self, input: ClientOtherInput) -> (ClientOther, Actions)
+    pub fn on(self, input: ClientOtherInput) -> (ClientOther, Actions<Action>)
         ensures { result ≡ client_other self input }
     {
         use Action::{SendAgain, Start, Up};
@@ -88,56 +83,41 @@ impl ClientOther {
         use ClientOtherInput::{Fault, Fired, Received};
         use Report::{Response, Timeout, Unavailable};
         match (self, input) {
-            (Trying { interval }, Fired(Timer::E)) => {
+            (Trying { interval }, Fired(Letter::E)) => {
                 let interval = doubled(interval, T2);
-                let actions = Actions::of(&[SendAgain, Start(Timer::E, interval)]);
+                let actions = Actions::of(&[SendAgain, Start(Letter::E, interval)]);
                 (Trying { interval }, actions)
             }
             (Trying { .. }, Fault) => (Terminated, Actions::of(&[Up(Unavailable)])),
             (Trying { .. }, Received(100..=199)) => (Proceeding, Actions::of(&[Up(Response)])),
-            (Proceeding, Fired(Timer::E)) => {
-                (Proceeding, Actions::of(&[SendAgain, Start(Timer::E, T2)]))
+            (Proceeding, Fired(Letter::E)) => {
+                (Proceeding, Actions::of(&[SendAgain, Start(Letter::E, T2)]))
             }
             (Proceeding, Received(100..=199)) => (Proceeding, Actions::of(&[Up(Response)])),
-            (Trying { .. } | Proceeding, Fired(Timer::F)) => {
+            (Trying { .. } | Proceeding, Fired(Letter::F)) => {
                 (Terminated, Actions::of(&[Up(Timeout)]))
             }
             (Trying { .. } | Proceeding, Received(200..=699)) => {
-                (Completed, Actions::of(&[Up(Response), Start(Timer::K, T4)]))
+                (
+                    Completed,
+                    Actions::of(&[Up(Response), Start(Letter::K, T4)]),
+                )
             }
-            (Completed, Fired(Timer::K)) => (Terminated, Actions::of(&[])),
+            (Completed, Fired(Letter::K)) => (Terminated, Actions::of(&[])),
             (state, _) => (state, Actions::of(&[])),
         }
     }
 
     /// Whether a timer runs in this state. One that doesn't is stopped when the state is entered.
-    pub fn runs(self, timer: Timer) -> bool
-        ensures { result ≡ runs self timer }
+    pub fn runs(self, letter: Letter) -> bool
+        ensures { result ≡ runs self letter }
     {
         match self {
             ClientOther::Trying { .. } | ClientOther::Proceeding => {
-                matches!(timer, Timer::E | Timer::F)
+                matches!(letter, Letter::E | Letter::F)
             }
-            ClientOther::Completed => matches!(timer, Timer::K),
+            ClientOther::Completed => matches!(letter, Letter::K),
             ClientOther::Terminated => false,
         }
     }
 }
-
-/// A request that nobody answers is sent at these moments, and given up after 32,000 ms.
-pub fn other_unanswered_example()
-    ensures sent { sends (left_alone 12 start)
-        ≡ 0 ∷ 500 ∷ 1500 ∷ 3500 ∷ 7500 ∷ 11500 ∷ 15500 ∷ 19500 ∷ 23500 ∷ 27500 ∷ 31500 ∷ [] }
-    ensures given_up { drop 11 (left_alone 12 start) ≡ (32000, Terminated, Up Timeout ∷ []) ∷ [] }
-{}
-
-/// Each timer that runs after a step ran before it, or is started by it; one that is started runs; and
-/// one that fires is started anew, or runs no more.
-#[tactic(auto, using(crate::proofs::OtherTimers::kept, crate::proofs::OtherTimers::started, crate::proofs::OtherTimers::anew))]
-pub fn other_timers_law(state: ClientOther, input: ClientOtherInput, timer: Timer)
-    ensures kept { let next = client_other state input in
-        runs next.0 timer ≡ true → (runs state timer ≡ true) ⊎ Starts next.1 timer }
-    ensures started { let next = client_other state input in Starts next.1 timer → runs next.0 timer ≡ true }
-    ensures fired { let next = client_other state (Fired timer) in
-        runs next.0 timer ≡ true → Starts next.1 timer }
-{}

@@ -6,9 +6,9 @@
 mod actions;
 mod client_invite;
 mod client_other;
+pub mod examples;
+pub mod laws;
 
-pub use actions::{Action, Actions, Report, Timer};
-pub use client_invite::{
-    ClientInvite, ClientInviteInput, invite_timers_law, invite_unanswered_example,
-};
-pub use client_other::{ClientOther, ClientOtherInput, other_timers_law, other_unanswered_example};
+pub use actions::{Action, Report};
+pub use client_invite::{ClientInvite, ClientInviteInput};
+pub use client_other::{ClientOther, ClientOtherInput};

@@ -12,7 +12,7 @@ use Rattle.sip_header.specs.declared.name_addr.AnyUri.TheVariants.{Sip, Other}
 use Rattle.sip_header.specs.declared.name_addr.NameAddr.{NameAddr}
 use Rattle.sip_header.specs.NameAddr.{name_addr_of}
 use Rattle.sip_header.specs.Route.{route_of}
-use Rattle.sip_hops.specs.declared.addr.Addr.{Addr}
+use Rattle.sip_text.specs.declared.addr.Addr.{Addr}
 
 -- whether two addresses are one
 abbrev pub is_same_addr : Addr → Addr → Bool

@@ -3,6 +3,6 @@ use Rattle.std.specs.Prelude.{ℕ, List, codes}
 use Rattle.sip_dialog.specs.declared.error.DialogError.{DialogError}
 use Rattle.sip_dialog.specs.declared.error.DialogError.TheVariants.{NoMemory, Full}
 
-abbrev pub message_of : DialogError → List ℕ
-message_of NoMemory = codes "out of memory"
-message_of Full = codes "4,096 dialogs are known"
+abbrev pub words_of : DialogError → List ℕ
+words_of NoMemory = codes "out of memory"
+words_of Full = codes "4,096 dialogs are known"

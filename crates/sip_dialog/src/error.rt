@@ -16,9 +16,9 @@ pub enum DialogError {
 
 impl fmt::Display for DialogError {
     ghost use Rattle.std.specs.Prelude.{Some};
-    ghost use Rattle.sip_dialog.specs.DialogError.{message_of};
+    ghost use Rattle.sip_dialog.specs.DialogError.{words_of};
 
-    ghost output = { λ e. Some (message_of e) };
+    ghost output = { λ e. Some (words_of e) };
 
     fn fmt<W: fmt::Write>(&self, f: &mut fmt::Formatter<W>) -> fmt::Result {
         match self {

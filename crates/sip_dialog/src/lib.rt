@@ -4,12 +4,8 @@
 
 mod dialog;
 mod error;
-mod examples;
-mod laws;
+pub mod examples;
+pub mod laws;
 
-pub use dialog::{Addresses, Dialog, DialogId, DialogList, InviteAnswer};
+pub use dialog::{Dialog, DialogId, InviteAnswer};
 pub use error::DialogError;
-pub use examples::{dialog_addresses, dialog_lifetime, dialog_targets};
-pub use laws::{
-    at_most_4096_known, at_most_sixteen_addresses, in_dialog_is_a_test, tags_in_either_order,
-};

@@ -4,9 +4,9 @@ use Rattle.std.specs.Str.{bytes_eq}
 use Rattle.sip_digest.specs.Protection.{Protection, seen}
 use Rattle.sip_digest.specs.Answers.{answer_of}
 use Rattle.sip_digest.specs.NonceText.{hex_number_of}
-use Rattle.sip_digest.specs.declared.credentials.Credentials.{Credentials}
+use Rattle.sip_digest.specs.declared.credential.Credential.{Credential as Given}
 
--- a request's method, and of its credentials the URI, nonce, quality of protection and response
+-- a request's method, and of its credential the URI, nonce, quality of protection and response
 pub record Credential : Type 0 where
   pub method : List ℕ
   pub uri : List ℕ
@@ -14,9 +14,9 @@ pub record Credential : Type 0 where
   pub protection : Option Protection
   pub response : List ℕ
 
--- the bytes of credentials
-abbrev pub shown : Credentials → Credential
-shown c = record { method = c.method.now; uri = c.uri.now; nonce = c.nonce.now; protection = seen c.quality; response = c.response.now }
+-- the bytes of a credential that a call is given
+abbrev pub shown : Given → Credential
+shown c = record { method = c.method.now; uri = c.uri.now; nonce = c.nonce.now; protection = seen c.protection; response = c.response.now }
 
 -- whether the response is, byte by byte, the answer of the user of this H(A1)
 abbrev pub is_answer : List ℕ → Credential → Bool

@@ -18,7 +18,7 @@ is_live now row = nat_lt (now - row.since) 300000
 abbrev pub IsLive : ℕ → Nonce → Type 0
 IsLive now row = now - row.since < 300000
 
--- the live nonce of this word, as a fact and as a test
+-- the live nonce of this word, as a fact
 abbrev pub IsNonceOf : ℕ → ℕ → Nonce → Type 0
 IsNonceOf word now row = (row.word ≡ word) × IsLive now row
 

@@ -1,6 +1,6 @@
 -- The quality of protection of an answer (RFC 2617 3.2.2).
 use Rattle.std.specs.Prelude.{ℕ, List, Option, Some, None}
-use Rattle.sip_digest.specs.declared.answers.Quality.{Quality}
+use Rattle.sip_digest.specs.declared.protection.Protection.{Protection as Given}
 
 -- what an answer with the quality of protection `auth` says of itself: the count of the nonce's uses
 -- as it was sent, and the client's own nonce
@@ -8,7 +8,7 @@ pub record Protection : Type 0 where
   pub nc : List ℕ
   pub cnonce : List ℕ
 
--- the bytes of a quality of protection
-abbrev pub seen : Option Quality → Option Protection
+-- the bytes of a quality of protection that a call is given
+abbrev pub seen : Option Given → Option Protection
 seen None = None
-seen (Some quality) = Some (record { nc = quality.nc.now; cnonce = quality.cnonce.now })
+seen (Some given) = Some (record { nc = given.nc.now; cnonce = given.cnonce.now })

@@ -5,16 +5,9 @@ ghost use Rattle.hex.specs.Hex.{encode_lower};
 ghost use Rattle.sip_digest.specs.Answers.{a1_of, a2_of, answer_of};
 ghost use Rattle.sip_digest.specs.Protection.{seen};
 
+use crate::protection::Protection;
 use hex::encode_to_slice;
 use md5::{Digest, Md5};
-
-/// The quality of protection `auth` of an answer: `nc`, the count of the nonce's uses as it was sent,
-/// and `cnonce`, the client's own nonce (RFC 2617 3.2.2).
-#[derive(Clone, Copy)]
-pub struct Quality<'a> {
-    pub nc: &'a [u8],
-    pub cnonce: &'a [u8],
-}
 
 /// The 32 digits of a digest, in lower case.
 fn digits_of(digest: [u8; 16]) -> [u8; 32]
@@ -56,12 +49,12 @@ fn a2(method: &[u8], uri: &[u8]) -> [u8; 32]
     digits_of(hasher.finalize())
 }
 
-/// Adds the parts of a quality of protection.
-fn add_quality(hasher: &mut Md5, quality: Quality<'_>)
-    ensures { (m : List ℕ) → Holds hasher.old m → Holds hasher.new (m ++ byte ":" ∷ (quality.entry.nc.now ++ byte ":" ∷ (quality.entry.cnonce.now ++ byte ":" ∷ codes "auth"))) }
+/// Adds the parts of a protection.
+fn add_protection(hasher: &mut Md5, protection: Protection<'_>)
+    ensures { (m : List ℕ) → Holds hasher.old m → Holds hasher.new (m ++ byte ":" ∷ (protection.entry.nc.now ++ byte ":" ∷ (protection.entry.cnonce.now ++ byte ":" ∷ codes "auth"))) }
 {
-    add_part(hasher, quality.nc);
-    add_part(hasher, quality.cnonce);
+    add_part(hasher, protection.nc);
+    add_part(hasher, protection.cnonce);
     add_part(hasher, b"auth");
 }
 
@@ -72,21 +65,21 @@ pub fn answer(
     method: &[u8],
     uri: &[u8],
     nonce: &[u8],
-    quality: Option<Quality<'_>>,
+    protection: Option<Protection<'_>>,
 ) -> [u8; 32]
-    ensures { result ≡ answer_of a1.now method.now uri.now nonce.now (seen quality.entry) }
+    ensures { result ≡ answer_of a1.now method.now uri.now nonce.now (seen protection.entry) }
 {
     let a2 = a2(method, uri);
     let mut hasher = Md5::new();
     hasher.update(a1);
     add_part(&mut hasher, nonce);
-    match quality {
+    match protection {
         None => {
             add_part(&mut hasher, &a2);
             digits_of(hasher.finalize())
         }
-        Some(quality) => {
-            add_quality(&mut hasher, quality);
+        Some(protection) => {
+            add_protection(&mut hasher, protection);
             add_part(&mut hasher, &a2);
             digits_of(hasher.finalize())
         }

@@ -3,16 +3,15 @@
 #![tactic(auto)]
 
 mod answers;
-mod credentials;
-mod digits;
-mod laws;
+mod credential;
+pub mod examples;
+pub mod laws;
+mod nonce_texts;
 mod nonces;
+mod protection;
 
-pub use answers::{Quality, a1, answer};
-pub use credentials::Credentials;
-pub use digits::nonce_text;
-pub use laws::{
-    count_example, digest_vector, live_word_stays, nonce_text_example, spent_credential_is_stale,
-    text_names_its_word,
-};
+pub use answers::{a1, answer};
+pub use credential::Credential;
+pub use nonce_texts::{nonce_text, word_of};
 pub use nonces::{Nonce, Nonces, Worth};
+pub use protection::Protection;

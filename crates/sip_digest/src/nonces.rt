@@ -3,8 +3,8 @@ ghost use Rattle.std.specs.List.{list_any};
 ghost use Rattle.sip_digest.specs.Credential.{shown};
 ghost use Rattle.sip_digest.specs.Nonces.{issued, spent_by, counted, worth_of, standing, is_this};
 
-use crate::credentials::Credentials;
-use crate::digits::word_of;
+use crate::credential::Credential;
+use crate::nonce_texts::word_of;
 use circular_buffer::HeapCircularBuffer;
 use std::alloc::{AllocError, Global};
 use std::marker::Model;
@@ -72,27 +72,27 @@ impl Nonces {
         }
     }
 
-    /// What credentials are worth at a moment, where the user whose `a1` is given is the one they
-    /// name, and their form, realm and URI are right (RFC 2617 3.2.2, 3.3).
-    pub fn check(&self, a1: &[u8], credentials: &Credentials<'_>, now: u64) -> Worth
-        ensures { result ≡ worth_of self.now a1.now (shown credentials.now) now }
+    /// What a credential is worth at a moment, where the user whose `a1` is given is the one it
+    /// names, and its form, realm and URI are right (RFC 2617 3.2.2, 3.3).
+    pub fn check(&self, a1: &[u8], credential: &Credential<'_>, now: u64) -> Worth
+        ensures { result ≡ worth_of self.now a1.now (shown credential.now) now }
     {
-        if !credentials.is_answer(a1) {
+        if !credential.is_answer(a1) {
             return Worth::Wrong;
         }
-        match word_of(credentials.nonce) {
+        match word_of(credential.nonce) {
             None => Worth::Stale,
-            Some(word) => standing(found(&self.ring, word, now), credentials.count()),
+            Some(word) => standing(found(&self.ring, word, now), credential.count()),
         }
     }
 
-    /// Takes the count of credentials as the greatest that was accepted for the live nonce that they
-    /// name.
-    pub fn spend(&mut self, credentials: &Credentials<'_>, now: u64)
-        ensures { self.new ≡ spent_by self.old (shown credentials.now) now }
+    /// Takes the count of a credential as the greatest that was accepted for the live nonce that it
+    /// names.
+    pub fn spend(&mut self, credential: &Credential<'_>, now: u64)
+        ensures { self.new ≡ spent_by self.old (shown credential.now) now }
     {
-        if let Some(count) = credentials.count() {
-            if let Some(word) = word_of(credentials.nonce) {
+        if let Some(count) = credential.count() {
+            if let Some(word) = word_of(credential.nonce) {
                 self.accept(word, count, now);
             }
         }

@@ -4,9 +4,9 @@ use Rattle.sip_message.specs.declared.field_name.FieldName.TheVariants as Name
 use Rattle.sip_message.specs.declared.field.Field.{Field}
 use Rattle.sip_message.specs.declared.message.Start.TheVariants.{Request}
 use Rattle.sip_message.specs.declared.message.Message.{Message}
-use Rattle.sip_hops.specs.declared.addr.Addr.{Addr}
+use Rattle.sip_text.specs.declared.addr.Addr.{Addr}
 use Rattle.sip_edit.specs.Challenges.{challenge}
-use Rattle.sip_edit.specs.Received.{received}
+use Rattle.sip_edit.specs.ReceivedRequest.{received}
 use Rattle.sip_edit.specs.Reply.{reply_of}
 use Rattle.sip_edit.specs.Tags.{to_tag}
 

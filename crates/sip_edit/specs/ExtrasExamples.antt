@@ -6,7 +6,7 @@ use Rattle.sip_message.specs.declared.message.Start.TheVariants.{Request}
 use Rattle.sip_message.specs.declared.message.Message.{Message}
 use Rattle.sip_message.specs.Text.{text_of}
 use Rattle.sip_edit.specs.Examples.{client}
-use Rattle.sip_edit.specs.Received.{received}
+use Rattle.sip_edit.specs.ReceivedRequest.{received}
 use Rattle.sip_edit.specs.Reply.{reply_of}
 use Rattle.sip_edit.specs.Tags.{to_tag}
 

@@ -2,10 +2,9 @@ pub mod Challenges
 pub mod Contacts
 pub mod Reasons
 pub mod Tags
-pub mod Pieces
-pub mod ReceivedVia
+pub mod TopVia
 pub mod Reply
-pub mod Received
+pub mod ReceivedRequest
 pub mod Examples
 pub mod OwnVia
 pub mod Onward

@@ -1,8 +1,7 @@
 -- A request as it goes on to a target (RFC 3261 16.6).
-use Rattle.std.specs.Prelude.{ℕ, ◌-◌, Bool, false, ◌&&◌, not, if◌then◌else◌, List, [], ◌∷◌, ◌++◌, filter, decimal, codes, Option, Some, None}
+use Rattle.std.specs.Prelude.{ℕ, ◌-◌, Bool, false, ◌&&◌, not, if◌then◌else◌, List, [], ◌∷◌, ◌++◌, filter, decimal, codes}
 use Rattle.std.specs.Option.{option_map_or}
 use Rattle.std.specs.Result.{result_ok}
-use Rattle.std.specs.Str.{bytes_eq}
 use Rattle.sip_uri.specs.Uri.{text_of}
 use Rattle.sip_uri.specs.Reading.{reading_of}
 use Rattle.sip_message.specs.declared.field_name.FieldName.{FieldName}
@@ -15,10 +14,10 @@ use Rattle.sip_message.specs.FieldName.{is_same_name}
 use Rattle.sip_header.specs.declared.max_forwards.MaxForwards.{MaxForwards}
 use Rattle.sip_header.specs.declared.max_forwards.MaxForwards.TheVariants.{Absent, Hops, Malformed}
 use Rattle.sip_header.specs.declared.own.Own.{Own}
-use Rattle.sip_header.specs.Credentials.{credentials_of}
+use Rattle.sip_header.specs.Credentials.{credentials_of, is_realm}
 use Rattle.sip_header.specs.MaxForwards.{max_forwards_of}
 use Rattle.sip_header.specs.Own.{record_route_uri}
-use Rattle.sip_header.specs.Prepared.{way_of}
+use Rattle.sip_header.specs.Way.{request_uri, fields_left, way_of}
 use Rattle.sip_edit.specs.OwnVia.{own_via_field}
 
 -- ---- Request-URI (step 2)
@@ -55,11 +54,6 @@ lowered Malformed fields = fields
 
 -- ---- credentials (RFC 3261 22.3)
 
--- whether a realm was named, and is this one
-abbrev pub is_realm : List ℕ → Option (List ℕ) → Bool
-is_realm realm None = false
-is_realm realm (Some said) = bytes_eq said realm
-
 -- whether a field has well-formed Digest credentials for a proxy of this realm
 abbrev pub is_for_realm : List ℕ → Field → Bool
 is_for_realm realm field =
@@ -73,7 +67,7 @@ without_credentials realm fields = filter (λ field. not (is_for_realm realm fie
 
 -- the fields behind this server's Via
 abbrev pub onward_fields : Own → List ℕ → Message → List Field
-onward_fields own realm m = lowered (max_forwards_of m.fields) (without_credentials realm (way_of own m).fields)
+onward_fields own realm m = lowered (max_forwards_of m.fields) (without_credentials realm (fields_left own (request_uri m.start) m.fields))
 
 -- A request as it goes on to a Request-URI: without this server's own Routes (RFC 3261 16.4), with one hop less, without the credentials for its realm, and with
 -- its Via of a branch on top (16.6 steps 1 to 3, 8; 22.3).

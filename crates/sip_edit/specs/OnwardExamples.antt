@@ -4,14 +4,11 @@ use Rattle.sip_message.specs.declared.field_name.FieldName.TheVariants as Name
 use Rattle.sip_message.specs.declared.field.Field.{Field}
 use Rattle.sip_message.specs.declared.message.Start.TheVariants.{Request, Status}
 use Rattle.sip_message.specs.declared.message.Message.{Message}
-use Rattle.sip_header.specs.RoutingExamples.{own}
+use Rattle.sip_header.specs.RoutingExamples.{own, sample_realm}
 use Rattle.sip_edit.specs.Examples.{client}
-use Rattle.sip_edit.specs.Received.{received}
+use Rattle.sip_edit.specs.ReceivedRequest.{received}
 use Rattle.sip_edit.specs.OwnVia.{branch_text}
 use Rattle.sip_edit.specs.Onward.{onward_of, with_record_route}
-
-abbrev pub realm : List ℕ
-realm = codes "testrealm@host.com"
 
 -- an INVITE that anybody sends to help@host.com
 abbrev pub invite : Message
@@ -31,7 +28,7 @@ invite = record {
 
 -- as it goes on to the one binding of help@host.com; the fourth datagram brought it
 abbrev pub onward_invite : Message
-onward_invite = with_record_route own (onward_of own realm (codes "sip:help@127.0.0.1:5082") (branch_text 0 4 1) (received invite client))
+onward_invite = with_record_route own (onward_of own sample_realm (codes "sip:help@127.0.0.1:5082") (branch_text 0 4 1) (received invite client))
 
 abbrev pub onward_invite_text : List ℕ
 onward_invite_text =
@@ -94,7 +91,7 @@ text_message = record {
 
 -- as it goes on; the third datagram brought it
 abbrev pub onward_message : Message
-onward_message = onward_of own realm (codes "sip:help@127.0.0.1:5082") (branch_text 0 3 1) (received text_message client)
+onward_message = onward_of own sample_realm (codes "sip:help@127.0.0.1:5082") (branch_text 0 3 1) (received text_message client)
 
 abbrev pub onward_message_text : List ℕ
 onward_message_text =

@@ -8,8 +8,8 @@ use Rattle.sip_message.specs.declared.message.Message.{Message}
 use Rattle.sip_message.specs.Field.{all_named}
 use Rattle.sip_header.specs.declared.cseq.CSeq.{CSeq}
 use Rattle.sip_header.specs.CSeq.{cseq_of}
-use Rattle.sip_header.specs.Values.{first_value}
-use Rattle.sip_header.specs.Prepared.{request_uri}
+use Rattle.sip_message.specs.Values.{first_value}
+use Rattle.sip_header.specs.Way.{request_uri}
 use Rattle.sip_edit.specs.Reply.{first_of}
 use Rattle.sip_edit.specs.Onward.{seventy}
 

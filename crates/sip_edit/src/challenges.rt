@@ -12,7 +12,7 @@ fn stale_part(stale: bool) -> &'static [u8]
 }
 
 /// The value of WWW-Authenticate or Proxy-Authenticate that asks for credentials of a realm with a nonce
-/// (RFC 2617, 3.2.1). `stale` says that the credentials were right and their nonce was not. `AllocError`
+/// (RFC 2617 3.2.1). `stale` says that the credentials were right and their nonce was not. `AllocError`
 /// is the only refusal.
 pub fn challenge(
     alloc: Global,

@@ -1,9 +1,13 @@
 ghost use Rattle.std.specs.Prelude.{◌≡◌, codes, length, []};
 ghost use Rattle.sip_message.specs.Text.{text_of};
 ghost use Rattle.sip_edit.specs.Examples;
-ghost use Rattle.sip_edit.specs.Received.{response_address};
-ghost use Rattle.sip_edit.specs.ReceivedVia.{received_via};
+ghost use Rattle.sip_edit.specs.ReceivedRequest.{response_address};
+ghost use Rattle.sip_edit.specs.TopVia.{received_via};
 ghost use Rattle.sip_edit.specs.Reply.{answered_to, reply_of};
+ghost use Rattle.sip_edit.specs.Tags.{to_tag};
+
+pub mod extras;
+pub mod onward;
 
 /// A Via with `rport` whose sent-by is a name.
 pub fn rport_example()
@@ -44,4 +48,9 @@ pub fn timestamp_example()
 pub fn challenge_example()
     ensures text { text_of Examples.challenged ≡ Examples.challenged_text }
     ensures length { length Examples.challenged_text ≡ 348 }
+{}
+
+/// The tag of the first datagram after the boot word 0.
+pub fn to_tag_example()
+    ensures { to_tag 0 1 ≡ codes "0000000000000000.1" }
 {}

@@ -1,7 +1,7 @@
 ghost use Rattle.std.specs.Prelude.{◌≡◌};
 ghost use Rattle.sip_edit.specs.Reasons;
 
-/// The reason phrase of a status that is answered here, empty for any other (RFC 3261, 21).
+/// The reason phrase of a status that is answered here, empty for any other (RFC 3261 21).
 pub fn reason_of(status: u16) -> &'static [u8]
     ensures { result.now ≡ Reasons.reason_of status }
 {

@@ -1,12 +1,12 @@
 -- Moments at which open requests close, by counts.
-use Rattle.std.proofs.Common.{◌≡◌, ℕ, zero, suc, ◌+◌, ◌<◌, ◌≤◌, List, [], ◌∷◌, length, get_or, eqb, ltb, leb, cond, Bool, true, false, refl, sym, ◌∙◌, ap, subst, arith, Option, Some, None}
-use Rattle.std.specs.Prelude.{count_by, sum_by, remove, slice_get, IfSome, IfNone}
+use Rattle.std.proofs.Common.{◌≡◌, ℕ, ◌+◌, ◌<◌, ◌≤◌, List, [], length, get_or, eqb, ltb, leb, cond, Bool, true, false, refl, subst, arith, Option, Some, None}
+use Rattle.std.specs.Prelude.{count_by, remove, slice_get, IfSome, IfNone}
 use Rattle.std.proofs.lemmas.Bool.Decides.{nat_tests}
 use Rattle.std.proofs.lemmas.List.Sums.{sum_by-remove}
 use Rattle.std.proofs.lemmas.Option.{slice_get_within, get_or_from_slice_get}
 use Rattle.sip_engine.specs.declared.requests.OpenRequest.{OpenRequest}
 use Rattle.sip_engine.specs.Requests.{closing_before, closing_by, IsNextDeadline, HasClosed}
-use Rattle.sip_engine.proofs.Counting.{count_le}
+use Rattle.sip_timers.proofs.Counting.{count_le}
 
 -- what closes before a moment closes by it
 pub closing_before-none : (m : ℕ) (rs : List OpenRequest) → closing_by m rs ≡ 0 → closing_before m rs ≡ 0

@@ -1,13 +1,13 @@
 -- What a datagram opens closes later.
-use Rattle.std.proofs.Common.{◌≡◌, ℕ, ◌+◌, ◌∙◌, ap, List, [], ◌∷◌, ◌++◌, length, leb, cond, sym, subst, Bool, true, false, Option, Some, None, refl, arith}
-use Rattle.std.specs.Prelude.{count_by, find, codes}
+use Rattle.std.proofs.Common.{◌≡◌, ℕ, ◌+◌, List, [], ◌∷◌, ◌++◌, length, leb, cond, sym, subst, true, false, Option, Some, None, arith}
+use Rattle.std.specs.Prelude.{find, codes}
 use Rattle.std.proofs.lemmas.Bool.Decides.{nat_tests}
 use Rattle.std.proofs.lemmas.List.Sums.{sum_by_push}
 use Rattle.sip_message.specs.declared.field.Field.{Field}
 use Rattle.sip_message.specs.declared.message.Message.{Message}
 use Rattle.sip_header.specs.declared.key.Key.{Key}
-use Rattle.sip_engine.specs.declared.config.Config.{Config}
-use Rattle.sip_model.specs.declared.packet.Packet.{Packet}
+use Rattle.sip_settings.specs.declared.config.Config.{Config}
+use Rattle.sip_event.specs.declared.packet.Packet.{Packet}
 use Rattle.sip_engine.specs.declared.proof.Proof.{Proof}
 use Rattle.sip_engine.specs.declared.proof.Proof.TheVariants.{Right, Stale, Wrong}
 use Rattle.sip_engine.specs.declared.registration.Registration.{Registration}
@@ -18,7 +18,7 @@ use Rattle.sip_engine.specs.declared.tables.Arrival.{Arrival}
 use Rattle.sip_engine.specs.Requests.{opened, closing_by, has_key}
 use Rattle.sip_engine.specs.Registration.{registration_of}
 use Rattle.sip_engine.specs.Proof.{proof_of, credential_of}
-use Rattle.sip_engine.specs.Serving.{heard, by_key, asked, judged_by, may_register, challenged, registered, replied, answered, challenge_field, binding_for, contact_fields}
+use Rattle.sip_engine.specs.Serving.{heard, by_key, asked, judged_by, may_register, registered, replied, answered, challenge_field, binding_for, contact_fields}
 use Rattle.sip_digest.specs.Nonces.{issued, spent_by}
 use Rattle.sip_engine.specs.Bindings.{live, bound}
 
@@ -67,8 +67,6 @@ heard-later config word t t' a m o packets e none =
     subst (λ (step : List Packet × Tables). closing_by a.now step.1.requests ≡ 0) (sym e) later.none
 
 -- what is asked of a request with room for it
-pub asked_some : (config : Config) (word : ℕ) (t : Tables) (a : Arrival) (m : Message) (key : Key) (o : Option Registration) (r : Registration) (proof : Proof) (step : List Packet × Tables)
-    → Some r ≡ o → leb 1024 (length t.requests) ≡ false → proof ≡ proof_of config t.nonces a.now m → step ≡ judged_by config word a m key r t proof → step ≡ asked config word t a m key o
-asked_some config word t a m key o r proof step is room proved e =
-    subst (λ (o : Option Registration). step ≡ asked config word t a m key o) is
-    (rw room (e ∙ ap (judged_by config word a m key r t) proved))
+pub asked_some : (config : Config) (word : ℕ) (t : Tables) (a : Arrival) (m : Message) (key : Key) (o : Option Registration) (r : Registration) (step : List Packet × Tables)
+    → Some r ≡ o → leb 1024 (length t.requests) ≡ false → step ≡ judged_by config word a m key r t (proof_of config t.nonces a.now m) → step ≡ asked config word t a m key o
+asked_some config word t a m key o r step is room e = subst (λ (o : Option Registration). step ≡ asked config word t a m key o) is (rw room e)

@@ -1,8 +1,6 @@
-pub mod Counting
-pub mod Placing
 pub mod Ties
 pub mod Places
 pub mod Deadlines
 pub mod Values
 pub mod Later
-pub mod Asked
+pub mod Arriving

@@ -2,34 +2,34 @@
 use Rattle.std.proofs.Common.{◌≡◌, ℕ, zero, suc, ◌+◌, ◌<◌, ◌≤◌, List, [], ◌∷◌, ◌++◌, length, get_or, map, eqb, ltb, leb, cond, Bool, true, false, refl, sym, ◌∙◌, ap, subst, arith, Option, Some, None}
 use Rattle.std.specs.Prelude.{not, ◌&&◌, count_by, sum_by, remove, find, slice_get, option_map, IfSome, IfNone}
 use Rattle.std.proofs.lemmas.Bool.Decides.{nat_tests}
-use Rattle.std.proofs.lemmas.List.Sums.{sum_by-cons, sum_by_push, sum_by-remove}
+use Rattle.std.proofs.lemmas.List.Sums.{sum_by_push, sum_by-remove}
 use Rattle.std.proofs.lemmas.Option.{slice_get_within, get_or_from_slice_get}
 use Rattle.sip_header.specs.declared.Key.{Key}
 use Rattle.sip_server.specs.declared.server_other.ServerOther.{ServerOther}
 use Rattle.sip_server.specs.declared.server_other.ServerOther.TheVariants.{Trying, Proceeding, Completed, Terminated}
 use Rattle.sip_server.specs.declared.server_other.ServerOtherInput.TheVariants.{Answer}
 use Rattle.sip_server.specs.declared.actions.Action.TheVariants.{Send, Start}
-use Rattle.sip_server.specs.declared.actions.Timer.TheVariants.{J}
+use Rattle.sip_transaction.specs.declared.letter.Letter.TheVariants.{J}
 use Rattle.sip_server.specs.ServerOther.{heard, final, row, server_other}
-use Rattle.sip_engine.specs.declared.timers.Timer.{Timer}
+use Rattle.sip_timers.specs.declared.timer.Timer.{Timer}
 use Rattle.sip_engine.specs.declared.requests.Kept.{Kept}
 use Rattle.sip_engine.specs.declared.requests.OpenRequest.{OpenRequest}
-use Rattle.sip_engine.specs.Timers.{placed, first_due, due_before, due_by, AreOrdered}
+use Rattle.sip_timers.specs.Timers.{placed, first_due, due_before, due_by, AreOrdered}
 use Rattle.sip_engine.specs.Requests.{has_key, closing_before, closing_by, IsNextDeadline, HasClosed, opens_of, timer_of, is_timer_of, is_completed, AreTied, IsNamed}
-use Rattle.sip_engine.proofs.Counting.{count-cons, count_le}
-use Rattle.sip_engine.proofs.Placing.{count-placed, AreOrdered-placed, none_due}
+use Rattle.sip_timers.proofs.Counting.{count-cons, count_le}
+use Rattle.sip_timers.proofs.Placing.{count-placed, AreOrdered-placed}
 
 pub count-opens : (q : OpenRequest → Bool) (ks : List Kept) → count_by q (opens_of ks) ≡ count_by (λ k. q k.open) ks
 count-opens q [] = refl
 count-opens q (k ∷ ks) = omega (arith, count-opens q ks, count-cons q k.open (opens_of ks), count-cons (λ j. q j.open) k ks)
 
 -- a request that comes last, with its timer
-pub AreTied-opened : (ts : List Timer) (ks : List Kept) (k : Kept) → AreTied ts ks → k.server ≡ Completed → AreTied (placed (timer_of k) ts) (ks ++ k ∷ [])
-AreTied-opened ts ks k h is = record {
+pub AreTied-opened : (key : ℕ) (ts : List Timer) (ks : List Kept) (k : Kept) → AreTied ts ks → k.server ≡ Completed → AreTied (placed (timer_of key k) ts) (ks ++ k ∷ [])
+AreTied-opened key ts ks k h is = record {
   same = λ p.
-      let more = sum_by_push (λ k. cond (p (timer_of k)) 1 0) ks k in
-      omega (arith, h.same p, count-placed p (timer_of k) ts);
-  ordered = AreOrdered-placed (timer_of k) ts h.ordered;
+      let more = sum_by_push (λ (k : Kept). cond {A = ℕ} (p k.open.closing_at k.open.number) 1 0) ks k in
+      omega (arith, h.same p, count-placed (λ t. p t.due t.name.request) (timer_of key k) ts);
+  ordered = AreOrdered-placed (timer_of key k) ts h.ordered;
   answered =
       let more = sum_by_push (λ k. cond (not (is_completed k.server)) 1 0) ks k in
       let one : is_completed k.server ≡ true = rw is refl in
@@ -39,16 +39,19 @@ AreTied-opened ts ks k h is = record {
 -- the requests of a popped timer
 pub named-popped : (t : Timer) (ts : List Timer) (ks : List Kept) → AreTied (t ∷ ts) ks → 1 ≤ count_by (is_timer_of t) ks
 named-popped t ts ks h =
-    let e = h.same (λ u. eqb u.due t.due && eqb u.request t.request) in
-    let here = count-cons (λ u. eqb u.due t.due && eqb u.request t.request) t ts in
+    let e = h.same (λ due request. eqb due t.due && eqb request t.name.request) in
+    let here = count-cons (λ (u : Timer). eqb u.due t.due && eqb u.name.request t.name.request) t ts in
     grind (arith, nat_tests)
 
-named_is : (t : Timer) (k : Kept) → is_timer_of t k ≡ true → timer_of k ≡ t
-named_is t k h =
-    let due : k.open.closing_at ≡ t.due = grind (arith, nat_tests) in
-    let request : k.open.number ≡ t.request = grind (arith, nat_tests) in
-    let first : timer_of k ≡ record { due = t.due; request = k.open.number } = ap (λ d. record { due = d; request = k.open.number }) due in
-    first ∙ ap (λ n. record { due = t.due; request = n }) request
+named_due : (t : Timer) (k : Kept) → is_timer_of t k ≡ true → k.open.closing_at ≡ t.due
+named_due t k h = grind (arith, nat_tests)
+
+named_request : (t : Timer) (k : Kept) → is_timer_of t k ≡ true → k.open.number ≡ t.name.request
+named_request t k h = grind (arith, nat_tests)
+
+-- a timer and its request pass the same tests
+named_test : (p : ℕ → ℕ → Bool) (t : Timer) (k : Kept) → is_timer_of t k ≡ true → p k.open.closing_at k.open.number ≡ p t.due t.name.request
+named_test p t k h = ap (λ due. p due k.open.number) (named_due t k h) ∙ ap (p t.due) (named_request t k h)
 
 remove_less : {X : Type 0} (f : X → ℕ) (xs : List X) (i : ℕ) (x : X) → slice_get xs i ≡ Some x → sum_by f (remove xs i) + f x ≡ sum_by f xs
 remove_less f xs i x e =
@@ -59,9 +62,10 @@ remove_less f xs i x e =
 pub AreTied-closed : (t : Timer) (ts : List Timer) (ks : List Kept) (i : ℕ) → AreTied (t ∷ ts) ks → IsNamed t ks i → AreTied ts (remove ks i)
 AreTied-closed t ts ks i h named = record {
   same = λ p.
-      let less = remove_less (λ k. cond (p (timer_of k)) 1 0) ks i named.kept named.there in
-      let less' : count_by (λ k. p (timer_of k)) (remove ks i) + cond (p t) 1 0 ≡ count_by (λ k. p (timer_of k)) ks = subst (λ u. count_by (λ k. p (timer_of k)) (remove ks i) + cond (p u) 1 0 ≡ count_by (λ k. p (timer_of k)) ks) (named_is t named.kept named.names) less in
-      omega (arith, h.same p, count-cons p t ts, less');
+      let q : Kept → Bool = λ k. p k.open.closing_at k.open.number in
+      let less = remove_less (λ k. cond {A = ℕ} (q k) 1 0) ks i named.kept named.there in
+      let less' : count_by q (remove ks i) + cond (p t.due t.name.request) 1 0 ≡ count_by q ks = subst (λ (b : Bool). count_by q (remove ks i) + cond b 1 0 ≡ count_by q ks) (named_test p t named.kept named.names) less in
+      omega (arith, h.same p, count-cons (λ (u : Timer). p u.due u.name.request) t ts, less');
   ordered = h.ordered.1;
   answered =
       let less = remove_less (λ k. cond (not (is_completed k.server)) 1 0) ks i named.kept named.there in
@@ -81,10 +85,10 @@ slice_get-map f (y ∷ xs) (suc i) x e = slice_get-map f xs i x e
 
 -- how many close before, and by, a moment is how many timers are due then
 pub closing_before-tied : (m : ℕ) (ts : List Timer) (ks : List Kept) → AreTied ts ks → closing_before m (opens_of ks) ≡ due_before m ts
-closing_before-tied m ts ks h = count-opens (λ r. ltb r.closing_at m) ks ∙ sym (h.same (λ t. ltb t.due m))
+closing_before-tied m ts ks h = count-opens (λ r. ltb r.closing_at m) ks ∙ sym (h.same (λ due request. ltb due m))
 
 pub closing_by-tied : (m : ℕ) (ts : List Timer) (ks : List Kept) → AreTied ts ks → closing_by m (opens_of ks) ≡ due_by m ts
-closing_by-tied m ts ks h = count-opens (λ r. leb r.closing_at m) ks ∙ sym (h.same (λ t. leb t.due m))
+closing_by-tied m ts ks h = count-opens (λ r. leb r.closing_at m) ks ∙ sym (h.same (λ due request. leb due m))
 
 none_before_first : (t : Timer) (ts : List Timer) → AreOrdered (t ∷ ts) → due_before t.due (t ∷ ts) ≡ 0
 none_before_first t ts h = grind (arith, nat_tests, h.0, count-cons (λ x. ltb x.due t.due) t ts)
@@ -94,7 +98,7 @@ HasClosed-popped t ts ks i h named = record {
   place = i;
   request = named.kept.open;
   there = slice_get-map (λ k. k.open) ks i named.kept named.there;
-  closes = ap (λ u. u.due) (named_is t named.kept named.names);
+  closes = named_due t named.kept named.names;
   least = closing_before-tied t.due (t ∷ ts) ks h ∙ none_before_first t ts h.ordered;
   rest = map-remove (λ k. k.open) ks i;
 }
@@ -104,14 +108,14 @@ no_rows [] e = refl
 no_rows (k ∷ ks) e = absurd (omega (arith, count-cons (λ k. true) k ks))
 
 pub none_tied : (ks : List Kept) → AreTied [] ks → opens_of ks ≡ []
-none_tied ks h = no_rows ks (sym (h.same (λ t. true)))
+none_tied ks h = no_rows ks (sym (h.same (λ due request. true)))
 
 pub next_tied : (t : Timer) (ts : List Timer) (ks : List Kept) → AreTied (t ∷ ts) ks → IsNextDeadline t.due (opens_of ks)
 next_tied t ts ks h = record {
   stands =
       let e = count-opens (λ r. eqb r.closing_at t.due) ks in
-      let same = h.same (λ u. eqb u.due t.due) in
-      let here = count-cons (λ u. eqb u.due t.due) t ts in
+      let same = h.same (λ due request. eqb due t.due) in
+      let here = count-cons (λ (u : Timer). eqb u.due t.due) t ts in
       grind (arith, nat_tests);
   least = closing_before-tied t.due (t ∷ ts) ks h ∙ none_before_first t ts h.ordered;
 }
@@ -129,6 +133,15 @@ is_next o ts ks e h = subst (λ v. IfSome v (λ due. IsNextDeadline due (opens_o
 
 pub is_none : (o : Option ℕ) (ts : List Timer) (ks : List Kept) → o ≡ first_due ts → AreTied ts ks → IfNone o (opens_of ks ≡ [])
 is_none o ts ks e h = subst (λ v. IfNone v (opens_of ks ≡ [])) (sym e) (next_none ts ks h)
+
+-- where the first is due later, none is due by then
+none_due : (now : ℕ) (ts : List Timer) → AreOrdered ts → ((due : ℕ) → first_due ts ≡ Some due → now < due) → due_by now ts ≡ 0
+none_due now [] h first = refl
+none_due now (t ∷ ts) h first =
+    let later = first t.due refl in
+    let fewer = count_le (λ x. leb x.due now) (λ x. ltb x.due t.due) ts (λ x k. grind (arith, nat_tests)) in
+    let mine : leb t.due now ≡ false = grind (arith, nat_tests) in
+    grind (arith, nat_tests, count-cons (λ x. leb x.due now) t ts)
 
 pub none_closing : (now : ℕ) (ts : List Timer) (ks : List Kept) → AreTied ts ks → ((due : ℕ) → first_due ts ≡ Some due → now < due) → closing_by now (opens_of ks) ≡ 0
 none_closing now ts ks h first = closing_by-tied now ts ks h ∙ none_due now ts h.ordered first

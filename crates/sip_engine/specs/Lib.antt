@@ -1,4 +1,3 @@
-pub mod Timers
 pub mod Requests
 pub mod Bindings
 pub mod Registration

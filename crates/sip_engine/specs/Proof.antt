@@ -1,32 +1,30 @@
 -- Who a request proves to come from (RFC 2617 3.2.2, 3.3).
-use Rattle.std.specs.Prelude.{ℕ, Bool, true, false, ◌&&◌, is_some, if◌then◌else◌, List, [], ◌∷◌, codes, Option, Some, None, option_map, find, Result, Ok, Err}
+use Rattle.std.specs.Prelude.{ℕ, Bool, true, false, ◌&&◌, is_some, if◌then◌else◌, List, [], ◌∷◌, codes, Option, Some, None, option_map, find}
 use Rattle.std.specs.Result.{result_ok}
 use Rattle.std.specs.Option.{option_and_then}
 use Rattle.std.specs.Str.{bytes_eq}
 use Rattle.sip_text.specs.Words.{is_same_text}
 use Rattle.sip_uri.specs.Uri.{text_of}
 use Rattle.sip_uri.specs.Reading.{reading_of}
-use Rattle.sip_digest.specs.Protection.{Protection}
 use Rattle.sip_digest.specs.Credential.{Credential, count_of}
 use Rattle.sip_digest.specs.Nonces.{worth_of}
 use Rattle.sip_digest.specs.declared.nonces.Nonce.{Nonce}
 use Rattle.sip_digest.specs.declared.nonces.Worth.{Worth}
-use Rattle.sip_digest.specs.declared.nonces.Worth.TheVariants as Worth
 use Rattle.sip_message.specs.declared.field_name.FieldName.TheVariants as Name
 use Rattle.sip_message.specs.declared.field.Field.{Field}
 use Rattle.sip_message.specs.declared.message.Start.{Start}
 use Rattle.sip_message.specs.declared.message.Start.TheVariants.{Request, Status}
 use Rattle.sip_message.specs.declared.message.Message.{Message}
 use Rattle.sip_header.specs.declared.credentials.Credentials.{Credentials}
-use Rattle.sip_header.specs.Values.{values_of}
+use Rattle.sip_message.specs.Values.{values_of}
 use Rattle.sip_header.specs.Credentials.{credentials_of}
-use Rattle.sip_engine.specs.declared.config.User.{User}
-use Rattle.sip_engine.specs.declared.config.Config.{Config}
+use Rattle.sip_policy.specs.declared.user.User.{User}
+use Rattle.sip_settings.specs.declared.config.Config.{Config}
 use Rattle.sip_engine.specs.declared.proof.Quality.{Quality}
 use Rattle.sip_engine.specs.declared.proof.Claim.{Claim}
 use Rattle.sip_engine.specs.declared.proof.Proof.{Proof}
 use Rattle.sip_engine.specs.declared.proof.Proof.TheVariants.{Right, Stale, Wrong}
-use Rattle.sip_engine.specs.Registration.{is_named}
+use Rattle.sip_policy.specs.User.{is_named}
 
 -- whether credentials are for this realm
 abbrev pub is_realm : List ℕ → Option (List ℕ) → Bool

@@ -1,5 +1,5 @@
 -- What a REGISTER that is served asks for (RFC 3261 10.3), with the narrow rules that hold for now.
-use Rattle.std.specs.Prelude.{ℕ, ◌-◌, Bool, false, true, ◌==◌, ◌&&◌, if◌then◌else◌, List, [], ◌∷◌, length, take, drop, codes, Option, Some, None, option_map, Result, Ok, Err}
+use Rattle.std.specs.Prelude.{ℕ, ◌-◌, Bool, false, true, ◌==◌, ◌&&◌, if◌then◌else◌, List, [], ◌∷◌, length, take, drop, codes, Option, Some, None, option_map}
 use Rattle.std.specs.Result.{result_ok}
 use Rattle.std.specs.Option.{option_and_then}
 use Rattle.std.specs.List.{list_any}
@@ -18,19 +18,15 @@ use Rattle.sip_message.specs.declared.message.Message.{Message}
 use Rattle.sip_header.specs.declared.name_addr.AnyUri.{AnyUri}
 use Rattle.sip_header.specs.declared.name_addr.AnyUri.TheVariants.{Sip, Other}
 use Rattle.sip_header.specs.declared.core_fields.CoreFields.{CoreFields}
-use Rattle.sip_header.specs.Values.{values_of}
+use Rattle.sip_message.specs.Values.{values_of}
 use Rattle.sip_header.specs.CoreFields.{core_in}
-use Rattle.sip_engine.specs.declared.config.User.{User}
-use Rattle.sip_engine.specs.declared.config.Config.{Config}
+use Rattle.sip_policy.specs.User.{is_named}
+use Rattle.sip_settings.specs.declared.config.Config.{Config}
 use Rattle.sip_engine.specs.declared.registration.Registration.{Registration}
-
--- the user of a name, byte by byte
-abbrev pub is_named : List ℕ → User → Bool
-is_named name user = bytes_eq user.name name
 
 -- whether an address of record is a configured user's in an own domain
 abbrev pub serves : Config → Aor → Bool
-serves config aor = list_any (is_named aor.user) config.users && list_any (λ domain. is_same_text domain aor.host) config.domains
+serves config aor = list_any (is_named aor.user) config.users && list_any (λ domain. is_same_text domain aor.host) config.own.domains
 
 -- what stands between `<` and `>`
 abbrev pub inside_brackets : List ℕ → Option (List ℕ)

@@ -1,19 +1,20 @@
 -- Open requests, and the timers that they name.
-use Rattle.std.specs.Prelude.{ℕ, ◌≡◌, ◌≤◌, ◌+◌, ◌==◌, ◌&&◌, nat_lt, nat_le, Bool, true, false, not, Option, Some, None, List, [], ◌∷◌, map, count_by, slice_get, remove, find}
+use Rattle.std.specs.Prelude.{ℕ, ◌≡◌, ◌≤◌, ◌+◌, ◌==◌, ◌&&◌, nat_lt, nat_le, Bool, true, false, not, Some, List, [], ◌∷◌, map, count_by, slice_get, remove}
 use Rattle.std.specs.List.{flat_map}
 use Rattle.sip_header.specs.declared.Key.{Key}
 use Rattle.sip_header.specs.Key.{same_key}
 use Rattle.sip_server.specs.declared.actions.Action.{Action}
 use Rattle.sip_server.specs.declared.actions.Action.TheVariants.{Send, SendAgain, Up, Start}
-use Rattle.sip_server.specs.declared.actions.Timer.TheVariants.{G, H, I, J, L}
+use Rattle.sip_transaction.specs.declared.letter.Letter.TheVariants.{J}
 use Rattle.sip_server.specs.declared.server_other.ServerOther.{ServerOther}
-use Rattle.sip_server.specs.declared.server_other.ServerOther.TheVariants.{Trying, Proceeding, Completed, Terminated}
-use Rattle.sip_engine.specs.declared.timers.Timer.{Timer}
-use Rattle.sip_model.specs.declared.packet.Packet.{Packet}
+use Rattle.sip_server.specs.declared.server_other.ServerOther.TheVariants.{Completed}
+use Rattle.sip_timers.specs.declared.timer.Timer.{Timer}
+use Rattle.sip_timers.specs.declared.timer.Owner.TheVariants.{Server}
+use Rattle.sip_event.specs.declared.packet.Packet.{Packet}
 use Rattle.sip_engine.specs.declared.requests.OpenRequest.{OpenRequest}
 use Rattle.sip_engine.specs.declared.requests.Answered.{Answered}
 use Rattle.sip_engine.specs.declared.requests.Kept.{Kept}
-use Rattle.sip_engine.specs.Timers.{AreOrdered}
+use Rattle.sip_timers.specs.Timers.{AreOrdered}
 
 -- whether a request has this key
 abbrev pub has_key : Key → OpenRequest → Bool
@@ -69,21 +70,22 @@ interval_of_j (action ∷ actions) = interval_of_j actions
 abbrev pub opens_of : List Kept → List OpenRequest
 opens_of ks = map (λ k. k.open) ks
 
--- Timer J of a request
-abbrev pub timer_of : Kept → Timer
-timer_of k = record { due = k.open.closing_at; request = k.open.number }
+-- Timer J of a request, with the key that it got
+abbrev pub timer_of : ℕ → Kept → Timer
+timer_of key k = record { key = key; due = k.open.closing_at; name = record { request = k.open.number; owner = Server; letter = J } }
 
--- whether it is the timer of this request
+-- whether a timer is this request's, by the moment when it is due and the number that it names
 abbrev pub is_timer_of : Timer → Kept → Bool
-is_timer_of t k = k.open.closing_at == t.due && k.open.number == t.request
+is_timer_of t k = k.open.closing_at == t.due && k.open.number == t.name.request
 
 abbrev pub is_completed : ServerOther → Bool
 is_completed Completed = true
 is_completed state = false
 
--- the timers that stand are exactly those of the requests, each of which has its final answer
+-- the timers that stand are exactly those of the requests, each of which has its final answer: whatever is asked of
+-- when a timer is due and which request it names, it holds of as many timers as requests
 pub record AreTied (timers : List Timer) (rows : List Kept) : Type 0 where
-  pub same : (p : Timer → Bool) → count_by p timers ≡ count_by (λ k. p (timer_of k)) rows
+  pub same : (p : ℕ → ℕ → Bool) → count_by (λ t. p t.due t.name.request) timers ≡ count_by (λ k. p k.open.closing_at k.open.number) rows
   pub ordered : AreOrdered timers
   pub answered : count_by (λ k. not (is_completed k.server)) rows ≡ 0
 

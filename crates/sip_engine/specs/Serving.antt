@@ -13,12 +13,12 @@ use Rattle.sip_header.specs.declared.key.Key.{Key}
 use Rattle.sip_header.specs.Key.{key_of}
 use Rattle.sip_edit.specs.Challenges.{challenge}
 use Rattle.sip_edit.specs.Contacts.{contact_value}
-use Rattle.sip_edit.specs.Received.{received, response_address}
+use Rattle.sip_edit.specs.ReceivedRequest.{received, response_address}
 use Rattle.sip_edit.specs.Reply.{reply_of}
 use Rattle.sip_edit.specs.Tags.{to_tag}
-use Rattle.sip_engine.specs.declared.config.Config.{Config}
+use Rattle.sip_settings.specs.declared.config.Config.{Config}
 use Rattle.sip_engine.specs.declared.bindings.Binding.{Binding}
-use Rattle.sip_model.specs.declared.packet.Packet.{Packet}
+use Rattle.sip_event.specs.declared.packet.Packet.{Packet}
 use Rattle.sip_engine.specs.declared.proof.Claim.{Claim}
 use Rattle.sip_engine.specs.declared.proof.Proof.{Proof}
 use Rattle.sip_engine.specs.declared.proof.Proof.TheVariants.{Right, Stale, Wrong}

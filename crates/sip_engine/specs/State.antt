@@ -1,14 +1,13 @@
 -- What a server knows, and its steps.
-use Rattle.std.specs.Prelude.{ℕ, ◌≡◌, ◌+◌, ◌^◌, ◌<◌, ◌≤◌, nat_le, max, Bool, true, false, List, [], ◌∷◌, Option, Some, None, Result, Ok, Err, if◌then◌else◌}
-use Rattle.sip_hops.specs.declared.Addr.{Addr}
-use Rattle.sip_engine.specs.declared.config.Config.{Config}
-use Rattle.sip_engine.specs.declared.step.StepOut.{StepOut}
+use Rattle.std.specs.Prelude.{ℕ, ◌≡◌, ◌+◌, ◌^◌, ◌≤◌, nat_le, max, Bool, false, List, [], Option, Some, None, if◌then◌else◌}
+use Rattle.sip_text.specs.declared.addr.Addr.{Addr}
+use Rattle.sip_settings.specs.declared.config.Config.{Config}
+use Rattle.sip_event.specs.declared.event.StepOut.{StepOut}
 use Rattle.sip_engine.specs.declared.error.StepError.{StepError}
-use Rattle.sip_engine.specs.declared.error.StepError.TheVariants.{NoMemory, MomentTooLarge, Shut, Worn}
-use Rattle.sip_model.specs.declared.packet.Packet.{Packet}
+use Rattle.sip_engine.specs.declared.error.StepError.TheVariants.{MomentTooLarge, Shut, Worn}
 use Rattle.sip_engine.specs.declared.tables.Tables.{Tables}
 use Rattle.sip_engine.specs.declared.tables.Arrival.{Arrival}
-use Rattle.sip_engine.specs.Requests.{HasClosed, closing_before, closing_by}
+use Rattle.sip_engine.specs.Requests.{HasClosed, closing_by}
 use Rattle.sip_engine.specs.Serving.{taken}
 
 -- the greatest moment at which a step stood, the number of the next datagram, the bindings, nonces and open requests, and whether memory ran out
@@ -48,10 +47,11 @@ pub record NothingDueBy (moment : ℕ) (s : ProxyState) : Type 0 where
 abbrev pub arrival_of : ProxyState → ℕ → ℕ → Addr → Arrival
 arrival_of s at word from = record { number = s.next; now = moment_of s at; word = word; from = from }
 
--- a datagram: the packets and the tables are those that its bytes call for, and it takes a number
+-- a datagram: the packets and the tables are those that its bytes call for, and it takes a number; nothing is recorded for now
 pub record IsDelivery (old : Server) (at word : ℕ) (from : Addr) (bytes : List ℕ) (out : StepOut) (new : Server) : Type 0 where
   pub at_moment : out.at ≡ moment_of old.state at
   pub served : (out.packets, new.state.tables) ≡ taken old.config old.word old.state.tables (arrival_of old.state at word from) bytes
+  pub no_records : out.records ≡ []
   pub moment : new.state.moment ≡ moment_of old.state at
   pub number : new.state.next ≡ old.state.next + 1
   pub is_open : new.state.is_shut ≡ false
@@ -65,6 +65,7 @@ rested s at = record s { state = record s.state { moment = moment_of s.state at 
 pub record IsQuiet (old : Server) (at : ℕ) (out : StepOut) (new : Server) : Type 0 where
   pub at_moment : out.at ≡ moment_of old.state at
   pub no_packets : out.packets ≡ []
+  pub no_records : out.records ≡ []
   pub moment_alone : new ≡ rested old at
 
 -- a first deadline: one of the requests that close first leaves at that moment, and nothing is sent
@@ -72,5 +73,6 @@ pub record IsFiring (old : Server) (at : ℕ) (out : StepOut) (new : Server) : T
   pub in_time : out.at ≤ moment_of old.state at
   pub not_earlier : old.state.moment ≤ out.at
   pub no_packets : out.packets ≡ []
+  pub no_records : out.records ≡ []
   pub closed : HasClosed out.at old.state.tables.requests new.state.tables.requests
   pub rest : new ≡ record old { state = record old.state { moment = out.at; tables = record old.state.tables { requests = new.state.tables.requests } } }

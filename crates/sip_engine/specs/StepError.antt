@@ -3,8 +3,8 @@ use Rattle.std.specs.Prelude.{ℕ, List, codes}
 use Rattle.sip_engine.specs.declared.error.StepError.{StepError}
 use Rattle.sip_engine.specs.declared.error.StepError.TheVariants.{NoMemory, MomentTooLarge, Shut, Worn}
 
-abbrev pub message_of : StepError → List ℕ
-message_of NoMemory = codes "out of memory"
-message_of MomentTooLarge = codes "the moment is too large"
-message_of Shut = codes "the engine is shut"
-message_of Worn = codes "the numbers of datagrams are worn out"
+abbrev pub words_of : StepError → List ℕ
+words_of NoMemory = codes "out of memory"
+words_of MomentTooLarge = codes "the moment is too large"
+words_of Shut = codes "the engine is shut"
+words_of Worn = codes "the numbers of datagrams are worn out"

@@ -1,9 +1,8 @@
 ghost use Rattle.std.specs.Prelude.{◌≡◌, [], ◌∷◌, ◌++◌, ◌&&◌, length, IfOk, OnOk, OnErr};
-ghost use Rattle.std.specs.Str.{bytes_eq};
 ghost use Rattle.std.specs.List.{list_any};
 ghost use Rattle.sip_engine.specs.Bindings.{live, bound, put, without_expired, is_live_of, is_expired_of, is_live, is_same_contact, contact_place, is_full};
 
-use sip_text::Bytes;
+use sip_text::{Bytes, same_bytes};
 use sip_uri::{Aor, same_aor};
 use std::alloc::{AllocError, Global};
 use std::marker::Model;
@@ -14,7 +13,7 @@ const MOST: usize = 16;
 /// A binding: an address of record, the contact where its user can be reached, the Call-ID and the
 /// CSeq number of the REGISTER that made it, and the moment at which it expires, in milliseconds
 /// (RFC 3261 10.3).
-#[derive(Debug, Drop)]
+#[derive(Clone, Debug, Drop)]
 pub struct Binding {
     pub aor: Aor,
     /// The contact's URI in its written form.
@@ -80,28 +79,6 @@ impl Bindings {
     }
 }
 
-impl Binding {
-    /// The same binding.
-    pub fn copy(&self, alloc: Global) -> Result<Binding, AllocError>
-        ensures { IfOk result (λ copy. copy ≡ self.now) }
-    {
-        Ok(Binding {
-            aor: self.aor.copy(alloc)?,
-            uri: Bytes::copy(alloc, self.uri.as_slice())?,
-            call_id: Bytes::copy(alloc, self.call_id.as_slice())?,
-            cseq: self.cseq,
-            expires_at: self.expires_at,
-        })
-    }
-}
-
-/// Whether two texts are the same.
-fn is_same(left: &[u8], right: &[u8]) -> bool
-    ensures { result ≡ bytes_eq left.now right.now }
-{
-    left == right
-}
-
 fn is_live_of(row: &Binding, aor: &Aor, now: u64) -> bool
     ensures { result ≡ is_live_of aor.now now row.now }
 {
@@ -117,7 +94,7 @@ fn is_expired_of(row: &Binding, aor: &Aor, now: u64) -> bool
 fn is_same_contact(row: &Binding, aor: &Aor, uri: &[u8]) -> bool
     ensures { result ≡ is_same_contact aor.now uri.now row.now }
 {
-    same_aor(&row.aor, aor) && is_same(row.uri.as_slice(), uri)
+    same_aor(&row.aor, aor) && same_bytes(row.uri.as_slice(), uri)
 }
 
 /// How many live bindings an address of record has.
@@ -134,6 +111,13 @@ fn has_contact(rows: &[Binding], aor: &Aor, uri: &[u8], now: u64) -> bool
     rows.iter().any(|row| is_same_contact(row, aor, uri) && row.expires_at > now)
 }
 
+/// A copy of a binding.
+fn copied(row: &Binding) -> Result<Binding, AllocError>
+    ensures { IfOk result (λ copy. copy ≡ row.now) }
+{
+    row.clone()
+}
+
 /// The live bindings of an address of record, copied.
 fn live_copied(
     alloc: Global,
@@ -146,7 +130,7 @@ fn live_copied(
     let mut bindings = Vec::new(alloc);
     for row in rows {
         if is_live_of(row, aor, now) {
-            bindings.push(row.copy(alloc)?)?;
+            bindings.push(copied(row)?)?;
         }
     }
     Ok(bindings)

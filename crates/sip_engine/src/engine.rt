@@ -8,15 +8,14 @@ ghost use Rattle.sip_engine.specs.Serving.{heard};
 ghost use Rattle.sip_engine.specs.declared.error.StepError.TheVariants.{NoMemory};
 
 use crate::bindings::Bindings;
-use crate::config::Config;
 use crate::error::StepError;
 use crate::requests::Requests;
 use crate::serving::take_datagram;
-use crate::step::StepOut;
 use crate::tables::{Arrival, Tables};
 use sip_digest::Nonces;
-use sip_hops::Addr;
-use sip_model::{Boot, Packets, Ticket};
+use sip_event::{Boot, StepOut, Ticket};
+use sip_settings::Config;
+use sip_text::{Addr, Items};
 use sip_uri::Aor;
 use std::alloc::{AllocError, Global};
 use std::marker::Model;
@@ -63,7 +62,7 @@ impl Engine {
             tables: Tables {
                 bindings: Bindings::new(alloc),
                 nonces: Nonces::new(alloc)?,
-                requests: Requests::new(alloc),
+                requests: Requests::new(alloc)?,
             },
             moment: 0,
             next: boot.first,
@@ -102,21 +101,15 @@ impl Engine {
         if TOO_LARGE <= at {
             return Err(StepError::MomentTooLarge);
         }
-        let now = self.moment.max(at);
+        let now = later_of(self.moment, at);
         match self.tables.requests.close_first(now) {
             Some(due) => {
                 self.moment = due;
-                Ok(StepOut {
-                    at: due,
-                    packets: Packets::none(self.alloc),
-                })
+                Ok(nothing_at(self.alloc, due))
             }
             None => {
                 self.moment = now;
-                Ok(StepOut {
-                    at: now,
-                    packets: Packets::none(self.alloc),
-                })
+                Ok(nothing_at(self.alloc, now))
             }
         }
     }
@@ -147,7 +140,7 @@ impl Engine {
         self.is_shut = true;
         let arrival = Arrival {
             number: self.next,
-            now: self.moment.max(at),
+            now: later_of(self.moment, at),
             word,
             from,
         };
@@ -165,6 +158,7 @@ impl Engine {
         Ok(StepOut {
             at: arrival.now,
             packets,
+            records: Items::new(self.alloc),
         })
     }
 
@@ -182,11 +176,26 @@ impl Engine {
         if TOO_LARGE <= at {
             return Err(StepError::MomentTooLarge);
         }
-        let now = self.moment.max(at);
+        let now = later_of(self.moment, at);
         self.moment = now;
-        Ok(StepOut {
-            at: now,
-            packets: Packets::none(self.alloc),
-        })
+        Ok(nothing_at(self.alloc, now))
+    }
+}
+
+/// The moment of a step: one that goes back counts as the greatest so far.
+fn later_of(greatest: u64, at: u64) -> u64
+    ensures { result ≡ max greatest at }
+{
+    greatest.max(at)
+}
+
+/// A step that hands out nothing.
+fn nothing_at(alloc: Global, at: u64) -> StepOut
+    ensures { result ≡ record { at = at; packets = []; records = [] } }
+{
+    StepOut {
+        at,
+        packets: Items::new(alloc),
+        records: Items::new(alloc),
     }
 }

@@ -20,9 +20,9 @@ pub enum StepError {
 
 impl fmt::Display for StepError {
     ghost use Rattle.std.specs.Prelude.{Some};
-    ghost use Rattle.sip_engine.specs.StepError.{message_of};
+    ghost use Rattle.sip_engine.specs.StepError.{words_of};
 
-    ghost output = { λ e. Some (message_of e) };
+    ghost output = { λ e. Some (words_of e) };
 
     fn fmt<W: fmt::Write>(&self, f: &mut fmt::Formatter<W>) -> fmt::Result {
         match self {

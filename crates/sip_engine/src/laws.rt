@@ -2,7 +2,7 @@ ghost use Rattle.std.specs.Prelude.{◌≡◌, ◌≤◌, ℕ, List, [], ◌∷�
 ghost use Rattle.sip_message.specs.declared.message.Message.{Message};
 ghost use Rattle.sip_header.specs.declared.key.Key.{Key};
 ghost use Rattle.sip_header.specs.Key.{key_of};
-ghost use Rattle.sip_engine.specs.declared.config.Config.{Config};
+ghost use Rattle.sip_settings.specs.declared.config.Config.{Config};
 ghost use Rattle.sip_engine.specs.declared.proof.Claim.{Claim};
 ghost use Rattle.sip_engine.specs.declared.proof.Proof.TheVariants.{Right, Stale, Wrong};
 ghost use Rattle.sip_engine.specs.declared.registration.Registration.{Registration};

@@ -4,23 +4,17 @@
 #![tactic(auto)]
 
 mod bindings;
-mod config;
 mod engine;
 mod error;
-mod laws;
+pub mod laws;
 mod proof;
 mod registration;
 mod requests;
 mod serving;
-mod step;
 mod tables;
-mod timers;
 
 pub use bindings::{Binding, Bindings};
-pub use config::{Config, Domains, User, Users};
 pub use engine::Engine;
 pub use error::StepError;
-pub use laws::{others_get, register_gets};
 pub use requests::OpenRequest;
-pub use sip_model::{Boot, Event, Packet, Packets, Ticket};
-pub use step::StepOut;
+pub use sip_event::{Boot, Event, Packet, StepOut, Ticket};

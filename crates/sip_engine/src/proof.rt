@@ -1,17 +1,17 @@
-ghost use Rattle.std.specs.Prelude.{◌≡◌, IfOk, Some, find, option_map};
+ghost use Rattle.std.specs.Prelude.{◌≡◌, IfOk, Some, find, map, option_map};
 ghost use Rattle.std.specs.Option.{option_copied};
-ghost use Rattle.std.specs.Str.{bytes_eq};
 ghost use Rattle.sip_digest.specs.Credential.{shown};
-ghost use Rattle.sip_header.specs.Values.{values_of};
+ghost use Rattle.sip_message.specs.Values.{values_of};
 ghost use Rattle.sip_header.specs.Credentials as Said;
-ghost use Rattle.sip_engine.specs.Registration.{is_named};
+ghost use Rattle.sip_policy.specs.User.{is_named};
 ghost use Rattle.sip_engine.specs.Proof.{is_realm, matching, first_for_realm, is_md5, quality_of, claim_from, claim_of, credential_of, written, is_same_uri, judged, proof_by, proof_from, proof_in, proof_of};
 
-use crate::config::{Config, User};
 use sip_digest::{Nonces, Worth};
 use sip_header::{Credentials, HeaderError, credentials_of};
-use sip_message::{Field, FieldName, Message, Start};
-use sip_text::{Bytes, same_no_case};
+use sip_message::{FieldName, Fields, Message, Start};
+use sip_policy::User;
+use sip_settings::Config;
+use sip_text::{Bytes, same_bytes, same_no_case};
 use sip_uri::{UriError, parse_uri, write_uri};
 use std::alloc::{AllocError, Global};
 
@@ -42,38 +42,31 @@ pub enum Proof {
 
 impl Claim {
     /// The claim as the digest crate takes it, on a request of this method.
-    pub fn on<'a>(&'a self, method: &'a [u8]) -> sip_digest::Credentials<'a>
+    pub fn on<'a>(&'a self, method: &'a [u8]) -> sip_digest::Credential<'a>
         ensures { shown result ≡ credential_of method.now self.now }
     {
-        let quality = match &self.quality {
-            Some(quality) => Some(sip_digest::Quality {
+        let protection = match &self.quality {
+            Some(quality) => Some(sip_digest::Protection {
                 nc: quality.nc.as_slice(),
                 cnonce: quality.cnonce.as_slice(),
             }),
             None => None,
         };
-        sip_digest::Credentials {
+        sip_digest::Credential {
             method,
             uri: self.uri.as_slice(),
             nonce: self.nonce.as_slice(),
-            quality,
+            protection,
             response: self.response.as_slice(),
         }
     }
-}
-
-/// Whether two texts are the same.
-fn is_same(left: &[u8], right: &[u8]) -> bool
-    ensures { result ≡ bytes_eq left.now right.now }
-{
-    left == right
 }
 
 fn is_realm(realm: &[u8], said: &Option<Bytes>) -> bool
     ensures { result ≡ is_realm realm.now said.now }
 {
     match said {
-        Some(said) => is_same(said.as_slice(), realm),
+        Some(said) => same_bytes(said.as_slice(), realm),
         None => false,
     }
 }
@@ -95,23 +88,33 @@ fn matching(alloc: Global, realm: &[u8], value: &[u8]) -> Result<Option<Credenti
     }
 }
 
-/// The first Digest credentials for a realm among the fields.
+/// The first Digest credentials for a realm among some values.
 fn first_for_realm(
     alloc: Global,
     realm: &[u8],
-    fields: &[Field],
+    values: &[&[u8]],
 ) -> Result<Option<Credentials>, AllocError>
-    ensures { IfOk result (λ found. found ≡ first_for_realm realm.now (values_of FieldName.Authorization fields.now)) }
+    ensures { IfOk result (λ found. found ≡ first_for_realm realm.now (map (λ value. value.now) values.now)) }
 {
-    for field in fields {
-        if field.name.is_same(&FieldName::Authorization) {
-            let found = matching(alloc, realm, field.value.as_slice())?;
-            if found.is_some() {
-                return Ok(found);
-            }
+    for value in values {
+        let found = matching(alloc, realm, value)?;
+        if found.is_some() {
+            return Ok(found);
         }
     }
     Ok(None)
+}
+
+/// The first Digest credentials for a realm that fields have.
+fn credentials_in(
+    alloc: Global,
+    realm: &[u8],
+    fields: &Fields,
+) -> Result<Option<Credentials>, AllocError>
+    ensures { IfOk result (λ found. found ≡ first_for_realm realm.now (values_of FieldName.Authorization fields.now)) }
+{
+    let values = fields.values(alloc, &FieldName::Authorization)?;
+    first_for_realm(alloc, realm, &values)
 }
 
 fn is_md5(algorithm: &Option<Bytes>) -> bool
@@ -134,7 +137,7 @@ fn quality_of(
     let Some(qop) = qop else {
         return Some(None);
     };
-    if !is_same(qop.as_slice(), b"auth") {
+    if !same_bytes(qop.as_slice(), b"auth") {
         return None;
     }
     let nc = nc?;
@@ -196,14 +199,14 @@ fn is_same_uri(alloc: Global, left: &[u8], right: &[u8]) -> Result<bool, AllocEr
     let Some(right) = written(alloc, right)? else {
         return Ok(false);
     };
-    Ok(is_same(left.as_slice(), right.as_slice()))
+    Ok(same_bytes(left.as_slice(), right.as_slice()))
 }
 
 fn user_named<'a>(users: &'a [User], name: &[u8]) -> Option<&'a User>
     ensures { option_copied result ≡ find (is_named name.now) users.now }
 {
     for user in users {
-        if is_same(user.name.as_slice(), name) {
+        if same_bytes(user.name.as_slice(), name) {
             return Some(user);
         }
     }
@@ -265,7 +268,7 @@ pub fn proof_of(
     let Start::Request { method, uri, .. } = &message.start else {
         return Ok(Proof::Wrong);
     };
-    let found = first_for_realm(alloc, config.realm.as_slice(), message.fields.as_slice())?;
+    let found = credentials_in(alloc, config.realm.as_slice(), &message.fields)?;
     let Some(credentials) = found else {
         return Ok(Proof::Wrong);
     };

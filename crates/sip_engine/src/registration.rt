@@ -1,15 +1,16 @@
 ghost use Rattle.std.specs.Prelude.{◌≡◌, IfOk, option_map};
 ghost use Rattle.std.specs.List.{list_any};
-ghost use Rattle.std.specs.Str.{bytes_eq};
 ghost use Rattle.sip_text.specs.Words.{is_same_text};
-ghost use Rattle.sip_header.specs.Values.{values_of};
-ghost use Rattle.sip_engine.specs.Registration.{is_named, serves, inside_brackets, contact_of, only_contact, sip_uri, registration_for, registration_with, registration_in, has_none, is_register, registration_of};
+ghost use Rattle.sip_message.specs.Values.{values_of};
+ghost use Rattle.sip_policy.specs.User.{is_named};
+ghost use Rattle.sip_engine.specs.Registration.{serves, inside_brackets, contact_of, only_contact, sip_uri, registration_for, registration_with, registration_in, has_none, is_register, registration_of};
 
-use crate::config::{Config, User};
-use sip_header::{AnyUri, CoreFields, HeaderError, core_of, count_of, first_value};
+use sip_header::{AnyUri, CoreFields, HeaderError, core_of};
 use sip_message::{FieldName, Fields, Message, Start};
-use sip_text::{Bytes, same_no_case};
-use sip_uri::{Aor, Uri, UriError, aor_of, parse_uri, write_uri};
+use sip_policy::User;
+use sip_settings::Config;
+use sip_text::{Bytes, same_bytes, same_no_case};
+use sip_uri::{Aor, UriError, aor_of, parse_uri, write_uri};
 use std::alloc::{AllocError, Global};
 
 /// What a REGISTER asks for: a binding of a contact, by its written form, to an address of record.
@@ -21,17 +22,12 @@ pub struct Registration {
     pub cseq: u32,
 }
 
-/// Whether two texts are the same.
-fn is_same(left: &[u8], right: &[u8]) -> bool
-    ensures { result ≡ bytes_eq left.now right.now }
-{
-    left == right
-}
-
 fn has_user(users: &[User], name: &[u8]) -> bool
     ensures { result ≡ list_any (is_named name.now) users.now }
 {
-    users.iter().any(|user| is_same(user.name.as_slice(), name))
+    users
+        .iter()
+        .any(|user| same_bytes(user.name.as_slice(), name))
 }
 
 fn has_domain(domains: &[Bytes], host: &[u8]) -> bool
@@ -47,7 +43,7 @@ fn serves(config: &Config, aor: &Aor) -> bool
     ensures { result ≡ serves config.now aor.now }
 {
     has_user(config.users.as_slice(), aor.user.as_slice())
-        && has_domain(config.domains.as_slice(), aor.host.as_slice())
+        && has_domain(config.own.domains.as_slice(), aor.host.as_slice())
 }
 
 /// What stands between `<` and `>`.
@@ -56,7 +52,7 @@ fn inside_brackets(value: &[u8]) -> Option<&[u8]>
 {
     let (first, rest) = value.split_first()?;
     let (inside, last) = rest.split_at(rest.len().saturating_sub(1));
-    if *first == b'<' && is_same(last, b">") {
+    if *first == b'<' && same_bytes(last, b">") {
         return Some(inside);
     }
     None
@@ -80,10 +76,10 @@ fn contact_of(alloc: Global, value: &[u8]) -> Result<Option<Bytes>, AllocError>
 fn only_contact(alloc: Global, fields: &Fields) -> Result<Option<Bytes>, AllocError>
     ensures { IfOk result (λ contact. contact ≡ only_contact (values_of FieldName.Contact fields.now)) }
 {
-    if count_of(fields, &FieldName::Contact) != 1 {
+    if fields.count(&FieldName::Contact) != 1 {
         return Ok(None);
     }
-    match first_value(fields, &FieldName::Contact) {
+    match fields.first(&FieldName::Contact) {
         Some(value) => contact_of(alloc, value),
         None => Ok(None),
     }
@@ -93,20 +89,21 @@ fn only_contact(alloc: Global, fields: &Fields) -> Result<Option<Bytes>, AllocEr
 fn registration_for(
     config: &Config,
     contact: Bytes,
-    core: CoreFields,
+    core: &CoreFields,
     aor: Aor,
-) -> Option<Registration>
-    ensures { result ≡ registration_for config.now contact core aor }
+) -> Result<Option<Registration>, AllocError>
+    ensures { IfOk result (λ registration. registration ≡ registration_for config.now contact core.now aor) }
 {
     if !serves(config, &aor) {
-        return None;
+        return Ok(None);
     }
-    Some(Registration {
+    let call_id = core.call_id.clone()?;
+    Ok(Some(Registration {
         aor,
         contact,
-        call_id: core.call_id,
+        call_id,
         cseq: core.cseq.number,
-    })
+    }))
 }
 
 /// What is asked by the core fields.
@@ -114,15 +111,17 @@ fn registration_with(
     alloc: Global,
     config: &Config,
     contact: Bytes,
-    core: CoreFields,
+    core: &CoreFields,
 ) -> Result<Option<Registration>, AllocError>
-    ensures { IfOk result (λ registration. registration ≡ registration_with config.now contact core) }
+    ensures { IfOk result (λ registration. registration ≡ registration_with config.now contact core.now) }
 {
-    let aor = match &core.to.uri {
-        AnyUri::Sip(uri) => aor_of(alloc, uri)?,
-        AnyUri::Other(_) => return Ok(None),
-    };
-    Ok(registration_for(config, contact, core, aor))
+    match &core.to.uri {
+        AnyUri::Sip(uri) => {
+            let aor = aor_of(alloc, uri)?;
+            registration_for(config, contact, core, aor)
+        }
+        AnyUri::Other(_) => Ok(None),
+    }
 }
 
 fn registration_in(
@@ -136,7 +135,7 @@ fn registration_in(
         return Ok(None);
     };
     match core_of(alloc, message) {
-        Ok(core) => registration_with(alloc, config, contact, core),
+        Ok(core) => registration_with(alloc, config, contact, &core),
         Err(HeaderError::NoMemory) => Err(AllocError),
         Err(_) => Ok(None),
     }
@@ -146,7 +145,7 @@ fn is_register(start: &Start) -> bool
     ensures { result ≡ is_register start.now }
 {
     match start {
-        Start::Request { method, .. } => is_same(method.as_slice(), b"REGISTER"),
+        Start::Request { method, .. } => same_bytes(method.as_slice(), b"REGISTER"),
         Start::Status { .. } => false,
     }
 }
@@ -162,7 +161,7 @@ pub fn registration_of(
     if !is_register(&message.start) {
         return Ok(None);
     }
-    if count_of(&message.fields, &FieldName::Expires) != 0 {
+    if message.fields.count(&FieldName::Expires) != 0 {
         return Ok(None);
     }
     registration_in(alloc, config, message)

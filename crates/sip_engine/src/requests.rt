@@ -1,13 +1,16 @@
 ghost use Rattle.std.specs.Prelude.{◌≡◌, ◌≤◌, ◌<◌, ◌+◌, ◌^◌, ℕ, false, true, [], ◌∷◌, ◌++◌, length, Some, None, IfOk, OnOk, OnErr, IfSome, IfNone, find, count_by, option_map, slice_get, remove, not};
 ghost use Rattle.std.specs.Option.{option_copied};
 ghost use Rattle.sip_engine.specs.Requests.{has_key, answer_packet, opened, IsNextDeadline, HasClosed, closing_by, packets_of, interval_of_j, IsNamed, is_timer_of, is_completed};
+ghost use Rattle.sip_timers.specs.Timers.{placed, due_by};
+ghost use Rattle.sip_timers.specs.declared.timer.Owner.TheVariants.{Server};
+ghost use Rattle.sip_transaction.specs.declared.letter.Letter.TheVariants.{J};
 
-use crate::timers::{Timer, Timers};
+use sip_event::{Packet, Ticket};
 use sip_header::{Key, same_key};
-use sip_hops::Addr;
-use sip_model::{Packet, Packets, Ticket};
 use sip_server::{Action, ServerOther, ServerOtherInput};
-use sip_text::Bytes;
+use sip_text::{Addr, Bytes, Items};
+use sip_timers::{ListTimers, Name, Owner, Timer, TimerError, Timers};
+use sip_transaction::Letter;
 use std::alloc::{AllocError, Global};
 use std::marker::Model;
 
@@ -42,7 +45,7 @@ pub struct Kept {
 /// The open requests, in the order in which they came, and their timers.
 #[derive(Drop)]
 pub struct Requests {
-    timers: Timers,
+    timers: ListTimers,
     rows: Vec<Kept>,
 }
 
@@ -55,17 +58,20 @@ impl Model for Requests {
 
     ghost view = { λ r. opens_of r.rows.items };
 
-    ghost invariant = { λ r. AreTied r.timers r.rows.items };
+    ghost invariant = { λ r. AreTied r.timers.pending r.rows.items };
 }
 
 impl Requests {
     /// No request is open.
-    pub fn new(alloc: Global) -> Self
-        ensures { result ≡ [] }
+    pub fn new(alloc: Global) -> Result<Self, AllocError>
+        ensures { IfOk result (λ requests. requests ≡ []) }
     {
-        Requests {
-            timers: Timers::new(alloc),
-            rows: Vec::new(alloc),
+        match ListTimers::new(alloc) {
+            Ok(timers) => Ok(Requests {
+                timers,
+                rows: Vec::new(alloc),
+            }),
+            Err(_) => Err(AllocError),
         }
     }
 
@@ -84,14 +90,15 @@ impl Requests {
         self.timers.next()
     }
 
-    /// Opens a request with its final answer, which is handed out.
+    /// Opens a request with its final answer, which is handed out. No request closes by now.
     pub fn open(
         &mut self,
         alloc: Global,
         request: Answered,
         now: u64,
-    ) -> Result<Packets, AllocError>
+    ) -> Result<Items<Packet>, AllocError>
         requires early { now < 2 ^ 62 }
+        requires settled { closing_by now self.old ≡ 0 }
         requires answered { (200 ≤ request.status) × (request.status < 700) }
         ensures ok { IfOk result (λ packets. (self.new ≡ self.old ++ opened request now ∷ []) × (packets ≡ answer_packet false (opened request now) ∷ [])) }
         ensures err { OnErr result (self.new ≡ self.old) }
@@ -107,16 +114,13 @@ impl Requests {
         };
         let packets = packets_of(alloc, actions.as_slice(), &open)?;
         self.rows.reserve(1)?;
-        self.timers.add(Timer {
-            due: closing_at,
-            request: open.number,
-        })?;
+        set_timer(&mut self.timers, now, closing_at, open.number)?;
         self.rows.push(Kept { open, server }).unwrap();
         Ok(packets)
     }
 
     /// What a copy of an open request is answered with; `None` where no request with this key is open.
-    pub fn repeat(&self, alloc: Global, key: &Key) -> Result<Option<Packets>, AllocError>
+    pub fn repeat(&self, alloc: Global, key: &Key) -> Result<Option<Items<Packet>>, AllocError>
         ensures { IfOk result (λ packets. packets ≡ option_map (λ r. answer_packet true r ∷ []) (find (has_key key.now) self.now)) }
     {
         match found(&self.rows, key) {
@@ -161,11 +165,32 @@ fn interval_of_j(actions: &[Action]) -> u64
     ensures { result ≡ interval_of_j actions.now }
 {
     for action in actions {
-        if let Action::Start(sip_server::Timer::J, interval) = action {
+        if let Action::Start(Letter::J, interval) = action {
             return u64::from(*interval);
         }
     }
     0
+}
+
+/// Sets the Timer J of a request; none is due by now.
+fn set_timer(timers: &mut ListTimers, now: u64, due: u64, request: u64) -> Result<usize, AllocError>
+    requires near { due ≤ now + 32000 }
+    requires settled { due_by now timers.old.pending ≡ 0 }
+    ensures ok { IfOk result (λ key. timers.new.pending ≡ placed (record { key = key; due = due; name = record { request = request; owner = Server; letter = J } }) timers.old.pending) }
+    ensures err { OnErr result (timers.new.pending ≡ timers.old.pending) }
+{
+    // Tells the timers the moment: how far ahead one may be is counted from it.
+    let _none = timers.pop_due(now);
+    let name = Name {
+        request,
+        owner: Owner::Server,
+        letter: Letter::J,
+    };
+    match timers.add(due, name) {
+        Ok(key) => Ok(key),
+        Err(TimerError::NoMemory) => Err(AllocError),
+        Err(TimerError::TooFar) => unreachable!(),
+    }
 }
 
 /// What the actions of a server transaction hand out.
@@ -173,14 +198,14 @@ fn packets_of(
     alloc: Global,
     actions: &[Action],
     request: &OpenRequest,
-) -> Result<Packets, AllocError>
+) -> Result<Items<Packet>, AllocError>
     ensures { IfOk result (λ packets. packets ≡ packets_of request.now actions.now) }
 {
-    let mut packets = Packets::none(alloc);
+    let mut packets = Items::new(alloc);
     for action in actions {
         match action {
-            Action::Send => packets.push(answer_packet(alloc, request, false)?)?,
-            Action::SendAgain => packets.push(answer_packet(alloc, request, true)?)?,
+            Action::Send => packets.push(answer_packet(request, false)?)?,
+            Action::SendAgain => packets.push(answer_packet(request, true)?)?,
             Action::Up => {}
             Action::Start(_, _) => {}
         }
@@ -189,12 +214,12 @@ fn packets_of(
 }
 
 /// The last answer of a request.
-fn answer_packet(alloc: Global, request: &OpenRequest, again: bool) -> Result<Packet, AllocError>
+fn answer_packet(request: &OpenRequest, again: bool) -> Result<Packet, AllocError>
     ensures { IfOk result (λ packet. packet ≡ answer_packet again request.now) }
 {
     Ok(Packet {
         to: request.source,
-        bytes: Bytes::copy(alloc, request.answer.as_slice())?,
+        bytes: request.answer.clone()?,
         ticket: Ticket {
             datagram: request.number,
             branch: 0,
@@ -207,7 +232,7 @@ fn answer_packet(alloc: Global, request: &OpenRequest, again: bool) -> Result<Pa
 fn is_timer_of(kept: &Kept, timer: Timer) -> bool
     ensures { result ≡ is_timer_of timer kept.now }
 {
-    kept.open.closing_at == timer.due && kept.open.number == timer.request
+    kept.open.closing_at == timer.due && kept.open.number == timer.name.request
 }
 
 /// The place of the request whose timer it is.
@@ -229,7 +254,7 @@ fn close_at(rows: &mut Vec<Kept>, place: usize)
     requires answered { count_by (λ k. not (is_completed k.server)) rows.old.items ≡ 0 }
     ensures { rows.new.items ≡ remove rows.old.items place }
 {
-    let fired = ServerOtherInput::Fired(sip_server::Timer::J);
+    let fired = ServerOtherInput::Fired(Letter::J);
     let (server, _actions) = rows[place].server.on(fired);
     match server {
         ServerOther::Terminated => {

@@ -1,23 +1,25 @@
-ghost use Rattle.std.specs.Prelude.{◌≡◌, ◌≤◌, ◌<◌, ◌^◌, ◌++◌, false, [], ◌∷◌, length, nat_le, IfOk};
-ghost use Rattle.std.specs.Str.{bytes_eq};
+ghost use Rattle.std.specs.Prelude.{◌≡◌, ◌≤◌, ◌<◌, ◌^◌, ◌++◌, false, [], ◌∷◌, length, nat_le, IfOk, OnOk};
 ghost use Rattle.sip_message.specs.Says.{Says, IsWithinLimits};
 ghost use Rattle.sip_header.specs.Key as Keys;
 ghost use Rattle.sip_engine.specs.Registration as Asks;
+ghost use Rattle.sip_engine.specs.Bindings.{bound, live};
+ghost use Rattle.sip_engine.specs.Proof as Proofs;
 ghost use Rattle.sip_engine.specs.Requests.{closing_by, answer_packet, opened};
-ghost use Rattle.sip_engine.specs.Serving.{answer_text, answered, challenge_field, challenged, binding_for, seconds_left, contact_field, contact_fields, registered, may_register, judged_by, asked, heard, taken};
+ghost use Rattle.sip_engine.specs.Serving;
+ghost use Rattle.sip_engine.specs.Serving.{answer_text, challenge_field, challenged, binding_for, contact_field, contact_fields, registered, may_register, judged_by, asked, heard, taken};
 
-use crate::bindings::Binding;
-use crate::config::Config;
+use crate::bindings::{Binding, Bindings};
 use crate::proof::{Claim, Proof, proof_of};
 use crate::registration::{Registration, registration_of};
 use crate::requests::{Answered, Requests};
 use crate::tables::{Arrival, Tables};
 use sip_digest::nonce_text;
 use sip_edit::{challenge, contact_value, received, respond, response_address, to_tag};
+use sip_event::Packet;
 use sip_header::{Key, key_of};
 use sip_message::{Field, FieldName, Fields, Message, ReadError, read, write};
-use sip_model::Packets;
-use sip_text::Bytes;
+use sip_settings::Config;
+use sip_text::{Bytes, Items, same_bytes};
 use sip_uri::Aor;
 use std::alloc::{AllocError, Global};
 
@@ -29,10 +31,49 @@ const BOUND_FOR: u64 = 3_600_000;
 
 /// A request, when it came, and what it is found by.
 #[derive(Drop)]
-struct Asked {
+struct Incoming {
     message: Message,
     key: Key,
     arrival: Arrival,
+}
+
+/// The text of an answer to a request.
+fn answer_text(
+    alloc: Global,
+    word: u64,
+    arrival: Arrival,
+    message: Message,
+    status: u16,
+    extras: Fields,
+) -> Result<Bytes, AllocError>
+    ensures { IfOk result (λ text. text ≡ answer_text word arrival message status extras) }
+{
+    let tag = to_tag(alloc, word, arrival.number)?;
+    let received = received(alloc, message, arrival.from)?;
+    let response = respond(alloc, &received, status, tag.as_slice(), extras)?;
+    write(alloc, &response)
+}
+
+/// A request with its final answer.
+fn answered(
+    alloc: Global,
+    word: u64,
+    request: Incoming,
+    status: u16,
+    extras: Fields,
+) -> Result<Answered, AllocError>
+    ensures { IfOk result (λ answered. answered ≡ Serving.answered word request.arrival request.message request.key status extras) }
+{
+    let arrival = request.arrival;
+    let source = response_address(alloc, &request.message, arrival.from)?;
+    let answer = answer_text(alloc, word, arrival, request.message, status, extras)?;
+    Ok(Answered {
+        key: request.key,
+        source,
+        number: arrival.number,
+        status,
+        answer,
+    })
 }
 
 /// Sends the final answer to a request, which is open from then on.
@@ -40,29 +81,19 @@ fn reply(
     alloc: Global,
     word: u64,
     requests: &mut Requests,
-    request: Asked,
+    request: Incoming,
     status: u16,
     extras: Fields,
-) -> Result<Packets, AllocError>
+) -> Result<Items<Packet>, AllocError>
     requires early { request.arrival.now < 2 ^ 62 }
+    requires settled { closing_by request.arrival.now requests.old ≡ 0 }
     requires answered { (200 ≤ status) × (status < 700) }
-    ensures packets { IfOk result (λ packets. packets ≡ answer_packet false (opened (answered word request.arrival request.message request.key status extras) request.arrival.now) ∷ []) }
-    ensures requests { IfOk result (λ packets. requests.new ≡ requests.old ++ opened (answered word request.arrival request.message request.key status extras) request.arrival.now ∷ []) }
+    ensures packets { IfOk result (λ packets. packets ≡ answer_packet false (opened (Serving.answered word request.arrival request.message request.key status extras) request.arrival.now) ∷ []) }
+    ensures requests { IfOk result (λ packets. requests.new ≡ requests.old ++ opened (Serving.answered word request.arrival request.message request.key status extras) request.arrival.now ∷ []) }
 {
-    let arrival = request.arrival;
-    let source = response_address(alloc, &request.message, arrival.from)?;
-    let tag = to_tag(alloc, word, arrival.number)?;
-    let received = received(alloc, request.message, arrival.from)?;
-    let response = respond(alloc, &received, status, tag.as_slice(), extras)?;
-    let answer = write(alloc, &response)?;
-    let answered = Answered {
-        key: request.key,
-        source,
-        number: arrival.number,
-        status,
-        answer,
-    };
-    requests.open(alloc, answered, arrival.now)
+    let now = request.arrival.now;
+    let answered = answered(alloc, word, request, status, extras)?;
+    requests.open(alloc, answered, now)
 }
 
 /// The field that challenges.
@@ -88,10 +119,11 @@ fn challenge_request(
     config: &Config,
     word: u64,
     tables: &mut Tables,
-    request: Asked,
+    request: Incoming,
     stale: bool,
-) -> Result<Packets, AllocError>
-    requires { request.arrival.now < 2 ^ 62 }
+) -> Result<Items<Packet>, AllocError>
+    requires early { request.arrival.now < 2 ^ 62 }
+    requires settled { closing_by request.arrival.now tables.old.requests ≡ 0 }
     ensures { IfOk result (λ packets. (packets, tables.new) ≡ challenged config.now word request.arrival request.message request.key stale tables.old) }
 {
     let arrival = request.arrival;
@@ -127,17 +159,43 @@ fn contact_fields(alloc: Global, now: u64, bindings: &[Binding]) -> Result<Field
 }
 
 /// The binding that a registration asks for.
-fn binding_for(alloc: Global, now: u64, registration: &Registration) -> Result<Binding, AllocError>
+fn binding_for(now: u64, registration: &Registration) -> Result<Binding, AllocError>
     requires { now < 2 ^ 62 }
     ensures { IfOk result (λ binding. binding ≡ binding_for now registration.now) }
 {
     Ok(Binding {
-        aor: registration.aor.copy(alloc)?,
-        uri: Bytes::copy(alloc, registration.contact.as_slice())?,
-        call_id: Bytes::copy(alloc, registration.call_id.as_slice())?,
+        aor: registration.aor.clone()?,
+        uri: registration.contact.clone()?,
+        call_id: registration.call_id.clone()?,
         cseq: registration.cseq,
         expires_at: now + BOUND_FOR,
     })
+}
+
+/// Binds the contact of a registration.
+fn bind_contact(
+    bindings: &mut Bindings,
+    now: u64,
+    registration: &Registration,
+) -> Result<(), AllocError>
+    requires { now < 2 ^ 62 }
+    ensures { OnOk result (bindings.new ≡ bound (binding_for now registration.now) now bindings.old) }
+{
+    let binding = binding_for(now, registration)?;
+    bindings.bind(binding, now)
+}
+
+/// The fields that list the live bindings of an address of record.
+fn live_fields(
+    alloc: Global,
+    bindings: &Bindings,
+    aor: &Aor,
+    now: u64,
+) -> Result<Fields, AllocError>
+    ensures { IfOk result (λ fields. fields ≡ contact_fields now (live aor.now now bindings.now)) }
+{
+    let live = bindings.live(alloc, aor, now)?;
+    contact_fields(alloc, now, live.as_slice())
 }
 
 /// Registers a contact.
@@ -145,26 +203,19 @@ fn register(
     alloc: Global,
     word: u64,
     tables: &mut Tables,
-    request: Asked,
+    request: Incoming,
     registration: &Registration,
     claim: &Claim,
-) -> Result<Packets, AllocError>
-    requires { request.arrival.now < 2 ^ 62 }
+) -> Result<Items<Packet>, AllocError>
+    requires early { request.arrival.now < 2 ^ 62 }
+    requires settled { closing_by request.arrival.now tables.old.requests ≡ 0 }
     ensures { IfOk result (λ packets. (packets, tables.new) ≡ registered word request.arrival request.message request.key registration.now claim.now tables.old) }
 {
     let now = request.arrival.now;
-    let binding = binding_for(alloc, now, registration)?;
-    tables.bindings.bind(binding, now)?;
+    bind_contact(&mut tables.bindings, now, registration)?;
     tables.nonces.spend(&claim.on(b"REGISTER"), now);
-    let live = tables.bindings.live(alloc, &registration.aor, now)?;
-    let extras = contact_fields(alloc, now, live.as_slice())?;
+    let extras = live_fields(alloc, &tables.bindings, &registration.aor, now)?;
     reply(alloc, word, &mut tables.requests, request, 200, extras)
-}
-
-fn is_same(left: &[u8], right: &[u8]) -> bool
-    ensures { result ≡ bytes_eq left.now right.now }
-{
-    left == right
 }
 
 /// Whether a user may register a contact.
@@ -176,7 +227,7 @@ fn may_register(
 ) -> bool
     ensures { result ≡ may_register arrival registration.now claim.now tables.now }
 {
-    if !is_same(claim.user.as_slice(), registration.aor.user.as_slice()) {
+    if !same_bytes(claim.user.as_slice(), registration.aor.user.as_slice()) {
         return false;
     }
     let contact = registration.contact.as_slice();
@@ -191,11 +242,12 @@ fn answer_by(
     config: &Config,
     word: u64,
     tables: &mut Tables,
-    request: Asked,
+    request: Incoming,
     registration: &Registration,
     proof: Proof,
-) -> Result<Packets, AllocError>
-    requires { request.arrival.now < 2 ^ 62 }
+) -> Result<Items<Packet>, AllocError>
+    requires early { request.arrival.now < 2 ^ 62 }
+    requires settled { closing_by request.arrival.now tables.old.requests ≡ 0 }
     ensures { IfOk result (λ packets. (packets, tables.new) ≡ judged_by config.now word request.arrival request.message request.key registration.now tables.old proof) }
 {
     match proof {
@@ -205,7 +257,7 @@ fn answer_by(
             if may_register(tables, request.arrival, registration, &claim) {
                 register(alloc, word, tables, request, registration, &claim)
             } else {
-                Ok(Packets::none(alloc))
+                Ok(Items::new(alloc))
             }
         }
     }
@@ -218,26 +270,43 @@ fn is_full(requests: &Requests) -> bool
     MOST_OPEN <= requests.len()
 }
 
+/// Serves a registration that is asked for.
+fn judge(
+    alloc: Global,
+    config: &Config,
+    word: u64,
+    tables: &mut Tables,
+    request: Incoming,
+    registration: &Registration,
+) -> Result<Items<Packet>, AllocError>
+    requires early { request.arrival.now < 2 ^ 62 }
+    requires settled { closing_by request.arrival.now tables.old.requests ≡ 0 }
+    ensures { IfOk result (λ packets. (packets, tables.new) ≡ judged_by config.now word request.arrival request.message request.key registration.now tables.old (Proofs.proof_of config.now tables.old.nonces request.arrival.now request.message)) }
+{
+    let now = request.arrival.now;
+    let proof = proof_of(alloc, config, &tables.nonces, now, &request.message)?;
+    answer_by(alloc, config, word, tables, request, registration, proof)
+}
+
 /// Serves a request that isn't open.
 fn serve_new(
     alloc: Global,
     config: &Config,
     word: u64,
     tables: &mut Tables,
-    request: Asked,
-) -> Result<Packets, AllocError>
-    requires { request.arrival.now < 2 ^ 62 }
+    request: Incoming,
+) -> Result<Items<Packet>, AllocError>
+    requires early { request.arrival.now < 2 ^ 62 }
+    requires settled { closing_by request.arrival.now tables.old.requests ≡ 0 }
     ensures { IfOk result (λ packets. (packets, tables.new) ≡ asked config.now word tables.old request.arrival request.message request.key (Asks.registration_of config.now request.message)) }
 {
     let Some(registration) = registration_of(alloc, config, &request.message)? else {
-        return Ok(Packets::none(alloc));
+        return Ok(Items::new(alloc));
     };
     if is_full(&tables.requests) {
-        return Ok(Packets::none(alloc));
+        return Ok(Items::new(alloc));
     }
-    let now = request.arrival.now;
-    let proof = proof_of(alloc, config, &tables.nonces, now, &request.message)?;
-    let packets = answer_by(alloc, config, word, tables, request, &registration, proof)?;
+    let packets = judge(alloc, config, word, tables, request, &registration)?;
     Ok(packets)
 }
 
@@ -249,17 +318,18 @@ fn serve(
     tables: &mut Tables,
     arrival: Arrival,
     message: Message,
-) -> Result<Packets, AllocError>
-    requires { arrival.now < 2 ^ 62 }
+) -> Result<Items<Packet>, AllocError>
+    requires early { arrival.now < 2 ^ 62 }
+    requires settled { closing_by arrival.now tables.old.requests ≡ 0 }
     ensures { IfOk result (λ packets. (packets, tables.new) ≡ heard config.now word tables.old arrival message (Keys.key_of message)) }
 {
     let Some(key) = key_of(alloc, &message)? else {
-        return Ok(Packets::none(alloc));
+        return Ok(Items::new(alloc));
     };
     if let Some(packets) = tables.requests.repeat(alloc, &key)? {
         return Ok(packets);
     }
-    let request = Asked {
+    let request = Incoming {
         message,
         key,
         arrival,
@@ -276,11 +346,12 @@ pub fn take_datagram(
     tables: &mut Tables,
     arrival: Arrival,
     bytes: &[u8],
-) -> Result<Packets, AllocError>
-    requires { arrival.now < 2 ^ 62 }
+) -> Result<Items<Packet>, AllocError>
+    requires early { arrival.now < 2 ^ 62 }
+    requires settled { closing_by arrival.now tables.old.requests ≡ 0 }
     ensures served { IfOk result (λ packets. (packets, tables.new) ≡ taken config.now word tables.old arrival bytes.now) }
     ensures said { (m : Message) → Says bytes.now m → IsWithinLimits bytes.now m → IfOk result (λ packets. (packets, tables.new) ≡ heard config.now word tables.old arrival m (Keys.key_of m)) }
-    ensures later { IfOk result (λ _. closing_by arrival.now tables.old.requests ≡ 0 → closing_by arrival.now tables.new.requests ≡ 0) }
+    ensures later { OnOk result (closing_by arrival.now tables.new.requests ≡ 0) }
 {
     match read(alloc, bytes) {
         Ok(message) => {
@@ -288,6 +359,6 @@ pub fn take_datagram(
             Ok(packets)
         }
         Err(ReadError::NoMemory) => Err(AllocError),
-        Err(_) => Ok(Packets::none(alloc)),
+        Err(_) => Ok(Items::new(alloc)),
     }
 }

@@ -1,7 +1,7 @@
 use crate::bindings::Bindings;
 use crate::requests::Requests;
 use sip_digest::Nonces;
-use sip_hops::Addr;
+use sip_text::Addr;
 
 /// What a server keeps between its steps.
 #[derive(Drop)]

@@ -8,11 +8,11 @@ use Rattle.sip_text.specs.Words.{is_token_text, is_same_text}
 use Rattle.sip_text.specs.Lists.{is_blank, trimmed, front_trimmed}
 use Rattle.sip_header.specs.declared.credentials.Item.{Item}
 use Rattle.sip_header.specs.declared.credentials.Credentials.{Credentials}
-use Rattle.sip_header.specs.declared.cuts.Quoting.TheVariants.{Outside}
-use Rattle.sip_header.specs.Cuts.{split_outside, parts_at, IsParted, is_full, word_at, behind_word, IsWordAndRest}
+use Rattle.sip_text.specs.declared.cuts.Quoting.TheVariants.{Outside}
+use Rattle.sip_text.specs.Cuts.{split_outside, parts_at, IsParted, is_full, word_at, behind_word, IsWordAndRest}
 use Rattle.sip_header.specs.Credentials.{value_said, IsItem, item_from, item_by, item_in, items_in, names_differ, credentials_from, from_items, credentials_of, IsCredentials}
 use Rattle.sip_header.proofs.Words.{AllPassing, Stops, behind_is, while_is, IsCutText, cut_text, blank_not_full}
-use Rattle.sip_header.proofs.PartLaws.{are_parted, only_parts}
+use Rattle.sip_text.proofs.PartLaws.{are_parted, only_parts}
 use Rattle.sip_header.proofs.ParameterLaws.{through, plain_text, IsSplitAt, split_back}
 
 -- ---- a word and the rest

@@ -1,10 +1,7 @@
-pub mod Cutting
 pub mod Collecting
-pub mod Counting
 pub mod OneValue
 pub mod Words
 pub mod NumberLaws
-pub mod PartLaws
 pub mod ParameterLaws
 pub mod CredentialLaws
 pub mod NameAddrLaws

@@ -11,30 +11,31 @@ use Rattle.sip_text.specs.Words.{is_token_byte, is_same_text}
 use Rattle.sip_text.specs.Lists.{is_blank, is_nil, trimmed}
 use Rattle.sip_text.proofs.Trims as Trims
 use Rattle.sip_uri.specs.declared.error.UriError.{UriError}
-use Rattle.sip_uri.specs.declared.error.UriError.TheVariants as Fault
+use Rattle.sip_uri.specs.declared.error.UriError.TheVariants as Refusal
 use Rattle.sip_uri.specs.declared.scheme.Scheme.{Scheme}
 use Rattle.sip_uri.specs.declared.scheme.Scheme.TheVariants as Named
 use Rattle.sip_uri.specs.declared.user.UserInfo.{UserInfo}
 use Rattle.sip_uri.specs.declared.uri.Uri.{Uri}
 use Rattle.sip_uri.specs.Scheme.{is_scheme_byte, is_scheme_name, scheme_of}
-use Rattle.sip_uri.specs.Reading.{◌>>=◌, split_at_byte, is_not, userinfo_of, user_from, user_of, place_of, parameters_behind, headers_behind, before_parameters, parameter_text_of, header_text_of, rest_of, reading_of}
+use Rattle.sip_uri.specs.Reading.{◌>>=◌, is_not, userinfo_of, user_from, user_of, place_of, parameters_behind, headers_behind, before_parameters, parameter_text_of, header_text_of, rest_of, reading_of}
+use Rattle.sip_text.specs.Splits.{split_at_byte, in_front}
 use Rattle.sip_uri.proofs.Tests as Tests
 use Rattle.sip_uri.proofs.ReadingLaws.{is_written, reading_is}
-use Rattle.sip_header.specs.declared.cuts.Quoting.{Quoting}
-use Rattle.sip_header.specs.declared.cuts.Quoting.TheVariants.{Outside, Inside, Escaped}
+use Rattle.sip_text.specs.declared.cuts.Quoting.{Quoting}
+use Rattle.sip_text.specs.declared.cuts.Quoting.TheVariants.{Outside, Inside, Escaped}
 use Rattle.sip_header.specs.declared.parameters.Parameter.{Parameter}
 use Rattle.sip_header.specs.declared.name_addr.AnyUri.{AnyUri}
 use Rattle.sip_header.specs.declared.name_addr.AnyUri.TheVariants.{Sip, Other}
 use Rattle.sip_header.specs.declared.name_addr.NameAddr.{NameAddr}
 use Rattle.sip_header.specs.declared.contact_item.ContactItem.{ContactItem}
 use Rattle.sip_header.specs.declared.contact_item.ContactItem.TheVariants.{Star, Address}
-use Rattle.sip_header.specs.Cuts.{quoting_after, quoting_behind, is_mark, in_front, split_from, split_outside, parts_at, IsParted, IsCutAt}
+use Rattle.sip_text.specs.Cuts.{quoting_after, quoting_behind, is_mark, split_from, split_outside, parts_at, IsParted, IsCutAt}
 use Rattle.sip_header.specs.Parameters.{parameters_in}
 use Rattle.sip_header.specs.NameAddr.{is_opaque_byte, is_opaque, other_of, uri_by, any_uri_of, with_parameters, is_bare_byte, bare_in, is_display, behind_bracket, bracketed_by, name_addr_by, name_addr_of, IsOtherUri, IsAnyUri, IsBracketed, IsBare, IsNameAddr}
 use Rattle.sip_header.specs.ContactItem.{contact_of, IsContact}
 use Rattle.sip_header.specs.Route.{route_of, IsRoute}
 use Rattle.sip_header.proofs.Words.{AllPassing, all_passing, all_weaker}
-use Rattle.sip_header.proofs.PartLaws.{are_parted, only_parts}
+use Rattle.sip_text.proofs.PartLaws.{are_parted, only_parts}
 use Rattle.sip_header.proofs.ParameterLaws.{is_plain, through, read_parameters, written_parameters}
 
 -- ---- a text cut at the first of a byte
@@ -150,61 +151,61 @@ record IsNamed (text : List ℕ) : Type 0 where
 named_cut : (text : List ℕ) (named : IsNamed text) → split_outside 58 text ≡ Some (named.scheme, named.rest)
 named_cut text named = ap (split_outside 58) named.whole ∙ through 58 named.scheme named.rest refl (plain_name named.scheme named.is_name)
 
-named_reading : (text : List ℕ) → IsNamed text → reading_of text ≡ Err Fault.Scheme
+named_reading : (text : List ℕ) → IsNamed text → reading_of text ≡ Err Refusal.Scheme
 unfolding reading_of
 named_reading text named =
     let others : list_all (is_not 58) named.scheme ≡ true = Tests.others is_plain 58 refl named.scheme (passing_all is_plain named.scheme (plain_name named.scheme named.is_name)) in
     let split : split_at_byte 58 text ≡ Some (named.scheme, named.rest) = ap (split_at_byte 58) named.whole ∙ Tests.split_again 58 named.scheme named.rest others refl in
-    let scheme : scheme_of named.scheme ≡ Err Fault.Scheme = rw (named.not_sip, named.not_sips, named.is_name) refl in
+    let scheme : scheme_of named.scheme ≡ Err Refusal.Scheme = rw (named.not_sip, named.not_sips, named.is_name) refl in
     rw (split, scheme) refl
 
 -- what stands behind the scheme is never refused as a scheme
-chain : {A : Type 0} (r : Result A UriError) (f : A → Result Uri UriError) → (r ≡ Err Fault.Scheme → ⊥) → ((x : A) → f x ≡ Err Fault.Scheme → ⊥) → (r >>= f) ≡ Err Fault.Scheme → ⊥
+chain : {A : Type 0} (r : Result A UriError) (f : A → Result Uri UriError) → (r ≡ Err Refusal.Scheme → ⊥) → ((x : A) → f x ≡ Err Refusal.Scheme → ⊥) → (r >>= f) ≡ Err Refusal.Scheme → ⊥
 chain (Ok x) f first never e = never x e
 chain (Err fault) f first never e =
-    let same : fault ≡ Fault.Scheme = cc in
+    let same : fault ≡ Refusal.Scheme = cc in
     first (ap (λ (k : UriError). Err k) same)
 
-syntax_or : {A : Type 0} (o : Option A) → ok_or o Fault.Syntax ≡ Err Fault.Scheme → ⊥
+syntax_or : {A : Type 0} (o : Option A) → ok_or o Refusal.Syntax ≡ Err Refusal.Scheme → ⊥
 syntax_or None e = cc
 syntax_or (Some x) e = cc
 
-user_never : (text : List ℕ) (o : Option (List ℕ × List ℕ)) → user_from text o ≡ Err Fault.Scheme → ⊥
+user_never : (text : List ℕ) (o : Option (List ℕ × List ℕ)) → user_from text o ≡ Err Refusal.Scheme → ⊥
 user_never text None e = cc
 user_never text (Some x) e = by_info (userinfo_of x.0) e
   where
     with_user : UserInfo → Result (Option UserInfo × List ℕ) UriError
     with_user info = Ok (Some info, x.1)
 
-    by_info : (o : Option UserInfo) → (ok_or o Fault.Syntax >>= with_user) ≡ Err Fault.Scheme → ⊥
+    by_info : (o : Option UserInfo) → (ok_or o Refusal.Syntax >>= with_user) ≡ Err Refusal.Scheme → ⊥
     by_info None e = cc
     by_info (Some info) e = cc
 
-rest_never : (scheme : Scheme) (text : List ℕ) → rest_of scheme text ≡ Err Fault.Scheme → ⊥
+rest_never : (scheme : Scheme) (text : List ℕ) → rest_of scheme text ≡ Err Refusal.Scheme → ⊥
 unfolding rest_of
 rest_never scheme text e =
-    chain (user_of text) _ (user_never text (split_at_byte 64 text)) (λ user. chain (ok_or (place_of (before_parameters user.1)) Fault.Syntax) _ (syntax_or (place_of (before_parameters user.1)))
-    (λ place. chain (ok_or (parameters_behind (parameter_text_of user.1)) Fault.Syntax) _ (syntax_or (parameters_behind (parameter_text_of user.1)))
-    (λ parameters. chain (ok_or (headers_behind (header_text_of user.1)) Fault.Syntax) _ (syntax_or (headers_behind (header_text_of user.1))) (λ headers h. cc)))) e
+    chain (user_of text) _ (user_never text (split_at_byte 64 text)) (λ user. chain (ok_or (place_of (before_parameters user.1)) Refusal.Syntax) _ (syntax_or (place_of (before_parameters user.1)))
+    (λ place. chain (ok_or (parameters_behind (parameter_text_of user.1)) Refusal.Syntax) _ (syntax_or (parameters_behind (parameter_text_of user.1)))
+    (λ parameters. chain (ok_or (headers_behind (header_text_of user.1)) Refusal.Syntax) _ (syntax_or (headers_behind (header_text_of user.1))) (λ headers h. cc)))) e
 
 named_if : (text name rest : List ℕ) (a b c : Bool) → text ≡ name ++ 58 ∷ rest → is_same_text name (codes "sip") ≡ a → is_same_text name (codes "sips") ≡ b → is_scheme_name name ≡ c
-    → cond a (Ok Named.Sip) (cond b (Ok Named.Sips) (cond c (Err Fault.Scheme) (Err Fault.Syntax))) ≡ Err Fault.Scheme → IsNamed text
+    → cond a (Ok Named.Sip) (cond b (Ok Named.Sips) (cond c (Err Refusal.Scheme) (Err Refusal.Syntax))) ≡ Err Refusal.Scheme → IsNamed text
 named_if text name rest true b c whole p q r e = absurd cc
 named_if text name rest false true c whole p q r e = absurd cc
 named_if text name rest false false false whole p q r e = absurd cc
 named_if text name rest false false true whole p q r e = record { scheme = name; rest = rest; whole = whole; is_name = r; not_sip = p; not_sips = q }
 
-named_by : (text name rest : List ℕ) (r : Result Scheme UriError) → text ≡ name ++ 58 ∷ rest → scheme_of name ≡ r → (r >>= λ scheme. rest_of scheme rest) ≡ Err Fault.Scheme → IsNamed text
+named_by : (text name rest : List ℕ) (r : Result Scheme UriError) → text ≡ name ++ 58 ∷ rest → scheme_of name ≡ r → (r >>= λ scheme. rest_of scheme rest) ≡ Err Refusal.Scheme → IsNamed text
 named_by text name rest (Ok scheme) whole is e = absurd (rest_never scheme rest e)
 named_by text name rest (Err fault) whole is e =
-    let same : fault ≡ Fault.Scheme = cc in
+    let same : fault ≡ Refusal.Scheme = cc in
     named_if text name rest (is_same_text name (codes "sip")) (is_same_text name (codes "sips")) (is_scheme_name name) whole refl refl refl (is ∙ ap (λ (k : UriError). Err k) same)
 
-named_split : (text : List ℕ) (o : Option (List ℕ × List ℕ)) → split_at_byte 58 text ≡ o → (ok_or o Fault.Syntax >>= λ parts. scheme_of parts.0 >>= λ scheme. rest_of scheme parts.1) ≡ Err Fault.Scheme → IsNamed text
+named_split : (text : List ℕ) (o : Option (List ℕ × List ℕ)) → split_at_byte 58 text ≡ o → (ok_or o Refusal.Syntax >>= λ parts. scheme_of parts.0 >>= λ scheme. rest_of scheme parts.1) ≡ Err Refusal.Scheme → IsNamed text
 named_split text None is e = absurd cc
 named_split text (Some x) is e = named_by text x.0 x.1 (scheme_of x.0) (Tests.split_is 58 text x.0 x.1 is) refl e
 
-named_of : (text : List ℕ) → reading_of text ≡ Err Fault.Scheme → IsNamed text
+named_of : (text : List ℕ) → reading_of text ≡ Err Refusal.Scheme → IsNamed text
 unfolding reading_of
 named_of text e = named_split text (split_at_byte 58 text) refl e
 
@@ -239,9 +240,9 @@ uri_back : (text : List ℕ) (uri : AnyUri) (r : Result Uri UriError) → readin
 uri_back text uri (Ok read) is e =
     let same : Sip read ≡ uri = cc in
     subst (IsAnyUri text) same (is_written text read is)
-uri_back text uri (Err Fault.NoMemory) is e = absurd cc
-uri_back text uri (Err Fault.Scheme) is e = other_back text uri (is_opaque (split_outside 58 text)) (named_of text is) refl e
-uri_back text uri (Err Fault.Syntax) is e = absurd cc
+uri_back text uri (Err Refusal.NoMemory) is e = absurd cc
+uri_back text uri (Err Refusal.Scheme) is e = other_back text uri (is_opaque (split_outside 58 text)) (named_of text is) refl e
+uri_back text uri (Err Refusal.Syntax) is e = absurd cc
 
 written_uri : (text : List ℕ) (uri : AnyUri) → any_uri_of text ≡ Some uri → IsAnyUri text uri
 written_uri text uri e = uri_back text uri (reading_of text) refl e

@@ -6,7 +6,7 @@ use Rattle.std.specs.List.{list_all}
 use Rattle.std.proofs.lemmas.Bool.Decides.{nat_tests}
 use Rattle.sip_text.specs.Lists.{is_blank}
 use Rattle.sip_text.specs.Words.{is_token_byte, is_token_text, decimal_of}
-use Rattle.sip_header.specs.Cuts.{is_full, behind_word}
+use Rattle.sip_text.specs.Cuts.{is_full, behind_word}
 use Rattle.sip_header.specs.CSeq.{IsCSeq, cseq_from, cseq_of}
 use Rattle.sip_header.specs.declared.cseq.CSeq.{CSeq}
 use Rattle.sip_header.proofs.Words.{AllPassing, Stops, IsWordCut, word_cut, IsCutText, cut_text, number_is_full, token_is_full, not_blank}

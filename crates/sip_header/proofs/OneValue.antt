@@ -3,7 +3,7 @@ use Rattle.std.proofs.Common.{◌≡◌, ℕ, ◌<◌, ◌≤◌, Bool, true, fa
 use Rattle.sip_message.specs.declared.field_name.FieldName.{FieldName}
 use Rattle.sip_message.specs.declared.field.Field.{Field}
 use Rattle.sip_header.specs.declared.error.HeaderError.TheVariants.{Missing, Malformed}
-use Rattle.sip_header.specs.Values.{values_of, first_value}
+use Rattle.sip_message.specs.Values.{values_of, first_value}
 use Rattle.std.specs.Prelude.{map, option_map}
 use Rattle.std.specs.Option.{ok_or}
 use Rattle.sip_message.specs.FieldName.{is_same_name}

@@ -7,16 +7,17 @@ use Rattle.std.proofs.lemmas.Bool.{eqb-true}
 use Rattle.sip_text.specs.Words.{is_token_byte, is_token_text}
 use Rattle.sip_text.specs.Lists.{is_blank, trimmed}
 use Rattle.sip_text.proofs.Trims as Trims
-use Rattle.sip_header.specs.declared.cuts.Quoting.{Quoting}
-use Rattle.sip_header.specs.declared.cuts.Quoting.TheVariants.{Outside, Inside, Escaped}
+use Rattle.sip_text.specs.declared.cuts.Quoting.{Quoting}
+use Rattle.sip_text.specs.declared.cuts.Quoting.TheVariants.{Outside, Inside, Escaped}
 use Rattle.sip_header.specs.declared.parameters.Parameter.{Parameter}
 use Rattle.sip_header.specs.declared.via.Sender.{Sender}
 use Rattle.sip_header.specs.declared.via.Via.{Via}
-use Rattle.sip_header.specs.Cuts.{quoting_after, is_mark, in_front, split_from, split_outside, parts_at, IsParted}
+use Rattle.sip_text.specs.Cuts.{quoting_after, is_mark, split_from, split_outside, parts_at, IsParted}
+use Rattle.sip_text.specs.Splits.{in_front}
 use Rattle.sip_header.specs.Parameters.{is_value, needs_value, IsAssigned, IsParameterBy, IsParameter, bare_parameter, valued_parameter, parameter_by, parameter_in, parameters_in}
 use Rattle.sip_header.specs.Via.{sender_of, via_from, via_in, via_of, IsVia}
 use Rattle.sip_header.proofs.Words.{AllPassing, all_passing, all_weaker}
-use Rattle.sip_header.proofs.PartLaws.{are_parted, only_parts}
+use Rattle.sip_text.proofs.PartLaws.{are_parted, only_parts}
 
 abbrev pub is_plain : ℕ → Bool
 is_plain b = is_token_byte b || is_blank b
@@ -175,7 +176,7 @@ pub read_via : (value : List ℕ) (via : Via) → IsVia value via → via_of val
 read_via value via is =
     ap via_in (sym (only_parts 59 value (is.first ∷ is.texts) is.parted))
     ∙ ap (option_and_then (λ s. option_map (λ p. via_from s p) (parameters_in is.texts))) is.is_sender
-    ∙ ap (option_map (λ (p : List Parameter). via_from (record { transport = via.transport; sent_by = record { host = via.host; port = via.port } }) p)) (read_parameters is.texts via.parameters is.are_parameters)
+    ∙ ap (option_map (λ (p : List Parameter). via_from (record { transport = via.transport; host = via.host; port = via.port }) p)) (read_parameters is.texts via.parameters is.are_parameters)
 
 via_back : (value : List ℕ) (via : Via) (first : List ℕ) (texts : List (List ℕ)) (s : Option Sender) (ps : Option (List Parameter)) → IsParted 59 value (first ∷ texts) → sender_of first ≡ s → parameters_in texts ≡ ps
     → option_and_then (λ sender. option_map (λ p. via_from sender p) ps) s ≡ Some via → IsVia value via

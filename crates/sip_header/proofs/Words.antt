@@ -9,7 +9,7 @@ use Rattle.std.proofs.lemmas.List.Sums.{take_while-cons}
 use Rattle.std.proofs.lemmas.Bool.Decides.{nat_tests}
 use Rattle.sip_text.specs.Lists.{is_blank, front_trimmed}
 use Rattle.sip_text.specs.Words.{is_token_byte, decimal_of}
-use Rattle.sip_header.specs.Cuts.{is_full, word_at, behind_word}
+use Rattle.sip_text.specs.Cuts.{is_full, word_at, behind_word}
 
 abbrev pub AllPassing : (ℕ → Bool) → List ℕ → Type 0
 AllPassing p bytes = AllByRecursion (λ b. p b ≡ true) bytes

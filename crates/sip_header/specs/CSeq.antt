@@ -4,7 +4,7 @@ use Rattle.std.specs.Option.{option_and_then}
 use Rattle.std.specs.List.{AllByRecursion}
 use Rattle.sip_text.specs.Lists.{is_blank}
 use Rattle.sip_text.specs.Words.{is_token_text, decimal_of}
-use Rattle.sip_header.specs.Cuts.{word_at, behind_word}
+use Rattle.sip_text.specs.Cuts.{word_at, behind_word}
 use Rattle.sip_header.specs.declared.cseq.CSeq.{CSeq}
 
 -- A value writes a CSeq: digits of a number below 2^31, one or more blanks, a method, which is a token.

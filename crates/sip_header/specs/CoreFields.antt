@@ -11,7 +11,7 @@ use Rattle.sip_header.specs.declared.error.HeaderError.TheVariants.{NoMemory, Mi
 use Rattle.sip_header.specs.declared.cseq.CSeq.{CSeq}
 use Rattle.sip_header.specs.declared.name_addr.NameAddr.{NameAddr}
 use Rattle.sip_header.specs.declared.core_fields.CoreFields.{CoreFields}
-use Rattle.sip_header.specs.Values.{values_of}
+use Rattle.sip_message.specs.Values.{values_of}
 use Rattle.sip_header.specs.NameAddr.{name_addr_of}
 use Rattle.sip_header.specs.CSeq.{cseq_of}
 

@@ -2,11 +2,11 @@
 use Rattle.std.specs.Prelude.{◌≡◌, ◌++◌, ℕ, Bool, true, false, is_some, if◌then◌else◌, List, [], ◌∷◌, codes, Option, Some, None, option_map}
 use Rattle.std.specs.Option.{option_and_then}
 use Rattle.std.specs.List.{AllZip}
-use Rattle.std.specs.Str.{byte}
+use Rattle.std.specs.Str.{byte, bytes_eq}
 use Rattle.sip_text.specs.Words.{is_token_text, is_same_text}
 use Rattle.sip_text.specs.Lists.{trimmed}
 use Rattle.sip_text.specs.Escapes.{unquoted}
-use Rattle.sip_header.specs.Cuts.{split_outside, parts_at, IsParted, word_at, behind_word, IsWordAndRest}
+use Rattle.sip_text.specs.Cuts.{split_outside, parts_at, IsParted, word_at, behind_word, IsWordAndRest}
 use Rattle.sip_header.specs.declared.credentials.Item.{Item}
 use Rattle.sip_header.specs.declared.credentials.Credentials.{Credentials}
 
@@ -75,6 +75,11 @@ abbrev pub credentials_of : List ℕ → Option Credentials
 credentials_of value =
     if is_same_text (word_at value) (codes "Digest") then option_and_then from_items (items_in (parts_at (byte ",") (behind_word value)))
     else None
+
+-- whether a realm was named, and is this one
+abbrev pub is_realm : List ℕ → Option (List ℕ) → Bool
+is_realm realm None = false
+is_realm realm (Some said) = bytes_eq said realm
 
 -- A value writes credentials: `Digest` in any case, one or more blanks, and parts at `,`, each of which writes an item, no two of one name.
 pub record IsCredentials (value : List ℕ) (credentials : Credentials) : Type 0 where

@@ -9,7 +9,7 @@ use Rattle.sip_header.specs.declared.contact_item.ContactItem.{ContactItem}
 use Rattle.sip_header.specs.declared.contact_item.ContactItem.TheVariants.{Star, Address}
 use Rattle.sip_header.specs.declared.expires.Expires.{Expires}
 use Rattle.sip_header.specs.declared.expires.Expires.TheVariants.{Absent, Seconds, Malformed}
-use Rattle.sip_header.specs.Values.{values_of}
+use Rattle.sip_message.specs.Values.{values_of}
 use Rattle.sip_header.specs.Parameters.{parameter_of}
 
 -- a number of seconds: all digits, below 2 ^ 64 (RFC 3261 25.1, delta-seconds; the limit is this project's profile)

@@ -9,7 +9,7 @@ use Rattle.sip_message.specs.declared.field_name.FieldName.TheVariants as Name
 use Rattle.sip_message.specs.declared.message.Start.{Start}
 use Rattle.sip_message.specs.declared.message.Start.TheVariants.{Request, Status}
 use Rattle.sip_message.specs.declared.message.Message.{Message}
-use Rattle.sip_header.specs.Values.{first_value}
+use Rattle.sip_message.specs.Values.{first_value}
 use Rattle.sip_header.specs.Parameters.{branch_of}
 use Rattle.sip_header.specs.Via.{via_of}
 use Rattle.sip_header.specs.declared.via.Via.{Via}

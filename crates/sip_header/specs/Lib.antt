@@ -1,10 +1,7 @@
-pub mod Cuts
-pub mod Hosts
 pub mod Reading
 pub mod Parameters
 pub mod Via
 pub mod CSeq
-pub mod Values
 pub mod Key
 pub mod Credentials
 pub mod NameAddr
@@ -15,6 +12,6 @@ pub mod MaxForwards
 pub mod Expires
 pub mod Own
 pub mod Route
-pub mod Prepared
+pub mod Way
 pub mod RoutingExamples
 pub mod HeaderError

@@ -8,11 +8,11 @@ use Rattle.sip_text.specs.Lists.{is_blank, is_nil, trimmed}
 use Rattle.sip_text.specs.Escapes.{unquoted}
 use Rattle.sip_uri.specs.declared.uri.Uri.{Uri}
 use Rattle.sip_uri.specs.declared.error.UriError.{UriError}
-use Rattle.sip_uri.specs.declared.error.UriError.TheVariants as Fault
+use Rattle.sip_uri.specs.declared.error.UriError.TheVariants as Refusal
 use Rattle.sip_uri.specs.Scheme.{is_scheme_name}
 use Rattle.sip_uri.specs.Uri.{IsWritten}
 use Rattle.sip_uri.specs.Reading.{reading_of}
-use Rattle.sip_header.specs.Cuts.{split_outside, parts_at, IsCutAt, IsParted}
+use Rattle.sip_text.specs.Cuts.{split_outside, parts_at, IsCutAt, IsParted}
 use Rattle.sip_header.specs.Parameters.{parameters_in, IsParameter}
 use Rattle.sip_header.specs.declared.parameters.Parameter.{Parameter}
 use Rattle.sip_header.specs.declared.name_addr.AnyUri.{AnyUri}
@@ -37,13 +37,18 @@ other_of text = if is_opaque (split_outside (byte ":") text) then Some (Other te
 -- a SIP or SIPS URI, or one of another scheme
 abbrev pub uri_by : List ℕ → Result Uri UriError → Option AnyUri
 uri_by text (Ok uri) = Some (Sip uri)
-uri_by text (Err Fault.NoMemory) = None
-uri_by text (Err Fault.Scheme) = other_of text
-uri_by text (Err Fault.Syntax) = None
+uri_by text (Err Refusal.NoMemory) = None
+uri_by text (Err Refusal.Scheme) = other_of text
+uri_by text (Err Refusal.Syntax) = None
 
 -- a URI of any scheme
 abbrev pub any_uri_of : List ℕ → Option AnyUri
 any_uri_of text = uri_by text (reading_of text)
+
+-- the SIP or SIPS URI that a URI of any scheme is, if it is one
+abbrev pub sip_uri : AnyUri → Option Uri
+sip_uri (Sip uri) = Some uri
+sip_uri (Other text) = None
 
 -- ---- the whole
 

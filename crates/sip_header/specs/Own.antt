@@ -1,22 +1,19 @@
 -- This server's own places.
 use Rattle.std.specs.Prelude.{ℕ, Bool, ◌&&◌, ◌||◌, ◌==◌, List, [], ◌∷◌, decimal, codes, Some, None}
 use Rattle.std.specs.Option.{unwrap_or}
-use Rattle.std.specs.List.{list_any, join_by}
+use Rattle.std.specs.List.{list_any}
 use Rattle.std.specs.Str.{bytes_eq}
 use Rattle.sip_text.specs.Words.{is_same_text}
+use Rattle.sip_text.specs.Addresses.{ip_text}
 use Rattle.sip_uri.specs.declared.scheme.Scheme.TheVariants as Scheme
 use Rattle.sip_uri.specs.declared.uri.Uri.{Uri}
 use Rattle.sip_uri.specs.Uri.{port_number}
 use Rattle.sip_header.specs.declared.via.Via.{Via}
 use Rattle.sip_header.specs.declared.own.Own.{Own}
 
--- an IPv4 address: its numbers joined by dots (RFC 3261 25.1, IPv4address)
-abbrev pub dotted : List ℕ → List ℕ
-dotted ip = join_by (λ part. decimal part) (codes ".") ip
-
 -- the host that this server calls itself or a domain that it serves, in any case, or its address in dotted form
 abbrev pub is_own_host : Own → List ℕ → Bool
-is_own_host own host = is_same_text own.host host || list_any (λ domain. is_same_text domain host) own.domains || bytes_eq (dotted own.ip) host
+is_own_host own host = is_same_text own.host host || list_any (λ domain. is_same_text domain host) own.domains || bytes_eq (ip_text own.ip) host
 
 -- Whether a URI names this server (RFC 3261 16.4, 16.12): an own host, and its port by its number, 5060 where none is written. User part, parameters, and
 -- whether it is `sip` or `sips` don't matter (this project's profile).

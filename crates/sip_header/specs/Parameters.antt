@@ -5,8 +5,8 @@ use Rattle.std.specs.Str.{byte}
 use Rattle.sip_text.specs.Words.{is_token_text, is_same_text}
 use Rattle.sip_text.specs.Lists.{trimmed}
 use Rattle.sip_text.specs.Escapes.{unquoted}
-use Rattle.sip_header.specs.Cuts.{split_outside}
-use Rattle.sip_header.specs.Hosts.{is_host}
+use Rattle.sip_text.specs.Cuts.{split_outside}
+use Rattle.sip_uri.specs.Parts.{is_host}
 use Rattle.sip_header.specs.declared.parameters.Parameter.{Parameter}
 
 -- a token, a host or quoted text

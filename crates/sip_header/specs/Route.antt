@@ -5,7 +5,7 @@ use Rattle.sip_uri.specs.Uri.{text_of}
 use Rattle.sip_header.specs.declared.name_addr.AnyUri.{AnyUri}
 use Rattle.sip_header.specs.declared.name_addr.AnyUri.TheVariants.{Sip, Other}
 use Rattle.sip_header.specs.declared.name_addr.NameAddr.{NameAddr}
-use Rattle.sip_header.specs.Cuts.{split_outside}
+use Rattle.sip_text.specs.Cuts.{split_outside}
 use Rattle.sip_header.specs.NameAddr.{name_addr_of, IsBracketed}
 
 -- an item of Route or Record-Route: an address in brackets (RFC 3261 25.1, name-addr)

@@ -7,6 +7,7 @@ use Rattle.sip_message.specs.declared.message.Start.TheVariants.{Request}
 use Rattle.sip_message.specs.declared.message.Message.{Message}
 use Rattle.sip_uri.specs.declared.scheme.Scheme.TheVariants as Scheme
 use Rattle.sip_uri.specs.declared.uri.Uri.{Uri}
+use Rattle.sip_uri.specs.Examples.{sample_domains}
 use Rattle.sip_header.specs.declared.own.Own.{Own}
 use Rattle.sip_header.specs.declared.parameters.Parameter.{Parameter}
 use Rattle.sip_header.specs.declared.name_addr.AnyUri.TheVariants.{Sip}
@@ -15,7 +16,11 @@ use Rattle.sip_header.specs.declared.contact_item.ContactItem.TheVariants.{Addre
 
 -- sip.host.com:5060 at 127.0.0.1, which serves host.com
 abbrev pub own : Own
-own = record { host = codes "sip.host.com"; port = 5060; domains = codes "host.com" ∷ []; ip = 127 ∷ 0 ∷ 0 ∷ 1 ∷ [] }
+own = record { host = codes "sip.host.com"; port = 5060; domains = sample_domains; ip = 127 ∷ 0 ∷ 0 ∷ 1 ∷ [] }
+
+-- the realm of the sample configuration (RFC 2617 3.5)
+abbrev pub sample_realm : List ℕ
+sample_realm = codes "testrealm@host.com"
 
 -- `sip:`, a host, and perhaps a port
 abbrev pub uri_at : List ℕ → Option (List ℕ) → Uri

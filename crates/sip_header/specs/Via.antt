@@ -5,8 +5,8 @@ use Rattle.std.specs.List.{AllZip}
 use Rattle.std.specs.Str.{byte}
 use Rattle.sip_text.specs.Words.{is_token_text, is_same_text}
 use Rattle.sip_text.specs.Lists.{trimmed}
-use Rattle.sip_header.specs.Cuts.{split_outside, parts_at, IsParted, word_at, behind_word}
-use Rattle.sip_header.specs.Hosts.{host_port_of}
+use Rattle.sip_text.specs.Cuts.{split_outside, parts_at, IsParted, word_at, behind_word}
+use Rattle.sip_uri.specs.Reading.{host_port_of}
 use Rattle.sip_header.specs.Parameters.{parameters_in, IsParameter}
 use Rattle.sip_header.specs.declared.parameters.Parameter.{Parameter}
 use Rattle.sip_header.specs.declared.via.Sender.{Sender}
@@ -15,7 +15,7 @@ use Rattle.sip_header.specs.declared.via.Via.{Via}
 -- a transport, one or more blanks, a host with its port
 abbrev pub sender_behind : List ℕ → Option Sender
 sender_behind text =
-    if is_token_text (word_at text) then option_map (λ sent_by. record { transport = word_at text; sent_by = sent_by }) (host_port_of (behind_word text))
+    if is_token_text (word_at text) then option_map (λ place. record { transport = word_at text; host = place.0; port = place.1 }) (host_port_of (behind_word text))
     else None
 
 -- the same behind `SIP` `/` and `2.0` `/`
@@ -29,7 +29,7 @@ sender_of text = option_and_then (λ first. option_and_then (λ second. versione
 
 -- a Via of its parts
 abbrev pub via_from : Sender → List Parameter → Via
-via_from sender parameters = record { transport = sender.transport; host = sender.sent_by.host; port = sender.sent_by.port; parameters = parameters }
+via_from sender parameters = record { transport = sender.transport; host = sender.host; port = sender.port; parameters = parameters }
 
 -- the same of the parts between the `;`
 abbrev pub via_in : List (List ℕ) → Option Via
@@ -45,5 +45,5 @@ pub record IsVia (value : List ℕ) (via : Via) : Type 0 where
   pub first : List ℕ
   pub texts : List (List ℕ)
   pub parted : IsParted (byte ";") value (first ∷ texts)
-  pub is_sender : sender_of first ≡ Some (record { transport = via.transport; sent_by = record { host = via.host; port = via.port } })
+  pub is_sender : sender_of first ≡ Some (record { transport = via.transport; host = via.host; port = via.port })
   pub are_parameters : AllZip IsParameter texts via.parameters

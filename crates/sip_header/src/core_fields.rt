@@ -4,7 +4,6 @@ ghost use Rattle.sip_header.specs.CoreFields.{Gives, only_value, name_addr_in, c
 use crate::cseq::{CSeq, cseq_of};
 use crate::error::HeaderError;
 use crate::name_addr::{NameAddr, name_addr_of};
-use crate::values::{count_of, first_value};
 use sip_message::{FieldName, Fields, Message};
 use sip_text::Bytes;
 use std::alloc::Global;
@@ -24,10 +23,10 @@ pub struct CoreFields {
 fn only_value(fields: &Fields, name: FieldName) -> Result<&[u8], HeaderError>
     ensures { Gives (λ x. x.now) result (only_value name fields.now) }
 {
-    let Some(value) = first_value(fields, &name) else {
+    let Some(value) = fields.first(&name) else {
         return Err(HeaderError::Missing(name));
     };
-    if 1 < count_of(fields, &name) {
+    if 1 < fields.count(&name) {
         return Err(HeaderError::Malformed(name));
     }
     Ok(value)
@@ -38,10 +37,10 @@ fn only_value(fields: &Fields, name: FieldName) -> Result<&[u8], HeaderError>
 fn name_addr_in(alloc: Global, fields: &Fields, name: FieldName) -> Result<NameAddr, HeaderError>
     ensures { Gives (λ found. found) result (name_addr_in name fields.now) }
 {
-    let Some(value) = first_value(fields, &name) else {
+    let Some(value) = fields.first(&name) else {
         return Err(HeaderError::Missing(name));
     };
-    if 1 < count_of(fields, &name) {
+    if 1 < fields.count(&name) {
         return Err(HeaderError::Malformed(name));
     }
     name_addr_of(alloc, name, value)

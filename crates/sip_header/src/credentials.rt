@@ -1,12 +1,14 @@
 ghost use Rattle.std.specs.Prelude.{◌≡◌, IfOk, option_map};
-ghost use Rattle.sip_header.specs.Cuts.{parts_at};
+ghost use Rattle.sip_text.specs.Cuts.{parts_at};
 ghost use Rattle.sip_header.specs.Credentials.{value_said, item_from, item_in, items_in, item_value, names_differ, credentials_from, from_items, credentials_of};
 ghost use Rattle.sip_header.specs.Reading.{Reads};
 
-use crate::cuts::{first_part, split_once, split_word};
 use crate::error::HeaderError;
 use sip_message::FieldName;
-use sip_text::{Bytes, TextError, is_token, same_no_case, unquote, without_blanks};
+use sip_text::{
+    Bytes, TextError, first_part, is_token, same_no_case, split_outside, split_word, unquote,
+    without_blanks,
+};
 use std::alloc::{AllocError, Global};
 
 /// What Digest credentials say (RFC 2617 3.2.2), without quotes. Nothing is checked but their form.
@@ -61,7 +63,7 @@ fn item_of(alloc: Global, name: &[u8], value: &[u8]) -> Result<Option<Item>, All
 fn read_item(alloc: Global, bytes: &[u8]) -> Result<Option<Item>, AllocError>
     ensures { IfOk result (λ item. item ≡ item_in bytes.now) }
 {
-    match split_once(bytes, b'=') {
+    match split_outside(bytes, b'=') {
         Some((name, value)) => item_of(alloc, without_blanks(name), without_blanks(value)),
         None => Ok(None),
     }

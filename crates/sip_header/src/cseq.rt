@@ -2,10 +2,9 @@ ghost use Rattle.std.specs.Prelude.{◌≡◌, IfOk};
 ghost use Rattle.sip_header.specs.CSeq.{cseq_of};
 ghost use Rattle.sip_header.specs.Reading.{Reads};
 
-use crate::cuts::split_word;
 use crate::error::HeaderError;
 use sip_message::FieldName;
-use sip_text::{Bytes, decimal, is_token};
+use sip_text::{Bytes, decimal, is_token, split_word};
 use std::alloc::{AllocError, Global};
 
 /// What a CSeq says.

@@ -34,9 +34,9 @@ impl HeaderError {
 
 impl fmt::Display for HeaderError {
     ghost use Rattle.std.specs.Prelude.{Some};
-    ghost use Rattle.sip_header.specs.HeaderError.{message_of};
+    ghost use Rattle.sip_header.specs.HeaderError.{words_of};
 
-    ghost output = { λ e. Some (message_of e) };
+    ghost output = { λ e. Some (words_of e) };
 
     fn fmt<W: fmt::Write>(&self, f: &mut fmt::Formatter<W>) -> fmt::Result {
         match self {

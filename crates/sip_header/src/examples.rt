@@ -9,6 +9,8 @@ ghost use Rattle.sip_header.specs.Key.{key_of};
 ghost use Rattle.sip_header.specs.CoreFields.{core_of};
 ghost use Rattle.sip_header.specs.Examples.{address_with, tag_a1, register_with, register_numbered};
 
+pub mod routing;
+
 /// The core fields of a REGISTER; without CSeq, and with a number of 2^31.
 #[tactic(auto, unfolding(sip_uri::specs::Reading::reading_of, sip_uri::specs::Reading::rest_of, crate::specs::CoreFields::core_in))]
 pub fn core_fields_example()

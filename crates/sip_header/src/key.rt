@@ -1,12 +1,11 @@
 ghost use Rattle.std.specs.Prelude.{◌≡◌, ◌↔◌, IsTrue, [], IfOk};
-ghost use Rattle.sip_text.specs.Words.{without_case};
 ghost use Rattle.sip_message.specs.declared.message.Start.TheVariants.{Request};
 ghost use Rattle.sip_header.specs.Key.{key_method, key_from, start_key, key_of, same_key};
 
-use crate::values::first_value;
+use crate::parameters::branch_of;
 use crate::via::{Via, read_via};
 use sip_message::{FieldName, Fields, Message, Start};
-use sip_text::Bytes;
+use sip_text::{Bytes, lower_case};
 use std::alloc::{AllocError, Global};
 
 /// What a request's server transaction is found by (RFC 3261 17.2.3).
@@ -20,17 +19,6 @@ pub struct Key {
     pub port: u16,
     /// The method, INVITE for an ACK.
     pub method: Bytes,
-}
-
-/// The bytes with each capital letter as a small one.
-fn lower_case(alloc: Global, bytes: &[u8]) -> Result<Bytes, AllocError>
-    ensures { IfOk result (λ lower. lower ≡ without_case bytes.now) }
-{
-    let mut lower = Bytes::new(alloc);
-    for byte in bytes {
-        lower.push(byte.to_ascii_lowercase())?;
-    }
-    Ok(lower)
 }
 
 /// The method as it counts in a key.
@@ -71,13 +59,13 @@ fn key_from(
 fn key_of_request(alloc: Global, method: &[u8], fields: &Fields) -> Result<Option<Key>, AllocError>
     ensures { IfOk result (λ key. key ≡ start_key fields.now (Request method.now [] [])) }
 {
-    let Some(value) = first_value(fields, &FieldName::Via) else {
+    let Some(value) = fields.first(&FieldName::Via) else {
         return Ok(None);
     };
     let Some(via) = read_via(alloc, value)? else {
         return Ok(None);
     };
-    let Some(branch) = via.parameters.branch() else {
+    let Some(branch) = branch_of(via.parameters.as_slice()) else {
         return Ok(None);
     };
     key_from(alloc, method, &via, branch)

@@ -1,5 +1,4 @@
 ghost use Rattle.std.specs.Prelude.{◌≡◌, ℕ, List, Some};
-ghost use Rattle.sip_header.specs.Cuts.{IsParted, parts_at};
 ghost use Rattle.std.specs.List.{AllZip};
 ghost use Rattle.sip_header.specs.Parameters.{IsParameter, parameters_in};
 ghost use Rattle.sip_header.specs.Via.{IsVia, via_of};
@@ -20,12 +19,6 @@ ghost use Rattle.sip_header.specs.Route.{IsRoute, route_of};
 pub fn cseq_law()
     ensures read { (value : List ℕ) (cseq : CSeq) → IsCSeq value cseq → cseq_of value ≡ Some cseq }
     ensures written { (value : List ℕ) (cseq : CSeq) → cseq_of value ≡ Some cseq → IsCSeq value cseq }
-{}
-
-/// What stands between the bytes of one kind outside quoted text are the parts that make up a text, and no others do.
-pub fn parts_law()
-    ensures parted { (mark : ℕ) (text : List ℕ) → IsParted mark text (parts_at mark text) }
-    ensures only { (mark : ℕ) (text : List ℕ) (parts : List (List ℕ)) → IsParted mark text parts → parts ≡ parts_at mark text }
 {}
 
 /// Texts are read as parameters exactly where they write them, one by one (RFC 3261 25.1, generic-param).

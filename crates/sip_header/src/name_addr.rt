@@ -1,15 +1,16 @@
 ghost use Rattle.std.specs.Prelude.{◌≡◌, IfOk, option_map};
 ghost use Rattle.std.specs.List.{list_all};
 ghost use Rattle.sip_text.specs.Words.{is_token_byte};
-ghost use Rattle.sip_header.specs.Cuts.{parts_at, split_outside};
+ghost use Rattle.sip_text.specs.Cuts.{parts_at, split_outside};
 ghost use Rattle.sip_header.specs.NameAddr.{is_opaque_byte, is_opaque, other_of, any_uri_of, with_parameters, is_bare_byte, bare_in, is_word_byte, is_display, behind_bracket, bracketed_by, name_addr_of};
 ghost use Rattle.sip_header.specs.Reading.{Reads};
 
-use crate::cuts::{first_part, split_once};
 use crate::error::HeaderError;
-use crate::parameters::{Parameters, is_quoted, parameters_from};
+use crate::parameters::{Parameter, is_quoted, parameters_from};
 use sip_message::FieldName;
-use sip_text::{Bytes, is_space_or_tab, is_token, without_blanks};
+use sip_text::{
+    Bytes, Items, first_part, is_space_or_tab, is_token, split_outside, without_blanks,
+};
 use sip_uri::{Uri, UriError, parse_uri};
 use std::alloc::{AllocError, Global};
 
@@ -25,7 +26,7 @@ pub enum AnyUri {
 #[derive(Debug, Drop)]
 pub struct NameAddr {
     pub uri: AnyUri,
-    pub parameters: Parameters,
+    pub parameters: Items<Parameter>,
 }
 
 fn is_opaque_byte(byte: u8) -> bool
@@ -68,7 +69,7 @@ fn all_word_bytes(bytes: &[u8]) -> bool
 fn has_opaque_part(bytes: &[u8]) -> bool
     ensures { result ≡ is_opaque (split_outside 58 bytes.now) }
 {
-    let Some((_, part)) = split_once(bytes, b':') else {
+    let Some((_, part)) = split_outside(bytes, b':') else {
         return false;
     };
     if part.is_empty() {
@@ -127,7 +128,10 @@ fn bare(alloc: Global, bytes: &[u8]) -> Result<Option<NameAddr>, AllocError>
 }
 
 /// The parameters behind a `>`.
-fn parameters_behind_bracket(alloc: Global, bytes: &[u8]) -> Result<Option<Parameters>, AllocError>
+fn parameters_behind_bracket(
+    alloc: Global,
+    bytes: &[u8],
+) -> Result<Option<Items<Parameter>>, AllocError>
     ensures { IfOk result (λ parameters. parameters ≡ behind_bracket (parts_at 59 bytes.now)) }
 {
     let (gap, behind) = first_part(bytes, b';');
@@ -141,7 +145,7 @@ fn parameters_behind_bracket(alloc: Global, bytes: &[u8]) -> Result<Option<Param
 fn bracketed(alloc: Global, bytes: &[u8]) -> Result<Option<NameAddr>, AllocError>
     ensures { IfOk result (λ found. found ≡ bracketed_by (split_outside 62 bytes.now)) }
 {
-    let Some((uri, behind)) = split_once(bytes, b'>') else {
+    let Some((uri, behind)) = split_outside(bytes, b'>') else {
         return Ok(None);
     };
     let Some(uri) = any_uri(alloc, without_blanks(uri))? else {
@@ -157,7 +161,7 @@ fn bracketed(alloc: Global, bytes: &[u8]) -> Result<Option<NameAddr>, AllocError
 fn read_name_addr(alloc: Global, value: &[u8]) -> Result<Option<NameAddr>, AllocError>
     ensures { IfOk result (λ found. found ≡ name_addr_of value.now) }
 {
-    let Some((display, rest)) = split_once(value, b'<') else {
+    let Some((display, rest)) = split_outside(value, b'<') else {
         return bare(alloc, value);
     };
     if !is_display_name(alloc, display)? {

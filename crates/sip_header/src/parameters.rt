@@ -1,14 +1,15 @@
-ghost use Rattle.std.specs.Prelude.{◌≡◌, ◌∷◌, ◌++◌, [], IfOk, OnOk, OnErr, option_map, is_some};
+ghost use Rattle.std.specs.Prelude.{◌≡◌, IfOk, option_map, is_some};
 ghost use Rattle.sip_text.specs.Escapes.{unquoted};
-ghost use Rattle.sip_header.specs.Cuts.{parts_behind};
+ghost use Rattle.sip_text.specs.Cuts.{parts_behind};
 ghost use Rattle.std.specs.Option.{option_copied};
 ghost use Rattle.sip_header.specs.Parameters.{is_value, needs_value, bare_parameter, valued_parameter, parameter_in, parameters_in, parameter_of, value_of, tag_of, branch_of};
 
-use crate::cuts::{first_part, split_once};
-use crate::hosts::is_host_text;
-use sip_text::{Bytes, TextError, is_token, same_no_case, unquote, without_blanks};
+use sip_text::{
+    Bytes, Items, TextError, first_part, is_token, same_no_case, split_outside, unquote,
+    without_blanks,
+};
+use sip_uri::is_host;
 use std::alloc::{AllocError, Global};
-use std::marker::Model;
 
 /// A header parameter: its name, and its value as it was written, quotes included.
 #[derive(Debug, Drop)]
@@ -17,83 +18,41 @@ pub struct Parameter {
     pub value: Option<Bytes>,
 }
 
-/// The header parameters of a value, in order.
-#[derive(Debug, Drop)]
-pub struct Parameters {
-    list: Vec<Parameter>,
+/// The first parameter of a name, which is compared without case.
+pub fn parameter_of<'a>(parameters: &'a [Parameter], name: &[u8]) -> Option<&'a Parameter>
+    ensures { option_copied result ≡ parameter_of name.now parameters.now }
+{
+    for parameter in parameters {
+        if same_no_case(parameter.name.as_slice(), name) {
+            return Some(parameter);
+        }
+    }
+    None
 }
 
-impl Model for Parameters {
-    ghost use Rattle.std.specs.Prelude.{List};
-    ghost use Rattle.sip_header.specs.declared.parameters.Parameter.{Parameter};
-
-    ghost Value = { List Parameter };
-
-    ghost view = { λ p. p.list.items };
+/// The value of the first parameter of a name, if it has one.
+pub fn value_of<'a>(parameters: &'a [Parameter], name: &[u8]) -> Option<&'a [u8]>
+    ensures { option_map (λ x. x.now) result ≡ value_of name.now parameters.now }
+{
+    let parameter = parameter_of(parameters, name)?;
+    match &parameter.value {
+        Some(value) => Some(value.as_slice()),
+        None => None,
+    }
 }
 
-impl Parameters {
-    /// No parameters.
-    pub fn new(alloc: Global) -> Self
-        ensures { result ≡ [] }
-    {
-        Parameters {
-            list: Vec::new(alloc),
-        }
-    }
+/// The tag, if there is one (RFC 3261 19.3).
+pub fn tag_of(parameters: &[Parameter]) -> Option<&[u8]>
+    ensures { option_map (λ x. x.now) result ≡ tag_of parameters.now }
+{
+    value_of(parameters, b"tag")
+}
 
-    /// Adds a parameter at the end.
-    pub fn push(&mut self, parameter: Parameter) -> Result<(), AllocError>
-        ensures ok { OnOk result (self.new ≡ self.old ++ parameter ∷ []) }
-        ensures err { OnErr result (self.new ≡ self.old) }
-    {
-        self.list.push(parameter)?;
-        Ok(())
-    }
-
-    /// The parameters.
-    pub fn as_slice(&self) -> &[Parameter]
-        ensures { result.now ≡ self.now }
-    {
-        self.list.as_slice()
-    }
-
-    /// The first parameter of a name, which is compared without case.
-    pub fn first(&self, name: &[u8]) -> Option<&Parameter>
-        ensures { option_copied result ≡ parameter_of name.now self.now }
-    {
-        for parameter in self.as_slice() {
-            if same_no_case(parameter.name.as_slice(), name) {
-                return Some(parameter);
-            }
-        }
-        None
-    }
-
-    /// The value of the first parameter of a name, if it has one.
-    pub fn value_of(&self, name: &[u8]) -> Option<&[u8]>
-        ensures { option_map (λ x. x.now) result ≡ value_of name.now self.now }
-    {
-        let parameter = self.first(name)?;
-        match &parameter.value {
-            Some(value) => Some(value.as_slice()),
-            None => None,
-        }
-    }
-
-    /// The tag, if there is one (RFC 3261 19.3).
-    pub fn tag(&self) -> Option<&[u8]>
-        ensures { option_map (λ x. x.now) result ≡ tag_of self.now }
-    {
-        self.value_of(b"tag")
-    }
-
-    /// The branch, if there is one (RFC 3261 8.1.1.7).
-    pub fn branch(&self) -> Option<&[u8]>
-        ensures { option_map (λ x. x.now) result ≡ branch_of self.now }
-    {
-        self.value_of(b"branch")
-    }
+/// The branch, if there is one (RFC 3261 8.1.1.7).
+pub fn branch_of(parameters: &[Parameter]) -> Option<&[u8]>
+    ensures { option_map (λ x. x.now) result ≡ branch_of parameters.now }
+{
+    value_of(parameters, b"branch")
 }
 
 /// Whether bytes are quoted text.
@@ -114,7 +73,7 @@ fn is_value_text(alloc: Global, bytes: &[u8]) -> Result<bool, AllocError>
     if is_token(bytes) {
         return Ok(true);
     }
-    if is_host_text(bytes) {
+    if is_host(bytes) {
         return Ok(true);
     }
     is_quoted(alloc, bytes)
@@ -158,7 +117,7 @@ fn with_value(alloc: Global, name: &[u8], value: &[u8]) -> Result<Option<Paramet
 fn parameter_from(alloc: Global, bytes: &[u8]) -> Result<Option<Parameter>, AllocError>
     ensures { IfOk result (λ parameter. parameter ≡ parameter_in bytes.now) }
 {
-    match split_once(bytes, b'=') {
+    match split_outside(bytes, b'=') {
         Some((name, value)) => with_value(alloc, without_blanks(name), without_blanks(value)),
         None => without_value(alloc, without_blanks(bytes)),
     }
@@ -168,10 +127,10 @@ fn parameter_from(alloc: Global, bytes: &[u8]) -> Result<Option<Parameter>, Allo
 pub(crate) fn parameters_from(
     alloc: Global,
     behind: Option<&[u8]>,
-) -> Result<Option<Parameters>, AllocError>
+) -> Result<Option<Items<Parameter>>, AllocError>
     ensures { IfOk result (λ parameters. parameters ≡ parameters_in (parts_behind 59 (option_map (λ x. x.now) behind.entry))) }
 {
-    let mut parameters = Parameters::new(alloc);
+    let mut parameters = Items::new(alloc);
     let mut behind = behind;
     while let Some(text) = behind {
         let (part, rest) = first_part(text, b';');

@@ -2,12 +2,13 @@ ghost use Rattle.std.specs.Prelude.{◌≡◌, IfOk};
 ghost use Rattle.sip_header.specs.Via.{sender_behind, versioned, sender_of, via_of};
 ghost use Rattle.sip_header.specs.Reading.{Reads};
 
-use crate::cuts::{first_part, split_once, split_word};
 use crate::error::HeaderError;
-use crate::hosts::{HostPort, host_port_from};
-use crate::parameters::{Parameters, parameters_from};
+use crate::parameters::{Parameter, parameters_from};
 use sip_message::FieldName;
-use sip_text::{Bytes, is_token, same_no_case, without_blanks};
+use sip_text::{
+    Bytes, Items, first_part, is_token, same_no_case, split_outside, split_word, without_blanks,
+};
+use sip_uri::host_port;
 use std::alloc::{AllocError, Global};
 
 /// What a Via says.
@@ -18,14 +19,15 @@ pub struct Via {
     pub host: Bytes,
     /// The port of sent-by, if there is one.
     pub port: Option<u16>,
-    pub parameters: Parameters,
+    pub parameters: Items<Parameter>,
 }
 
 /// A Via without its parameters.
 #[derive(Drop)]
 struct Sender {
     transport: Bytes,
-    sent_by: HostPort,
+    host: Bytes,
+    port: Option<u16>,
 }
 
 /// A transport, blanks and sent-by.
@@ -36,11 +38,16 @@ fn sender_behind(alloc: Global, bytes: &[u8]) -> Result<Option<Sender>, AllocErr
     if !is_token(transport) {
         return Ok(None);
     }
-    let Some(sent_by) = host_port_from(alloc, sent_by)? else {
+    let Some((host, port)) = host_port(sent_by) else {
         return Ok(None);
     };
     let transport = Bytes::copy(alloc, transport)?;
-    Ok(Some(Sender { transport, sent_by }))
+    let host = Bytes::copy(alloc, host)?;
+    Ok(Some(Sender {
+        transport,
+        host,
+        port,
+    }))
 }
 
 /// The same behind a protocol and its version.
@@ -65,10 +72,10 @@ fn versioned_sender(
 fn sender_from(alloc: Global, bytes: &[u8]) -> Result<Option<Sender>, AllocError>
     ensures { IfOk result (λ sender. sender ≡ sender_of bytes.now) }
 {
-    let Some((protocol, rest)) = split_once(bytes, b'/') else {
+    let Some((protocol, rest)) = split_outside(bytes, b'/') else {
         return Ok(None);
     };
-    let Some((version, rest)) = split_once(rest, b'/') else {
+    let Some((version, rest)) = split_outside(rest, b'/') else {
         return Ok(None);
     };
     versioned_sender(
@@ -90,8 +97,11 @@ pub(crate) fn read_via(alloc: Global, value: &[u8]) -> Result<Option<Via>, Alloc
     let Some(parameters) = parameters_from(alloc, behind)? else {
         return Ok(None);
     };
-    let Sender { transport, sent_by } = sender;
-    let HostPort { host, port } = sent_by;
+    let Sender {
+        transport,
+        host,
+        port,
+    } = sender;
     Ok(Some(Via {
         transport,
         host,

@@ -1,7 +1,7 @@
 -- Hops that rules name (this project's profile).
 use Rattle.std.specs.Prelude.{ℕ, List, find, Option, option_map}
 use Rattle.std.specs.Str.{bytes_eq}
-use Rattle.sip_hops.specs.declared.addr.Addr.{Addr}
+use Rattle.sip_text.specs.declared.addr.Addr.{Addr}
 use Rattle.sip_hops.specs.declared.hop.Hop.{Hop}
 
 -- the address of the hop of a name, byte by byte

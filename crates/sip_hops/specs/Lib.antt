@@ -1,4 +1,4 @@
-pub mod Addresses
+pub use Rattle.sip_text.specs.Addresses
 pub mod HostAddress
 pub mod Hop
 pub mod Examples

@@ -1,6 +1,7 @@
 -- What a REGISTER keeps of the bindings.
-use Rattle.std.proofs.Common.{◌≡◌, ◌≢◌, ℕ, ◌+◌, ◌*◌, ◌<◌, ◌≤◌, List, [], ◌∷◌, ◌++◌, length, cond, eqb, ltb, Bool, true, false, append-nil, refl, sym, ◌∙◌, ap, subst, arith, Ok, Err}
+use Rattle.std.proofs.Common.{◌≡◌, ◌≢◌, ℕ, ◌<◌, ◌≤◌, List, [], ◌∷◌, ◌++◌, length, cond, eqb, ltb, Bool, true, false, append-nil, refl, sym, ◌∙◌, ap, subst, arith, Option, Some, None, Ok, Err}
 use Rattle.std.specs.Prelude.{filter, All, ◌&&◌, not}
+use Rattle.std.specs.Option.{option_map_or}
 use Rattle.std.specs.List.{AllByRecursion}
 use Rattle.std.specs.Str.{bytes_eq}
 use Rattle.std.proofs.lemmas.Bool.Decides.{nat_tests}
@@ -10,13 +11,14 @@ use Rattle.sip_uri.specs.declared.aor.Aor.{Aor}
 use Rattle.sip_uri.specs.declared.uri.Uri.{Uri}
 use Rattle.sip_uri.specs.Aor.{is_same_aor}
 use Rattle.sip_uri.specs.Equality.{same}
+use Rattle.sip_header.specs.declared.contact_item.ContactItem.{ContactItem}
+use Rattle.sip_header.specs.declared.contact_item.ContactItem.TheVariants.{Star, Address}
+use Rattle.sip_header.specs.NameAddr.{sip_uri}
 use Rattle.sip_location.specs.declared.binding.Binding.{Binding}
 use Rattle.sip_location.specs.declared.error.LocationError.TheVariants.{BadStar, TooBrief, OldCSeq, TooMany}
-use Rattle.sip_location.specs.declared.registration.Asked.{Asked}
-use Rattle.sip_location.specs.declared.registration.Asked.TheVariants.{Star, Contact}
 use Rattle.sip_location.specs.declared.registration.Registration.{Registration}
 use Rattle.sip_location.specs.Binding.{is_live, is_of, live, of_others, without_contact, put}
-use Rattle.sip_location.specs.Registration.{has_bad_star, is_too_brief, has_old_cseq, seconds_for, bound, after_contact, after_contacts, edited, updated, asks_nothing, registered}
+use Rattle.sip_location.specs.Registration.{has_bad_star, is_too_brief, has_old_cseq, seconds_for, bound, after_uri, after_contact, after_contacts, edited, updated, asks_nothing, registered}
 use Rattle.sip_location.proofs.Filters.{all_filtered, all_weaker, each_passes, filter-all, filter-none, filter-wider}
 
 -- ---- addresses of record
@@ -48,7 +50,7 @@ IsLiveOf aor now b = (is_of aor b && is_live now b) ≡ true
 
 bound_lives : (r : Registration) (now : ℕ) (uri : Uri) (seconds : ℕ) → eqb seconds 0 ≡ false → IsLiveOf r.aor now (bound r now uri seconds)
 bound_lives r now uri seconds some =
-    let later : ltb now (now + 1000 * seconds) ≡ true = grind (arith, nat_tests) in
+    let later : is_live now (bound r now uri seconds) ≡ true = grind (arith, nat_tests) in
     rw (same_itself r.aor) later
 
 put_lives : (P : Binding → Type 0) (b : Binding) (bs : List Binding) → P b → AllByRecursion P bs → AllByRecursion P (put b bs)
@@ -59,17 +61,21 @@ put_lives P b (first ∷ bs) new h =
       | false ↦ (h.0, put_lives P b bs new h.1)
     ]
 
-after_contact_lives : (r : Registration) (now : ℕ) (contact : Asked) (bs : List Binding) → AllByRecursion (IsLiveOf r.aor now) bs → AllByRecursion (IsLiveOf r.aor now) (after_contact r now contact bs)
-after_contact_lives r now Star bs h = tt
-after_contact_lives r now (Contact uri interval) bs h = by_test (seconds_for interval r.expires) where
-  by_test : (seconds : ℕ) → AllByRecursion (IsLiveOf r.aor now) (cond (eqb seconds 0) (without_contact uri bs) (put (bound r now uri seconds) bs))
-  by_test seconds =
-      elim (eqb seconds 0) as (λ t. eqb seconds 0 ≡ t → AllByRecursion (IsLiveOf r.aor now) (cond t (without_contact uri bs) (put (bound r now uri seconds) bs))) [
-        | true ↦ (λ e. all_filtered (IsLiveOf r.aor now) (λ x. not (same x.uri uri)) bs h)
-        | false ↦ (λ e. put_lives (IsLiveOf r.aor now) (bound r now uri seconds) bs (bound_lives r now uri seconds e) h)
-      ] refl
+after_uri_lives : (r : Registration) (now seconds : ℕ) (bs : List Binding) (uri : Uri) → AllByRecursion (IsLiveOf r.aor now) bs → AllByRecursion (IsLiveOf r.aor now) (after_uri r now seconds bs uri)
+after_uri_lives r now seconds bs uri h =
+    elim (eqb seconds 0) as (λ t. eqb seconds 0 ≡ t → AllByRecursion (IsLiveOf r.aor now) (cond t (without_contact uri bs) (put (bound r now uri seconds) bs))) [
+      | true ↦ (λ e. all_filtered (IsLiveOf r.aor now) (λ x. not (same x.uri uri)) bs h)
+      | false ↦ (λ e. put_lives (IsLiveOf r.aor now) (bound r now uri seconds) bs (bound_lives r now uri seconds e) h)
+    ] refl
 
-after_contacts_lives : (r : Registration) (now : ℕ) (contacts : List Asked) (bs : List Binding) → AllByRecursion (IsLiveOf r.aor now) bs → AllByRecursion (IsLiveOf r.aor now) (after_contacts r now contacts bs)
+after_contact_lives : (r : Registration) (now : ℕ) (contact : ContactItem) (bs : List Binding) → AllByRecursion (IsLiveOf r.aor now) bs → AllByRecursion (IsLiveOf r.aor now) (after_contact r now contact bs)
+after_contact_lives r now Star bs h = tt
+after_contact_lives r now (Address address) bs h = by_uri (seconds_for (Address address) r.expires) (sip_uri address.uri) where
+  by_uri : (seconds : ℕ) (uri : Option Uri) → AllByRecursion (IsLiveOf r.aor now) (option_map_or (after_uri r now seconds bs) uri bs)
+  by_uri seconds None = h
+  by_uri seconds (Some uri) = after_uri_lives r now seconds bs uri h
+
+after_contacts_lives : (r : Registration) (now : ℕ) (contacts : List ContactItem) (bs : List Binding) → AllByRecursion (IsLiveOf r.aor now) bs → AllByRecursion (IsLiveOf r.aor now) (after_contacts r now contacts bs)
 after_contacts_lives r now [] bs h = h
 after_contacts_lives r now (contact ∷ others) bs h = after_contacts_lives r now others (after_contact r now contact bs) (after_contact_lives r now contact bs h)
 
@@ -117,7 +123,7 @@ updated_elsewhere rows after r now moment other h unlike =
 -- what holds after a query and after an update holds after each
 after_either : (rows after : List Binding) (r : Registration) (now : ℕ) (P : List Binding → Type 0) → (r.contacts ≡ [] → P rows) → (IsUpdated rows r now after → P after) → registered rows r now ≡ Ok after → P after
 after_either rows after r now P query update e = by_contacts r.contacts refl e where
-  by_contacts : (contacts : List Asked) → r.contacts ≡ contacts → cond (asks_nothing contacts) (Ok rows) (updated rows r now) ≡ Ok after → P after
+  by_contacts : (contacts : List ContactItem) → r.contacts ≡ contacts → cond (asks_nothing contacts) (Ok rows) (updated rows r now) ≡ Ok after → P after
   by_contacts [] is e = let same : rows ≡ after = cc in subst P same (query is)
   by_contacts (contact ∷ others) is e = update (updated_is rows after r now e)
 

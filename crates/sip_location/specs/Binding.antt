@@ -1,5 +1,5 @@
 -- Bindings of addresses of record to contacts (RFC 3261 10.3).
-use Rattle.std.specs.Prelude.{ℕ, ◌+◌, ◌-◌, ◌/◌, Bool, ◌&&◌, not, nat_lt, List, [], ◌∷◌, filter, if◌then◌else◌}
+use Rattle.std.specs.Prelude.{ℕ, ◌+◌, ◌-◌, ◌/◌, Bool, ◌&&◌, not, nat_lt, List, [], ◌∷◌, map, filter, if◌then◌else◌}
 use Rattle.sip_uri.specs.declared.aor.Aor.{Aor}
 use Rattle.sip_uri.specs.declared.uri.Uri.{Uri}
 use Rattle.sip_uri.specs.Aor.{is_same_aor}
@@ -17,6 +17,10 @@ is_of aor b = is_same_aor b.aor aor
 -- the live bindings of an address of record, in their order
 abbrev pub live : Aor → ℕ → List Binding → List Binding
 live aor now rows = filter (λ b. is_of aor b && is_live now b) rows
+
+-- the contacts of the live bindings of an address of record, in their order
+abbrev pub contacts_of : List Binding → ℕ → Aor → List Uri
+contacts_of rows now aor = map (λ b. b.uri) (live aor now rows)
 
 -- the bindings of every other address of record, live or not
 abbrev pub of_others : Aor → List Binding → List Binding

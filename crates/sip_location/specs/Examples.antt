@@ -1,17 +1,17 @@
 -- Bindings and registrations of the worked examples.
-use Rattle.std.specs.Prelude.{ℕ, List, [], ◌∷◌, map, codes, Result}
+use Rattle.std.specs.Prelude.{ℕ, List, [], ◌∷◌, map, codes, Some, Result}
 use Rattle.std.specs.Result.{result_map_both}
 use Rattle.sip_uri.specs.declared.aor.Aor.{Aor}
 use Rattle.sip_uri.specs.declared.uri.Uri.{Uri}
 use Rattle.sip_uri.specs.Examples.{user_at, bob, carol_secured, carol_unsecured}
+use Rattle.sip_header.specs.declared.expires.Expires.TheVariants.{Absent, Seconds}
+use Rattle.sip_header.specs.declared.name_addr.AnyUri.TheVariants.{Sip, Other}
+use Rattle.sip_header.specs.declared.contact_item.ContactItem.{ContactItem}
+use Rattle.sip_header.specs.declared.contact_item.ContactItem.TheVariants.{Star, Address}
 use Rattle.sip_location.specs.declared.binding.Binding.{Binding}
 use Rattle.sip_location.specs.declared.error.LocationError.{LocationError}
-use Rattle.sip_location.specs.declared.registration.Asked.{Asked}
-use Rattle.sip_location.specs.declared.registration.Asked.TheVariants.{Star, Contact}
-use Rattle.sip_location.specs.declared.registration.Interval.{Interval}
-use Rattle.sip_location.specs.declared.registration.Interval.TheVariants.{Absent, Seconds}
 use Rattle.sip_location.specs.declared.registration.Registration.{Registration}
-use Rattle.sip_location.specs.Binding.{live, seconds_left}
+use Rattle.sip_location.specs.Binding.{live, contacts_of, seconds_left}
 use Rattle.sip_location.specs.Registration.{registered}
 
 -- the address of record Mufasa@host.com
@@ -43,20 +43,24 @@ two_bindings =
     ∷ []
 
 -- what a REGISTER for Mufasa's address of record asks, without Expires
-abbrev pub asking : List ℕ → ℕ → List Asked → Registration
+abbrev pub asking : List ℕ → ℕ → List ContactItem → Registration
 asking call_id cseq contacts = record { aor = mufasa; contacts = contacts; expires = Absent; call_id = call_id; cseq = cseq }
 
--- a contact without an `expires` parameter
-abbrev pub contact_alone : Uri → Asked
-contact_alone uri = Contact uri Absent
+-- a contact without parameters
+abbrev pub contact_alone : Uri → ContactItem
+contact_alone uri = Address (record { uri = Sip uri; parameters = [] })
 
--- a contact whose `expires` parameter says this
-abbrev pub contact_for : Interval → Asked
-contact_for expires = Contact first_contact expires
+-- a contact whose `expires` parameter has this value
+abbrev pub contact_for : List ℕ → ContactItem
+contact_for value = Address (record { uri = Sip first_contact; parameters = record { name = codes "expires"; value = Some value } ∷ [] })
+
+-- a contact of another scheme for 30 seconds
+abbrev pub other_contact : ContactItem
+other_contact = Address (record { uri = Other (codes "tel:+1"); parameters = record { name = codes "expires"; value = Some (codes "30") } ∷ [] })
 
 -- the contacts of Mufasa's live bindings after a REGISTER at 1,000
 abbrev pub contacts_after : List Binding → Registration → Result (List Uri) LocationError
-contacts_after rows r = result_map_both (λ after. map (λ b. b.uri) (live mufasa 1000 after)) (λ e. e) (registered rows r 1000)
+contacts_after rows r = result_map_both (λ after. contacts_of after 1000 mufasa) (λ e. e) (registered rows r 1000)
 
 -- the seconds that each of these has left
 abbrev pub seconds_after : List Binding → Registration → Result (List ℕ) LocationError

@@ -3,3 +3,4 @@ pub mod Interval
 pub mod Registration
 pub mod Examples
 pub mod LocationError
+pub mod Registering

@@ -1,15 +1,18 @@
 -- What a REGISTER makes of the bindings (RFC 3261 10.3 steps 6 to 8).
-use Rattle.std.specs.Prelude.{ℕ, ◌+◌, ◌*◌, Bool, true, false, ◌&&◌, ◌==◌, not, nat_lt, nat_le, List, [], ◌∷◌, ◌++◌, length, Result, Ok, Err, if◌then◌else◌}
+use Rattle.std.specs.Prelude.{ℕ, ◌+◌, ◌*◌, Bool, true, false, ◌&&◌, ◌==◌, not, nat_lt, nat_le, is_some, List, [], ◌∷◌, ◌++◌, length, Result, Ok, Err, if◌then◌else◌}
+use Rattle.std.specs.Option.{option_map_or}
 use Rattle.std.specs.List.{list_any}
 use Rattle.std.specs.Str.{bytes_eq}
 use Rattle.sip_uri.specs.declared.uri.Uri.{Uri}
 use Rattle.sip_uri.specs.Equality.{same}
+use Rattle.sip_header.specs.declared.expires.Expires.{Expires}
+use Rattle.sip_header.specs.declared.contact_item.ContactItem.{ContactItem}
+use Rattle.sip_header.specs.declared.contact_item.ContactItem.TheVariants.{Star, Address}
+use Rattle.sip_header.specs.NameAddr.{sip_uri}
+use Rattle.sip_header.specs.Expires.{contact_expires}
 use Rattle.sip_location.specs.declared.binding.Binding.{Binding}
 use Rattle.sip_location.specs.declared.error.LocationError.{LocationError}
 use Rattle.sip_location.specs.declared.error.LocationError.TheVariants.{BadStar, TooBrief, OldCSeq, TooMany}
-use Rattle.sip_location.specs.declared.registration.Asked.{Asked}
-use Rattle.sip_location.specs.declared.registration.Asked.TheVariants.{Star, Contact}
-use Rattle.sip_location.specs.declared.registration.Interval.{Interval}
 use Rattle.sip_location.specs.declared.registration.Registration.{Registration}
 use Rattle.sip_location.specs.Binding.{live, of_others, without_contact, put}
 use Rattle.sip_location.specs.Interval.{own_or, granted, is_brief, is_zero}
@@ -17,12 +20,12 @@ use Rattle.sip_location.specs.Interval.{own_or, granted, is_brief, is_zero}
 -- ---- the refusals, in their order
 
 -- whether a Contact is `*`
-abbrev pub is_star : Asked → Bool
+abbrev pub is_star : ContactItem → Bool
 is_star Star = true
-is_star (Contact uri interval) = false
+is_star (Address address) = false
 
 -- whether there is one Contact alone
-abbrev pub is_alone : List Asked → Bool
+abbrev pub is_alone : List ContactItem → Bool
 is_alone [] = false
 is_alone (contact ∷ []) = true
 is_alone (contact ∷ next ∷ others) = false
@@ -31,23 +34,23 @@ is_alone (contact ∷ next ∷ others) = false
 abbrev pub has_bad_star : Registration → Bool
 has_bad_star r = list_any is_star r.contacts && not (is_alone r.contacts && is_zero r.expires)
 
--- the seconds for which a contact is bound
-abbrev pub seconds_for : Interval → Interval → ℕ
-seconds_for own expires = granted (own_or own expires)
+-- the seconds for which a contact is bound: by its own `expires`, else by the request's Expires
+abbrev pub seconds_for : ContactItem → Expires → ℕ
+seconds_for contact expires = granted (own_or (contact_expires contact) expires)
 
--- whether a contact asks for less than a minute, and for no removal
-abbrev pub asks_briefly : Interval → Asked → Bool
+-- Whether a contact asks for less than a minute, and for no removal. One of another scheme than `sip` and `sips` asks for nothing.
+abbrev pub asks_briefly : Expires → ContactItem → Bool
 asks_briefly expires Star = false
-asks_briefly expires (Contact uri interval) = is_brief (seconds_for interval expires)
+asks_briefly expires (Address address) = is_some (sip_uri address.uri) && is_brief (seconds_for (Address address) expires)
 
 -- some contact asks for less than a minute (RFC 3261 10.3 step 7)
 abbrev pub is_too_brief : Registration → Bool
 is_too_brief r = list_any (asks_briefly r.expires) r.contacts
 
 -- whether a contact speaks of a binding: `*` of each, another one of those whose contact is equal (RFC 3261 19.1.4)
-abbrev pub speaks_of : Binding → Asked → Bool
+abbrev pub speaks_of : Binding → ContactItem → Bool
 speaks_of b Star = true
-speaks_of b (Contact uri interval) = same b.uri uri
+speaks_of b (Address address) = option_map_or (same b.uri) (sip_uri address.uri) false
 
 -- a binding that was made in the same Call-ID, by a CSeq not below the request's, and of which a contact speaks
 abbrev pub is_newer : Registration → Binding → Bool
@@ -63,15 +66,18 @@ has_old_cseq r bindings = list_any (is_newer r) bindings
 abbrev pub bound : Registration → ℕ → Uri → ℕ → Binding
 bound r now uri seconds = record { aor = r.aor; uri = uri; call_id = r.call_id; cseq = r.cseq; expires_at = now + 1000 * seconds }
 
--- The live bindings of an address of record after one contact: `*` removes all, an interval of 0 those that are equal (RFC 3261 10.3 steps 6 and 7).
-abbrev pub after_contact : Registration → ℕ → Asked → List Binding → List Binding
+-- the live bindings of an address of record after a URI is bound to it for some seconds, or the equal ones are removed by 0 (RFC 3261 10.3 step 7)
+abbrev pub after_uri : Registration → ℕ → ℕ → List Binding → Uri → List Binding
+after_uri r now seconds bindings uri = if seconds == 0 then without_contact uri bindings else put (bound r now uri seconds) bindings
+
+-- after one contact: `*` removes all (RFC 3261 10.3 step 6), and one of another scheme leaves them as they are
+abbrev pub after_contact : Registration → ℕ → ContactItem → List Binding → List Binding
 after_contact r now Star bindings = []
-after_contact r now (Contact uri interval) bindings =
-    let seconds = seconds_for interval r.expires in
-    if seconds == 0 then without_contact uri bindings else put (bound r now uri seconds) bindings
+after_contact r now (Address address) bindings =
+    option_map_or (after_uri r now (seconds_for (Address address) r.expires) bindings) (sip_uri address.uri) bindings
 
 -- after all contacts, in their order
-abbrev pub after_contacts : Registration → ℕ → List Asked → List Binding → List Binding
+abbrev pub after_contacts : Registration → ℕ → List ContactItem → List Binding → List Binding
 after_contacts r now [] bindings = bindings
 after_contacts r now (contact ∷ others) bindings = after_contacts r now others (after_contact r now contact bindings)
 
@@ -89,7 +95,7 @@ updated rows r now =
     else Ok (of_others r.aor rows ++ edited rows r now)
 
 -- whether there is no Contact: a query (RFC 3261 10.2.3)
-abbrev pub asks_nothing : List Asked → Bool
+abbrev pub asks_nothing : List ContactItem → Bool
 asks_nothing [] = true
 asks_nothing (contact ∷ others) = false
 

@@ -22,9 +22,9 @@ pub enum LocationError {
 
 impl fmt::Display for LocationError {
     ghost use Rattle.std.specs.Prelude.{Some};
-    ghost use Rattle.sip_location.specs.LocationError.{message_of};
+    ghost use Rattle.sip_location.specs.LocationError.{words_of};
 
-    ghost output = { λ e. Some (message_of e) };
+    ghost output = { λ e. Some (words_of e) };
 
     fn fmt<W: fmt::Write>(&self, f: &mut fmt::Formatter<W>) -> fmt::Result {
         match self {

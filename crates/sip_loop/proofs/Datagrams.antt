@@ -8,7 +8,7 @@ use Rattle.std.proofs.lemmas.Grind.{flat_map-append}
 use Rattle.std.proofs.lemmas.List.Folds.{list_any-append}
 use Rattle.std.proofs.lemmas.List.Elements.{All-push}
 use Rattle.std.proofs.lemmas.Slice.Eq.{bytes_eq-Decides}
-use Rattle.sip_model.specs.declared.event.Event.{Event}
+use Rattle.sip_event.specs.declared.event.Event.{Event}
 use Rattle.sip_loop.specs.declared.script.DatagramHead.{DatagramHead}
 use Rattle.sip_loop.specs.declared.script.Line.TheVariants.{Head, Whole}
 use Rattle.sip_loop.specs.Script.{line_of, unstuffed, datagram_at}

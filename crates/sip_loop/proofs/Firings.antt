@@ -6,7 +6,7 @@ use Rattle.std.proofs.Math.Nat.{max-eq_right}
 use Rattle.std.proofs.lemmas.List.Sums.{sum_by-cons}
 use Rattle.std.proofs.lemmas.Option.{slice_get_within}
 use Rattle.std.proofs.lemmas.List.Edits.{length-remove}
-use Rattle.sip_engine.specs.declared.step.StepOut.{StepOut}
+use Rattle.sip_event.specs.declared.event.StepOut.{StepOut}
 use Rattle.sip_engine.specs.declared.requests.OpenRequest.{OpenRequest}
 use Rattle.sip_engine.specs.Requests.{closing_before, closing_by, IsNextDeadline}
 use Rattle.sip_engine.specs.State.{NothingDueBy, ProxyState, Server, IsFiring, IsQuiet, moment_of}

@@ -1,5 +1,4 @@
 pub mod Datagrams
-pub mod Digits
 pub mod Firings
 pub mod Keeping
 pub mod LineEnds

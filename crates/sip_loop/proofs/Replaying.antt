@@ -2,9 +2,9 @@
 use Rattle.std.proofs.Common.{◌≡◌, ℕ, max, List, [], ◌∷◌, ◌++◌, Option, None, Some, IfSome, refl, sym, ◌∙◌, ap, subst, append-nil}
 use Rattle.std.specs.Io.KnownBytes.{Appends, Consumes, Keeps, IsAtEnd, prepend_known}
 use Rattle.std.proofs.KnownBytes.{Appends-nil, Appends-trans, Consumes-nil, Consumes-trans}
-use Rattle.sip_engine.specs.declared.config.Config.{Config}
-use Rattle.sip_model.specs.declared.event.Event.{Event}
-use Rattle.sip_engine.specs.declared.step.StepOut.{StepOut}
+use Rattle.sip_settings.specs.declared.config.Config.{Config}
+use Rattle.sip_event.specs.declared.event.Event.{Event}
+use Rattle.sip_event.specs.declared.event.StepOut.{StepOut}
 use Rattle.sip_engine.specs.State.{Server, NothingDueBy, IsFiring}
 use Rattle.sip_loop.specs.Print.{step_text}
 use Rattle.sip_loop.specs.Steps.{at_of_event, IsOwnStep}

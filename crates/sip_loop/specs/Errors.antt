@@ -2,8 +2,8 @@
 use Rattle.std.specs.Prelude.{ℕ}
 use Rattle.sip_engine.specs.declared.error.StepError.{StepError}
 use Rattle.sip_engine.specs.declared.error.StepError.TheVariants as step_errors
-use Rattle.sip_loop.specs.declared.fault.Fault.{Fault}
-use Rattle.sip_loop.specs.declared.fault.Fault.TheVariants as faults
+use Rattle.sip_loop.specs.declared.stop.Stop.{Stop}
+use Rattle.sip_loop.specs.declared.stop.Stop.TheVariants as stops
 use Rattle.sip_loop.specs.declared.error.ReplayError.{ReplayError}
 use Rattle.sip_loop.specs.declared.error.ReplayError.TheVariants.{NoMemory, Script, Read, Write}
 
@@ -15,15 +15,15 @@ number_of_error Read = 3
 number_of_error Write = 4
 
 -- the refusal of the event that begins with a line
-abbrev pub error_at : Fault → ℕ → ReplayError
-error_at faults.NoMemory line = NoMemory
-error_at faults.Script line = Script line
-error_at faults.Read line = Read
-error_at faults.Write line = Write
+abbrev pub error_at : Stop → ℕ → ReplayError
+error_at stops.NoMemory line = NoMemory
+error_at stops.Script line = Script line
+error_at stops.Read line = Read
+error_at stops.Write line = Write
 
 -- want of memory stays that; any other refusal of a step is the script's
-abbrev pub fault_of_step : StepError → Fault
-fault_of_step step_errors.NoMemory = faults.NoMemory
-fault_of_step step_errors.MomentTooLarge = faults.Script
-fault_of_step step_errors.Shut = faults.Script
-fault_of_step step_errors.Worn = faults.Script
+abbrev pub stop_of_step : StepError → Stop
+stop_of_step step_errors.NoMemory = stops.NoMemory
+stop_of_step step_errors.MomentTooLarge = stops.Script
+stop_of_step step_errors.Shut = stops.Script
+stop_of_step step_errors.Worn = stops.Script

@@ -3,7 +3,7 @@ use Rattle.std.specs.Prelude.{◌≡◌, ◌<◌, ◌⊎◌, ℕ, Bool, false, L
 use Rattle.std.specs.List.{flat_map, list_any}
 use Rattle.std.specs.Str.{bytes_eq}
 use Rattle.std.specs.Io.KnownBytes.{Consumes}
-use Rattle.sip_model.specs.declared.event.Event.{Event}
+use Rattle.sip_event.specs.declared.event.Event.{Event}
 use Rattle.sip_loop.specs.declared.script.DatagramHead.{DatagramHead}
 use Rattle.sip_loop.specs.declared.script.Line.TheVariants.{Head, Whole}
 use Rattle.sip_loop.specs.Lines.{Reading, IsLine, pending, left}

@@ -2,8 +2,6 @@ pub mod Errors
 pub mod Events
 pub mod Lines
 pub mod Print
-pub mod Numbers
 pub mod Replays
 pub mod Script
 pub mod Steps
-pub mod Sample

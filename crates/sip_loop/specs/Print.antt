@@ -1,14 +1,9 @@
 -- How the packets of a step are printed.
 use Rattle.std.specs.Prelude.{ℕ, Bool, true, false, List, ◌++◌, length, decimal, codes}
 use Rattle.std.specs.List.{flat_map}
-use Rattle.sip_hops.specs.Addresses.{ip_text}
-use Rattle.sip_hops.specs.declared.addr.Addr.{Addr}
-use Rattle.sip_model.specs.declared.packet.Packet.{Packet}
-use Rattle.sip_engine.specs.declared.step.StepOut.{StepOut}
-
--- IP:PORT
-abbrev pub addr_text : Addr → List ℕ
-addr_text a = ip_text a.ip ++ codes ":" ++ decimal a.port
+use Rattle.sip_text.specs.Addresses.{addr_text}
+use Rattle.sip_event.specs.declared.packet.Packet.{Packet}
+use Rattle.sip_event.specs.declared.event.StepOut.{StepOut}
 
 abbrev pub mark_of : Bool → List ℕ
 mark_of true = codes " again"

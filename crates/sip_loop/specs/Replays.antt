@@ -1,13 +1,14 @@
 -- A whole replay: the script's events one after the other, and what is printed.
 use Rattle.std.specs.Prelude.{◌≡◌, ℕ, max, false, List, [], ◌∷◌, ◌++◌, Option, IfSome}
 use Rattle.std.specs.Io.KnownBytes.{Appends}
-use Rattle.sip_engine.specs.declared.config.Config.{Config}
-use Rattle.sip_model.specs.declared.event.Event.{Event}
-use Rattle.sip_engine.specs.declared.step.StepOut.{StepOut}
+use Rattle.sip_settings.specs.declared.config.Config.{Config}
+use Rattle.sip_event.specs.declared.event.Event.{Event}
+use Rattle.sip_event.specs.declared.event.StepOut.{StepOut}
 use Rattle.sip_engine.specs.State.{Server, NothingDueBy, IsFiring}
 use Rattle.sip_loop.specs.Print.{step_text}
 use Rattle.sip_loop.specs.Steps.{at_of_event, IsOwnStep}
-use Rattle.sip_loop.specs.Events.{SaysEvent}
+use Rattle.sip_loop.specs.Lines.{Reading}
+use Rattle.sip_loop.specs.Events.{SaysEvent, GivesEvent}
 
 -- a timer's step: what it hands out, and the server after it
 pub record Firing : Type 0 where
@@ -103,3 +104,9 @@ pub record Takes (event : Event) (old new : Server) (greatest now : ℕ) (before
   pub is_turn : IsTurn old now turn
   pub reaches : new ≡ turn.after
   pub written : Appends before after (turn_text turn)
+
+-- the turn of the next event of the script
+pub record TakesNext (part rest : Reading) (middle after : Option (List ℕ)) (old new : Server) (greatest now : ℕ) (half written : Option (List ℕ)) : Type 0 where
+  pub event : Event
+  pub gives : GivesEvent part rest middle after event
+  pub takes : Takes event old new greatest now half written

@@ -1,45 +1,33 @@
 -- What the lines of a script say.
-use Rattle.std.specs.Prelude.{ℕ, ◌^◌, ◌==◌, ◌&&◌, nat_lt, Option, Some, None, List, [], ◌∷◌, length, slice_index, drop, codes, if◌then◌else◌}
+use Rattle.std.specs.Prelude.{ℕ, ◌^◌, ◌==◌, ◌&&◌, nat_lt, Option, Some, None, List, length, slice_index, drop, codes, if◌then◌else◌}
 use Rattle.std.specs.Str.{bytes_eq}
-use Rattle.sip_hops.specs.declared.addr.Addr.{Addr}
-use Rattle.sip_model.specs.declared.packet.Ticket.{Ticket}
-use Rattle.sip_model.specs.declared.event.Event.{Event}
-use Rattle.sip_model.specs.declared.event.Event.TheVariants.{Datagram, Time, Fault}
+use Rattle.sip_event.specs.declared.packet.Ticket.{Ticket}
+use Rattle.sip_event.specs.declared.event.Event.{Event}
+use Rattle.sip_event.specs.declared.event.Event.TheVariants.{Datagram, Time, Fault}
 use Rattle.sip_loop.specs.declared.script.DatagramHead.{DatagramHead}
 use Rattle.sip_loop.specs.declared.script.Line.{Line}
 use Rattle.sip_loop.specs.declared.script.Line.TheVariants.{Head, Whole}
-use Rattle.sip_loop.specs.Numbers.{◌>>=◌, cut_at, number_of, number_below, port_of, word_of, bytes_of}
+use Rattle.sip_text.specs.Addresses.{addr_of}
+use Rattle.sip_text.specs.Numbers.{plain_decimal_of, plain_decimal_below, hex_bytes_of}
+use Rattle.sip_digest.specs.NonceText.{word_of}
+use Rattle.sip_text.specs.Splits.{split_at_byte}
+
+-- the second step, if the first gave a value
+infixl 10 ◌>>=◌
+abbrev pub ◌>>=◌ : {A B : Type 0} → Option A → (A → Option B) → Option B
+None >>= f = None
+(Some x) >>= f = f x
 
 -- a moment in milliseconds: the server takes those below 2 ^ 62
 abbrev pub at_of : List ℕ → Option ℕ
-at_of text = number_below (2 ^ 62) text
-
--- four numbers up to 255, between dots
-abbrev pub ip_of : List ℕ → Option (List ℕ)
-ip_of text = do
-  a ← cut_at 46 text
-  b ← cut_at 46 a.1
-  c ← cut_at 46 b.1
-  first ← number_below 256 a.0
-  second ← number_below 256 b.0
-  third ← number_below 256 c.0
-  fourth ← number_below 256 c.1
-  Some (first ∷ second ∷ third ∷ fourth ∷ [])
-
--- IP:PORT
-abbrev pub addr_of : List ℕ → Option Addr
-addr_of text = do
-  parts ← cut_at 58 text
-  ip ← ip_of parts.0
-  port ← port_of parts.1
-  Some (record { ip = ip; port = port })
+at_of text = plain_decimal_below (2 ^ 62) text
 
 -- D/K: a datagram's number below 2 ^ 64, and a branch's below 2 ^ 32
 abbrev pub ticket_of : List ℕ → Option Ticket
 ticket_of text = do
-  parts ← cut_at 47 text
-  number ← number_of parts.0
-  branch ← number_below (2 ^ 32) parts.1
+  parts ← split_at_byte 47 text
+  number ← plain_decimal_of parts.0
+  branch ← plain_decimal_below (2 ^ 32) parts.1
   Some (record { «datagram» = number; branch = branch })
 
 -- AT, IP:PORT and WORD
@@ -57,23 +45,23 @@ datagram_at head bytes = Datagram head.at head.word head.from bytes
 -- what stands behind the word `datagram`, `hex`, `time` or `fault` and its space
 abbrev pub datagram_line : List ℕ → Option Line
 datagram_line text = do
-  a ← cut_at 32 text
-  b ← cut_at 32 a.1
+  a ← split_at_byte 32 text
+  b ← split_at_byte 32 a.1
   head ← head_of a.0 b.0 b.1
   Some (Head head)
 
 abbrev pub hex_parts : List ℕ → Option (DatagramHead × List ℕ)
 hex_parts text = do
-  a ← cut_at 32 text
-  b ← cut_at 32 a.1
-  c ← cut_at 32 b.1
+  a ← split_at_byte 32 text
+  b ← split_at_byte 32 a.1
+  c ← split_at_byte 32 b.1
   head ← head_of a.0 b.0 c.0
   Some (head, c.1)
 
 abbrev pub hex_line : List ℕ → Option Line
 hex_line text = do
   parts ← hex_parts text
-  bytes ← bytes_of parts.1
+  bytes ← hex_bytes_of parts.1
   Some (Whole (datagram_at parts.0 bytes))
 
 abbrev pub time_line : List ℕ → Option Line
@@ -83,7 +71,7 @@ time_line text = do
 
 abbrev pub fault_line : List ℕ → Option Line
 fault_line text = do
-  a ← cut_at 32 text
+  a ← split_at_byte 32 text
   moment ← at_of a.0
   ticket ← ticket_of a.1
   Some (Whole (Fault moment ticket))
@@ -99,7 +87,7 @@ line_of_kind kind rest =
 -- an event's first line: `datagram AT IP:PORT WORD`, `hex AT IP:PORT WORD DIGITS`, `time AT` or `fault AT D/K` (this project's profile)
 abbrev pub line_of : List ℕ → Option Line
 line_of text = do
-  parts ← cut_at 32 text
+  parts ← split_at_byte 32 text
   line_of_kind parts.0 parts.1
 
 -- a line of a datagram: one `.` is dropped from one that begins with it

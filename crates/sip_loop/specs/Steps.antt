@@ -1,8 +1,8 @@
 -- The steps of a script.
 use Rattle.std.specs.Prelude.{ℕ}
-use Rattle.sip_model.specs.declared.event.Event.{Event}
-use Rattle.sip_model.specs.declared.event.Event.TheVariants.{Datagram, Time, Fault}
-use Rattle.sip_engine.specs.declared.step.StepOut.{StepOut}
+use Rattle.sip_event.specs.declared.event.Event.{Event}
+use Rattle.sip_event.specs.declared.event.Event.TheVariants.{Datagram, Time, Fault}
+use Rattle.sip_event.specs.declared.event.StepOut.{StepOut}
 use Rattle.sip_engine.specs.State.{Server, IsDelivery, IsQuiet}
 
 -- the moment of an event

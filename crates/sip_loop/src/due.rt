@@ -2,8 +2,8 @@ ghost use Rattle.std.specs.Prelude.{◌≡◌, ◌≤◌, OnOk};
 ghost use Rattle.sip_engine.specs.State.{NothingDueBy};
 ghost use Rattle.sip_loop.specs.Replays.{Fires};
 
-use crate::fault::Fault;
 use crate::print::print_step;
+use crate::stop::Stop;
 use sip_engine::Engine;
 use std::alloc::Global;
 use std::io::Write;
@@ -15,7 +15,7 @@ pub fn fire_due<W: Write>(
     engine: &mut Engine,
     now: u64,
     writer: &mut W,
-) -> Result<(), Fault>
+) -> Result<(), Stop>
     requires { engine.old.state.moment ≤ now }
     ensures none_due { OnOk result (NothingDueBy now engine.new.state) }
     ensures fired { OnOk result (Fires engine.old engine.new now (W.contents writer.old) (W.contents writer.new)) }

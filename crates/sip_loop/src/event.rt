@@ -4,10 +4,10 @@ ghost use Rattle.sip_loop.specs.Events.{GivesEvent, GivesDatagram};
 ghost use Rattle.sip_loop.specs.Lines.{left, IsOver};
 ghost use Rattle.sip_loop.specs.Script;
 
-use crate::fault::Fault;
 use crate::lines::Lines;
 use crate::script::{DatagramHead, Line, line_of, unstuffed};
-use sip_engine::Event;
+use crate::stop::Stop;
+use sip_event::Event;
 use sip_text::Bytes;
 use std::alloc::Global;
 use std::io::Read;
@@ -22,7 +22,7 @@ pub fn next_event<R: Read>(
     lines: &mut Lines,
     reader: &mut R,
     line: &mut Vec<u8>,
-) -> Result<Option<Event>, Fault>
+) -> Result<Option<Event>, Stop>
     ensures given { IfOk result (λ found. IfSome found (λ event. GivesEvent lines.old lines.new (R.remaining reader.old) (R.remaining reader.new) event)) }
     ensures over { IfOk result (λ found. IfNone found (IsOver lines.old lines.new (R.remaining reader.old) (R.remaining reader.new))) }
 {
@@ -30,7 +30,7 @@ pub fn next_event<R: Read>(
         return Ok(None);
     }
     match line_of(alloc, line)? {
-        None => Err(Fault::Script),
+        None => Err(Stop::Script),
         Some(Line::Whole(event)) => Ok(Some(event)),
         Some(Line::Head(head)) => {
             let bytes = datagram_bytes(alloc, lines, reader, line)?;
@@ -57,7 +57,7 @@ fn datagram_bytes<R: Read>(
     lines: &mut Lines,
     reader: &mut R,
     line: &mut Vec<u8>,
-) -> Result<Bytes, Fault>
+) -> Result<Bytes, Stop>
     ensures given { IfOk result (λ bytes. GivesDatagram lines.old lines.new (R.remaining reader.old) (R.remaining reader.new) bytes) }
     ensures fewer { OnOk result (left lines.new ≤ left lines.old) }
 {
@@ -69,7 +69,7 @@ fn datagram_bytes<R: Read>(
         keep(&mut bytes, unstuffed(line))?;
         keep(&mut bytes, b"\r\n")?;
     }
-    Err(Fault::Script)
+    Err(Stop::Script)
 }
 
 /// Whether a line ends a datagram.
@@ -80,7 +80,7 @@ fn is_dot(line: &[u8]) -> bool
 }
 
 /// Adds a part to a datagram, as far as it is kept.
-fn keep(bytes: &mut Bytes, part: &[u8]) -> Result<(), Fault>
+fn keep(bytes: &mut Bytes, part: &[u8]) -> Result<(), Stop>
     requires { length bytes.old ≤ KEPT }
     ensures kept { OnOk result (bytes.new ≡ take KEPT (bytes.old ++ part.now)) }
     ensures most { OnOk result (length bytes.new ≤ KEPT) }

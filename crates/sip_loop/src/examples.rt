@@ -1,5 +1,5 @@
 ghost use Rattle.std.specs.Prelude.{◌≡◌, [], ◌∷◌, codes, true, Some, None};
-ghost use Rattle.sip_model.specs.declared.event.Event.TheVariants.{Time, Fault};
+ghost use Rattle.sip_event.specs.declared.event.Event.TheVariants.{Time, Fault};
 ghost use Rattle.sip_loop.specs.Print.{head_text};
 ghost use Rattle.sip_loop.specs.Script.{line_of};
 ghost use Rattle.sip_loop.specs.declared.script.Line.TheVariants.{Whole};

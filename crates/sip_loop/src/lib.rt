@@ -5,18 +5,14 @@
 mod due;
 mod error;
 mod event;
-mod examples;
-mod fault;
+pub mod examples;
 mod lines;
-mod numbers;
 mod playback;
 mod print;
-mod samples;
 mod script;
+mod stop;
 
 pub use error::ReplayError;
-pub use examples::{head_text_example, line_of_example};
 pub use playback::replay;
 pub use print::head_text;
-pub use samples::sample;
 pub use script::{DatagramHead, Line, line_of};

@@ -2,7 +2,7 @@ ghost use Rattle.std.specs.Prelude.{◌≡◌, ◌≤◌, ◌<◌, ◌*◌, ◌+
 ghost use Rattle.std.specs.Io.KnownBytes.{Consumes, Keeps, IsAtEnd};
 ghost use Rattle.sip_loop.specs.Lines.{is_end, pending, left, EndsAt, EndsLine, GoesOn, GivesLine, IsOver};
 
-use crate::fault::Fault;
+use crate::stop::Stop;
 use memchr::memchr;
 use std::alloc::{AllocError, Global};
 use std::io::{ErrorKind, Read};
@@ -62,7 +62,7 @@ impl Lines {
 
     /// The next line, without its LF, or nothing at the end of the script. A line over 200,000 bytes, and
     /// a last one without LF, are refused as the script's fault.
-    pub fn next<R: Read>(&mut self, reader: &mut R, line: &mut Vec<u8>) -> Result<bool, Fault>
+    pub fn next<R: Read>(&mut self, reader: &mut R, line: &mut Vec<u8>) -> Result<bool, Stop>
         ensures given { IfOk result (λ more. more ≡ true → GivesLine self.old self.new (R.remaining reader.old) (R.remaining reader.new) line.new.items) }
         ensures over { IfOk result (λ more. more ≡ false → IsOver self.old self.new (R.remaining reader.old) (R.remaining reader.new)) }
     {
@@ -78,7 +78,7 @@ impl Lines {
     }
 
     /// Whether there is an unread byte; if all were given, the reader is asked.
-    fn fill<R: Read>(&mut self, reader: &mut R) -> Result<bool, Fault>
+    fn fill<R: Read>(&mut self, reader: &mut R) -> Result<bool, Stop>
         ensures kept { OnOk result (Keeps (pending self.old (R.remaining reader.old)) (pending self.new (R.remaining reader.new))) }
         ensures some { IfOk result (λ some. some ≡ true → 1 ≤ length self.new.unread) }
         ensures end { IfOk result (λ some. some ≡ false → IsAtEnd (pending self.new (R.remaining reader.new))) }
@@ -95,7 +95,7 @@ impl Lines {
     }
 
     /// Moves the unread bytes up to the first LF to the line, or all of them; whether there was an LF.
-    fn take_part(&mut self, line: &mut Vec<u8>) -> Result<bool, Fault>
+    fn take_part(&mut self, line: &mut Vec<u8>) -> Result<bool, Stop>
         requires { length line.old.items ≤ 200000 }
         ensures short { OnOk result (length line.new.items ≤ 200000) }
         ensures ends { IfOk result (λ ended. ended ≡ true → EndsLine self.old self.new line.old.items line.new.items) }
@@ -125,19 +125,19 @@ fn zeros(alloc: Global, count: usize) -> Result<Vec<u8>, AllocError>
 }
 
 /// A script may end here only where no line has begun.
-fn over(line: &[u8]) -> Result<bool, Fault>
+fn over(line: &[u8]) -> Result<bool, Stop>
     ensures { IfOk result (λ more. (more ≡ false) × (line.now ≡ [])) }
 {
     if line.is_empty() {
         Ok(false)
     } else {
-        Err(Fault::Script)
+        Err(Stop::Script)
     }
 }
 
 /// How many bytes the reader gave, 0 at its end.
 #[tactic(auto, using(crate::proofs::Written::keeps_both, crate::proofs::Written::keeps_itself, crate::proofs::Written::keeps_consumes))]
-fn read_some<R: Read>(reader: &mut R, buffer: &mut Vec<u8>, asks: &mut u32) -> Result<usize, Fault>
+fn read_some<R: Read>(reader: &mut R, buffer: &mut Vec<u8>, asks: &mut u32) -> Result<usize, Stop>
     ensures same { vec_len buffer.new ≡ vec_len buffer.old }
     ensures within { IfOk result (λ count. count ≤ vec_len buffer.new) }
     ensures bytes { IfOk result (λ count. Consumes (R.remaining reader.old) (R.remaining reader.new) (take count buffer.new.items)) }
@@ -151,11 +151,11 @@ fn read_some<R: Read>(reader: &mut R, buffer: &mut Vec<u8>, asks: &mut u32) -> R
             Ok(count) => return Ok(count),
             Err(e) => match e.kind() {
                 ErrorKind::Interrupted => {}
-                _ => return Err(Fault::Read),
+                _ => return Err(Stop::Read),
             },
         }
     }
-    Err(Fault::Read)
+    Err(Stop::Read)
 }
 
 /// The place of the first LF.
@@ -166,13 +166,13 @@ fn end_of_line(unread: &[u8]) -> Option<usize>
 }
 
 /// Adds a part to a line, if the line isn't too long then.
-fn put_part(line: &mut Vec<u8>, part: &[u8]) -> Result<(), Fault>
+fn put_part(line: &mut Vec<u8>, part: &[u8]) -> Result<(), Stop>
     requires { length line.old.items ≤ 200000 }
     ensures grown { OnOk result (line.new.items ≡ line.old.items ++ part.now) }
     ensures short { OnOk result (length line.new.items ≤ 200000) }
 {
     if part.len() > LONGEST_LINE - line.len() {
-        return Err(Fault::Script);
+        return Err(Stop::Script);
     }
     line.extend_from_slice(part)?;
     Ok(())

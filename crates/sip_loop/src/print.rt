@@ -1,13 +1,11 @@
 ghost use Rattle.std.specs.Prelude.{◌≡◌, ◌⊎◌, ◌++◌, IfOk, IfErr, OnOk, decimal};
 ghost use Rattle.std.specs.Io.KnownBytes.{Appends};
 ghost use Rattle.sip_loop.specs.Print;
-ghost use Rattle.sip_loop.specs.declared.fault.Fault.TheVariants.{NoMemory, Write};
+ghost use Rattle.sip_loop.specs.declared.stop.Stop.TheVariants.{NoMemory, Write};
 
-use crate::fault::Fault;
-use itoa::Buffer;
-use sip_engine::{Packet, StepOut};
-use sip_hops::{Addr, ip_text};
-use sip_text::Bytes;
+use crate::stop::Stop;
+use sip_event::{Packet, StepOut};
+use sip_text::{Bytes, addr_text};
 use std::alloc::{AllocError, Global};
 use std::io::Write;
 
@@ -22,18 +20,8 @@ fn mark_of(again: bool) -> &'static [u8]
 fn put_number(text: &mut Bytes, front: &[u8], number: u64) -> Result<(), AllocError>
     ensures { OnOk result (text.new ≡ text.old ++ front.now ++ decimal number) }
 {
-    let mut buffer = Buffer::new();
     text.extend(front)?;
-    text.extend(buffer.format(number).as_bytes())
-}
-
-/// An address as `IP:PORT`.
-fn addr_text(alloc: Global, addr: Addr) -> Result<Bytes, AllocError>
-    ensures { IfOk result (λ text. text ≡ Print.addr_text addr) }
-{
-    let mut text = ip_text(alloc, addr.ip)?;
-    put_number(&mut text, b":", u64::from(addr.port))?;
-    Ok(text)
+    text.push_decimal(number)
 }
 
 /// What stands behind the address: the ticket, the mark and the length.
@@ -63,13 +51,13 @@ pub fn head_text(alloc: Global, at: u64, packet: &Packet) -> Result<Bytes, Alloc
 }
 
 /// Writes a text whole.
-fn put<W: Write>(writer: &mut W, text: &[u8]) -> Result<(), Fault>
+fn put<W: Write>(writer: &mut W, text: &[u8]) -> Result<(), Stop>
     ensures ok { OnOk result (Appends (W.contents writer.old) (W.contents writer.new) text.now) }
-    ensures err { IfErr result (λ fault. fault ≡ Write) }
+    ensures err { IfErr result (λ stop. stop ≡ Write) }
 {
     match writer.write_all(text) {
         Ok(()) => Ok(()),
-        Err(_) => Err(Fault::Write),
+        Err(_) => Err(Stop::Write),
     }
 }
 
@@ -80,9 +68,9 @@ fn print_packet<W: Write>(
     writer: &mut W,
     at: u64,
     packet: &Packet,
-) -> Result<(), Fault>
+) -> Result<(), Stop>
     ensures ok { OnOk result (Appends (W.contents writer.old) (W.contents writer.new) (Print.packet_text at packet.now)) }
-    ensures err { IfErr result (λ fault. (fault ≡ NoMemory) ⊎ (fault ≡ Write)) }
+    ensures err { IfErr result (λ stop. (stop ≡ NoMemory) ⊎ (stop ≡ Write)) }
 {
     let head = head_text(alloc, at, packet)?;
     put(writer, head.as_slice())?;
@@ -93,9 +81,9 @@ fn print_packet<W: Write>(
 
 /// Prints the packets of a step, in order.
 #[tactic(auto, using(crate::proofs::Written::appends_both, crate::proofs::Written::appends_nothing))]
-pub fn print_step<W: Write>(alloc: Global, writer: &mut W, out: &StepOut) -> Result<(), Fault>
+pub fn print_step<W: Write>(alloc: Global, writer: &mut W, out: &StepOut) -> Result<(), Stop>
     ensures ok { OnOk result (Appends (W.contents writer.old) (W.contents writer.new) (Print.step_text out.now)) }
-    ensures err { IfErr result (λ fault. (fault ≡ NoMemory) ⊎ (fault ≡ Write)) }
+    ensures err { IfErr result (λ stop. (stop ≡ NoMemory) ⊎ (stop ≡ Write)) }
 {
     for packet in out.packets.as_slice() {
         print_packet(alloc, writer, out.at, packet)?;

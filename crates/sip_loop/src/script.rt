@@ -1,11 +1,12 @@
 ghost use Rattle.std.specs.Prelude.{◌≡◌, IfOk, Some, None, MatchOption};
-ghost use Rattle.std.specs.Str.{bytes_eq};
-ghost use Rattle.sip_loop.specs.Numbers;
+ghost use Rattle.sip_text.specs.Numbers;
 ghost use Rattle.sip_loop.specs.Script;
 
-use crate::numbers::{bytes_of, cut_at, number_below, number_of, port_of, word_of};
-use sip_engine::{Event, Ticket};
-use sip_hops::Addr;
+use sip_digest::word_of;
+use sip_event::{Event, Ticket};
+use sip_text::{
+    Addr, addr_of, hex_bytes, plain_decimal, plain_decimal_below, same_bytes, split_once,
+};
 use std::alloc::{AllocError, Global};
 
 /// The first moment that is too large, in milliseconds.
@@ -32,51 +33,21 @@ pub enum Line {
 fn at_of(text: &[u8]) -> Option<u64>
     ensures { result ≡ Script.at_of text.now }
 {
-    number_below(text, TOO_LARGE)
-}
-
-/// A number up to 255.
-fn byte_of(digits: &[u8]) -> Option<u8>
-    ensures { result ≡ Numbers.number_below 256 digits.now }
-{
-    let number = number_below(digits, 256)?;
-    Some(number as u8)
-}
-
-fn ip_of(text: &[u8]) -> Option<[u8; 4]>
-    ensures { result ≡ Script.ip_of text.now }
-{
-    let (first, rest) = cut_at(text, b'.')?;
-    let (second, rest) = cut_at(rest, b'.')?;
-    let (third, fourth) = cut_at(rest, b'.')?;
-    let first = byte_of(first)?;
-    let second = byte_of(second)?;
-    let third = byte_of(third)?;
-    let fourth = byte_of(fourth)?;
-    Some([first, second, third, fourth])
-}
-
-fn addr_of(text: &[u8]) -> Option<Addr>
-    ensures { result ≡ Script.addr_of text.now }
-{
-    let (ip, port) = cut_at(text, b':')?;
-    let ip = ip_of(ip)?;
-    let port = port_of(port)?;
-    Some(Addr { ip, port })
+    plain_decimal_below(text, TOO_LARGE)
 }
 
 fn branch_of(digits: &[u8]) -> Option<u32>
-    ensures { result ≡ Numbers.number_below 0x1_0000_0000 digits.now }
+    ensures { result ≡ Numbers.plain_decimal_below 0x1_0000_0000 digits.now }
 {
-    let number = number_below(digits, 0x1_0000_0000)?;
+    let number = plain_decimal_below(digits, 0x1_0000_0000)?;
     Some(number as u32)
 }
 
 fn ticket_of(text: &[u8]) -> Option<Ticket>
     ensures { result ≡ Script.ticket_of text.now }
 {
-    let (datagram, branch) = cut_at(text, b'/')?;
-    let datagram = number_of(datagram)?;
+    let (datagram, branch) = split_once(text, b'/')?;
+    let datagram = plain_decimal(datagram)?;
     let branch = branch_of(branch)?;
     Some(Ticket { datagram, branch })
 }
@@ -93,8 +64,8 @@ fn head_of(at: &[u8], from: &[u8], word: &[u8]) -> Option<DatagramHead>
 fn datagram_line(text: &[u8]) -> Option<Line>
     ensures { result ≡ Script.datagram_line text.now }
 {
-    let (at, rest) = cut_at(text, b' ')?;
-    let (from, word) = cut_at(rest, b' ')?;
+    let (at, rest) = split_once(text, b' ')?;
+    let (from, word) = split_once(rest, b' ')?;
     let head = head_of(at, from, word)?;
     Some(Line::Head(head))
 }
@@ -109,7 +80,7 @@ fn time_line(text: &[u8]) -> Option<Line>
 fn fault_line(text: &[u8]) -> Option<Line>
     ensures { result ≡ Script.fault_line text.now }
 {
-    let (at, ticket) = cut_at(text, b' ')?;
+    let (at, ticket) = split_once(text, b' ')?;
     let at = at_of(at)?;
     let ticket = ticket_of(ticket)?;
     Some(Line::Whole(Event::Fault { at, ticket }))
@@ -119,9 +90,9 @@ fn fault_line(text: &[u8]) -> Option<Line>
 fn hex_parts(text: &[u8]) -> Option<(DatagramHead, &[u8])>
     ensures { MatchOption result (Script.hex_parts text.now ≡ None) (λ parts. Script.hex_parts text.now ≡ Some (parts.0, parts.1.now)) }
 {
-    let (at, rest) = cut_at(text, b' ')?;
-    let (from, rest) = cut_at(rest, b' ')?;
-    let (word, digits) = cut_at(rest, b' ')?;
+    let (at, rest) = split_once(text, b' ')?;
+    let (from, rest) = split_once(rest, b' ')?;
+    let (word, digits) = split_once(rest, b' ')?;
     let head = head_of(at, from, word)?;
     Some((head, digits))
 }
@@ -132,7 +103,7 @@ fn hex_line(alloc: Global, text: &[u8]) -> Result<Option<Line>, AllocError>
     let Some((head, digits)) = hex_parts(text) else {
         return Ok(None);
     };
-    match bytes_of(alloc, digits)? {
+    match hex_bytes(alloc, digits)? {
         Some(bytes) => Ok(Some(Line::Whole(Event::Datagram {
             at: head.at,
             word: head.word,
@@ -143,26 +114,19 @@ fn hex_line(alloc: Global, text: &[u8]) -> Result<Option<Line>, AllocError>
     }
 }
 
-/// Whether two texts are the same.
-fn is_same(left: &[u8], right: &[u8]) -> bool
-    ensures { result ≡ bytes_eq left.now right.now }
-{
-    left == right
-}
-
 fn line_of_kind(alloc: Global, kind: &[u8], rest: &[u8]) -> Result<Option<Line>, AllocError>
     ensures { IfOk result (λ line. line ≡ Script.line_of_kind kind.now rest.now) }
 {
-    if is_same(kind, b"datagram") {
+    if same_bytes(kind, b"datagram") {
         return Ok(datagram_line(rest));
     }
-    if is_same(kind, b"hex") {
+    if same_bytes(kind, b"hex") {
         return hex_line(alloc, rest);
     }
-    if is_same(kind, b"time") {
+    if same_bytes(kind, b"time") {
         return Ok(time_line(rest));
     }
-    if is_same(kind, b"fault") {
+    if same_bytes(kind, b"fault") {
         return Ok(fault_line(rest));
     }
     Ok(None)
@@ -173,7 +137,7 @@ fn line_of_kind(alloc: Global, kind: &[u8], rest: &[u8]) -> Result<Option<Line>,
 pub fn line_of(alloc: Global, text: &[u8]) -> Result<Option<Line>, AllocError>
     ensures { IfOk result (λ line. line ≡ Script.line_of text.now) }
 {
-    match cut_at(text, b' ') {
+    match split_once(text, b' ') {
         Some((kind, rest)) => line_of_kind(alloc, kind, rest),
         None => Ok(None),
     }

@@ -2,7 +2,8 @@
 use Rattle.std.proofs.Common.{◌≡◌, ◌≢◌, ℕ, zero, suc, ◌<◌, Bool, true, false, List, [], ◌∷◌, ◌++◌, length, Option, Some, None, refl, sym, ap, ◌∙◌, append_assoc, arith}
 use Rattle.std.specs.Prelude.{◌==◌, ◌&&◌, replicate}
 use Rattle.std.specs.List.{AllByRecursion}
-use Rattle.sip_message.specs.Lines.{is_crlf, after_blanks, in_front, line_at, lines_at, IsOneLine, IsLine, as_lines, IsCut}
+use Rattle.sip_message.specs.Lines.{is_crlf, after_blanks, line_at, lines_at, IsOneLine, IsLine, as_lines, IsCut}
+use Rattle.sip_text.specs.Splits.{in_front}
 use Rattle.sip_message.proofs.Cuts.{crlf_is}
 use Rattle.sip_message.proofs.Folds.{by_line, line_first, by_first_line, shorter}
 

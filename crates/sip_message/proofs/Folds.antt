@@ -1,7 +1,9 @@
 -- Taking lines one after the other, each with its folds.
 use Rattle.std.proofs.Common.{◌≡◌, ℕ, suc, ◌<◌, Bool, true, false, cond, List, [], ◌∷◌, ◌++◌, length, Option, Some, None, refl, sym, ap, subst, ◌∙◌, arith}
 use Rattle.std.specs.Prelude.{option_map, ◌==◌}
-use Rattle.sip_message.specs.Lines.{is_crlf, in_front, is_fold, joined, onto, unfolded_on, unfolded_after, lines_at, line_at, head_at}
+use Rattle.sip_message.specs.Lines.{is_crlf, is_fold, joined, unfolded_on, unfolded_after, lines_at, line_at, head_at}
+use Rattle.sip_text.specs.Lists.{onto}
+use Rattle.sip_text.specs.Splits.{in_front}
 
 last_goes_on : (done : List (List ℕ)) (last : List ℕ) (lines : List (List ℕ)) → unfolded_after (done ++ last ∷ []) lines ≡ done ++ unfolded_on last lines
 last_goes_on [] last lines = refl

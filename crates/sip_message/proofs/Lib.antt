@@ -9,3 +9,4 @@ pub mod StartAgain
 pub mod StartLaws
 pub mod Again
 pub mod FaultLaws
+pub mod Counting

@@ -7,7 +7,7 @@ use Rattle.sip_text.specs.Words.{is_token_text}
 use Rattle.sip_text.specs.Lists.{is_blank, trimmed, end_trimmed, cut}
 use Rattle.sip_message.specs.declared.field_name.FieldName.{FieldName}
 use Rattle.sip_message.specs.declared.field.Field.{Field}
-use Rattle.sip_message.specs.Lines.{split_at_byte}
+use Rattle.sip_text.specs.Splits.{split_at_byte}
 use Rattle.sip_message.specs.FieldName.{name_of, is_length, is_list, is_same_name}
 
 -- neither a control character other than tab nor DEL (this project's profile of TEXT-UTF8 in RFC 3261 25.1)

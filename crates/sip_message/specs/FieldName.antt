@@ -1,5 +1,5 @@
 -- The names of fields (RFC 3261 7.3.1, 7.3.3, 20).
-use Rattle.std.specs.Prelude.{ℕ, Bool, true, false, ◌||◌, List, [], ◌∷◌, codes, if◌then◌else◌}
+use Rattle.std.specs.Prelude.{ℕ, Bool, true, false, ◌||◌, List, [], ◌∷◌, ◌++◌, codes, if◌then◌else◌}
 use Rattle.sip_text.specs.Words.{is_same_text}
 use Rattle.sip_message.specs.declared.field_name.FieldName.{FieldName}
 use Rattle.sip_message.specs.declared.field_name.FieldName.TheVariants.{Via, From, To, CallId, CSeq, Contact, MaxForwards, ContentLength, ContentType, ContentEncoding, Subject, Supported, Route, RecordRoute, Expires, Require, ProxyRequire, Unsupported, Authorization, ProxyAuthorization, WwwAuthenticate, ProxyAuthenticate, Warning, MinExpires, Timestamp, Other}
@@ -38,28 +38,25 @@ pub record Known : Type 0 where
   pub name : FieldName
   pub compact : List ℕ
 
--- the names that this project knows
-abbrev pub known_names : List Known
-known_names =
+-- the names that have a compact form (RFC 3261 7.3.3)
+abbrev pub compact_names : List Known
+compact_names =
     record { name = Via; compact = codes "v" }
     ∷ record { name = From; compact = codes "f" }
     ∷ record { name = To; compact = codes "t" }
     ∷ record { name = CallId; compact = codes "i" }
-    ∷ record { name = CSeq; compact = codes "" }
     ∷ record { name = Contact; compact = codes "m" }
-    ∷ record { name = MaxForwards; compact = codes "" }
     ∷ record { name = ContentLength; compact = codes "l" }
     ∷ record { name = ContentType; compact = codes "c" }
     ∷ record { name = ContentEncoding; compact = codes "e" }
     ∷ record { name = Subject; compact = codes "s" }
     ∷ record { name = Supported; compact = codes "k" }
-    ∷ record { name = Route; compact = codes "" }
-    ∷ record { name = RecordRoute; compact = codes "" }
-    ∷ record { name = Expires; compact = codes "" }
-    ∷ record { name = Require; compact = codes "" }
-    ∷ record { name = ProxyRequire; compact = codes "" }
-    ∷ record { name = Unsupported; compact = codes "" }
-    ∷ record { name = Authorization; compact = codes "" }
+    ∷ []
+
+-- the names of credentials, challenges, warnings and times
+abbrev pub credential_names : List Known
+credential_names =
+    record { name = Authorization; compact = codes "" }
     ∷ record { name = ProxyAuthorization; compact = codes "" }
     ∷ record { name = WwwAuthenticate; compact = codes "" }
     ∷ record { name = ProxyAuthenticate; compact = codes "" }
@@ -67,6 +64,23 @@ known_names =
     ∷ record { name = MinExpires; compact = codes "" }
     ∷ record { name = Timestamp; compact = codes "" }
     ∷ []
+
+-- the other names without a compact form, and these
+abbrev pub plain_names : List Known
+plain_names =
+    record { name = CSeq; compact = codes "" }
+    ∷ record { name = MaxForwards; compact = codes "" }
+    ∷ record { name = Route; compact = codes "" }
+    ∷ record { name = RecordRoute; compact = codes "" }
+    ∷ record { name = Expires; compact = codes "" }
+    ∷ record { name = Require; compact = codes "" }
+    ∷ record { name = ProxyRequire; compact = codes "" }
+    ∷ record { name = Unsupported; compact = codes "" }
+    ∷ credential_names
+
+-- the names that this project knows
+abbrev pub known_names : List Known
+known_names = compact_names ++ plain_names
 
 -- whether a name is this one, or its compact form, without case (RFC 3261 7.3.1, 7.3.3)
 abbrev pub is_named : List ℕ → List ℕ → List ℕ → Bool

@@ -2,6 +2,7 @@ pub mod Lines
 pub mod FieldName
 pub mod Start
 pub mod Field
+pub mod Values
 pub mod Body
 pub mod Text
 pub mod Says

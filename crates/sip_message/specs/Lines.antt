@@ -2,7 +2,8 @@
 use Rattle.std.specs.Prelude.{◌≡◌, ◌≢◌, ℕ, Bool, true, false, ◌&&◌, ◌==◌, if◌then◌else◌, List, [], ◌∷◌, ◌++◌, replicate, codes, Option, Some, None, option_map}
 use Rattle.std.specs.List.{flat_map, AllByRecursion}
 use Rattle.std.specs.Str.{byte}
-use Rattle.sip_text.specs.Lists.{is_blank, front_trimmed, end_trimmed}
+use Rattle.sip_text.specs.Lists.{is_blank, front_trimmed, end_trimmed, onto}
+use Rattle.sip_text.specs.Splits.{in_front}
 
 -- CR and LF, which end a line (RFC 3261 7)
 abbrev pub is_crlf : ℕ → ℕ → Bool
@@ -39,20 +40,11 @@ after_blanks [] = []
 after_blanks (b ∷ []) = b ∷ []
 after_blanks (b ∷ c ∷ rest) = if is_crlf b c then after_blanks rest else b ∷ c ∷ rest
 
--- bytes before a first line
-abbrev pub in_front : List ℕ → Option (List ℕ × List ℕ) → Option (List ℕ × List ℕ)
-in_front front line = option_map (λ x. (front ++ x.0, x.1)) line
-
 -- the first line, and what follows its CRLF (RFC 3261 7)
 abbrev pub line_at : List ℕ → Option (List ℕ × List ℕ)
 line_at [] = None
 line_at (b ∷ []) = None
 line_at (b ∷ c ∷ rest) = if is_crlf b c then Some ([], rest) else in_front (b ∷ []) (line_at (c ∷ rest))
-
--- bytes before the first of some lines
-abbrev pub onto : List ℕ → List (List ℕ) → List (List ℕ)
-onto front [] = []
-onto front (line ∷ lines) = (front ++ line) ∷ lines
 
 -- The lines up to an empty one, and what follows it (RFC 3261 7). Of a line that has begun, the rest comes first.
 abbrev pub lines_at : Bool → List ℕ → Option (List (List ℕ) × List ℕ)
@@ -62,11 +54,6 @@ lines_at has_begun (b ∷ c ∷ rest) =
     if is_crlf b c then
     (if has_begun then option_map (λ x. ([] ∷ x.0, x.1)) (lines_at false rest) else Some ([], rest))
     else option_map (λ x. (onto (b ∷ []) x.0, x.1)) (lines_at true (c ∷ rest))
-
--- what stands before the first of a byte, and what follows it
-abbrev pub split_at_byte : ℕ → List ℕ → Option (List ℕ × List ℕ)
-split_at_byte mark [] = None
-split_at_byte mark (b ∷ bs) = if b == mark then Some ([], bs) else in_front (b ∷ []) (split_at_byte mark bs)
 
 -- ---- folds
 

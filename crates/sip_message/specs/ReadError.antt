@@ -13,10 +13,10 @@ number_of TooLong = 5
 number_of TooManyFields = 6
 
 -- what a refusal says when it is printed
-abbrev pub message_of : ReadError → List ℕ
-message_of NoMemory = codes "out of memory"
-message_of NotSip = codes "no SIP message"
-message_of BadField = codes "a malformed field"
-message_of (ShortBody _) = codes "a body shorter than its Content-Length"
-message_of TooLong = codes "too long"
-message_of TooManyFields = codes "too many fields"
+abbrev pub words_of : ReadError → List ℕ
+words_of NoMemory = codes "out of memory"
+words_of NotSip = codes "no SIP message"
+words_of BadField = codes "a malformed field"
+words_of (ShortBody _) = codes "a body shorter than its Content-Length"
+words_of TooLong = codes "too long"
+words_of TooManyFields = codes "too many fields"

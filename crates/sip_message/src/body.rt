@@ -8,7 +8,7 @@ use crate::error::ReadError;
 use crate::fields::Fields;
 use sip_text::decimal;
 
-/// The one Content-Length, if there is one (RFC 3261, 20.14).
+/// The one Content-Length, if there is one (RFC 3261 20.14).
 pub(crate) fn length_of(entries: &Fields) -> Result<Option<u64>, ReadError>
     ensures { Gives (λ length. length) result (ok_or (one_length (lengths entries.now)) BadField) }
 {
@@ -24,7 +24,7 @@ pub(crate) fn length_of(entries: &Fields) -> Result<Option<u64>, ReadError>
     Ok(length)
 }
 
-/// The body of some length, of what follows the empty line (RFC 3261, 18.3).
+/// The body of some length, of what follows the empty line (RFC 3261 18.3).
 pub(crate) fn body_part(length: Option<u64>, rest: &[u8]) -> &[u8]
     ensures { result.now ≡ body_of length rest.now }
 {

@@ -10,8 +10,7 @@ use crate::field::Field;
 use crate::field_name::FieldName;
 use crate::fields::Fields;
 use crate::line::Line;
-use crate::lines::split_once;
-use sip_text::{is_token, without_blanks, without_end_blanks};
+use sip_text::{is_token, split_once, without_blanks, without_end_blanks};
 use std::alloc::Global;
 
 /// Whether a byte may stand in a value.

@@ -12,12 +12,12 @@ use std::fmt;
 pub enum ReadError {
     /// 1: memory ran out.
     NoMemory,
-    /// 2: no start line, or no empty line behind the fields (RFC 3261, 7).
+    /// 2: no start line, or no empty line behind the fields (RFC 3261 7).
     NotSip,
     /// 3: a line that writes no field, a list that can't be cut into items, or a Content-Length that is
-    /// repeated or is no number below 2^64 (RFC 3261, 7.3.1 and 20.14).
+    /// repeated or is no number below 2^64 (RFC 3261 7.3.1 and 20.14).
     BadField,
-    /// 4: fewer bytes of body than Content-Length says (RFC 3261, 18.3), with the message and the bytes that
+    /// 4: fewer bytes of body than Content-Length says (RFC 3261 18.3), with the message and the bytes that
     /// came.
     ShortBody(Message),
     /// 5: more than 65,507 bytes, or a written form of more than 49,152 bytes.
@@ -44,9 +44,9 @@ impl ReadError {
 
 impl fmt::Display for ReadError {
     ghost use Rattle.std.specs.Prelude.{Some};
-    ghost use Rattle.sip_message.specs.ReadError.{message_of};
+    ghost use Rattle.sip_message.specs.ReadError.{words_of};
 
-    ghost output = { λ e. Some (message_of e) };
+    ghost output = { λ e. Some (words_of e) };
 
     fn fmt<W: fmt::Write>(&self, f: &mut fmt::Formatter<W>) -> fmt::Result {
         match self {

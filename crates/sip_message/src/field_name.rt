@@ -1,11 +1,12 @@
-ghost use Rattle.std.specs.Prelude.{◌≡◌, IfOk};
-ghost use Rattle.sip_message.specs.FieldName.{spelling, is_named, name_of, is_length, is_list, is_same_name};
+ghost use Rattle.std.specs.Prelude.{◌≡◌, IfOk, MatchOption};
+ghost use Rattle.sip_message.specs.FieldName.{spelling, is_named, name_of, named_in, plain_names, credential_names, is_length, is_list, is_same_name};
+ghost use Rattle.sip_message.specs.declared.field_name.FieldName.TheVariants.{Other};
 
 use sip_text::{Bytes, same_no_case};
 use std::alloc::{AllocError, Global};
 
-/// The name of a field: one that this project knows (RFC 3261, 20), or any other as it was written.
-#[derive(Debug, Drop)]
+/// The name of a field: one that this project knows (RFC 3261 20), or any other as it was written.
+#[derive(Clone, Debug, Drop)]
 pub enum FieldName {
     Via,
     From,
@@ -42,8 +43,85 @@ fn is_name(name: &[u8], full: &[u8], compact: &[u8]) -> bool
     same_no_case(name, full) || same_no_case(name, compact)
 }
 
+/// The name that is written so, of those that have a compact form (RFC 3261 7.3.3).
+fn name_with_compact_form(name: &[u8]) -> Option<FieldName>
+    ensures { MatchOption result (name_of name.now ≡ named_in plain_names name.now) (λ known. known ≡ name_of name.now) }
+{
+    if is_name(name, b"Via", b"v") {
+        Some(FieldName::Via)
+    } else if is_name(name, b"From", b"f") {
+        Some(FieldName::From)
+    } else if is_name(name, b"To", b"t") {
+        Some(FieldName::To)
+    } else if is_name(name, b"Call-ID", b"i") {
+        Some(FieldName::CallId)
+    } else if is_name(name, b"Contact", b"m") {
+        Some(FieldName::Contact)
+    } else if is_name(name, b"Content-Length", b"l") {
+        Some(FieldName::ContentLength)
+    } else if is_name(name, b"Content-Type", b"c") {
+        Some(FieldName::ContentType)
+    } else if is_name(name, b"Content-Encoding", b"e") {
+        Some(FieldName::ContentEncoding)
+    } else if is_name(name, b"Subject", b"s") {
+        Some(FieldName::Subject)
+    } else if is_name(name, b"Supported", b"k") {
+        Some(FieldName::Supported)
+    } else {
+        None
+    }
+}
+
+/// The name that is written so, of those without a compact form that no function below has.
+fn plain_name(name: &[u8]) -> Option<FieldName>
+    ensures { MatchOption result (named_in plain_names name.now ≡ named_in credential_names name.now) (λ known. known ≡ named_in plain_names name.now) }
+{
+    if is_name(name, b"CSeq", b"") {
+        Some(FieldName::CSeq)
+    } else if is_name(name, b"Max-Forwards", b"") {
+        Some(FieldName::MaxForwards)
+    } else if is_name(name, b"Route", b"") {
+        Some(FieldName::Route)
+    } else if is_name(name, b"Record-Route", b"") {
+        Some(FieldName::RecordRoute)
+    } else if is_name(name, b"Expires", b"") {
+        Some(FieldName::Expires)
+    } else if is_name(name, b"Require", b"") {
+        Some(FieldName::Require)
+    } else if is_name(name, b"Proxy-Require", b"") {
+        Some(FieldName::ProxyRequire)
+    } else if is_name(name, b"Unsupported", b"") {
+        Some(FieldName::Unsupported)
+    } else {
+        None
+    }
+}
+
+/// The name that is written so, of those of credentials, challenges, warnings and times.
+fn name_of_credentials(name: &[u8]) -> Option<FieldName>
+    ensures { MatchOption result (named_in credential_names name.now ≡ Other name.now) (λ known. known ≡ named_in credential_names name.now) }
+{
+    if is_name(name, b"Authorization", b"") {
+        Some(FieldName::Authorization)
+    } else if is_name(name, b"Proxy-Authorization", b"") {
+        Some(FieldName::ProxyAuthorization)
+    } else if is_name(name, b"WWW-Authenticate", b"") {
+        Some(FieldName::WwwAuthenticate)
+    } else if is_name(name, b"Proxy-Authenticate", b"") {
+        Some(FieldName::ProxyAuthenticate)
+    } else if is_name(name, b"Warning", b"") {
+        Some(FieldName::Warning)
+    } else if is_name(name, b"Min-Expires", b"") {
+        Some(FieldName::MinExpires)
+    } else if is_name(name, b"Timestamp", b"") {
+        Some(FieldName::Timestamp)
+    } else {
+        None
+    }
+}
+
 impl FieldName {
-    /// The name in its full spelling (RFC 3261, 20); another name as it was written.
+    /// The name in its full spelling (RFC 3261 20); another name as it was written.
     pub fn spelling(&self) -> &[u8]
         ensures { result.now ≡ spelling self.now }
     {
@@ -77,100 +155,23 @@ impl FieldName {
         }
     }
 
-    /// The name that is written so, in full or in its compact form, in any case (RFC 3261, 7.3.1 and 7.3.3).
+    /// The name that is written so, in full or in its compact form, in any case (RFC 3261 7.3.1 and 7.3.3).
     pub fn from_bytes(alloc: Global, name: &[u8]) -> Result<Self, AllocError>
         ensures { IfOk result (λ known. known ≡ name_of name.now) }
     {
-        if is_name(name, b"Via", b"v") {
-            Ok(FieldName::Via)
-        } else if is_name(name, b"From", b"f") {
-            Ok(FieldName::From)
-        } else if is_name(name, b"To", b"t") {
-            Ok(FieldName::To)
-        } else if is_name(name, b"Call-ID", b"i") {
-            Ok(FieldName::CallId)
-        } else if is_name(name, b"CSeq", b"") {
-            Ok(FieldName::CSeq)
-        } else if is_name(name, b"Contact", b"m") {
-            Ok(FieldName::Contact)
-        } else if is_name(name, b"Max-Forwards", b"") {
-            Ok(FieldName::MaxForwards)
-        } else if is_name(name, b"Content-Length", b"l") {
-            Ok(FieldName::ContentLength)
-        } else if is_name(name, b"Content-Type", b"c") {
-            Ok(FieldName::ContentType)
-        } else if is_name(name, b"Content-Encoding", b"e") {
-            Ok(FieldName::ContentEncoding)
-        } else if is_name(name, b"Subject", b"s") {
-            Ok(FieldName::Subject)
-        } else if is_name(name, b"Supported", b"k") {
-            Ok(FieldName::Supported)
-        } else if is_name(name, b"Route", b"") {
-            Ok(FieldName::Route)
-        } else if is_name(name, b"Record-Route", b"") {
-            Ok(FieldName::RecordRoute)
-        } else if is_name(name, b"Expires", b"") {
-            Ok(FieldName::Expires)
-        } else if is_name(name, b"Require", b"") {
-            Ok(FieldName::Require)
-        } else if is_name(name, b"Proxy-Require", b"") {
-            Ok(FieldName::ProxyRequire)
-        } else if is_name(name, b"Unsupported", b"") {
-            Ok(FieldName::Unsupported)
-        } else if is_name(name, b"Authorization", b"") {
-            Ok(FieldName::Authorization)
-        } else if is_name(name, b"Proxy-Authorization", b"") {
-            Ok(FieldName::ProxyAuthorization)
-        } else if is_name(name, b"WWW-Authenticate", b"") {
-            Ok(FieldName::WwwAuthenticate)
-        } else if is_name(name, b"Proxy-Authenticate", b"") {
-            Ok(FieldName::ProxyAuthenticate)
-        } else if is_name(name, b"Warning", b"") {
-            Ok(FieldName::Warning)
-        } else if is_name(name, b"Min-Expires", b"") {
-            Ok(FieldName::MinExpires)
-        } else if is_name(name, b"Timestamp", b"") {
-            Ok(FieldName::Timestamp)
-        } else {
-            Ok(FieldName::Other(Bytes::copy(alloc, name)?))
+        if let Some(known) = name_with_compact_form(name) {
+            return Ok(known);
         }
+        if let Some(known) = plain_name(name) {
+            return Ok(known);
+        }
+        if let Some(known) = name_of_credentials(name) {
+            return Ok(known);
+        }
+        Ok(FieldName::Other(Bytes::copy(alloc, name)?))
     }
 
-    /// The same name, copied.
-    pub fn copy(&self, alloc: Global) -> Result<Self, AllocError>
-        ensures { IfOk result (λ copy. copy ≡ self.now) }
-    {
-        match self {
-            FieldName::Via => Ok(FieldName::Via),
-            FieldName::From => Ok(FieldName::From),
-            FieldName::To => Ok(FieldName::To),
-            FieldName::CallId => Ok(FieldName::CallId),
-            FieldName::CSeq => Ok(FieldName::CSeq),
-            FieldName::Contact => Ok(FieldName::Contact),
-            FieldName::MaxForwards => Ok(FieldName::MaxForwards),
-            FieldName::ContentLength => Ok(FieldName::ContentLength),
-            FieldName::ContentType => Ok(FieldName::ContentType),
-            FieldName::ContentEncoding => Ok(FieldName::ContentEncoding),
-            FieldName::Subject => Ok(FieldName::Subject),
-            FieldName::Supported => Ok(FieldName::Supported),
-            FieldName::Route => Ok(FieldName::Route),
-            FieldName::RecordRoute => Ok(FieldName::RecordRoute),
-            FieldName::Expires => Ok(FieldName::Expires),
-            FieldName::Require => Ok(FieldName::Require),
-            FieldName::ProxyRequire => Ok(FieldName::ProxyRequire),
-            FieldName::Unsupported => Ok(FieldName::Unsupported),
-            FieldName::Authorization => Ok(FieldName::Authorization),
-            FieldName::ProxyAuthorization => Ok(FieldName::ProxyAuthorization),
-            FieldName::WwwAuthenticate => Ok(FieldName::WwwAuthenticate),
-            FieldName::ProxyAuthenticate => Ok(FieldName::ProxyAuthenticate),
-            FieldName::Warning => Ok(FieldName::Warning),
-            FieldName::MinExpires => Ok(FieldName::MinExpires),
-            FieldName::Timestamp => Ok(FieldName::Timestamp),
-            FieldName::Other(name) => Ok(FieldName::Other(Bytes::copy(alloc, name.as_slice())?)),
-        }
-    }
-
-    /// Whether two names are the same: names are compared without case (RFC 3261, 7.3.1). Takes no memory.
+    /// Whether two names are the same: names are compared without case (RFC 3261 7.3.1). Takes no memory.
     pub fn is_same(&self, other: &FieldName) -> bool
         ensures { result ≡ is_same_name self.now other.now }
     {

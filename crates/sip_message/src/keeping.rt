@@ -15,7 +15,7 @@ use std::alloc::{AllocError, Global};
 fn with_value(alloc: Global, field: &Field, value: &[u8]) -> Result<Field, AllocError>
     ensures { IfOk result (λ f. f ≡ record field.now { value = value.now }) }
 {
-    let name = field.name.copy(alloc)?;
+    let name = field.name.clone()?;
     Field::new(alloc, name, value)
 }
 

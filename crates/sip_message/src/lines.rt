@@ -1,12 +1,12 @@
 ghost use Rattle.std.specs.Prelude.{◌≡◌, ◌+◌, ◌<◌, slice_index, ◌∷◌, ◌++◌, [], length, IfOk, OnOk, OnErr, List, ℕ, MatchOption, option_map, Some, None};
 ghost use Rattle.std.specs.Option.{ok_or};
-ghost use Rattle.sip_message.specs.Lines.{after_blanks, is_crlf, line_at, is_fold, joined, unfolded_after, split_at_byte, head_at};
+ghost use Rattle.sip_message.specs.Lines.{after_blanks, is_crlf, line_at, is_fold, joined, unfolded_after, head_at};
 ghost use Rattle.sip_message.specs.Reading.{Gives};
 ghost use Rattle.sip_message.specs.declared.error.ReadError.TheVariants.{NotSip};
 
 use crate::error::ReadError;
 use crate::line::Line;
-use memchr::{memchr, memmem};
+use memchr::memmem;
 use sip_text::is_space_or_tab;
 use std::alloc::{AllocError, Global};
 use std::marker::Model;
@@ -43,16 +43,6 @@ pub(crate) fn first_line(bytes: &[u8]) -> Option<(&[u8], &[u8])>
     let (line, rest) = bytes.split_at(at);
     let (_, rest) = rest.split_at(2);
     Some((line, rest))
-}
-
-/// What stands before the first of a byte, and what follows it.
-pub(crate) fn split_once(bytes: &[u8], mark: u8) -> Option<(&[u8], &[u8])>
-    ensures { option_map (λ x. (x.0.now, x.1.now)) result ≡ split_at_byte mark bytes.now }
-{
-    let at = memchr(mark, bytes)?;
-    let (front, rest) = bytes.split_at(at);
-    let (_, rest) = rest.split_first()?;
-    Some((front, rest))
 }
 
 /// Whether a line goes on with the line before it.

@@ -75,7 +75,7 @@ fn read_bytes(alloc: Global, bytes: &[u8]) -> Result<Message, ReadError>
     read_datagram(alloc, bytes)
 }
 
-/// The message that a datagram says (RFC 3261, 7). The refusals, in the order in which they are looked for:
+/// The message that a datagram says (RFC 3261 7). The refusals, in the order in which they are looked for:
 /// `TooLong` (more than 65,507 bytes), `NotSip`, `BadField`, `TooManyFields`, `TooLong` (a written form of more
 /// than 49,152 bytes), `ShortBody`; `NoMemory` at any point.
 pub fn read(alloc: Global, bytes: &[u8]) -> Result<Message, ReadError>

@@ -2,15 +2,14 @@ ghost use Rattle.std.specs.Prelude.{◌≡◌, Ok};
 ghost use Rattle.std.specs.List.{list_all};
 ghost use Rattle.std.specs.Option.{ok_or};
 ghost use Rattle.std.specs.Char.{is_ascii_digit};
-ghost use Rattle.sip_message.specs.Lines.{split_at_byte};
+ghost use Rattle.sip_text.specs.Splits.{split_at_byte};
 ghost use Rattle.sip_message.specs.Start.{is_visible, is_uri, is_number, is_pair, is_unbroken, version_of, status_of, request_of, start_from, start_of};
 ghost use Rattle.sip_message.specs.Reading.{Gives};
 ghost use Rattle.sip_message.specs.declared.error.ReadError.TheVariants.{NotSip};
 
 use crate::error::ReadError;
-use crate::lines::split_once;
 use crate::message::Start;
-use sip_text::{Bytes, decimal, is_token, same_no_case};
+use sip_text::{Bytes, decimal, is_token, same_no_case, split_once};
 use std::alloc::Global;
 
 /// Whether each byte is one from `!` to `~`.
@@ -64,7 +63,7 @@ fn are_numbers(bytes: &[u8]) -> bool
     is_digits(major) && is_digits(minor)
 }
 
-/// The version that is written so, in upper case (RFC 3261, 7.1).
+/// The version that is written so, in upper case (RFC 3261 7.1).
 fn version_from(alloc: Global, word: &[u8]) -> Result<Bytes, ReadError>
     ensures { Gives (λ version. version) result (ok_or (version_of word.now) NotSip) }
 {
@@ -81,7 +80,7 @@ fn version_from(alloc: Global, word: &[u8]) -> Result<Bytes, ReadError>
     Ok(Bytes::joined(alloc, b"SIP/", numbers)?)
 }
 
-/// A status line from its three digits and its reason (RFC 3261, 7.2).
+/// A status line from its three digits and its reason (RFC 3261 7.2).
 fn status_from(alloc: Global, digits: &[u8], reason: &[u8]) -> Result<Start, ReadError>
     ensures { Gives (λ start. start) result (ok_or (status_of digits.now reason.now) NotSip) }
 {
@@ -102,7 +101,7 @@ fn status_from(alloc: Global, digits: &[u8], reason: &[u8]) -> Result<Start, Rea
     })
 }
 
-/// A request line from its three parts (RFC 3261, 7.1).
+/// A request line from its three parts (RFC 3261 7.1).
 fn request_from(
     alloc: Global,
     method: &[u8],

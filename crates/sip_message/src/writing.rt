@@ -8,14 +8,6 @@ use itoa::Buffer;
 use sip_text::Bytes;
 use std::alloc::{AllocError, Global};
 
-/// Puts a decimal number.
-fn put_number(out: &mut Bytes, number: u64) -> Result<(), AllocError>
-    ensures { OnOk result (out.new ≡ out.old ++ decimal number) }
-{
-    let mut buffer = Buffer::new();
-    out.extend(buffer.format(number).as_bytes())
-}
-
 /// Puts a start line without its CRLF.
 fn put_start(out: &mut Bytes, start: &Start) -> Result<(), AllocError>
     ensures { OnOk result (out.new ≡ out.old ++ start_text start.now) }
@@ -34,7 +26,7 @@ fn put_start(out: &mut Bytes, start: &Start) -> Result<(), AllocError>
         }
         Start::Status { code, reason } => {
             out.extend(b"SIP/2.0 ")?;
-            put_number(out, u64::from(*code))?;
+            out.push_decimal(u64::from(*code))?;
             out.extend(b" ")?;
             out.extend(reason.as_slice())
         }
@@ -52,7 +44,7 @@ fn put_field(out: &mut Bytes, field: &Field) -> Result<(), AllocError>
 }
 
 /// The written form of a message: its start line, each field on a line of its own as `Name: value`, then
-/// `Content-Length` with the length of the body, the empty line, and the body (RFC 3261, 7). `AllocError`
+/// `Content-Length` with the length of the body, the empty line, and the body (RFC 3261 7). `AllocError`
 /// is the only refusal.
 pub fn write(alloc: Global, message: &Message) -> Result<Bytes, AllocError>
     ensures { IfOk result (λ written. written ≡ text_of message.now) }
@@ -64,7 +56,7 @@ pub fn write(alloc: Global, message: &Message) -> Result<Bytes, AllocError>
         put_field(&mut out, field)?;
     }
     out.extend(b"Content-Length: ")?;
-    put_number(&mut out, message.body.as_slice().len() as u64)?;
+    out.push_decimal(message.body.as_slice().len() as u64)?;
     out.extend(b"\r\n\r\n")?;
     out.extend(message.body.as_slice())?;
     Ok(out)

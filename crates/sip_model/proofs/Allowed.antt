@@ -8,7 +8,7 @@ use Rattle.sip_policy.specs.declared.decision.Decision.{Decision}
 use Rattle.sip_targets.specs.declared.targets.Targets.{Targets}
 use Rattle.sip_model.specs.Server.{Server}
 use Rattle.sip_model.specs.State.{ProxyState}
-use Rattle.sip_model.specs.Verdict.{Arrival, Question, Registered, Verdict, Drop, Respond, Copy, AckOn, Cancel, Answer, InDialog, Challenge, Deny, Send, Register, is_register, question_of, answer_of, registration_by, request_targets, decided, message_verdict, message_in}
+use Rattle.sip_model.specs.Verdict.{Arrival, Question, Registered, Verdict, Drop, Respond, Copy, AckOn, Cancel, Answer, InDialog, Challenge, Deny, Send, Register, is_register, question_of, answer_of, registration_by, request_targets, decided, message_verdict, message_in, verdict_in}
 use Rattle.sip_model.specs.Bindings.{Arrived, allowed_by, allowed_in}
 use Rattle.sip_model.specs.Access.{IsAllowedRegister, rule_of}
 use Rattle.sip_model.proofs.Judging.{is_by_policy, judged, judged_verdict, verdict_is}
@@ -50,7 +50,7 @@ decided_allowed server state now m method core q (Decision.Via id hop) r h =
 
 -- what is let through of what bytes say
 said_allowed : (server : Server) (state : ProxyState) (a : Arrival) (bytes : List ℕ) (said : Option (Message × Bool)) (r : Arrived) → message_in (reading_of bytes) ≡ said
-    → option_and_then (λ x. allowed_by a.now x.0 (message_verdict server state a x.0 x.1)) said ≡ Some r → IsAllowedRegister server state a bytes r
+    → option_and_then (λ x. allowed_by a.now x.0 x.1) (verdict_in server state a said) ≡ Some r → IsAllowedRegister server state a bytes r
 said_allowed server state a bytes None r said h = cc
 said_allowed server state a bytes (Some x) r said h =
     let k = judged server state a bytes x.0 x.1 said (allowed_by_policy a.now x.0 (message_verdict server state a x.0 x.1) r h) in
@@ -78,7 +78,7 @@ rule_allows server state now m method core q (Decision.Via rule hop) id register
 pub allowed_by_rules : (server : Server) (state : ProxyState) (a : Arrival) (bytes : List ℕ) (r : Arrived) → IsAllowedRegister server state a bytes r → allowed_in server state a bytes ≡ Some r
 allowed_by_rules server state a bytes r h =
     let q : Question = question_of server state.nonces a.now h.m h.method h.core in
-    ap (λ said. option_and_then (λ x. allowed_by a.now x.0 (message_verdict server state a x.0 x.1)) said) h.is_new.says
+    ap (λ said. option_and_then (λ x. allowed_by a.now x.0 x.1) (verdict_in server state a said)) h.is_new.says
     ∙ ap (allowed_by a.now h.m) (verdict_is server state bytes h.m h.method h.core h.is_new a)
     ∙ rule_allows server state a.now h.m h.method h.core q (answer_of server q) h.id h.registers h.is_let_through
     ∙ ap Some (sym h.is_it)

@@ -5,7 +5,7 @@ use Rattle.std.proofs.lemmas.Bool.Decides.{nat_tests}
 use Rattle.std.proofs.lemmas.List.Sums.{sum_by-append}
 use Rattle.sip_best.specs.Best.{best_of}
 use Rattle.sip_message.specs.Text.{text_of}
-use Rattle.sip_model.specs.declared.packet.Packet.{Packet}
+use Rattle.sip_event.specs.declared.packet.Packet.{Packet}
 use Rattle.sip_model.specs.Server.{Server}
 use Rattle.sip_model.specs.State.{Side, Closing, OpenRequest, is_invite, is_answering}
 use Rattle.sip_model.specs.Sending.{is_success, is_provisional}

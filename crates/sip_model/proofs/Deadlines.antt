@@ -1,8 +1,8 @@
 -- No deadline is passed over: what stands after a step isn't before it, and what had to fire has fired.
 use Rattle.std.proofs.Common.{◌≡◌, ℕ, ◌+◌, ◌≤◌, ◌<◌, Bool, true, false, cond, ◌&&◌, List, [], ◌∷◌, ◌++◌, Option, Some, None, sym, subst, arith, filter_map, option_to_list}
 use Rattle.std.specs.List.{AllByRecursion, cons_option}
-use Rattle.sip_model.specs.declared.event.StepOut.{StepOut}
-use Rattle.sip_model.specs.declared.event.Event.TheVariants.{Datagram, Time, Fault}
+use Rattle.sip_event.specs.declared.event.StepOut.{StepOut}
+use Rattle.sip_event.specs.declared.event.Event.TheVariants.{Datagram, Time, Fault}
 use Rattle.sip_model.specs.Server.{Server}
 use Rattle.sip_model.specs.State.{Side, Answering, Closing, Acknowledged, Closed, Branch, OpenRequest, ProxyState, first_state, deadlines, deadlines_of, side_deadline, phase_deadline, is_invite}
 use Rattle.sip_model.specs.Branches.{acknowledged, acknowledged_side, was_refused}

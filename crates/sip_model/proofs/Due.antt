@@ -11,7 +11,7 @@ use Rattle.sip_edit.specs.OwnRequests.{cancel_of}
 use Rattle.sip_location.specs.declared.binding.Binding.{Binding}
 use Rattle.sip_best.specs.declared.final_answer.Final.{Final}
 use Rattle.sip_best.specs.Best.{best_of, is_challenge_status, taking_along}
-use Rattle.sip_model.specs.declared.packet.Packet.{Packet}
+use Rattle.sip_event.specs.declared.packet.Packet.{Packet}
 use Rattle.sip_model.specs.Server.{Server}
 use Rattle.sip_model.specs.State.{Phase, Unheard, Heard, Cancelled, Done, Ended, Branch, OpenRequest, ProxyState, Closed, is_invite, is_final, is_answering, has_left}
 use Rattle.sip_model.specs.Sending.{made_answer, answer_to, to_branch, request_of, branch_packets, ack_packets, is_success, is_failure, is_provisional}

@@ -5,7 +5,7 @@ use Rattle.sip_message.specs.declared.field.Field.{Field}
 use Rattle.sip_message.specs.declared.message.Message.{Message}
 use Rattle.sip_message.specs.Text.{text_of}
 use Rattle.sip_header.specs.declared.core_fields.CoreFields.{CoreFields}
-use Rattle.sip_hops.specs.declared.addr.Addr.{Addr}
+use Rattle.sip_text.specs.declared.addr.Addr.{Addr}
 use Rattle.sip_edit.specs.Extras.{denial_warning}
 use Rattle.sip_edit.specs.Onward.{onward_uri, with_record_route}
 use Rattle.sip_policy.specs.declared.decision.Decision.{Decision}
@@ -16,7 +16,7 @@ use Rattle.sip_targets.specs.declared.targets.Targets.{Targets}
 use Rattle.sip_targets.specs.Targets.{target_list}
 use Rattle.sip_dialog.specs.declared.dialog.DialogId.{DialogId}
 use Rattle.sip_audit.specs.declared.record.Record.{Record}
-use Rattle.sip_model.specs.declared.packet.Packet.{Packet}
+use Rattle.sip_event.specs.declared.packet.Packet.{Packet}
 use Rattle.sip_model.specs.Server.{Server}
 use Rattle.sip_model.specs.State.{Branch, OpenRequest, ProxyState, is_invite}
 use Rattle.sip_model.specs.Sending.{made_answer, branch_packets, request_of, onward_as, begins_dialog}
@@ -148,7 +148,7 @@ module _ (server : Server) (history : List Link) (state : ProxyState) (act : Act
 
     -- a request in a dialog goes where the dialog allows
     within_owed : (address : Addr) (id : DialogId) → IsInside server state a m short address id → (p : Packet) → p.to ≡ address
-        → p.bytes ≡ text_of (onward_as server a.number m a.from (onward_uri server.own m) 1) → p.ticket.datagram ≡ a.number → Owed server history state act state.bindings p
+        → p.bytes ≡ text_of (onward_as server a.number m a.from (onward_uri server.config.own m) 1) → p.ticket.datagram ≡ a.number → Owed server history state act state.bindings p
     within_owed address id h p goes says numbered =
         let passing : IsPassing server m short = h.passing in
         let within : IsWithin server state act a m address =
@@ -172,12 +172,12 @@ module _ (server : Server) (history : List Link) (state : ProxyState) (act : Act
 
     -- a request of a dialog begins none, and has no Record-Route
     plain_onward : (address : Addr) (id : DialogId) → IsInside server state a m short address id
-        → text_of (request_of server (forking a m (dialog_branch server a.now m address ∷ [])) (dialog_branch server a.now m address)) ≡ text_of (onward_as server a.number m a.from (onward_uri server.own m) 1)
+        → text_of (request_of server (forking a m (dialog_branch server a.now m address ∷ [])) (dialog_branch server a.now m address)) ≡ text_of (onward_as server a.number m a.from (onward_uri server.config.own m) 1)
     plain_onward address id h =
         let plain : begins_dialog (forking a m (dialog_branch server a.now m address ∷ [])) ≡ false =
         ap (λ o. is_invite (arriving a m) && not (is_some o)) h.has_dialog ∙ never (is_invite (arriving a m))
         in
-        ap (λ t. text_of (cond t (with_record_route server.own (onward_as server a.number m a.from (onward_uri server.own m) 1)) (onward_as server a.number m a.from (onward_uri server.own m) 1))) plain where
+        ap (λ t. text_of (cond t (with_record_route server.config.own (onward_as server a.number m a.from (onward_uri server.config.own m) 1)) (onward_as server a.number m a.from (onward_uri server.config.own m) 1))) plain where
           never : (t : Bool) → (t && false) ≡ false
           never true = refl
           never false = refl
@@ -288,9 +288,9 @@ module _ (server : Server) (history : List Link) (state : ProxyState) (act : Act
 
     -- a denial names its rule
     denied_good : (q : Question) (id : ℕ) (records : List Record) (s : ProxyState) → IsAsked server state a bytes m q (Decision.Deny id) → AreHonest server history s.requests
-        → IsGood (replied server a m 403 (denial_warning server.own id ∷ []) records s)
+        → IsGood (replied server a m 403 (denial_warning server.config.own id ∷ []) records s)
     denied_good q id records s fits h =
-        let denial : IsDenied server state act a.number m (denial_warning server.own id ∷ []) =
+        let denial : IsDenied server state act a.number m (denial_warning server.config.own id ∷ []) =
         record {
           a = a;
           bytes = bytes;
@@ -304,7 +304,7 @@ module _ (server : Server) (history : List Link) (state : ProxyState) (act : Act
           names_rule = refl;
         }
         in
-        replied_good 403 (denial_warning server.own id ∷ []) records s (opened_new fits.method fits.core fits.is_new) (λ e. denial) h
+        replied_good 403 (denial_warning server.config.own id ∷ []) records s (opened_new fits.method fits.core fits.is_new) (λ e. denial) h
 
     -- a response to the request of a branch of an open request that it came for
     responded_good : (r : OpenRequest) (b : Branch) (status : ℕ) → IsResponding server state m short r b status → (b.is_cancel ≡ false → CameFor server history r.number status m)

@@ -6,7 +6,7 @@ use Rattle.sip_message.specs.declared.field_name.FieldName.TheVariants as Name
 use Rattle.sip_message.specs.declared.field.Field.{Field}
 use Rattle.sip_message.specs.declared.message.Message.{Message}
 use Rattle.sip_message.specs.FieldName.{is_same_name}
-use Rattle.sip_header.specs.Prepared.{without_first}
+use Rattle.sip_message.specs.Values.{without_first}
 use Rattle.sip_edit.specs.OwnVia.{without_top_via}
 use Rattle.sip_best.specs.declared.final_answer.Final.{Final}
 use Rattle.sip_best.specs.Best.{picked, chosen_of, is_unbeaten, is_challenge_status, is_challenge_field, challenge_fields, challenges_of, challenging, going_up, best_of, taking_along}

@@ -15,27 +15,26 @@ use Rattle.sip_header.specs.declared.cseq.CSeq.{CSeq}
 use Rattle.sip_header.specs.declared.core_fields.CoreFields.{CoreFields}
 use Rattle.sip_header.specs.Key.{key_of}
 use Rattle.sip_header.specs.CSeq.{cseq_of}
-use Rattle.sip_header.specs.Values.{values_of, first_value}
+use Rattle.sip_message.specs.Values.{values_of, first_value}
 use Rattle.sip_header.specs.CoreFields.{core_of}
-use Rattle.sip_header.specs.Prepared.{way_of}
-use Rattle.sip_policy.specs.PolicyUser.{is_users_address}
-use Rattle.sip_uri.specs.Reading as Uris
-use Rattle.sip_hops.specs.declared.addr.Addr.{Addr}
+use Rattle.sip_header.specs.Way.{request_uri_of}
+use Rattle.sip_policy.specs.User.{is_users_address}
+use Rattle.sip_text.specs.declared.addr.Addr.{Addr}
 use Rattle.sip_policy.specs.declared.decision.Decision.{Decision}
 use Rattle.sip_location.specs.declared.binding.Binding.{Binding}
 use Rattle.sip_location.specs.declared.error.LocationError.{LocationError}
 use Rattle.sip_location.specs.declared.error.LocationError.TheVariants.{NoMemory, BadStar, TooBrief, OldCSeq, TooMany}
 use Rattle.sip_location.specs.Registration.{registered}
 use Rattle.sip_targets.specs.declared.targets.Targets.{Targets}
-use Rattle.sip_validate.specs.Asked.{Asked}
-use Rattle.sip_validate.specs.Refusal.{Row, rows, refusal, asked_by, asked_of, refusal_of, is_bad_request}
+use Rattle.sip_validate.specs.Candidate.{Candidate}
+use Rattle.sip_validate.specs.Refusal.{Row, rows, refusal, candidate_by, candidate_of, refusal_of, is_bad_request}
 use Rattle.sip_dialog.specs.declared.dialog.DialogId.{DialogId}
 use Rattle.sip_dialog.specs.Dialogs.{IsInDialog, is_in_dialog}
 use Rattle.std.proofs.lemmas.Slice.Eq.{bytes_eq-Decides}
 use Rattle.sip_dialog.specs.DialogId.{id_of}
 use Rattle.sip_dialog.proofs.Tests.{test_says}
-use Rattle.sip_model.specs.Server.{Server, policy_users}
-use Rattle.sip_model.specs.Registering.{registration_of, to_aor}
+use Rattle.sip_model.specs.Server.{Server}
+use Rattle.sip_location.specs.Registering.{registration_of, to_aor}
 use Rattle.sip_model.specs.State.{Branch, OpenRequest, ProxyState, has_key}
 use Rattle.sip_model.specs.Sending.{dialog_of}
 use Rattle.sip_model.specs.Branches.{is_accepted}
@@ -71,7 +70,7 @@ pub record IsPassing (server : Server) (m : Message) (short : Bool) : Type 0 whe
   pub is_request : m.start ≡ Request method uri version
   pub is_no_register : is_register method ≡ false
   pub is_no_cancel : bytes_eq method (codes "CANCEL") ≡ false
-  pub is_valid : refusal_of server.own m false ≡ None
+  pub is_valid : refusal_of server.config.own m false ≡ None
 
 -- such a request is in a dialog that is known, which holds the address where it is to go next
 pub record IsInside (server : Server) (state : ProxyState) (a : Arrival) (m : Message) (short : Bool) (address : Addr) (id : DialogId) : Type 0 where
@@ -134,22 +133,22 @@ ok_is (Err f) x e = absurd (cc)
 
 -- no check refuses by 403
 refusal_other : (own : Own) (m : Message) (short : Bool) → IfSome (refusal_of own m short) (λ refused. (refused.0 ≡ 403) → ⊥)
-refusal_other own m short = by_asked (asked_of own m short) where
-  by_row : (asked : Asked) (o : Option Row) → IfSome o (λ row. (row.status ≡ 403) → ⊥) → IfSome {T = ℕ × List ℕ} (option_map (λ row. (row.status, row.extra asked)) o) (λ refused. (refused.0 ≡ 403) → ⊥)
-  by_row asked None h = tt
-  by_row asked (Some row) h = h
+refusal_other own m short = by_candidate (candidate_of own m short) where
+  by_row : (r : Candidate) (o : Option Row) → IfSome o (λ row. (row.status ≡ 403) → ⊥) → IfSome {T = ℕ × List ℕ} (option_map (λ row. (row.status, row.extra r)) o) (λ refused. (refused.0 ≡ 403) → ⊥)
+  by_row r None h = tt
+  by_row r (Some row) h = h
 
   others : AllByRecursion (λ (row : Row). (row.status ≡ 403) → ⊥) rows
   others = (λ e. omega arith, (λ e. omega arith, (λ e. omega arith, (λ e. omega arith, (λ e. omega arith, (λ e. omega arith, (λ e. omega arith, tt)))))))
 
-  by_asked : (o : Option Asked) → IfSome (option_map_or refusal o None) (λ refused. (refused.0 ≡ 403) → ⊥)
-  by_asked None = tt
-  by_asked (Some asked) = by_row asked (find (λ row. row.applies asked) rows) (all_find (λ (row : Row). (row.status ≡ 403) → ⊥) (λ row. row.applies asked) rows others)
+  by_candidate : (o : Option Candidate) → IfSome (option_map_or refusal o None) (λ refused. (refused.0 ≡ 403) → ⊥)
+  by_candidate None = tt
+  by_candidate (Some r) = by_row r (find (λ row. row.applies r) rows) (all_find (λ (row : Row). (row.status ≡ 403) → ⊥) (λ row. row.applies r) rows others)
 
 -- a request that passes every check has its whole body
 passes_whole : (own : Own) (m : Message) (method uri version : List ℕ) (short : Bool) → m.start ≡ Request method uri version → refusal_of own m short ≡ None → short ≡ false
 passes_whole own m method uri version true is_request passes =
-    let refused : refusal_of own m true ≡ Some (400, []) = ap (λ start. option_map_or refusal (asked_by own m.fields true start) None) is_request in
+    let refused : refusal_of own m true ≡ Some (400, []) = ap (λ start. option_map_or refusal (candidate_by own m.fields true start) None) is_request in
     absurd (cc)
 passes_whole own m method uri version false is_request passes = refl
 
@@ -186,7 +185,7 @@ RefusesOtherwise (Refused status extras) = (status ≡ 403) → ⊥
 -- no registration that was let through is refused by 403
 pub registration_other : (server : Server) (known : List Binding) (now : ℕ) (m : Message) (core : CoreFields) → RefusesOtherwise (registration_by server known now m core)
 registration_other server known now m core =
-    by_test (is_own_uri server (result_ok (Uris.reading_of (way_of server.own m).uri)) && is_users_address (policy_users server) server.own.domains (to_aor core))
+    by_test (is_own_uri server (request_uri_of server.config.own m) && is_users_address server.config.users server.config.own.domains (to_aor core))
     (registered known (registration_of core m.fields) now) where
       by_test : (t : Bool) (result : Result (List Binding) LocationError) → RefusesOtherwise (cond t (registered_by result) (Refused 404 []))
       by_test true (Ok after) = tt
@@ -201,9 +200,9 @@ registration_other server known now m core =
 
 -- a request that passes every check does so with its whole body
 passing : (server : Server) (m : Message) (short : Bool) (method uri version : List ℕ) → m.start ≡ Request method uri version → is_register method ≡ false
-    → bytes_eq method (codes "CANCEL") ≡ false → refusal_of server.own m short ≡ None → IsPassing server m short
+    → bytes_eq method (codes "CANCEL") ≡ false → refusal_of server.config.own m short ≡ None → IsPassing server m short
 passing server m short method uri version is_request no_register no_cancel valid =
-    let whole : short ≡ false = passes_whole server.own m method uri version short is_request valid in
+    let whole : short ≡ false = passes_whole server.config.own m method uri version short is_request valid in
     record {
       method = method;
       uri = uri;
@@ -212,7 +211,7 @@ passing server m short method uri version is_request no_register no_cancel valid
       is_request = is_request;
       is_no_register = no_register;
       is_no_cancel = no_cancel;
-      is_valid = subst (λ t. refusal_of server.own m t ≡ None) whole valid;
+      is_valid = subst (λ t. refusal_of server.config.own m t ≡ None) whole valid;
     }
 
 -- what is no ACK by its method is none
@@ -243,8 +242,8 @@ module _ (server : Server) (state : ProxyState) (a : Arrival) (bytes : List ℕ)
 
   -- an ACK that no open request takes
   ack_fits : (method uri version : List ℕ) → m.start ≡ Request method uri version → bytes_eq method (codes "ACK") ≡ true → Fits server state a bytes m short (ack_verdict server state a.now m short)
-  ack_fits method uri version is_request ack = by_refusal (refusal_of server.own m short) refl where
-    by_refusal : (o : Option (ℕ × List ℕ)) → refusal_of server.own m short ≡ o → Fits server state a bytes m short (cond (is_some o) Drop (within server state a.now m AckOn Drop))
+  ack_fits method uri version is_request ack = by_refusal (refusal_of server.config.own m short) refl where
+    by_refusal : (o : Option (ℕ × List ℕ)) → refusal_of server.config.own m short ≡ o → Fits server state a bytes m short (cond (is_some o) Drop (within server state a.now m AckOn Drop))
     by_refusal (Some refused) valid = tt
     by_refusal None valid =
         within_fits AckOn Drop
@@ -253,7 +252,7 @@ module _ (server : Server) (state : ProxyState) (a : Arrival) (bytes : List ℕ)
 
   -- a CANCEL whose key isn't open
   cancel_fits : (key : Key) → IsBrought state m → Fits server state a bytes m short (cancel_verdict server state a m short key)
-  cancel_fits key fresh = by_tests (is_bad_request server.own m short) (is_full state) where
+  cancel_fits key fresh = by_tests (is_bad_request server.config.own m short) (is_full state) where
     same_source : (r : OpenRequest) → Contains state.requests r → (t : Bool) → IfSome (cond t (Some r) None) (Contains state.requests)
     same_source r h true = h
     same_source r h false = tt
@@ -290,10 +289,10 @@ module _ (server : Server) (state : ProxyState) (a : Arrival) (bytes : List ℕ)
 -- a request is valid, new and outside a dialog
 new_request : (server : Server) (state : ProxyState) (bytes : List ℕ) (m : Message) (method uri version : List ℕ) (short : Bool) (key : Key) (core : CoreFields)
     → message_in (reading_of bytes) ≡ Some (m, short) → m.start ≡ Request method uri version → key_of m ≡ Some key → find (has_key key) state.requests ≡ None
-    → bytes_eq method (codes "ACK") ≡ false → bytes_eq method (codes "CANCEL") ≡ false → refusal_of server.own m short ≡ None → is_full state ≡ false
+    → bytes_eq method (codes "ACK") ≡ false → bytes_eq method (codes "CANCEL") ≡ false → refusal_of server.config.own m short ≡ None → is_full state ≡ false
     → result_ok (core_of m) ≡ Some core → is_outside method core ≡ true → IsNewRequest server state bytes m method core
 new_request server state bytes m method uri version short key core said is_request key_is is_new no_ack no_cancel valid room core_is outside =
-    let whole : short ≡ false = passes_whole server.own m method uri version short is_request valid in
+    let whole : short ≡ false = passes_whole server.config.own m method uri version short is_request valid in
     record {
       uri = uri;
       version = version;
@@ -304,7 +303,7 @@ new_request server state bytes m method uri version short key core said is_reque
       is_new = is_new;
       is_no_ack = no_ack;
       is_no_cancel = no_cancel;
-      is_valid = subst (λ t. refusal_of server.own m t ≡ None) whole valid;
+      is_valid = subst (λ t. refusal_of server.config.own m t ≡ None) whole valid;
       has_room = room;
       core_is = ok_is (core_of m) core core_is;
       is_outside_dialog = outside;
@@ -314,8 +313,8 @@ module _ (server : Server) (state : ProxyState) (a : Arrival) (bytes : List ℕ)
   -- a request that is neither ACK nor CANCEL, whose key isn't open
   checked_fits : (method uri version : List ℕ) (key : Key) → m.start ≡ Request method uri version → key_of m ≡ Some key → find (has_key key) state.requests ≡ None
       → bytes_eq method (codes "ACK") ≡ false → bytes_eq method (codes "CANCEL") ≡ false
-      → Fits server state a bytes m short (checked_verdict server state a.now m method (refusal_of server.own m short))
-  checked_fits method uri version key is_request key_is is_new no_ack no_cancel = by_refusal (refusal_of server.own m short) refl (refusal_other server.own m short) where
+      → Fits server state a bytes m short (checked_verdict server state a.now m method (refusal_of server.config.own m short))
+  checked_fits method uri version key is_request key_is is_new no_ack no_cancel = by_refusal (refusal_of server.config.own m short) refl (refusal_other server.config.own m short) where
     fresh : IsBrought state m
     fresh = brought state m method uri version key is_request key_is is_new no_ack
 
@@ -325,7 +324,7 @@ module _ (server : Server) (state : ProxyState) (a : Arrival) (bytes : List ℕ)
       by_tests true u e = e
       by_tests false u e = refl
 
-    outside_fits : (core : CoreFields) → refusal_of server.own m short ≡ None → is_full state ≡ false → result_ok (core_of m) ≡ Some core → (t : Bool) → is_outside method core ≡ t
+    outside_fits : (core : CoreFields) → refusal_of server.config.own m short ≡ None → is_full state ≡ false → result_ok (core_of m) ≡ Some core → (t : Bool) → is_outside method core ≡ t
         → Fits server state a bytes m short (cond t (policy_verdict server state a.now m method core) (within server state a.now m InDialog (Answer 481 [])))
     outside_fits core valid room core_is true outside =
         policy_fits server state a bytes m short method core (new_request server state bytes m method uri version short key core said is_request key_is is_new no_ack no_cancel valid room core_is outside)
@@ -333,16 +332,16 @@ module _ (server : Server) (state : ProxyState) (a : Arrival) (bytes : List ℕ)
         within_fits server state a bytes m short InDialog (Answer 481 []) (passing server m short method uri version is_request (inside core outside) no_cancel valid) (λ address id h. (fresh, h))
         (fresh, λ e. omega arith)
 
-    by_core : refusal_of server.own m short ≡ None → is_full state ≡ false → (o : Option CoreFields) → result_ok (core_of m) ≡ o → Fits server state a bytes m short (core_verdict server state a.now m method o)
+    by_core : refusal_of server.config.own m short ≡ None → is_full state ≡ false → (o : Option CoreFields) → result_ok (core_of m) ≡ o → Fits server state a bytes m short (core_verdict server state a.now m method o)
     by_core valid room None core_is = tt
     by_core valid room (Some core) core_is = outside_fits core valid room core_is (is_outside method core) refl
 
-    by_room : refusal_of server.own m short ≡ None → (t : Bool) → is_full state ≡ t
+    by_room : refusal_of server.config.own m short ≡ None → (t : Bool) → is_full state ≡ t
         → Fits server state a bytes m short (cond t (Answer 503 []) (core_verdict server state a.now m method (result_ok (core_of m))))
     by_room valid true room = (fresh, λ e. omega arith)
     by_room valid false room = by_core valid room (result_ok (core_of m)) refl
 
-    by_refusal : (o : Option (ℕ × List ℕ)) → refusal_of server.own m short ≡ o → IfSome o (λ refused. (refused.0 ≡ 403) → ⊥) → Fits server state a bytes m short (checked_verdict server state a.now m method o)
+    by_refusal : (o : Option (ℕ × List ℕ)) → refusal_of server.config.own m short ≡ o → IfSome o (λ refused. (refused.0 ≡ 403) → ⊥) → Fits server state a bytes m short (checked_verdict server state a.now m method o)
     by_refusal None valid other = by_room valid (is_full state) refl
     by_refusal (Some refused) valid other = (fresh, other)
 
@@ -352,7 +351,7 @@ module _ (server : Server) (state : ProxyState) (a : Arrival) (bytes : List ℕ)
   new_fits method uri version key is_request key_is is_new = by_tests (bytes_eq method (codes "ACK")) refl (bytes_eq method (codes "CANCEL")) refl where
     by_tests : (t : Bool) → bytes_eq method (codes "ACK") ≡ t → (u : Bool) → bytes_eq method (codes "CANCEL") ≡ u
         → Fits server state a bytes m short (cond t (ack_verdict server state a.now m short)
-        (cond u (cancel_verdict server state a m short key) (checked_verdict server state a.now m method (refusal_of server.own m short))))
+        (cond u (cancel_verdict server state a m short key) (checked_verdict server state a.now m method (refusal_of server.config.own m short))))
     by_tests true ack u cancel = ack_fits server state a bytes m short method uri version is_request ack
     by_tests false ack true cancel = cancel_fits server state a bytes m short key (brought state m method uri version key is_request key_is is_new ack)
     by_tests false ack false cancel = checked_fits method uri version key is_request key_is is_new ack cancel

@@ -14,8 +14,8 @@ use Rattle.sip_header.specs.declared.key.Key.{Key}
 use Rattle.sip_header.specs.declared.core_fields.CoreFields.{CoreFields}
 use Rattle.sip_header.specs.Key.{key_of}
 use Rattle.sip_header.specs.CoreFields.{core_of}
-use Rattle.sip_hops.specs.declared.addr.Addr.{Addr}
-use Rattle.sip_validate.specs.Refusal.{refusal, refusal_of, asked_by, is_bad_request}
+use Rattle.sip_text.specs.declared.addr.Addr.{Addr}
+use Rattle.sip_validate.specs.Refusal.{refusal, refusal_of, candidate_by, is_bad_request}
 use Rattle.sip_dialog.specs.declared.dialog.DialogId.{DialogId}
 use Rattle.sip_dialog.specs.Dialogs.{is_in_dialog}
 use Rattle.sip_model.specs.Server.{Server}
@@ -83,7 +83,7 @@ within_not_by_policy state now (Some id) (Some address) = neither_by_policy (is_
 -- a CANCEL
 cancel_not_by_policy : (server : Server) (state : ProxyState) (a : Arrival) (m : Message) (short : Bool) (key : Key) → is_by_policy (cancel_verdict server state a m short key) ≡ false
 cancel_not_by_policy server state a m short key =
-    neither_by_policy (is_bad_request server.own m short) (Answer 400 []) _ refl
+    neither_by_policy (is_bad_request server.config.own m short) (Answer 400 []) _ refl
     (neither_by_policy (is_full state) (Answer 503 []) (Cancel (found_for_cancel state key a.from)) refl refl)
 
 -- a request whose key is open
@@ -114,9 +114,9 @@ checked_by_policy server state now m method None h =
 -- it is neither ACK nor CANCEL
 new_by_policy : (server : Server) (state : ProxyState) (a : Arrival) (m : Message) (short : Bool) (method : List ℕ) (key : Key)
     → is_by_policy (new_verdict server state a m short method key) ≡ true
-    → (bytes_eq method (codes "ACK") ≡ false) × (bytes_eq method (codes "CANCEL") ≡ false) × (is_by_policy (checked_verdict server state a.now m method (refusal_of server.own m short)) ≡ true)
+    → (bytes_eq method (codes "ACK") ≡ false) × (bytes_eq method (codes "CANCEL") ≡ false) × (is_by_policy (checked_verdict server state a.now m method (refusal_of server.config.own m short)) ≡ true)
 new_by_policy server state a m short method key h =
-    let checked : Verdict = checked_verdict server state a.now m method (refusal_of server.own m short) in
+    let checked : Verdict = checked_verdict server state a.now m method (refusal_of server.config.own m short) in
     let others : Verdict = cond (bytes_eq method (codes "CANCEL")) (cancel_verdict server state a m short key) checked in
     let k = second_by_policy (bytes_eq method (codes "ACK")) (ack_verdict server state a.now m short) others (ack_not_by_policy server state a.now m short) h in
     let l = second_by_policy (bytes_eq method (codes "CANCEL")) (cancel_verdict server state a m short key) checked (cancel_not_by_policy server state a m short key) k.1 in
@@ -152,7 +152,7 @@ start_by_policy server state a m short (Begins.Request method uri version) h = (
 
 -- a request with a short body is refused
 short_refused : (own : Own) (m : Message) (method uri version : List ℕ) → m.start ≡ Begins.Request method uri version → refusal_of own m true ≡ Some (400, [])
-short_refused own m method uri version h = ap (λ start. option_map_or refusal (asked_by own m.fields true start) None) h
+short_refused own m method uri version h = ap (λ start. option_map_or refusal (candidate_by own m.fields true start) None) h
 
 -- where a request isn't refused its body isn't short
 not_short : (own : Own) (m : Message) (short : Bool) (method uri version : List ℕ) → m.start ≡ Begins.Request method uri version → refusal_of own m short ≡ None → short ≡ false
@@ -168,7 +168,7 @@ ok_of (Err e) x h = cc
 
 -- a request that is checked and new gets policy's verdict
 checked_verdict_is : (server : Server) (state : ProxyState) (bytes : List ℕ) (m : Message) (method : List ℕ) (core : CoreFields) → IsNewRequest server state bytes m method core → (now : ℕ)
-    → checked_verdict server state now m method (refusal_of server.own m false) ≡ policy_verdict server state now m method core
+    → checked_verdict server state now m method (refusal_of server.config.own m false) ≡ policy_verdict server state now m method core
 checked_verdict_is server state bytes m method core h now =
     ap (checked_verdict server state now m method) h.is_valid
     ∙ ap (λ b. cond b (Answer 503 []) (core_verdict server state now m method (result_ok (core_of m)))) h.has_room
@@ -183,8 +183,8 @@ verdict_is server state bytes m method core h a =
     ∙ ap (by_key server state a m false method) h.key_is
     ∙ ap (by_open server state a m false method h.key) h.is_new
     ∙ ap (λ b. cond b (ack_verdict server state a.now m false)
-    (cond (bytes_eq method (codes "CANCEL")) (cancel_verdict server state a m false h.key) (checked_verdict server state a.now m method (refusal_of server.own m false)))) h.is_no_ack
-    ∙ ap (λ b. cond b (cancel_verdict server state a m false h.key) (checked_verdict server state a.now m method (refusal_of server.own m false))) h.is_no_cancel
+    (cond (bytes_eq method (codes "CANCEL")) (cancel_verdict server state a m false h.key) (checked_verdict server state a.now m method (refusal_of server.config.own m false)))) h.is_no_ack
+    ∙ ap (λ b. cond b (cancel_verdict server state a m false h.key) (checked_verdict server state a.now m method (refusal_of server.config.own m false))) h.is_no_cancel
     ∙ checked_verdict_is server state bytes m method core h a.now
 
 -- ---- the whole
@@ -199,9 +199,9 @@ judged server state a bytes m short said h =
     let key : Key = keyed.0 in
     let fresh = open_by_policy server state a m short method key (find (has_key key) state.requests) keyed.2 in
     let other = new_by_policy server state a m short method key fresh.1 in
-    let checked = checked_by_policy server state a.now m method (refusal_of server.own m short) other.2 in
+    let checked = checked_by_policy server state a.now m method (refusal_of server.config.own m short) other.2 in
     let read = core_by_policy server state a.now m method (result_ok (core_of m)) checked.2 in
-    let whole : short ≡ false = not_short server.own m short method started.1 started.2 started.3 checked.0 in (
+    let whole : short ≡ false = not_short server.config.own m short method started.1 started.2 started.3 checked.0 in (
       method,
       read.0,
       whole,
@@ -215,7 +215,7 @@ judged server state a bytes m short said h =
         is_new = fresh.0;
         is_no_ack = other.0;
         is_no_cancel = other.1;
-        is_valid = ap (refusal_of server.own m) (sym whole) ∙ checked.0;
+        is_valid = ap (refusal_of server.config.own m) (sym whole) ∙ checked.0;
         has_room = checked.1;
         core_is = ok_of (core_of m) read.0 read.1;
         is_outside_dialog = read.2;

@@ -4,16 +4,16 @@ use Rattle.std.specs.List.{AllByRecursion}
 use Rattle.std.specs.Option.{option_map_or}
 use Rattle.sip_message.specs.declared.message.Message.{Message}
 use Rattle.sip_message.specs.Reading.{reading_of}
-use Rattle.sip_hops.specs.declared.addr.Addr.{Addr}
-use Rattle.sip_model.specs.declared.packet.Packet.{Packet}
-use Rattle.sip_model.specs.declared.packet.Ticket.{Ticket}
-use Rattle.sip_model.specs.declared.event.StepOut.{StepOut}
-use Rattle.sip_model.specs.declared.event.Event.TheVariants.{Datagram, Time, Fault}
+use Rattle.sip_text.specs.declared.addr.Addr.{Addr}
+use Rattle.sip_event.specs.declared.packet.Packet.{Packet}
+use Rattle.sip_event.specs.declared.packet.Ticket.{Ticket}
+use Rattle.sip_event.specs.declared.event.StepOut.{StepOut}
+use Rattle.sip_event.specs.declared.event.Event.TheVariants.{Datagram, Time, Fault}
 use Rattle.sip_model.specs.Server.{Server}
 use Rattle.sip_model.specs.State.{Branch, OpenRequest, ProxyState, first_state}
 use Rattle.sip_model.specs.Branches.{Change, send_failed}
-use Rattle.sip_model.specs.Verdict.{Arrival, message_verdict, message_in}
-use Rattle.sip_model.specs.Effect.{Effect, counted, message_effect, datagram_effect, nothing}
+use Rattle.sip_model.specs.Verdict.{Arrival, message_verdict, message_in, verdict_in}
+use Rattle.sip_model.specs.Effect.{Effect, counted, effect_of, datagram_effect, nothing}
 use Rattle.sip_model.specs.Step.{Act, Given, Passing, Does, IsOverdue, OfSide, OfBranch, IsQuiet, IsDeadline, IsStep, originals, moment_of, arrival_of, is_failed, failed_branch, failed_request, fault_effect}
 use Rattle.sip_model.specs.Run.{Link, IsChain}
 use Rattle.sip_model.specs.Access.{CameFor, IsSaidAt, IsOwed}
@@ -45,7 +45,7 @@ datagram_good server past old at word from bytes out new h = by_message (message
   a = arrival_of old at word from
 
   by_message : (o : Option (Message × Bool)) → message_in (reading_of bytes) ≡ o
-      → IsGood server (link ∷ past) old act (option_map_or (λ x. message_effect server old a x.0 x.1) o (nothing (counted a old)))
+      → IsGood server (link ∷ past) old act (option_map_or (λ x. effect_of server a x.0 x.1 (counted a old)) (verdict_in server old a o) (nothing (counted a old)))
   by_message None says = nothing_good server (link ∷ past) old act (counted a old) h
   by_message (Some x) says =
       let said : IsSaidAt old act a bytes x.0 x.1 = said_at old at word from bytes x.0 x.1 says in

@@ -10,13 +10,13 @@ use Rattle.sip_header.specs.CoreFields.{core_of}
 use Rattle.sip_policy.specs.declared.decision.Decision.{Decision}
 use Rattle.sip_location.specs.declared.binding.Binding.{Binding}
 use Rattle.sip_targets.specs.declared.targets.Targets.{Targets}
-use Rattle.sip_model.specs.declared.event.StepOut.{StepOut}
-use Rattle.sip_model.specs.declared.event.Event.TheVariants.{Datagram, Time, Fault}
-use Rattle.sip_model.specs.declared.packet.Ticket.{Ticket}
+use Rattle.sip_event.specs.declared.event.StepOut.{StepOut}
+use Rattle.sip_event.specs.declared.event.Event.TheVariants.{Datagram, Time, Fault}
+use Rattle.sip_event.specs.declared.packet.Ticket.{Ticket}
 use Rattle.sip_model.specs.Server.{Server}
 use Rattle.sip_model.specs.State.{ProxyState, OpenRequest, Branch, first_state}
-use Rattle.sip_model.specs.Verdict.{Arrival, Question, Bound, Refused, Verdict, Drop, Respond, Copy, AckOn, Cancel, Answer, InDialog, Challenge, Deny, Send, Register, is_register, question_of, answer_of, registration_by, request_targets, decided, message_verdict, message_in}
-use Rattle.sip_model.specs.Effect.{counted, effect_of, message_effect, nothing}
+use Rattle.sip_model.specs.Verdict.{Arrival, Question, Bound, Refused, Verdict, Drop, Respond, Copy, AckOn, Cancel, Answer, InDialog, Challenge, Deny, Send, Register, is_register, question_of, answer_of, registration_by, request_targets, decided, message_verdict, message_in, verdict_in}
+use Rattle.sip_model.specs.Effect.{counted, effect_of, nothing}
 use Rattle.sip_model.specs.Step.{Act, Given, Passing, IsStep, arrival_of, is_failed, failed_branch, failed_request, fault_effect, moment_of}
 use Rattle.sip_model.specs.Run.{Link, IsChain}
 use Rattle.sip_model.specs.Bindings.{Arrived, rows_after, after_register, bindings_by, allowed_by, allowed_at, allowed_registers, bindings_after}
@@ -123,8 +123,8 @@ message_faithful server state a bytes m short true said h =
 
 -- the bindings after a datagram are those that the REGISTER makes which it says and which is let through
 said_binds : (server : Server) (state : ProxyState) (a : Arrival) (bytes : List ℕ) (said : Option (Message × Bool)) → message_in (reading_of bytes) ≡ said
-    → (option_map_or (λ x. message_effect server state a x.0 x.1) said (nothing (counted a state))).state.bindings
-    ≡ after_allowed server state.bindings (option_and_then (λ x. allowed_by a.now x.0 (message_verdict server state a x.0 x.1)) said)
+    → (option_map_or (λ x. effect_of server a x.0 x.1 (counted a state)) (verdict_in server state a said) (nothing (counted a state))).state.bindings
+    ≡ after_allowed server state.bindings (option_and_then (λ x. allowed_by a.now x.0 x.1) (verdict_in server state a said))
 said_binds server state a bytes None h = refl
 said_binds server state a bytes (Some x) h =
     effect_binds server a x.0 (message_verdict server state a x.0 x.1) (counted a state)

@@ -2,28 +2,26 @@
 use Rattle.std.proofs.Common.{◌≡◌, ℕ, List, [], ◌∷◌, cond, Bool, true, false, refl, ◌∙◌, ap, Option, Some, None, arith}
 use Rattle.std.specs.Prelude.{length}
 use Rattle.std.specs.Option.{option_map_or}
-use Rattle.std.specs.Result.{result_ok}
 use Rattle.sip_uri.specs.declared.uri.Uri.{Uri}
 use Rattle.sip_uri.specs.declared.aor.Aor.{Aor}
-use Rattle.sip_uri.specs.Reading as Uris
 use Rattle.sip_message.specs.declared.field.Field.{Field}
 use Rattle.sip_message.specs.declared.message.Message.{Message}
 use Rattle.sip_header.specs.declared.core_fields.CoreFields.{CoreFields}
-use Rattle.sip_header.specs.Prepared.{way_of}
+use Rattle.sip_header.specs.Way.{request_uri_of}
 use Rattle.sip_policy.specs.declared.decision.Decision.{Decision}
 use Rattle.sip_location.specs.declared.binding.Binding.{Binding}
 use Rattle.sip_targets.specs.declared.target.Target.{Target}
 use Rattle.sip_targets.specs.declared.targets.Targets.{Targets}
 use Rattle.sip_targets.specs.Targets.{target_list}
 use Rattle.sip_audit.specs.declared.record.Outcome.{Outcome}
-use Rattle.sip_model.specs.declared.event.StepOut.{StepOut}
-use Rattle.sip_model.specs.declared.event.Event.TheVariants.{Datagram, Time, Fault}
-use Rattle.sip_model.specs.declared.packet.Packet.{Packet}
+use Rattle.sip_event.specs.declared.event.StepOut.{StepOut}
+use Rattle.sip_event.specs.declared.event.Event.TheVariants.{Datagram, Time, Fault}
+use Rattle.sip_event.specs.declared.packet.Packet.{Packet}
 use Rattle.sip_model.specs.Server.{Server}
-use Rattle.sip_model.specs.Registering.{to_aor, aor_or_nobody}
+use Rattle.sip_location.specs.Registering.{to_aor, aor_or_nobody}
 use Rattle.sip_model.specs.State.{ProxyState}
-use Rattle.sip_model.specs.Verdict.{Arrival, Question, Registered, Bound, Refused, Send, Register, is_register, question_of, answer_of, registration_by, targets_by, request_targets, let_through, decided, policy_verdict}
-use Rattle.sip_model.specs.Effect.{Effect, forking, branches_from, registering, sending, sent_to, record_of, contact_fields, counted, asked, effect_of, message_effect, datagram_effect, nothing}
+use Rattle.sip_model.specs.Verdict.{Arrival, Question, Registered, Bound, Refused, Send, Register, is_register, question_of, answer_of, registration_by, targets_by, request_targets, let_through, decided, policy_verdict, verdict_in}
+use Rattle.sip_model.specs.Effect.{Effect, forking, branches_from, registering, sending, sent_to, record_of, contact_fields, counted, asked, effect_of, datagram_effect, nothing}
 use Rattle.sip_model.specs.Step.{Act, Given, Passing, IsStep, originals, arrival_of}
 use Rattle.sip_model.specs.Access.{IsNewRequest, requests_to, rule_of, answer_alone, IsServed, Serves}
 use Rattle.sip_model.proofs.Judging.{verdict_is}
@@ -35,7 +33,7 @@ use Rattle.sip_model.proofs.Forks.{of_branches, all_kept, none_cancellable, fork
 effect_is : (server : Server) (state : ProxyState) (bytes : List ℕ) (m : Message) (method : List ℕ) (core : CoreFields) → IsNewRequest server state bytes m method core → (a : Arrival)
     → datagram_effect server state a bytes ≡ effect_of server a m (policy_verdict server state a.now m method core) (counted a state)
 effect_is server state bytes m method core h a =
-    ap (λ said. option_map_or (λ x. message_effect server state a x.0 x.1) said (nothing (counted a state))) h.says
+    ap (λ said. option_map_or (λ x. effect_of server a x.0 x.1 (counted a state)) (verdict_in server state a said) (nothing (counted a state))) h.says
     ∙ ap (λ v. effect_of server a m v (counted a state)) (verdict_is server state bytes m method core h a)
 
 -- ---- to whom it goes
@@ -91,9 +89,9 @@ decided_reaches : (server : Server) (old state : ProxyState) (a : Arrival) (m : 
     → of_branches (effect_of server a m (decided server old a.now m method core q decision) state).originals
     ≡ requests_to server a m (cond (is_register method) [] (target_list (request_targets server old.bindings a.now m q decision)))
 decided_reaches server old state a m method core q Decision.Challenge =
-    no_request server a m _ (either_empty (is_register method) _ (challenge_targets server old.bindings a.now q.target (result_ok (Uris.reading_of (way_of server.own m).uri))))
+    no_request server a m _ (either_empty (is_register method) _ (challenge_targets server old.bindings a.now q.target (request_uri_of server.config.own m)))
 decided_reaches server old state a m method core q (Decision.Deny id) =
-    no_request server a m _ (either_empty (is_register method) _ (denial_targets server old.bindings a.now q.target id (result_ok (Uris.reading_of (way_of server.own m).uri))))
+    no_request server a m _ (either_empty (is_register method) _ (denial_targets server old.bindings a.now q.target id (request_uri_of server.config.own m)))
 decided_reaches server old state a m method core q (Decision.Allow id) =
     either_reaches server a m q id (is_register method) (registration_by server old.bindings a.now m core) (request_targets server old.bindings a.now m q (Decision.Allow id)) state
 decided_reaches server old state a m method core q (Decision.Via id hop) =
@@ -171,7 +169,7 @@ decided_finds_no_binding server old state a m method core q id (Decision.Via rul
 -- policy is asked about the address of record of To, where it is asked about a REGISTER
 register_target : (server : Server) (state : ProxyState) (now : ℕ) (m : Message) (method : List ℕ) (core : CoreFields) → is_register method ≡ true
     → (question_of server state.nonces now m method core).target ≡ to_aor core
-register_target server state now m method core r = ap (λ b. cond b (to_aor core) (aor_or_nobody (result_ok (Uris.reading_of (way_of server.own m).uri)))) r
+register_target server state now m method core r = ap (λ b. cond b (to_aor core) (aor_or_nobody (request_uri_of server.config.own m))) r
 
 -- ---- a step
 

@@ -1,7 +1,7 @@
 -- What settling makes of an open request, after every event of it.
 use Rattle.std.proofs.Common.{◌≡◌, ℕ, ◌+◌, ◌≤◌, Bool, true, false, not, ◌&&◌, cond, List, [], ◌∷◌, ◌++◌, map, filter, Option, Some, None, refl, sym, ap, subst, ◌∙◌, arith}
 use Rattle.std.specs.List.{AllByRecursion}
-use Rattle.sip_model.specs.declared.packet.Packet.{Packet}
+use Rattle.sip_event.specs.declared.packet.Packet.{Packet}
 use Rattle.sip_model.specs.Server.{Server}
 use Rattle.sip_model.specs.State.{Cancelled, Side, Closing, Branch, OpenRequest, is_answering, phase_deadline, side_deadline}
 use Rattle.sip_model.specs.Sending.{is_provisional}

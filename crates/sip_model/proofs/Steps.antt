@@ -7,16 +7,16 @@ use Rattle.sip_message.specs.declared.message.Message.{Message}
 use Rattle.sip_message.specs.Reading.{reading_of}
 use Rattle.sip_targets.specs.declared.target.Target.{Target}
 use Rattle.sip_targets.specs.declared.targets.Targets.{Targets}
-use Rattle.sip_model.specs.declared.packet.Ticket.{Ticket}
-use Rattle.sip_model.specs.declared.event.StepOut.{StepOut}
-use Rattle.sip_model.specs.declared.event.Event.TheVariants.{Datagram, Time, Fault}
+use Rattle.sip_event.specs.declared.packet.Ticket.{Ticket}
+use Rattle.sip_event.specs.declared.event.StepOut.{StepOut}
+use Rattle.sip_event.specs.declared.event.Event.TheVariants.{Datagram, Time, Fault}
 use Rattle.sip_model.specs.Server.{Server}
 use Rattle.sip_model.specs.State.{Branch, OpenRequest, ProxyState, has_key}
 use Rattle.sip_model.specs.Branches.{responded, cancelled, acknowledged, send_failed}
-use Rattle.sip_model.specs.Verdict.{Arrival, Question, Registered, Bound, Refused, Verdict, Drop, Respond, Copy, AckOn, Cancel, Answer, InDialog, Challenge, Deny, Send, Register, is_full, message_verdict, message_in}
-use Rattle.sip_model.specs.Effect.{Effect, replaced, opened, closing, forking, branch_to, branches_from, dialog_branch, counted, asked, issuing, renewing, registering, sending, method_of, nothing, changed, effect_of, message_effect, datagram_effect}
+use Rattle.sip_model.specs.Verdict.{Arrival, Question, Registered, Bound, Refused, Verdict, Drop, Respond, Copy, AckOn, Cancel, Answer, InDialog, Challenge, Deny, Send, Register, is_full, message_verdict, message_in, verdict_in, verdict_of}
+use Rattle.sip_model.specs.Effect.{Effect, replaced, opened, closing, forking, branch_to, branches_from, dialog_branch, counted, asked, issuing, renewing, registering, sending, method_of, nothing, changed, effect_of, datagram_effect}
 use Rattle.sip_model.specs.Step.{Act, Given, Passing, IsStep, IsQuiet, IsDeadline, NoneBefore, moment_of, arrival_of, is_failed, failed_branch, failed_request, fault_effect}
-use Rattle.sip_model.specs.Order.{ByResponse, ByDeadline, ByFault, ByCancel, FinalAnswer, change_finals, reply_finals, forked_finals, sending_finals, registered_finals, verdict_finals, message_finals, branch_finals, fault_finals, step_finals}
+use Rattle.sip_model.specs.Order.{ByResponse, ByDeadline, ByFault, ByCancel, FinalAnswer, change_finals, reply_finals, forked_finals, sending_finals, registered_finals, verdict_finals, datagram_finals, branch_finals, fault_finals, step_finals}
 use Rattle.sip_model.proofs.Places.{IsIn, in_from_contains, contains_from_in, found_in, all_weaker}
 use Rattle.sip_model.proofs.Moves.{IsStarted, sent_request, IsOpening, Answered, Sent, IsMove, Stays, TurnsAway, Opens, Changes, Acknowledges, AreMoves, One, Two}
 use Rattle.sip_model.proofs.Verdicts.{IsNewKey, IsThereOne, AreNotEmpty, Fits, verdict_fits}
@@ -111,8 +111,8 @@ effect_moves server state a m (Register q id outcome) fits = registering_moves s
 
 -- a datagram
 datagram_moves : (server : Server) (state : ProxyState) (a : Arrival) (o : Option (Message × Bool))
-    → AreMoves server a.now state.requests a.number (option_map_or (λ x. message_effect server state a x.0 x.1) o (nothing (counted a state))).state.requests
-    (option_map_or (λ x. message_effect server state a x.0 x.1) o (nothing (counted a state))).state.next (message_finals server state a o)
+    → AreMoves server a.now state.requests a.number (option_map_or (λ x. effect_of server a x.0 x.1 (counted a state)) (verdict_in server state a o) (nothing (counted a state))).state.requests
+    (option_map_or (λ x. effect_of server a x.0 x.1 (counted a state)) (verdict_in server state a o) (nothing (counted a state))).state.next (datagram_finals server a (verdict_in server state a o))
 datagram_moves server state a None = One (Stays refl (omega arith) refl)
 datagram_moves server state a (Some x) = effect_moves server state a x.0 (message_verdict server state a x.0 x.1) (verdict_fits server state a x.0 x.1)
 
@@ -155,9 +155,9 @@ effect_at server state a m (Send q id targets) = sending_at server state a m q i
 effect_at server state a m (Register q id outcome) = registering_at server state a m q id outcome
 
 -- of a datagram
-datagram_at : (server : Server) (state : ProxyState) (a : Arrival) (o : Option (Message × Bool)) → IsAt a.now (option_map_or (λ x. message_effect server state a x.0 x.1) o (nothing (counted a state)))
+datagram_at : (server : Server) (state : ProxyState) (a : Arrival) (o : Option (Message × Verdict)) → IsAt a.now (option_map_or (λ x. effect_of server a x.0 x.1 (counted a state)) o (nothing (counted a state)))
 datagram_at server state a None = refl
-datagram_at server state a (Some x) = effect_at server state a x.0 (message_verdict server state a x.0 x.1)
+datagram_at server state a (Some x) = effect_at server state a x.0 x.1
 
 -- ---- a fault
 
@@ -225,7 +225,7 @@ stands_at old (Passing at) out = out.at
 pub step_taken : (server : Server) (old : ProxyState) (act : Act) (out : StepOut) (new : ProxyState) → (h : IsStep server old act out new) → IsTaken server old (stands_at old act out) new (step_finals server old act out new h)
 step_taken server old (Given (Datagram at word from bytes)) out new h =
     let a : Arrival = arrival_of old at word from in
-    taken server old a.now (datagram_effect server old a bytes).state new (message_finals server old a (message_in (reading_of bytes))) h.does.leaves (datagram_moves server old a (message_in (reading_of bytes))) (datagram_at server old a (message_in (reading_of bytes)))
+    taken server old a.now (datagram_effect server old a bytes).state new (datagram_finals server a (verdict_of server old a bytes)) h.does.leaves (datagram_moves server old a (message_in (reading_of bytes))) (datagram_at server old a (verdict_of server old a bytes))
     (none_before a.now _ h.none_due)
 step_taken server old (Given (Time at)) out new h = quiet_taken server old at out new h.quiet
 step_taken server old (Given (Fault at ticket)) out new h =

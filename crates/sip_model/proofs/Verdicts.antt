@@ -4,7 +4,6 @@ use Rattle.std.specs.Option.{option_map_or, unwrap_or}
 use Rattle.std.specs.Result.{result_ok}
 use Rattle.sip_uri.specs.declared.uri.Uri.{Uri}
 use Rattle.sip_uri.specs.declared.aor.Aor.{Aor}
-use Rattle.sip_uri.specs.Reading as Uris
 use Rattle.sip_message.specs.declared.field.Field.{Field}
 use Rattle.sip_message.specs.declared.field_name.FieldName.TheVariants as Name
 use Rattle.sip_message.specs.declared.message.Start.{Start}
@@ -14,27 +13,28 @@ use Rattle.sip_header.specs.declared.key.Key.{Key}
 use Rattle.sip_header.specs.declared.core_fields.CoreFields.{CoreFields}
 use Rattle.sip_header.specs.Key.{key_of}
 use Rattle.sip_header.specs.CSeq.{cseq_of}
-use Rattle.sip_header.specs.Values.{first_value}
+use Rattle.sip_message.specs.Values.{first_value}
 use Rattle.sip_header.specs.CoreFields.{core_of}
 use Rattle.sip_header.specs.declared.cseq.CSeq.{CSeq}
-use Rattle.sip_header.specs.Prepared.{way_of}
-use Rattle.sip_hops.specs.declared.addr.Addr.{Addr}
+use Rattle.sip_header.specs.Way.{request_uri_of}
+use Rattle.sip_text.specs.declared.addr.Addr.{Addr}
 use Rattle.sip_hops.specs.declared.host_address.HostAddress.{HostAddress}
 use Rattle.sip_hops.specs.Hop.{hop_of}
 use Rattle.sip_policy.specs.declared.decision.Decision.{Decision}
 use Rattle.sip_location.specs.declared.binding.Binding.{Binding}
+use Rattle.sip_location.specs.Binding.{contacts_of}
 use Rattle.sip_targets.specs.declared.target.Target.{Target}
 use Rattle.sip_targets.specs.declared.targets.Targets.{Targets}
 use Rattle.sip_targets.specs.Targets.{targets_at, target_by}
 use Rattle.sip_validate.specs.Refusal.{refusal_of, is_bad_request}
 use Rattle.sip_dialog.specs.declared.dialog.DialogId.{DialogId}
 use Rattle.sip_dialog.specs.Dialogs.{is_in_dialog}
-use Rattle.sip_policy.specs.PolicyUser.{is_users_address}
-use Rattle.sip_model.specs.Server.{Server, policy_users}
+use Rattle.sip_policy.specs.User.{is_users_address}
+use Rattle.sip_model.specs.Server.{Server}
 use Rattle.sip_model.specs.State.{ProxyState, OpenRequest, Branch, has_key}
 use Rattle.sip_model.specs.Sending.{dialog_of}
 use Rattle.sip_model.specs.Branches.{is_accepted}
-use Rattle.sip_model.specs.Verdict.{Arrival, Question, Verdict, Drop, Respond, Copy, AckOn, Cancel, Answer, InDialog, Challenge, Deny, Send, Register, is_branch, branch_in, found_branch, response_verdict, responding, within_at, within, ack_verdict, is_full, is_cancelled_by, found_for_cancel, cancel_verdict, contacts_of, targets_by, request_targets, let_through, decided, policy_verdict, question_of, answer_of, is_register, is_outside, registration_by, core_verdict, checked_verdict, new_verdict, by_open, by_key, by_start, message_verdict, top_branch, next_address}
+use Rattle.sip_model.specs.Verdict.{Arrival, Question, Verdict, Drop, Respond, Copy, AckOn, Cancel, Answer, InDialog, Challenge, Deny, Send, Register, is_branch, branch_in, found_branch, response_verdict, responding, within_at, within, ack_verdict, is_full, is_cancelled_by, found_for_cancel, cancel_verdict, targets_by, request_targets, let_through, decided, policy_verdict, question_of, answer_of, is_register, is_outside, registration_by, core_verdict, checked_verdict, new_verdict, by_open, by_key, by_start, message_verdict, top_branch, next_address}
 use Rattle.sip_model.specs.Effect.{request_key}
 use Rattle.sip_model.proofs.Places.{IsIn, found_in, none_found}
 
@@ -131,7 +131,7 @@ within_fits state m now on none (Some id) (Some address) there not_there = fits_
 -- an ACK opens nothing
 ack_fits : (server : Server) (state : ProxyState) (now : ℕ) (m : Message) (short : Bool) → Fits state.requests m (ack_verdict server state now m short)
 ack_fits server state now m short =
-    fits_either state.requests m (is_some (refusal_of server.own m short)) Drop (within server state now m AckOn Drop) tt
+    fits_either state.requests m (is_some (refusal_of server.config.own m short)) Drop (within server state now m AckOn Drop) tt
     (within_fits state m now AckOn Drop (dialog_of m) (next_address server m) (λ a i. tt) tt)
 
 -- ---- CANCEL
@@ -149,7 +149,7 @@ there_after requests test (Some r) h = there_if requests r (test r) (h r refl)
 -- a CANCEL
 cancel_fits : (server : Server) (state : ProxyState) (a : Arrival) (m : Message) (short : Bool) (key : Key) → IsNewKey state.requests m → Fits state.requests m (cancel_verdict server state a m short key)
 cancel_fits server state a m short key is_new =
-    fits_either state.requests m (is_bad_request server.own m short) (Answer 400 []) _ is_new
+    fits_either state.requests m (is_bad_request server.config.own m short) (Answer 400 []) _ is_new
     (fits_either state.requests m (is_full state) (Answer 503 []) (Cancel (found_for_cancel state key a.from)) is_new
     (is_new, there_after state.requests (λ r. bytes_eq r.source.ip a.from.ip) (find (is_cancelled_by key) state.requests) (λ r e. (found_in (is_cancelled_by key) state.requests r e).0)))
 
@@ -174,12 +174,12 @@ by_hop uri (Some address) = tt
 allowed_targets : (server : Server) (rows : List Binding) (now : ℕ) (target : Aor) (id : ℕ) (uri : Option Uri) → AreNotEmpty (targets_by server rows now target (Decision.Allow id) uri)
 allowed_targets server rows now target id None = tt
 allowed_targets server rows now target id (Some uri) =
-    not_empty_either (is_users_address (policy_users server) server.own.domains target) (targets_at server.addresses (contacts_of rows now target)) Targets.NotFound (at_contacts server.addresses (contacts_of rows now target)) tt
+    not_empty_either (is_users_address server.config.users server.config.own.domains target) (targets_at server.config.addresses (contacts_of rows now target)) Targets.NotFound (at_contacts server.config.addresses (contacts_of rows now target)) tt
 
 -- a request that goes by a hop has a target, or is answered
 hop_targets : (server : Server) (rows : List Binding) (now : ℕ) (target : Aor) (id : ℕ) (hop : List ℕ) (uri : Option Uri) → AreNotEmpty (targets_by server rows now target (Decision.Via id hop) uri)
 hop_targets server rows now target id hop None = tt
-hop_targets server rows now target id hop (Some uri) = by_hop uri (hop_of server.hops hop)
+hop_targets server rows now target id hop (Some uri) = by_hop uri (hop_of server.config.hops hop)
 
 -- a request that was let through
 let_through_fits : (server : Server) (state : ProxyState) (now : ℕ) (m : Message) (method : List ℕ) (core : CoreFields) (q : Question) (id : ℕ) (d : Decision) → IsNewKey state.requests m
@@ -192,9 +192,9 @@ decided_fits : (server : Server) (state : ProxyState) (now : ℕ) (m : Message) 
 decided_fits server state now m method core q Decision.Challenge is_new = is_new
 decided_fits server state now m method core q (Decision.Deny id) is_new = is_new
 decided_fits server state now m method core q (Decision.Allow id) is_new =
-    let_through_fits server state now m method core q id (Decision.Allow id) is_new (allowed_targets server state.bindings now q.target id (result_ok (Uris.reading_of (way_of server.own m).uri)))
+    let_through_fits server state now m method core q id (Decision.Allow id) is_new (allowed_targets server state.bindings now q.target id (request_uri_of server.config.own m))
 decided_fits server state now m method core q (Decision.Via id hop) is_new =
-    let_through_fits server state now m method core q id (Decision.Via id hop) is_new (hop_targets server state.bindings now q.target id hop (result_ok (Uris.reading_of (way_of server.own m).uri)))
+    let_through_fits server state now m method core q id (Decision.Via id hop) is_new (hop_targets server state.bindings now q.target id hop (request_uri_of server.config.own m))
 
 -- ---- a request
 
@@ -216,8 +216,8 @@ checked_fits server state now m method None is_new =
 new_fits : (server : Server) (state : ProxyState) (a : Arrival) (m : Message) (short : Bool) (method : List ℕ) (key : Key) → IsNewKey state.requests m → Fits state.requests m (new_verdict server state a m short method key)
 new_fits server state a m short method key is_new =
     fits_either state.requests m (bytes_eq method (codes "ACK")) (ack_verdict server state a.now m short) _ (ack_fits server state a.now m short)
-    (fits_either state.requests m (bytes_eq method (codes "CANCEL")) (cancel_verdict server state a m short key) (checked_verdict server state a.now m method (refusal_of server.own m short))
-    (cancel_fits server state a m short key is_new) (checked_fits server state a.now m method (refusal_of server.own m short) is_new))
+    (fits_either state.requests m (bytes_eq method (codes "CANCEL")) (cancel_verdict server state a m short key) (checked_verdict server state a.now m method (refusal_of server.config.own m short))
+    (cancel_fits server state a m short key is_new) (checked_fits server state a.now m method (refusal_of server.config.own m short) is_new))
 
 -- a request whose key may be open
 open_fits : (server : Server) (state : ProxyState) (a : Arrival) (m : Message) (short : Bool) (method : List ℕ) (key : Key) (o : Option OpenRequest)

@@ -4,7 +4,7 @@ use Rattle.std.specs.List.{AllByRecursion, list_any, list_all}
 use Rattle.sip_best.specs.declared.final_answer.Final.{Final}
 use Rattle.sip_best.specs.Best.{best_of, picked, chosen_of, going_up, is_unbeaten, is_challenge_status, challenging}
 use Rattle.sip_best.proofs.Choices.{one_goes_up}
-use Rattle.sip_model.specs.declared.packet.Packet.{Packet}
+use Rattle.sip_event.specs.declared.packet.Packet.{Packet}
 use Rattle.sip_model.specs.Server.{Server}
 use Rattle.sip_model.specs.State.{Phase, Unheard, Heard, Cancelled, Done, Ended, Closing, Branch, OpenRequest, is_final, is_answering, has_left}
 use Rattle.sip_model.specs.Sending.{is_provisional}

@@ -11,7 +11,7 @@ use Rattle.sip_header.specs.declared.key.Key.{Key}
 use Rattle.sip_header.specs.declared.core_fields.CoreFields.{CoreFields}
 use Rattle.sip_header.specs.Key.{key_of}
 use Rattle.sip_header.specs.CoreFields.{core_of}
-use Rattle.sip_hops.specs.declared.addr.Addr.{Addr}
+use Rattle.sip_text.specs.declared.addr.Addr.{Addr}
 use Rattle.sip_edit.specs.Extras.{denial_warning}
 use Rattle.sip_edit.specs.Onward.{onward_uri}
 use Rattle.sip_edit.specs.OwnRequests.{cancel_of}
@@ -26,11 +26,11 @@ use Rattle.sip_validate.specs.Refusal.{refusal_of}
 use Rattle.sip_best.specs.Best.{is_challenge_status, is_challenge_field, taking_along}
 use Rattle.sip_dialog.specs.declared.dialog.DialogId.{DialogId}
 use Rattle.sip_dialog.specs.Dialogs.{IsInDialog}
-use Rattle.sip_model.specs.declared.packet.Packet.{Packet}
-use Rattle.sip_model.specs.declared.event.StepOut.{StepOut}
-use Rattle.sip_model.specs.declared.event.Event.TheVariants.{Datagram, Time, Fault}
+use Rattle.sip_event.specs.declared.packet.Packet.{Packet}
+use Rattle.sip_event.specs.declared.event.StepOut.{StepOut}
+use Rattle.sip_event.specs.declared.event.Event.TheVariants.{Datagram, Time, Fault}
 use Rattle.sip_model.specs.Server.{Server}
-use Rattle.sip_model.specs.Registering.{to_aor}
+use Rattle.sip_location.specs.Registering.{to_aor}
 use Rattle.sip_model.specs.State.{ProxyState, OpenRequest, Branch, is_invite, has_key}
 use Rattle.sip_model.specs.Sending.{made_answer, answer_packet, answer_to, to_branch, ack_packets, branch_packets, onward_as, request_of, dialog_of, is_failure, is_provisional}
 use Rattle.sip_model.specs.Branches.{is_ready}
@@ -54,7 +54,7 @@ pub record IsNewRequest (server : Server) (state : ProxyState) (bytes : List ℕ
   pub is_new : find (has_key key) state.requests ≡ None
   pub is_no_ack : bytes_eq method (codes "ACK") ≡ false
   pub is_no_cancel : bytes_eq method (codes "CANCEL") ≡ false
-  pub is_valid : refusal_of server.own m false ≡ None
+  pub is_valid : refusal_of server.config.own m false ≡ None
   pub has_room : is_full state ≡ false
   pub core_is : core_of m ≡ Ok core
   pub is_outside_dialog : is_outside method core ≡ true
@@ -120,7 +120,7 @@ pub record IsServed (server : Server) (rows : List Binding) (state : ProxyState)
   pub challenges : decision_on server state a.now m method core ≡ Decision.Challenge
       → originals out.packets
       ≡ answer_alone server a m (challenge_status (operation_of method (has_contact m.fields))) (challenge_field server a (question_of server state.nonces a.now m method core) ∷ [])
-  pub denies : (id : ℕ) → decision_on server state a.now m method core ≡ Decision.Deny id → originals out.packets ≡ answer_alone server a m 403 (denial_warning server.own id ∷ [])
+  pub denies : (id : ℕ) → decision_on server state a.now m method core ≡ Decision.Deny id → originals out.packets ≡ answer_alone server a m 403 (denial_warning server.config.own id ∷ [])
 
 -- the same of a step: where it is taken for such a request
 abbrev pub Serves : Server → List Binding → ProxyState → Act → StepOut → Type 0
@@ -183,7 +183,7 @@ pub record IsDenied (server : Server) (state : ProxyState) (act : Act) (number :
   pub is_number : a.number ≡ number
   pub is_new : IsNewRequest server state bytes m method core
   pub denial : decision_on server state a.now m method core ≡ Decision.Deny id
-  pub names_rule : extras ≡ denial_warning server.own id ∷ []
+  pub names_rule : extras ≡ denial_warning server.config.own id ∷ []
 
 -- A step is taken for a request of a known dialog, or an ACK of one, that passes every check; neither REGISTER nor CANCEL. It is to go to an address that the dialog holds.
 pub record IsWithin (server : Server) (state : ProxyState) (act : Act) (a : Arrival) (m : Message) (address : Addr) : Type 0 where
@@ -196,7 +196,7 @@ pub record IsWithin (server : Server) (state : ProxyState) (act : Act) (a : Arri
   pub is_request : m.start ≡ Request method uri version
   pub is_no_register : is_register method ≡ false
   pub is_no_cancel : bytes_eq method (codes "CANCEL") ≡ false
-  pub is_valid : refusal_of server.own m false ≡ None
+  pub is_valid : refusal_of server.config.own m false ≡ None
   pub dialog_is : dialog_of m ≡ Some id
   pub address_is : next_address server m ≡ Some address
   pub is_known : IsInDialog a.now state.dialogs id address
@@ -241,7 +241,7 @@ pub data IsOwed (server : Server) (history : List Link) (state : ProxyState) (ac
   Cancels : (r : OpenRequest) (b : Branch) → Contains state.requests r → Contains r.branches b → b.is_cancel ≡ false → is_invite r ≡ true → WasHeard server state act r b
       → Contains (to_branch r b 0 false (cancel_of (request_of server r b))) p → IsOwed server history state act rows p
   InKnownDialog : (a : Arrival) (m : Message) (address : Addr) → IsWithin server state act a m address → p.to ≡ address
-      → p.bytes ≡ text_of (onward_as server a.number m a.from (onward_uri server.own m) 1) → p.ticket.datagram ≡ a.number → IsOwed server history state act rows p
+      → p.bytes ≡ text_of (onward_as server a.number m a.from (onward_uri server.config.own m) 1) → p.ticket.datagram ≡ a.number → IsOwed server history state act rows p
 
 -- ---- the law
 

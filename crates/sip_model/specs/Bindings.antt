@@ -3,13 +3,12 @@ use Rattle.std.specs.Prelude.{ℕ, List, [], ◌∷◌, ◌++◌, Option, Some, 
 use Rattle.std.specs.Option.{option_and_then, option_map_or, option_to_list}
 use Rattle.std.specs.Result.{result_ok}
 use Rattle.sip_message.specs.declared.message.Message.{Message}
-use Rattle.sip_message.specs.Reading.{reading_of}
 use Rattle.sip_header.specs.CoreFields.{core_of}
 use Rattle.sip_location.specs.declared.binding.Binding.{Binding}
-use Rattle.sip_model.specs.declared.event.Event.TheVariants.{Datagram, Time, Fault}
+use Rattle.sip_event.specs.declared.event.Event.TheVariants.{Datagram, Time, Fault}
 use Rattle.sip_model.specs.Server.{Server}
 use Rattle.sip_model.specs.State.{ProxyState}
-use Rattle.sip_model.specs.Verdict.{Arrival, Registered, Bound, Refused, Verdict, Drop, Respond, Copy, AckOn, Cancel, Answer, InDialog, Challenge, Deny, Send, Register, registration_by, message_verdict, message_in}
+use Rattle.sip_model.specs.Verdict.{Arrival, Registered, Bound, Refused, Verdict, Drop, Respond, Copy, AckOn, Cancel, Answer, InDialog, Challenge, Deny, Send, Register, registration_by, verdict_of}
 use Rattle.sip_model.specs.Step.{Act, Given, Passing, arrival_of}
 use Rattle.sip_model.specs.Run.{Link}
 
@@ -52,7 +51,7 @@ allowed_by now m (Send q id targets) = None
 
 -- the REGISTER that a datagram lets through, if it does
 abbrev pub allowed_in : Server → ProxyState → Arrival → List ℕ → Option Arrived
-allowed_in server state a bytes = option_and_then (λ x. allowed_by a.now x.0 (message_verdict server state a x.0 x.1)) (message_in (reading_of bytes))
+allowed_in server state a bytes = option_and_then (λ x. allowed_by a.now x.0 x.1) (verdict_of server state a bytes)
 
 -- the REGISTER that a step lets through, if it does
 abbrev pub allowed_at : Server → ProxyState → Act → Option Arrived

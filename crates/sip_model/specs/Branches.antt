@@ -8,9 +8,9 @@ use Rattle.sip_message.specs.Text.{text_of}
 use Rattle.sip_edit.specs.OwnVia.{without_top_via}
 use Rattle.sip_best.specs.declared.final_answer.Final.{Final}
 use Rattle.sip_best.specs.Best.{best_of}
-use Rattle.sip_model.specs.declared.packet.Packet.{Packet}
+use Rattle.sip_event.specs.declared.packet.Packet.{Packet}
 use Rattle.sip_model.specs.Server.{Server}
-use Rattle.sip_model.specs.State.{Phase, Unheard, Heard, Cancelled, Done, Ended, Side, Answering, Closing, Acknowledged, Closed, LastAnswer, Branch, OpenRequest, is_invite, is_final, is_answering, targets_of}
+use Rattle.sip_model.specs.State.{Phase, Unheard, Heard, Cancelled, Done, Ended, Side, Answering, Closing, Acknowledged, Closed, LastAnswer, Branch, OpenRequest, is_invite, is_final, is_answering, target_branches}
 use Rattle.sip_model.specs.Sending.{made_answer, branch_packets, ack_packets, is_success, is_failure, is_decline, is_provisional}
 use Rattle.sip_model.specs.Dialogs.{Upward}
 
@@ -60,7 +60,7 @@ upward_of server r f =
 
 -- whether every branch to a target has a final answer
 abbrev pub all_final : OpenRequest → Bool
-all_final r = list_all (λ (b : Branch). is_final b.phase) (targets_of r)
+all_final r = list_all (λ (b : Branch). is_final b.phase) (target_branches r)
 
 -- the best answer goes to the caller once every branch has a final one, unless a final one went before (RFC 3261 16.7 steps 5 and 6)
 abbrev pub best_upward : Server → OpenRequest → Option Upward

@@ -5,7 +5,7 @@ use Rattle.std.specs.Result.{result_ok}
 use Rattle.std.specs.Str.{bytes_eq}
 use Rattle.sip_message.specs.declared.message.Message.{Message}
 use Rattle.sip_header.specs.CoreFields.{core_of}
-use Rattle.sip_hops.specs.declared.addr.Addr.{Addr}
+use Rattle.sip_text.specs.declared.addr.Addr.{Addr}
 use Rattle.sip_hops.specs.HostAddress.{address_of}
 use Rattle.sip_dialog.specs.declared.dialog.DialogId.{DialogId}
 use Rattle.sip_dialog.specs.declared.dialog.Dialog.{Dialog}
@@ -25,7 +25,7 @@ pub record Upward : Type 0 where
 
 -- the addresses that a message gives
 abbrev pub addresses_of : Server → Message → List Addr
-addresses_of server m = addresses_in (address_of server.addresses) m.fields
+addresses_of server m = addresses_in (address_of server.config.addresses) m.fields
 
 -- a request of a dialog that is sent on renews it and tells it addresses
 abbrev pub after_request : Server → ℕ → DialogId → Message → List Dialog → List Dialog

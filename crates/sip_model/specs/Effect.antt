@@ -13,15 +13,13 @@ use Rattle.sip_message.specs.declared.message.Start.{Start}
 use Rattle.sip_message.specs.declared.message.Start.TheVariants.{Request, Status}
 use Rattle.sip_message.specs.declared.message.Message.{Message}
 use Rattle.sip_message.specs.Text.{text_of}
-use Rattle.sip_message.specs.Reading.{reading_of}
 use Rattle.sip_header.specs.declared.key.Key.{Key}
 use Rattle.sip_header.specs.Key.{key_of}
-use Rattle.sip_hops.specs.declared.addr.Addr.{Addr}
+use Rattle.sip_text.specs.declared.addr.Addr.{Addr}
 use Rattle.sip_edit.specs.Challenges.{challenge}
 use Rattle.sip_edit.specs.Contacts.{contact_value}
 use Rattle.sip_edit.specs.Extras.{denial_warning}
 use Rattle.sip_edit.specs.Onward.{onward_uri}
-use Rattle.sip_policy.specs.declared.operation.Operation.TheVariants as Asked
 use Rattle.sip_policy.specs.declared.operation.Operation.{Operation}
 use Rattle.sip_location.specs.declared.binding.Binding.{Binding}
 use Rattle.sip_location.specs.Binding.{live, seconds_left}
@@ -35,14 +33,14 @@ use Rattle.sip_audit.specs.declared.record.Record.{Record}
 use Rattle.sip_audit.specs.declared.record.Operation.TheVariants as RecordedAs
 use Rattle.sip_audit.specs.declared.record.Operation as AuditOperation
 use Rattle.sip_audit.specs.declared.record.Outcome.{Outcome}
-use Rattle.sip_model.specs.declared.packet.Packet.{Packet}
+use Rattle.sip_event.specs.declared.packet.Packet.{Packet}
 use Rattle.sip_model.specs.Server.{Server}
-use Rattle.sip_model.specs.Proof.{proven, is_stale, used}
+use Rattle.sip_auth.specs.Proof.{proven, is_stale, used}
 use Rattle.sip_model.specs.State.{Unheard, Ended, Answering, Closing, Branch, OpenRequest, ProxyState, is_invite, has_left}
 use Rattle.sip_model.specs.Sending.{made_answer, answer_packet, answer_to, onward_as, branch_packets}
 use Rattle.sip_model.specs.Dialogs.{Upward, after_request, after_answers, after_leaving}
 use Rattle.sip_model.specs.Branches.{Change, settled, responded, cancelled, acknowledged, answered}
-use Rattle.sip_model.specs.Verdict.{Arrival, Question, Registered, Bound, Refused, Verdict, Drop, Respond, Copy, AckOn, Cancel, Answer, InDialog, Challenge, Deny, Send, Register, is_full, message_verdict, message_in}
+use Rattle.sip_model.specs.Verdict.{Arrival, Question, Registered, Bound, Refused, Verdict, Drop, Respond, Copy, AckOn, Cancel, Answer, InDialog, Challenge, Deny, Send, Register, is_full, verdict_of}
 
 -- what is sent for the first time, in its order; what is recorded; and the state after it
 pub record Effect : Type 0 where
@@ -120,9 +118,9 @@ method_of (Status code reason) = []
 
 -- an operation as it is recorded
 abbrev pub recorded : Operation → AuditOperation.Operation
-recorded Asked.Register = RecordedAs.Register
-recorded Asked.List = RecordedAs.List
-recorded (Asked.Send method) = RecordedAs.Send
+recorded Operation.Register = RecordedAs.Register
+recorded Operation.List = RecordedAs.List
+recorded (Operation.Send method) = RecordedAs.Send
 
 -- what is recorded of a request: when and as which datagram it came, its method, who proved to ask, for which address of record, and what became of it
 abbrev pub record_of : Arrival → Message → Question → Outcome → Record
@@ -141,9 +139,9 @@ record_of a m q outcome =
 
 -- a registrar challenges as a user agent server, everyone else is challenged as by a proxy (RFC 3261 22.2, 22.3)
 abbrev pub is_registration : Operation → Bool
-is_registration Asked.Register = true
-is_registration Asked.List = true
-is_registration (Asked.Send method) = false
+is_registration Operation.Register = true
+is_registration Operation.List = true
+is_registration (Operation.Send method) = false
 
 -- 401 by a registrar, 407 by a proxy (RFC 3261 21.4.2, 21.4.8)
 abbrev pub challenge_status : Operation → ℕ
@@ -154,7 +152,7 @@ abbrev pub challenge_field : Server → Arrival → Question → Field
 challenge_field server a q =
     record {
       name = if is_registration q.operation then Name.WwwAuthenticate else Name.ProxyAuthenticate;
-      value = challenge server.realm (nonce_text a.word) (is_stale q.proof);
+      value = challenge server.config.realm (nonce_text a.word) (is_stale q.proof);
     }
 
 -- the state after policy was asked: a right credential is used up, whatever was decided
@@ -172,7 +170,7 @@ challenged server a m q state =
 
 -- a denial names its rule (this project's profile)
 abbrev pub denied : Server → Arrival → Message → Question → ℕ → ProxyState → Effect
-denied server a m q id state = replied server a m 403 (denial_warning server.own id ∷ []) (record_of a m q (Outcome.Deny id) ∷ []) (asked a q state)
+denied server a m q id state = replied server a m 403 (denial_warning server.config.own id ∷ []) (record_of a m q (Outcome.Deny id) ∷ []) (asked a q state)
 
 -- an answer to a request that was let through
 abbrev pub refused : Server → Arrival → Message → Question → ℕ → ℕ → List Field → ProxyState → Effect
@@ -260,7 +258,7 @@ sending server a m q id (Targets.Hop uri address) state = sent_to server a m q i
 -- the branch of a request in a dialog: its own Request-URI, to the address that the dialog holds (RFC 3261 16.12)
 abbrev pub dialog_branch : Server → ℕ → Message → Addr → Branch
 dialog_branch server now m address =
-    record { number = 1; is_cancel = false; uri = onward_uri server.own m; address = Some address; wants_cancel = false; phase = Unheard (now + 32000) }
+    record { number = 1; is_cancel = false; uri = onward_uri server.config.own m; address = Some address; wants_cancel = false; phase = Unheard (now + 32000) }
 
 -- the dialog of a request that is sent on is renewed
 abbrev pub renewing : Server → Arrival → Message → DialogId → ProxyState → ProxyState
@@ -276,7 +274,7 @@ abbrev pub ack_packet : Server → Arrival → Message → Addr → Packet
 ack_packet server a m address =
     record {
       to = address;
-      bytes = text_of (onward_as server a.number m a.from (onward_uri server.own m) 1);
+      bytes = text_of (onward_as server a.number m a.from (onward_uri server.config.own m) 1);
       ticket = record { datagram = a.number; branch = 0 };
       again = false;
     }
@@ -327,11 +325,7 @@ effect_of server a m (Deny q id) state = denied server a m q id state
 effect_of server a m (Send q id targets) state = sending server a m q id targets state
 effect_of server a m (Register q id outcome) state = registering server a m q id outcome state
 
--- what a message does, of whose body fewer bytes may have come than its length says
-abbrev pub message_effect : Server → ProxyState → Arrival → Message → Bool → Effect
-message_effect server state a m short = effect_of server a m (message_verdict server state a m short) (counted a state)
-
 -- what the bytes of a datagram do
 abbrev pub datagram_effect : Server → ProxyState → Arrival → List ℕ → Effect
 datagram_effect server state a bytes =
-    option_map_or (λ x. message_effect server state a x.0 x.1) (message_in (reading_of bytes)) (nothing (counted a state))
+    option_map_or (λ x. effect_of server a x.0 x.1 (counted a state)) (verdict_of server state a bytes) (nothing (counted a state))

@@ -1,5 +1,5 @@
 -- A server of the sample configuration, and requests that come to it, for the worked examples.
-use Rattle.std.specs.Prelude.{ℕ, ◌==◌, Bool, false, not, List, [], ◌∷◌, ◌++◌, length, map, find, replicate, codes, Option, Some, None}
+use Rattle.std.specs.Prelude.{ℕ, ◌==◌, Bool, false, not, List, [], ◌∷◌, ◌++◌, length, map, find, codes, Option, Some, None}
 use Rattle.std.specs.Option.{option_map_or}
 use Rattle.std.specs.List.{take_while}
 use Rattle.std.specs.Str.{byte}
@@ -10,49 +10,36 @@ use Rattle.sip_message.specs.declared.field_name.FieldName.TheVariants as Name
 use Rattle.sip_message.specs.declared.field.Field.{Field}
 use Rattle.sip_message.specs.declared.message.Start.TheVariants.{Request, Status}
 use Rattle.sip_message.specs.declared.message.Message.{Message}
-use Rattle.sip_header.specs.RoutingExamples.{own}
-use Rattle.sip_hops.specs.declared.addr.Addr.{Addr}
+use Rattle.sip_text.specs.declared.addr.Addr.{Addr}
 use Rattle.sip_hops.specs.Examples as Places
 use Rattle.sip_edit.specs.Examples as Edits
 use Rattle.sip_edit.specs.OnwardExamples as Onward
 use Rattle.sip_edit.specs.OwnVia.{branch_text}
-use Rattle.sip_policy.specs.Examples as Policy
+use Rattle.sip_policy.specs.Examples.{mufasas_a1, alices_a1}
+use Rattle.sip_settings.specs.Sample as Settings
+use Rattle.sip_auth.specs.Examples.{credential}
 use Rattle.sip_location.specs.declared.binding.Binding.{Binding}
-use Rattle.sip_model.specs.declared.packet.Packet.{Packet}
-use Rattle.sip_model.specs.Server.{User, Server}
+use Rattle.sip_event.specs.declared.packet.Packet.{Packet}
+use Rattle.sip_model.specs.Server.{Server}
 use Rattle.sip_model.specs.State.{ProxyState, OpenRequest, Branch, first_state, phase_deadline}
 use Rattle.sip_model.specs.Branches.{overdue, side_overdue}
-use Rattle.sip_model.specs.Verdict.{Arrival}
-use Rattle.sip_model.specs.Effect.{Effect, changed, nothing, message_effect}
+use Rattle.sip_model.specs.Verdict.{Arrival, message_verdict}
+use Rattle.sip_model.specs.Effect.{Effect, counted, effect_of, changed, nothing}
 use Rattle.sip_model.specs.Step.{fault_effect}
-use Rattle.sip_digest.specs.Answers.{answer_of}
 
 -- ---- the server
 
--- a configured user
-abbrev pub user_of : List ℕ → List ℕ → List (List ℕ) → User
-user_of name a1 groups = record { name = name; a1 = a1; groups = groups }
-
 -- a server of the sample configuration, started with the word 0
 abbrev pub sample : Server
-sample =
-    record {
-      own = own;
-      realm = Onward.realm;
-      users =
-          user_of (codes "Mufasa") (codes "939e7578ed9e3c518a452acee763bce9") (codes "staff" ∷ [])
-          ∷ user_of (codes "alice") (replicate 32 (byte "1")) []
-          ∷ user_of (codes "help") (replicate 32 (byte "2")) []
-          ∷ [];
-      rules = Policy.sample_rules;
-      hops = Places.sample_hops;
-      addresses = Places.sample_addresses;
-      word = 0;
-    }
+sample = record { config = Settings.sample; word = 0 }
 
 -- a datagram from a port of 127.0.0.1, with the nonce word of its number
 abbrev pub arriving_at : ℕ → ℕ → ℕ → Arrival
 arriving_at number now port = record { number = number; now = now; word = number; from = Places.local port }
+
+-- what a message does to it, whose body came whole
+abbrev pub whole_effect : ProxyState → Arrival → Message → Effect
+whole_effect state a m = effect_of sample a m (message_verdict sample state a m false) (counted a state)
 
 -- a packet of the request that a datagram brought
 abbrev pub packet_of : ℕ → ℕ → ℕ → List ℕ → Packet
@@ -62,7 +49,7 @@ packet_of port number branch text = record { to = Places.local port; bytes = tex
 
 -- the first REGISTER, which has no credential
 abbrev pub challenge_effect : Effect
-challenge_effect = message_effect sample (first_state 1) (arriving_at 1 1000 5062) Edits.register false
+challenge_effect = whole_effect (first_state 1) (arriving_at 1 1000 5062) Edits.register
 
 -- ---- a MESSAGE to the one binding of help@host.com
 
@@ -84,7 +71,7 @@ knowing_help number expires_at = record (first_state number) { bindings = bindin
 
 -- the MESSAGE, while help's binding is live
 abbrev pub message_sent : Effect
-message_sent = message_effect sample (knowing_help 3 3602000) (arriving_at 3 5000 5070) Onward.text_message false
+message_sent = whole_effect (knowing_help 3 3602000) (arriving_at 3 5000 5070) Onward.text_message
 
 -- ---- calls to help@host.com
 
@@ -102,7 +89,7 @@ knowing ports = record (first_state 4) { bindings = map binding_at ports }
 
 -- the state after an INVITE to help@host.com, as the fourth datagram at 62,000
 abbrev pub calling : List (List ℕ) → Effect
-calling ports = message_effect sample (knowing ports) (arriving_at 4 62000 5070) Onward.invite false
+calling ports = whole_effect (knowing ports) (arriving_at 4 62000 5070) Onward.invite
 
 -- the Via of a branch of that INVITE
 abbrev pub branch_via : ℕ → List ℕ
@@ -134,7 +121,7 @@ accepted_from target = answer_with target 200 (codes "OK") (record { name = Name
 
 -- an answer comes, at a moment
 abbrev pub hearing : ProxyState → ℕ → Message → Effect
-hearing state now m = message_effect sample state (arriving_at state.next now 5082) m false
+hearing state now m = whole_effect state (arriving_at state.next now 5082) m
 
 -- whether a deadline is at a moment
 abbrev pub has_deadline : ℕ → Option ℕ → Bool
@@ -193,7 +180,7 @@ cancel_request =
 
 -- that CANCEL comes from an address
 abbrev pub cancelled_call : ProxyState → Addr → Effect
-cancelled_call state from = message_effect sample state (record (arriving_at state.next 62500 5070) { from = from }) cancel_request false
+cancelled_call state from = whole_effect state (record (arriving_at state.next 62500 5070) { from = from }) cancel_request
 
 -- the packet to a target of the call could not be sent
 abbrev pub failing : ProxyState → ℕ → Effect
@@ -201,20 +188,13 @@ failing state branch = fault_effect sample 62000 (record { datagram = 4; branch 
 
 -- ---- credentials
 
--- a right credential of a user for a request, with the nonce of the first challenge and a count
-abbrev pub credential : List ℕ → List ℕ → List ℕ → List ℕ → List ℕ → List ℕ
-credential name a1 method uri count =
-    codes "Digest username=\"" ++ name ++ codes "\", realm=\"testrealm@host.com\", nonce=\"00000000000000000000000000000001\", uri=\"" ++ uri ++ codes "\", response=\""
-    ++ answer_of a1 method uri (codes "00000000000000000000000000000001") (Some (record { nc = count; cnonce = codes "0a4f113b" }))
-    ++ codes "\", algorithm=MD5, cnonce=\"0a4f113b\", qop=auth, nc=" ++ count
-
--- one of Mufasa's
+-- a right one of Mufasa's, with the nonce of the first challenge
 abbrev pub mufasas : List ℕ → List ℕ → List ℕ
-mufasas method uri = credential (codes "Mufasa") (codes "939e7578ed9e3c518a452acee763bce9") method uri (codes "00000001")
+mufasas method uri = credential (codes "Mufasa") mufasas_a1 method uri (codes "00000001")
 
 -- one of alice's
 abbrev pub alices : List ℕ → List ℕ → List ℕ
-alices method uri = credential (codes "alice") (replicate 32 (byte "1")) method uri (codes "00000001")
+alices method uri = credential (codes "alice") alices_a1 method uri (codes "00000001")
 
 -- ---- the second REGISTER, with a credential
 
@@ -236,7 +216,7 @@ authorized value =
 
 -- it comes after the first challenge
 abbrev pub registering_by : List ℕ → Effect
-registering_by value = message_effect sample challenge_effect.state (arriving_at 2 2000 5062) (authorized value) false
+registering_by value = whole_effect challenge_effect.state (arriving_at 2 2000 5062) (authorized value)
 
 -- it comes with Mufasa's own credential
 abbrev pub register_effect : Effect
@@ -245,7 +225,7 @@ register_effect = registering_by (mufasas (codes "REGISTER") (codes "sip:host.co
 -- the same REGISTER once more, after the transactions have ended
 abbrev pub stale_effect : Effect
 stale_effect =
-    message_effect sample (record register_effect.state { requests = []; next = 4 }) (arriving_at 4 40000 5062) (authorized (mufasas (codes "REGISTER") (codes "sip:host.com"))) false
+    whole_effect (record register_effect.state { requests = []; next = 4 }) (arriving_at 4 40000 5062) (authorized (mufasas (codes "REGISTER") (codes "sip:host.com")))
 
 -- ---- calls of proven users
 
@@ -267,7 +247,7 @@ invite_by uri value =
 
 -- such an INVITE comes after the first challenge
 abbrev pub calling_by : List ℕ → List ℕ → Effect
-calling_by uri value = message_effect sample challenge_effect.state (arriving_at 2 2000 5070) (invite_by uri value) false
+calling_by uri value = whole_effect challenge_effect.state (arriving_at 2 2000 5070) (invite_by uri value)
 
 -- a number that is reached by the gateway
 abbrev pub to_911 : List ℕ
@@ -294,7 +274,7 @@ to_vault =
 
 -- it comes from nobody who proved anything
 abbrev pub vault_effect : Effect
-vault_effect = message_effect sample (first_state 1) (arriving_at 1 1000 5070) to_vault false
+vault_effect = whole_effect (first_state 1) (arriving_at 1 1000 5070) to_vault
 
 -- ---- requests of the dialog that the call begins
 
@@ -337,7 +317,7 @@ help_text = codes "sip:help@127.0.0.1:5082"
 
 -- a request of the caller's comes at a moment
 abbrev pub asking : ProxyState → ℕ → Message → Effect
-asking state now m = message_effect sample state (arriving_at state.next now 5070) m false
+asking state now m = whole_effect state (arriving_at state.next now 5070) m
 
 -- the 200 to the BYE that was sent as the sixth datagram's request
 abbrev pub bye_accepted : Message

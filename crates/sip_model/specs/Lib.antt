@@ -1,6 +1,4 @@
 pub mod Server
-pub mod Proof
-pub mod Registering
 pub mod State
 pub mod Sending
 pub mod Dialogs

@@ -4,19 +4,18 @@ use Rattle.std.specs.Prelude.{◌≡◌, ◌≤◌, ◌+◌, ◌⊎◌, ℕ, ◌
 use mathlib.Core.Logic.{inl, inr}
 use Rattle.std.specs.List.{AllByRecursion}
 use Rattle.sip_message.specs.declared.message.Message.{Message}
-use Rattle.sip_message.specs.Reading.{reading_of}
 use Rattle.sip_header.specs.declared.key.Key.{Key}
 use Rattle.sip_targets.specs.declared.targets.Targets.{Targets}
 use Rattle.sip_targets.specs.Targets.{target_list}
-use Rattle.sip_model.specs.declared.packet.Ticket.{Ticket}
-use Rattle.sip_model.specs.declared.event.StepOut.{StepOut}
-use Rattle.sip_model.specs.declared.event.Event.TheVariants.{Datagram, Time, Fault}
+use Rattle.sip_event.specs.declared.packet.Ticket.{Ticket}
+use Rattle.sip_event.specs.declared.event.StepOut.{StepOut}
+use Rattle.sip_event.specs.declared.event.Event.TheVariants.{Datagram, Time, Fault}
 use Rattle.sip_model.specs.Server.{Server}
 use Rattle.sip_model.specs.State.{Phase, Unheard, Heard, Cancelled, Done, Ended, Side, Answering, Closing, Acknowledged, Closed, Branch, OpenRequest, ProxyState, is_invite, is_answering, deadlines_of, has_left, has_key}
 use Rattle.sip_model.specs.Sending.{is_success, is_provisional}
 use Rattle.sip_model.specs.Dialogs.{Upward}
 use Rattle.sip_model.specs.Branches.{Change, settled, responded, send_failed, cancelled, has_success}
-use Rattle.sip_model.specs.Verdict.{Arrival, Registered, Bound, Refused, Verdict, Drop, Respond, Copy, AckOn, Cancel, Answer, InDialog, Challenge, Deny, Send, Register, message_verdict, message_in}
+use Rattle.sip_model.specs.Verdict.{Arrival, Registered, Bound, Refused, Verdict, Drop, Respond, Copy, AckOn, Cancel, Answer, InDialog, Challenge, Deny, Send, Register, verdict_of}
 use Rattle.sip_model.specs.Effect.{arriving, forking, branches_from, dialog_branch, tried, trying, challenge_status}
 use Rattle.sip_model.specs.Step.{Act, Given, Passing, IsStep, IsOverdue, NoneBy, is_failed, moment_of, arrival_of}
 use Rattle.sip_model.specs.Run.{Link, IsChain}
@@ -123,10 +122,10 @@ verdict_finals server a m (Deny q id) = reply_finals a m 403
 verdict_finals server a m (Send q id targets) = sending_finals server a m targets
 verdict_finals server a m (Register q id outcome) = registered_finals a m outcome
 
--- those of a message, if the datagram says one
-abbrev pub message_finals : Server → ProxyState → Arrival → Option (Message × Bool) → List FinalAnswer
-message_finals server state a None = []
-message_finals server state a (Some x) = verdict_finals server a x.0 (message_verdict server state a x.0 x.1)
+-- those of a datagram, if it says a message
+abbrev pub datagram_finals : Server → Arrival → Option (Message × Verdict) → List FinalAnswer
+datagram_finals server a None = []
+datagram_finals server a (Some x) = verdict_finals server a x.0 x.1
 
 -- those of a branch whose request could not be sent
 abbrev pub branch_finals : Server → ℕ → OpenRequest → Option Branch → List FinalAnswer
@@ -140,7 +139,7 @@ fault_finals server now ticket (Some r) = branch_finals server now r (find (is_f
 
 -- those of a step; which of several tied deadlines passes is the step's to say
 abbrev pub step_finals : (server : Server) (old : ProxyState) (act : Act) (out : StepOut) (new : ProxyState) → IsStep server old act out new → List FinalAnswer
-step_finals server old (Given (Datagram at word from bytes)) out new step = message_finals server old (arrival_of old at word from) (message_in (reading_of bytes))
+step_finals server old (Given (Datagram at word from bytes)) out new step = datagram_finals server (arrival_of old at word from) (verdict_of server old (arrival_of old at word from) bytes)
 step_finals server old (Given (Time at)) out new step = []
 step_finals server old (Given (Fault at ticket)) out new step =
     fault_finals server (moment_of old at) ticket (find (λ (r : OpenRequest). r.number == ticket.datagram) old.requests)

@@ -3,7 +3,7 @@ use Rattle.std.specs.Prelude.{Bool, true, false, not, ◌&&◌, if◌then◌else
 use Rattle.std.specs.List.{flat_map}
 use Rattle.sip_message.specs.declared.message.Message.{Message}
 use Rattle.sip_best.specs.declared.final_answer.Final.{Final}
-use Rattle.sip_model.specs.declared.packet.Packet.{Packet}
+use Rattle.sip_event.specs.declared.packet.Packet.{Packet}
 use Rattle.sip_model.specs.Server.{Server}
 use Rattle.sip_model.specs.State.{Phase, Unheard, Heard, Cancelled, Done, Ended, Side, Answering, Closing, Acknowledged, Closed, LastAnswer, Branch, OpenRequest, is_invite}
 use Rattle.sip_model.specs.Sending.{answer_to, branch_packets, ack_packets, is_success, is_failure}

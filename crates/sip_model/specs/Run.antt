@@ -1,8 +1,8 @@
 -- Whole runs of a proxy, as histories of links, the newest first.
 use Rattle.std.specs.Prelude.{◌≡◌, ℕ, List, [], ◌∷◌, reverse, Option, Some, None}
-use Rattle.sip_model.specs.declared.event.StepOut.{StepOut}
-use Rattle.sip_model.specs.declared.event.Event.{Event}
-use Rattle.sip_model.specs.declared.event.Event.TheVariants.{Datagram, Time, Fault}
+use Rattle.sip_event.specs.declared.event.StepOut.{StepOut}
+use Rattle.sip_event.specs.declared.event.Event.{Event}
+use Rattle.sip_event.specs.declared.event.Event.TheVariants.{Datagram, Time, Fault}
 use Rattle.sip_model.specs.Server.{Server}
 use Rattle.sip_model.specs.State.{ProxyState}
 use Rattle.sip_model.specs.Step.{Act, Given, Passing, IsStep}
@@ -20,7 +20,7 @@ IsChain server first [] last = last ≡ first
 IsChain server first (link ∷ history) last =
     (last ≡ link.after) × IsStep server link.before link.act link.out link.after × IsChain server first history link.before
 
--- the events of a history, newest first
+-- some events with the one that a step is taken for in front, if it is taken for one
 abbrev pub event_of : Act → List Event → List Event
 event_of (Given event) events = event ∷ events
 event_of (Passing at) events = events

@@ -6,16 +6,16 @@ use Rattle.sip_message.specs.declared.field.Field.{Field}
 use Rattle.sip_message.specs.declared.message.Message.{Message}
 use Rattle.sip_message.specs.Text.{text_of}
 use Rattle.sip_header.specs.CoreFields.{core_of}
-use Rattle.sip_hops.specs.declared.addr.Addr.{Addr}
+use Rattle.sip_text.specs.declared.addr.Addr.{Addr}
 use Rattle.sip_edit.specs.OwnVia.{branch_text}
 use Rattle.sip_edit.specs.Onward.{onward_of, with_record_route}
 use Rattle.sip_edit.specs.OwnRequests.{ack_of, cancel_of}
-use Rattle.sip_edit.specs.Received.{received, response_address}
+use Rattle.sip_edit.specs.ReceivedRequest.{received, response_address}
 use Rattle.sip_edit.specs.Reply.{reply_of}
 use Rattle.sip_edit.specs.Tags.{to_tag}
 use Rattle.sip_dialog.specs.declared.dialog.DialogId.{DialogId}
 use Rattle.sip_dialog.specs.DialogId.{id_of}
-use Rattle.sip_model.specs.declared.packet.Packet.{Packet}
+use Rattle.sip_event.specs.declared.packet.Packet.{Packet}
 use Rattle.sip_model.specs.Server.{Server}
 use Rattle.sip_model.specs.State.{Branch, OpenRequest, is_invite}
 
@@ -46,13 +46,13 @@ begins_dialog r = is_invite r && not (is_some (dialog_of r.request))
 
 -- the request that goes onward with a Request-URI and the branch of a number
 abbrev pub onward_as : Server → ℕ → Message → Addr → List ℕ → ℕ → Message
-onward_as server number m from uri target = onward_of server.own server.realm uri (branch_text server.word number target) (received m from)
+onward_as server number m from uri target = onward_of server.config.own server.config.realm uri (branch_text server.word number target) (received m from)
 
 -- the request of a branch; an INVITE that begins a dialog has this server's Record-Route (RFC 3261 16.6)
 abbrev pub request_of : Server → OpenRequest → Branch → Message
 request_of server r b =
     let m = onward_as server r.number r.request r.source b.uri b.number in
-    if begins_dialog r then with_record_route server.own m else m
+    if begins_dialog r then with_record_route server.config.own m else m
 
 -- what a branch sends: its request, or the CANCEL of that (RFC 3261 9.1)
 abbrev pub sent_of : Server → OpenRequest → Branch → Message

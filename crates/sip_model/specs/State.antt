@@ -6,7 +6,7 @@ use Rattle.std.specs.Str.{bytes_eq}
 use Rattle.sip_message.specs.declared.message.Message.{Message}
 use Rattle.sip_header.specs.declared.key.Key.{Key}
 use Rattle.sip_header.specs.Key.{same_key}
-use Rattle.sip_hops.specs.declared.addr.Addr.{Addr}
+use Rattle.sip_text.specs.declared.addr.Addr.{Addr}
 use Rattle.sip_location.specs.declared.binding.Binding.{Binding}
 use Rattle.sip_digest.specs.declared.nonces.Nonce.{Nonce}
 use Rattle.sip_best.specs.declared.final_answer.Final.{Final}
@@ -130,8 +130,8 @@ is_closed (Acknowledged due) = false
 is_closed Closed = true
 
 -- the branches to its targets, without the CANCELs
-abbrev pub targets_of : OpenRequest → List Branch
-targets_of r = filter (λ (b : Branch). not b.is_cancel) r.branches
+abbrev pub target_branches : OpenRequest → List Branch
+target_branches r = filter (λ (b : Branch). not b.is_cancel) r.branches
 
 -- whether a request stays open no longer: its transaction and those of all its branches have ended
 abbrev pub has_left : OpenRequest → Bool

@@ -1,12 +1,12 @@
 -- One step of a proxy: a datagram, a deadline, the passing of time, or a send that failed.
 use Rattle.std.specs.Prelude.{◌≡◌, ◌≤◌, ◌<◌, ◌⊎◌, ℕ, ◌==◌, Bool, not, ◌&&◌, max, List, filter, find, Contains, Option, Some, None}
 use Rattle.std.specs.List.{AllByRecursion}
-use Rattle.sip_hops.specs.declared.addr.Addr.{Addr}
-use Rattle.sip_model.specs.declared.packet.Packet.{Packet}
-use Rattle.sip_model.specs.declared.packet.Ticket.{Ticket}
-use Rattle.sip_model.specs.declared.event.StepOut.{StepOut}
-use Rattle.sip_model.specs.declared.event.Event.{Event}
-use Rattle.sip_model.specs.declared.event.Event.TheVariants.{Datagram, Time, Fault}
+use Rattle.sip_text.specs.declared.addr.Addr.{Addr}
+use Rattle.sip_event.specs.declared.packet.Packet.{Packet}
+use Rattle.sip_event.specs.declared.packet.Ticket.{Ticket}
+use Rattle.sip_event.specs.declared.event.StepOut.{StepOut}
+use Rattle.sip_event.specs.declared.event.Event.{Event}
+use Rattle.sip_event.specs.declared.event.Event.TheVariants.{Datagram, Time, Fault}
 use Rattle.sip_model.specs.Server.{Server}
 use Rattle.sip_model.specs.State.{Branch, OpenRequest, ProxyState, deadlines, phase_deadline, side_deadline}
 use Rattle.sip_model.specs.Branches.{Change, overdue, side_overdue, send_failed, is_unheard}
@@ -16,7 +16,7 @@ use Rattle.sip_model.specs.Retransmission.{IsRetransmission}
 
 -- ---- what is sent
 
--- what is sent for the first time, and what is sent again
+-- what is sent for the first time
 abbrev pub originals : List Packet → List Packet
 originals packets = filter (λ (p : Packet). not p.again) packets
 

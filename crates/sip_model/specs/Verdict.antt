@@ -1,44 +1,43 @@
 -- What is to be done with a datagram: the first case that applies (RFC 3261 16.3 to 16.5, 10.3, 17.1.3, 17.2.3).
-use Rattle.std.specs.Prelude.{ℕ, Bool, true, false, not, ◌&&◌, ◌||◌, ◌==◌, nat_le, is_some, if◌then◌else◌, List, [], ◌∷◌, length, map, find, codes, Option, Some, None, Result, Ok, Err}
+use Rattle.std.specs.Prelude.{ℕ, Bool, true, false, not, ◌&&◌, ◌||◌, ◌==◌, nat_le, is_some, if◌then◌else◌, List, [], ◌∷◌, length, find, codes, Option, Some, None, option_map, Result, Ok, Err}
 use Rattle.std.specs.Option.{option_and_then, option_map_or}
 use Rattle.std.specs.Result.{result_ok}
 use Rattle.std.specs.Str.{bytes_eq}
 use Rattle.sip_uri.specs.declared.uri.Uri.{Uri}
 use Rattle.sip_uri.specs.declared.aor.Aor.{Aor}
-use Rattle.sip_uri.specs.Reading as Uris
 use Rattle.sip_message.specs.declared.field.Field.{Field}
 use Rattle.sip_message.specs.declared.field_name.FieldName.TheVariants as Name
 use Rattle.sip_message.specs.declared.message.Start.{Start}
 use Rattle.sip_message.specs.declared.message.Start.TheVariants.{Request, Status}
 use Rattle.sip_message.specs.declared.message.Message.{Message}
 use Rattle.sip_message.specs.declared.error.ReadError.{ReadError}
-use Rattle.sip_message.specs.declared.error.ReadError.TheVariants as Fault
+use Rattle.sip_message.specs.declared.error.ReadError.TheVariants as Refusal
 use Rattle.sip_message.specs.Reading.{reading_of}
 use Rattle.sip_header.specs.declared.key.Key.{Key}
 use Rattle.sip_header.specs.declared.core_fields.CoreFields.{CoreFields}
 use Rattle.sip_header.specs.declared.via.Via.{Via}
 use Rattle.sip_header.specs.Key.{key_of}
 use Rattle.sip_header.specs.CSeq.{cseq_of}
-use Rattle.sip_header.specs.Values.{values_of, first_value}
+use Rattle.sip_message.specs.Values.{values_of, first_value}
 use Rattle.sip_header.specs.Via.{via_of}
 use Rattle.sip_header.specs.Parameters.{branch_of}
 use Rattle.sip_header.specs.Own.{is_own_via}
 use Rattle.sip_header.specs.CoreFields.{core_of}
-use Rattle.sip_header.specs.Prepared.{Way, way_of, first_route}
+use Rattle.sip_header.specs.Way.{way_of, request_uri_of, next_uri}
 use Rattle.sip_digest.specs.declared.nonces.Nonce.{Nonce}
-use Rattle.sip_hops.specs.declared.addr.Addr.{Addr}
+use Rattle.sip_text.specs.declared.addr.Addr.{Addr}
 use Rattle.sip_hops.specs.HostAddress.{address_of}
 use Rattle.sip_edit.specs.OwnVia.{branch_text}
 use Rattle.sip_edit.specs.Extras.{unsupported_field, min_expires}
 use Rattle.sip_policy.specs.declared.operation.Operation.{Operation}
 use Rattle.sip_policy.specs.declared.decision.Decision.{Decision}
 use Rattle.sip_policy.specs.Operation.{operation_of}
-use Rattle.sip_policy.specs.PolicyUser.{is_users_address, is_own_domain}
+use Rattle.sip_policy.specs.User.{is_users_address, is_own_domain}
 use Rattle.sip_policy.specs.Decision.{decision_of}
 use Rattle.sip_location.specs.declared.binding.Binding.{Binding}
 use Rattle.sip_location.specs.declared.error.LocationError.{LocationError}
 use Rattle.sip_location.specs.declared.error.LocationError.TheVariants.{NoMemory, BadStar, TooBrief, OldCSeq, TooMany}
-use Rattle.sip_location.specs.Binding.{live}
+use Rattle.sip_location.specs.Binding.{contacts_of}
 use Rattle.sip_location.specs.Registration.{registered}
 use Rattle.sip_targets.specs.declared.targets.Targets.{Targets}
 use Rattle.sip_targets.specs.Targets.{targets_of}
@@ -46,9 +45,9 @@ use Rattle.sip_validate.specs.Refusal.{refusal_of, is_bad_request}
 use Rattle.sip_dialog.specs.declared.dialog.DialogId.{DialogId}
 use Rattle.sip_dialog.specs.DialogId.{id_of}
 use Rattle.sip_dialog.specs.Dialogs.{is_in_dialog}
-use Rattle.sip_model.specs.Server.{Server, policy_users}
-use Rattle.sip_model.specs.Proof.{Proof, proof_of, proven}
-use Rattle.sip_model.specs.Registering.{sip_uri, aor_or_nobody, to_aor, registration_of}
+use Rattle.sip_model.specs.Server.{Server}
+use Rattle.sip_auth.specs.Proof.{Proof, proof_of, proven}
+use Rattle.sip_location.specs.Registering.{aor_or_nobody, to_aor, registration_of}
 use Rattle.sip_model.specs.State.{ProxyState, OpenRequest, Branch, has_key}
 use Rattle.sip_model.specs.Branches.{is_accepted}
 use Rattle.sip_model.specs.Sending.{dialog_of}
@@ -115,7 +114,7 @@ response_verdict fields status (Some x) = if x.1.is_cancel || is_many (values_of
 
 -- the branch of a Via, if the Via is this server's
 abbrev pub own_branch : Server → Via → Option (List ℕ)
-own_branch server via = if is_own_via server.own via then branch_of via.parameters else None
+own_branch server via = if is_own_via server.config.own via then branch_of via.parameters else None
 
 -- the branch of this server's Via on top of a response (RFC 3261 16.7 step 1, 18.1.2)
 abbrev pub top_branch : Server → List Field → Option (List ℕ)
@@ -128,13 +127,9 @@ responding server requests fields =
 
 -- ---- within a dialog
 
--- where a request is to go next: its first Route, else its Request-URI (RFC 3261 16.6 step 6)
-abbrev pub next_uri : Way → Option Uri
-next_uri way = option_map_or (λ route. sip_uri route.uri) (first_route way.fields) (result_ok (Uris.reading_of way.uri))
-
 -- the address where a request is to go next
 abbrev pub next_address : Server → Message → Option Addr
-next_address server m = option_and_then (address_of server.addresses) (next_uri (way_of server.own m))
+next_address server m = option_and_then (address_of server.config.addresses) (next_uri (way_of server.config.own m))
 
 -- a verdict on a request that names a dialog and has an address, if the dialog is known and holds that; else another verdict
 abbrev pub within_at : ProxyState → ℕ → (Addr → DialogId → Verdict) → Verdict → Option DialogId → Option Addr → Verdict
@@ -148,7 +143,7 @@ within server state now m on none = within_at state now on none (dialog_of m) (n
 
 -- an ACK that no server transaction takes is sent on in a dialog, or dropped: nothing answers an ACK (RFC 3261 16.11, 17.2.1)
 abbrev pub ack_verdict : Server → ProxyState → ℕ → Message → Bool → Verdict
-ack_verdict server state now m short = if is_some (refusal_of server.own m short) then Drop else within server state now m AckOn Drop
+ack_verdict server state now m short = if is_some (refusal_of server.config.own m short) then Drop else within server state now m AckOn Drop
 
 -- ---- CANCEL
 
@@ -168,7 +163,7 @@ found_for_cancel state key from = option_and_then (λ r. if bytes_eq r.source.ip
 -- a CANCEL: 400 if it is a bad request, 503 without room, else by what it names (RFC 3261 9.2, 16.10)
 abbrev pub cancel_verdict : Server → ProxyState → Arrival → Message → Bool → Key → Verdict
 cancel_verdict server state a m short key =
-    if is_bad_request server.own m short then Answer 400 []
+    if is_bad_request server.config.own m short then Answer 400 []
     else if is_full state then Answer 503 []
     else Cancel (found_for_cancel state key a.from)
 
@@ -182,22 +177,18 @@ has_contact fields = is_some (first_value Name.Contact fields)
 abbrev pub is_register : List ℕ → Bool
 is_register method = bytes_eq method (codes "REGISTER")
 
--- the SIP URI that the Request-URI is, without this server's own part of the way (RFC 3261 16.4)
-abbrev pub request_uri_of : Server → Message → Option Uri
-request_uri_of server m = result_ok (Uris.reading_of (way_of server.own m).uri)
-
 -- the address of record that a request is for: To's of a REGISTER, the Request-URI's of any other
 abbrev pub target_of : Server → Message → List ℕ → CoreFields → Aor
-target_of server m method core = if is_register method then to_aor core else aor_or_nobody (request_uri_of server m)
+target_of server m method core = if is_register method then to_aor core else aor_or_nobody (request_uri_of server.config.own m)
 
 -- what policy is asked about a request
 abbrev pub question_of : Server → List Nonce → ℕ → Message → List ℕ → CoreFields → Question
 question_of server nonces now m method core =
-    record { proof = proof_of server nonces now m; operation = operation_of method (has_contact m.fields); target = target_of server m method core }
+    record { proof = proof_of server.config.realm server.config.users nonces now m; operation = operation_of method (has_contact m.fields); target = target_of server m method core }
 
 -- what policy decides
 abbrev pub answer_of : Server → Question → Decision
-answer_of server q = decision_of server.rules (policy_users server) server.own.domains (proven q.proof) q.operation q.target
+answer_of server q = decision_of server.config.rules server.config.users server.config.own.domains (proven q.proof) q.operation q.target
 
 -- ---- registration
 
@@ -217,30 +208,26 @@ registered_by (Err e) = refused_by e
 -- whether the host of a URI is an own domain
 abbrev pub is_own_uri : Server → Option Uri → Bool
 is_own_uri server None = false
-is_own_uri server (Some uri) = is_own_domain server.own.domains uri.host
+is_own_uri server (Some uri) = is_own_domain server.config.own.domains uri.host
 
 -- What becomes of a REGISTER that was let through: 404 unless the Request-URI names an own domain and To a configured user of one, else what the registrar does (RFC 3261 10.3)
 abbrev pub registration_by : Server → List Binding → ℕ → Message → CoreFields → Registered
 registration_by server rows now m core =
-    if is_own_uri server (request_uri_of server m) && is_users_address (policy_users server) server.own.domains (to_aor core)
+    if is_own_uri server (request_uri_of server.config.own m) && is_users_address server.config.users server.config.own.domains (to_aor core)
     then registered_by (registered rows (registration_of core m.fields) now)
     else Refused 404 []
 
 -- ---- targets
 
--- the contacts of the live bindings of an address of record, in their order
-abbrev pub contacts_of : List Binding → ℕ → Aor → List Uri
-contacts_of rows now aor = map (λ b. b.uri) (live aor now rows)
-
 -- the targets that a decision gives a request to a Request-URI, over some bindings (RFC 3261 16.5); without one, which no checked request is, it names nobody
 abbrev pub targets_by : Server → List Binding → ℕ → Aor → Decision → Option Uri → Targets
 targets_by server rows now target decision None = Targets.NotFound
 targets_by server rows now target decision (Some uri) =
-    targets_of decision (is_users_address (policy_users server) server.own.domains target) uri (contacts_of rows now target) server.hops server.addresses
+    targets_of decision (is_users_address server.config.users server.config.own.domains target) uri (contacts_of rows now target) server.config.hops server.config.addresses
 
 -- the targets of a request outside a dialog
 abbrev pub request_targets : Server → List Binding → ℕ → Message → Question → Decision → Targets
-request_targets server rows now m q decision = targets_by server rows now q.target decision (request_uri_of server m)
+request_targets server rows now m q decision = targets_by server rows now q.target decision (request_uri_of server.config.own m)
 
 -- ---- a request outside a dialog
 
@@ -290,7 +277,7 @@ abbrev pub new_verdict : Server → ProxyState → Arrival → Message → Bool 
 new_verdict server state a m short method key =
     if bytes_eq method (codes "ACK") then ack_verdict server state a.now m short
     else if bytes_eq method (codes "CANCEL") then cancel_verdict server state a m short key
-    else checked_verdict server state a.now m method (refusal_of server.own m short)
+    else checked_verdict server state a.now m method (refusal_of server.config.own m short)
 
 -- A request whose key is open belongs to that request, but for an ACK of a 2xx, which is an own transaction (RFC 3261 13.2.2.4, 17.2.3)
 abbrev pub by_open : Server → ProxyState → Arrival → Message → Bool → List ℕ → Key → Option OpenRequest → Verdict
@@ -317,13 +304,17 @@ message_verdict server state a m short = by_start server state a m short m.start
 -- the message that bytes say, and whether its body is short; nothing else is a message
 abbrev pub message_in : Result Message ReadError → Option (Message × Bool)
 message_in (Ok m) = Some (m, false)
-message_in (Err (Fault.ShortBody m)) = Some (m, true)
-message_in (Err Fault.NoMemory) = None
-message_in (Err Fault.NotSip) = None
-message_in (Err Fault.BadField) = None
-message_in (Err Fault.TooLong) = None
-message_in (Err Fault.TooManyFields) = None
+message_in (Err (Refusal.ShortBody m)) = Some (m, true)
+message_in (Err Refusal.NoMemory) = None
+message_in (Err Refusal.NotSip) = None
+message_in (Err Refusal.BadField) = None
+message_in (Err Refusal.TooLong) = None
+message_in (Err Refusal.TooManyFields) = None
 
--- the verdict on a datagram
-abbrev pub verdict_of : Server → ProxyState → Arrival → List ℕ → Verdict
-verdict_of server state a bytes = option_map_or (λ x. message_verdict server state a x.0 x.1) (message_in (reading_of bytes)) Drop
+-- a message, with the verdict on it, if a datagram says one
+abbrev pub verdict_in : Server → ProxyState → Arrival → Option (Message × Bool) → Option (Message × Verdict)
+verdict_in server state a said = option_map (λ x. (x.0, message_verdict server state a x.0 x.1)) said
+
+-- the message that the bytes of a datagram say, with the verdict on it; bytes that say none are dropped
+abbrev pub verdict_of : Server → ProxyState → Arrival → List ℕ → Option (Message × Verdict)
+verdict_of server state a bytes = verdict_in server state a (message_in (reading_of bytes))

@@ -3,18 +3,19 @@ ghost use Rattle.sip_uri.specs.declared.uri.Uri.{Uri};
 ghost use Rattle.sip_uri.specs.Aor.{aor_of};
 ghost use Rattle.sip_message.specs.declared.message.Message.{Message};
 ghost use Rattle.sip_header.specs.declared.core_fields.CoreFields.{CoreFields};
-ghost use Rattle.sip_hops.specs.declared.addr.Addr.{Addr};
+ghost use Rattle.sip_header.specs.Way.{request_uri_of};
+ghost use Rattle.sip_text.specs.declared.addr.Addr.{Addr};
 ghost use Rattle.sip_hops.specs.Hop.{hop_of};
 ghost use Rattle.sip_policy.specs.declared.decision.Decision.{Decision};
-ghost use Rattle.sip_policy.specs.PolicyUser.{is_users_address};
+ghost use Rattle.sip_policy.specs.User.{is_users_address};
 ghost use Rattle.sip_location.specs.declared.binding.Binding.{Binding};
 ghost use Rattle.sip_location.specs.Binding.{live};
 ghost use Rattle.sip_targets.specs.Target.{target_for};
-ghost use Rattle.sip_model.specs.Server.{Server, policy_users};
-ghost use Rattle.sip_model.specs.declared.event.Event.{Event};
-ghost use Rattle.sip_model.specs.declared.event.StepOut.{StepOut};
+ghost use Rattle.sip_model.specs.Server.{Server};
+ghost use Rattle.sip_event.specs.declared.event.Event.{Event};
+ghost use Rattle.sip_event.specs.declared.event.StepOut.{StepOut};
 ghost use Rattle.sip_model.specs.State.{ProxyState, first_state};
-ghost use Rattle.sip_model.specs.Verdict.{Arrival, is_register, request_uri_of};
+ghost use Rattle.sip_model.specs.Verdict.{Arrival, is_register};
 ghost use Rattle.sip_model.specs.Run.{Link, IsRun};
 ghost use Rattle.sip_model.specs.Bindings.{Arrived, allowed_in};
 ghost use Rattle.sip_model.specs.Access.{IsAllowedRegister, decision_on, targets_on, Access};
@@ -43,11 +44,11 @@ pub fn every_run_has_access()
 pub fn targets_are_bindings_or_hop()
     ensures bindings { (server : Server) (rows : List Binding) (state : ProxyState) (now : ℕ) (m : Message) (method : List ℕ) (core : CoreFields) (id : ℕ) (uri : Uri)
         → is_register method ≡ false → decision_on server state now m method core ≡ Decision.Allow id
-        → request_uri_of server m ≡ Some uri → is_users_address (policy_users server) server.own.domains (aor_of uri) ≡ true
-        → targets_on server rows state now m method core ≡ map (λ (b : Binding). target_for server.addresses b.uri) (live (aor_of uri) now rows) }
+        → request_uri_of server.config.own m ≡ Some uri → is_users_address server.config.users server.config.own.domains (aor_of uri) ≡ true
+        → targets_on server rows state now m method core ≡ map (λ (b : Binding). target_for server.config.addresses b.uri) (live (aor_of uri) now rows) }
     ensures hop { (server : Server) (rows : List Binding) (state : ProxyState) (now : ℕ) (m : Message) (method : List ℕ) (core : CoreFields) (id : ℕ) (hop : List ℕ) (uri : Uri) (address : Addr)
         → is_register method ≡ false → decision_on server state now m method core ≡ Decision.Via id hop
-        → request_uri_of server m ≡ Some uri → hop_of server.hops hop ≡ Some address
+        → request_uri_of server.config.own m ≡ Some uri → hop_of server.config.hops hop ≡ Some address
         → targets_on server rows state now m method core ≡ record { uri = uri; address = Some address } ∷ [] }
     ensures none_of_register { (server : Server) (rows : List Binding) (state : ProxyState) (now : ℕ) (m : Message) (method : List ℕ) (core : CoreFields)
         → is_register method ≡ true → targets_on server rows state now m method core ≡ [] }

@@ -2,7 +2,7 @@
 use Rattle.std.proofs.Common.{◌≡◌, ℕ, Bool, true, false, ◌&&◌, ◌||◌, nat_lt, List, [], ◌∷◌, ◌++◌, Option, Some, None, refl, sym, ap, subst, ◌∙◌, find, if◌then◌else◌}
 use Rattle.std.specs.List.{list_all, list_any}
 use Rattle.sip_policy.specs.declared.rule.Rule.{Rule}
-use Rattle.sip_policy.specs.declared.verdict.Verdict.{Verdict}
+use Rattle.sip_policy.specs.declared.rule_verdict.RuleVerdict.{RuleVerdict}
 use Rattle.sip_policy.specs.declared.decision.Decision.{Decision}
 use Rattle.sip_policy.specs.Rule.{IsFirst, is_numbered, needs_no_proof}
 use Rattle.sip_policy.specs.Decision.{decision_for, decision_by}
@@ -49,14 +49,14 @@ all_at test [] after rule all = (and_both (test rule) (list_all test after) all)
 all_at test (r ∷ before) after rule all = all_at test before after rule (and_both (test r) (list_all test (before ++ rule ∷ after)) all).1
 
 -- a numbered rule never denies as rule 0
-for_never_zero : (id : ℕ) (verdict : Verdict) → nat_lt 0 id ≡ true → decision_for id verdict ≡ Decision.Deny 0 → ⊥
-for_never_zero id Verdict.Allow numbered e = cc
-for_never_zero id Verdict.Deny numbered e =
+for_never_zero : (id : ℕ) (verdict : RuleVerdict) → nat_lt 0 id ≡ true → decision_for id verdict ≡ Decision.Deny 0 → ⊥
+for_never_zero id RuleVerdict.Allow numbered e = cc
+for_never_zero id RuleVerdict.Deny numbered e =
     let zero_id : id ≡ 0 = cc in
     let IsAbove : ℕ → Type 0 = λ n. nat_lt 0 n ≡ true in
     let never : nat_lt 0 0 ≡ true = subst IsAbove zero_id numbered in
     cc
-for_never_zero id (Verdict.Via hop) numbered e = cc
+for_never_zero id (RuleVerdict.Via hop) numbered e = cc
 
 nobody_never_zero : (rule : Rule) (needs_none : Bool) → is_numbered rule ≡ true → (if needs_none then decision_for rule.id rule.verdict else Decision.Challenge) ≡ Decision.Deny 0 → ⊥
 nobody_never_zero rule true numbered e = for_never_zero rule.id rule.verdict numbered e

@@ -2,17 +2,17 @@
 use Rattle.std.specs.Prelude.{ℕ, List, Option, Some, None, find, if◌then◌else◌}
 use Rattle.sip_uri.specs.declared.aor.Aor.{Aor}
 use Rattle.sip_policy.specs.declared.operation.Operation.{Operation}
-use Rattle.sip_policy.specs.declared.policy_user.PolicyUser.{PolicyUser}
+use Rattle.sip_policy.specs.declared.user.User.{User}
 use Rattle.sip_policy.specs.declared.rule.Rule.{Rule}
-use Rattle.sip_policy.specs.declared.verdict.Verdict.{Verdict}
+use Rattle.sip_policy.specs.declared.rule_verdict.RuleVerdict.{RuleVerdict}
 use Rattle.sip_policy.specs.declared.decision.Decision.{Decision}
 use Rattle.sip_policy.specs.Rule.{matches, needs_no_proof}
 
 -- what the verdict of the rule of a number comes to
-abbrev pub decision_for : ℕ → Verdict → Decision
-decision_for id Verdict.Allow = Decision.Allow id
-decision_for id Verdict.Deny = Decision.Deny id
-decision_for id (Verdict.Via hop) = Decision.Via id hop
+abbrev pub decision_for : ℕ → RuleVerdict → Decision
+decision_for id RuleVerdict.Allow = Decision.Allow id
+decision_for id RuleVerdict.Deny = Decision.Deny id
+decision_for id (RuleVerdict.Via hop) = Decision.Via id hop
 
 -- what a rule that matches decides: its verdict, but with nobody proven a challenge unless it needs no proof
 abbrev pub decision_by : Option (List ℕ) → Rule → Decision
@@ -25,5 +25,5 @@ decision_with proven None = Decision.Deny 0
 decision_with proven (Some rule) = decision_by proven rule
 
 -- what the rules decide, for a proven user of this name or for nobody: the first that matches decides, and without one rule 0 denies
-abbrev pub decision_of : List Rule → List PolicyUser → List (List ℕ) → Option (List ℕ) → Operation → Aor → Decision
+abbrev pub decision_of : List Rule → List User → List (List ℕ) → Option (List ℕ) → Operation → Aor → Decision
 decision_of rules users domains proven operation aor = decision_with proven (find (matches users domains proven operation aor) rules)

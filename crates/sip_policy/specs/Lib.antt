@@ -1,5 +1,5 @@
 pub mod Who
-pub mod PolicyUser
+pub mod User
 pub mod Operation
 pub mod TargetPattern
 pub mod Rule

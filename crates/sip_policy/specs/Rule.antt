@@ -5,7 +5,7 @@ use Rattle.sip_uri.specs.declared.aor.Aor.{Aor}
 use Rattle.sip_policy.specs.declared.who.Who.{Who}
 use Rattle.sip_policy.specs.declared.who.Who.TheVariants.{Anyone}
 use Rattle.sip_policy.specs.declared.operation.Operation.{Operation}
-use Rattle.sip_policy.specs.declared.policy_user.PolicyUser.{PolicyUser}
+use Rattle.sip_policy.specs.declared.user.User.{User}
 use Rattle.sip_policy.specs.declared.target_pattern.TargetPattern.{TargetPattern}
 use Rattle.sip_policy.specs.declared.target_pattern.TargetPattern.TheVariants.{SelfTarget}
 use Rattle.sip_policy.specs.declared.rule.Rule.{Rule}
@@ -14,7 +14,7 @@ use Rattle.sip_policy.specs.Operation.{matches_operation}
 use Rattle.sip_policy.specs.TargetPattern.{matches_target}
 
 -- whether the operation, the target and, where a user is proven, that user are of a rule's patterns
-abbrev pub matches : List PolicyUser → List (List ℕ) → Option (List ℕ) → Operation → Aor → Rule → Bool
+abbrev pub matches : List User → List (List ℕ) → Option (List ℕ) → Operation → Aor → Rule → Bool
 matches users domains proven operation aor rule =
     matches_operation operation rule.operation && (matches_target users domains proven aor rule.target && matches_who users proven rule.who)
 

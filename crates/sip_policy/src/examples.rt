@@ -1,10 +1,11 @@
 ghost use Rattle.std.specs.Prelude.{◌≡◌, ℕ, true, false, List, [], codes, Some, None};
+ghost use Rattle.sip_uri.specs.Examples.{sample_domains};
 ghost use Rattle.sip_policy.specs.declared.decision.Decision.{Decision};
 ghost use Rattle.sip_policy.specs.declared.operation.Operation.{Operation};
 ghost use Rattle.sip_policy.specs.declared.target_pattern.TargetPattern.{TargetPattern};
 ghost use Rattle.sip_policy.specs.Operation.{operation_of};
 ghost use Rattle.sip_policy.specs.TargetPattern.{matches_target};
-ghost use Rattle.sip_policy.specs.Examples.{sample_users, sample_domains, sample_decision, user_at};
+ghost use Rattle.sip_policy.specs.Examples.{sample_users, sample_decision, user_at};
 
 /// Nobody proven: an INVITE to `alice@host.com` is challenged, since rule 6 needs a user; one to
 /// `vault@host.com` is denied by rule 3, and so is a proven user's; one to `help@host.com` is allowed.

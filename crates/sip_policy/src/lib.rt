@@ -2,23 +2,19 @@
 #![tactic(auto)]
 
 mod decision;
-mod examples;
+pub mod examples;
+pub mod laws;
 mod operation;
-mod policy_user;
 mod rule;
+mod rule_verdict;
 mod target_pattern;
-mod verdict;
+mod user;
 mod who;
 
-pub use decision::{
-    Decision, first_match_decides, nobody_needs_a_rule_for_anyone, proven_is_never_challenged,
-};
-pub use examples::{
-    call_challenge_and_vault, foreign_domain_denied, gateway, patterns, registration,
-};
+pub use decision::Decision;
 pub use operation::{Operation, OperationPattern};
-pub use policy_user::{GroupNames, PolicyUser};
-pub use rule::{Rule, RuleList};
+pub use rule::Rule;
+pub use rule_verdict::RuleVerdict;
 pub use target_pattern::TargetPattern;
-pub use verdict::Verdict;
+pub use user::User;
 pub use who::Who;

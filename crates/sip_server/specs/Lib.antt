@@ -1,4 +1,3 @@
-pub mod Actions
-pub mod Lives
+pub mod Action
 pub mod ServerInvite
 pub mod ServerOther

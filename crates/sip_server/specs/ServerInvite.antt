@@ -1,11 +1,12 @@
 -- The server transaction of an INVITE: RFC 3261 17.2.1 and figure 7, with the Accepted state of RFC 6026
 -- 7.1. Times are in milliseconds.
-use Rattle.std.specs.Prelude.{ℕ, ◌*◌, min, Bool, true, false, ◌&&◌, nat_le, if◌then◌else◌, List, [], ◌∷◌}
-use Rattle.sip_server.specs.Lives.{alone}
+use Rattle.std.specs.Prelude.{◌*◌, min, Bool, true, false, ◌&&◌, nat_le, if◌then◌else◌, List, [], ◌∷◌}
+use Rattle.sip_transaction.specs.Machine.{Machine}
+use Rattle.sip_transaction.specs.declared.letter.Letter.{Letter}
+use Rattle.sip_server.specs.Action.{start_of, sends_answer}
 use Rattle.sip_server.specs.declared.actions.Action.{Action}
 use Rattle.sip_server.specs.declared.actions.Action.TheVariants.{Send, SendAgain, Up, Start}
-use Rattle.sip_server.specs.declared.actions.Timer.{Timer}
-use Rattle.sip_server.specs.declared.actions.Timer.TheVariants.{G, H, I, L}
+use Rattle.sip_transaction.specs.declared.letter.Letter.TheVariants.{G, H, I, L}
 use Rattle.sip_server.specs.declared.server_invite.ServerInvite.{ServerInvite}
 use Rattle.sip_server.specs.declared.server_invite.ServerInvite.TheVariants.{Proceeding, Completed, Confirmed, Accepted, Terminated}
 use Rattle.sip_server.specs.declared.server_invite.ServerInviteInput.{ServerInviteInput}
@@ -18,7 +19,7 @@ pub data Heard : Type 0 where
   provisional : Heard
   success : Heard
   failure : Heard
-  fired : Timer → Heard
+  fired : Letter → Heard
   other : Heard
 
 -- the core's answers by their status (RFC 3261 7.2)
@@ -30,7 +31,7 @@ heard (Answer status) =
     else if nat_le 200 status && nat_le status 299 then success
     else if nat_le 300 status && nat_le status 699 then failure
     else other
-heard (Fired timer) = fired timer
+heard (Fired letter) = fired letter
 
 -- the rows of the figures; what has no row changes nothing
 -- `Proceeding true`: the core has answered 100 to 199; `Completed g`: G was last set to g. In this project's
@@ -55,13 +56,13 @@ abbrev pub server_invite : ServerInvite → ServerInviteInput → ServerInvite �
 server_invite state input = row state (heard input)
 
 -- the timers that run in a state; another is stopped when the state is entered
-abbrev pub runs : ServerInvite → Timer → Bool
+abbrev pub runs : ServerInvite → Letter → Bool
 runs (Completed g) G = true
 runs (Completed g) H = true
 runs Confirmed I = true
 runs Accepted L = true
 runs _ _ = false
 
--- a step at the moment 0, and the next `count` firings, where nothing but timers is heard
-abbrev pub left_alone : ℕ → ServerInvite × List Action → List (ℕ × ServerInvite × List Action)
-left_alone = alone (λ state timer. server_invite state (Fired timer)) runs
+-- the machine of these
+abbrev pub invite_machine : Machine ServerInvite ServerInviteInput Action
+invite_machine = record { on = server_invite; fired = Fired; runs = runs; start_of = start_of; sends = sends_answer }

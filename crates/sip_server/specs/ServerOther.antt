@@ -1,11 +1,12 @@
 -- The server transaction of a request that isn't an INVITE: RFC 3261 17.2.2 and figure 8. Times are in
 -- milliseconds.
 use Rattle.std.specs.Prelude.{ℕ, ◌+◌, Bool, true, false, ◌&&◌, nat_le, if◌then◌else◌, List, [], ◌∷◌}
-use Rattle.sip_server.specs.Lives.{alone}
+use Rattle.sip_transaction.specs.Machine.{Machine}
+use Rattle.sip_transaction.specs.declared.letter.Letter.{Letter}
+use Rattle.sip_server.specs.Action.{start_of, sends_answer}
 use Rattle.sip_server.specs.declared.actions.Action.{Action}
 use Rattle.sip_server.specs.declared.actions.Action.TheVariants.{Send, SendAgain, Start}
-use Rattle.sip_server.specs.declared.actions.Timer.{Timer}
-use Rattle.sip_server.specs.declared.actions.Timer.TheVariants.{J}
+use Rattle.sip_transaction.specs.declared.letter.Letter.TheVariants.{J}
 use Rattle.sip_server.specs.declared.server_other.ServerOther.{ServerOther}
 use Rattle.sip_server.specs.declared.server_other.ServerOther.TheVariants.{Trying, Proceeding, Completed, Terminated}
 use Rattle.sip_server.specs.declared.server_other.ServerOtherInput.{ServerOtherInput}
@@ -16,7 +17,7 @@ pub data Heard : Type 0 where
   request : Heard
   provisional : Heard
   final : Heard
-  fired : Timer → Heard
+  fired : Letter → Heard
   other : Heard
 
 -- the core's answers by their status (RFC 3261 7.2), of which the figure has no 100
@@ -26,7 +27,7 @@ heard (Answer status) =
     if nat_le 101 status && nat_le status 199 then provisional
     else if nat_le 200 status && nat_le status 699 then final
     else other
-heard (Fired timer) = fired timer
+heard (Fired letter) = fired letter
 
 -- the rows of the figure; what has no row changes nothing, nor does a fault of a sending (this project's
 -- profile)
@@ -45,20 +46,20 @@ abbrev pub server_other : ServerOther → ServerOtherInput → ServerOther × Li
 server_other state input = row state (heard input)
 
 -- the timers that run in a state; another is stopped when the state is entered
-abbrev pub runs : ServerOther → Timer → Bool
+abbrev pub runs : ServerOther → Letter → Bool
 runs Completed J = true
 runs _ _ = false
 
--- a step at the moment 0, and the next `count` firings, where nothing but timers is heard
-abbrev pub left_alone : ℕ → ServerOther × List Action → List (ℕ × ServerOther × List Action)
-left_alone = alone (λ state timer. server_other state (Fired timer)) runs
+-- the machine of these
+abbrev pub other_machine : Machine ServerOther ServerOtherInput Action
+other_machine = record { on = server_other; fired = Fired; runs = runs; start_of = start_of; sends = sends_answer }
 
 -- 1 where a final answer is sent for the first time
 abbrev pub final_sent : Heard → List Action → ℕ
 final_sent final (Send ∷ actions) = 1
 final_sent _ _ = 0
 
--- how many final answers are sent over these inputs, repetitions aside
+-- how many final answers are sent over these inputs, retransmissions aside
 abbrev pub finals_sent : ServerOther → List ServerOtherInput → ℕ
 finals_sent state [] = 0
 finals_sent state (input ∷ inputs) =

@@ -4,13 +4,11 @@
 #![tactic(auto)]
 
 mod actions;
+pub mod examples;
+pub mod laws;
 mod server_invite;
 mod server_other;
 
-pub use actions::{Action, Actions, Timer};
-pub use server_invite::{
-    ServerInvite, ServerInviteInput, invite_timers_law, unacknowledged_example,
-};
-pub use server_other::{
-    ServerOther, ServerOtherInput, life_example, other_timers_law, single_final_law,
-};
+pub use actions::Action;
+pub use server_invite::{ServerInvite, ServerInviteInput};
+pub use server_other::{ServerOther, ServerOtherInput};

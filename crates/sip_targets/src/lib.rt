@@ -2,10 +2,10 @@
 //! (RFC 3261 16.5).
 #![tactic(auto)]
 
-mod examples;
+pub mod examples;
+pub mod laws;
 mod target;
 mod targets;
 
-pub use examples::{call_to_help, gateway, no_binding_no_user, target_of_a_contact};
-pub use target::{Target, TargetList};
-pub use targets::{Targets, each_contact_is_a_target};
+pub use target::Target;
+pub use targets::Targets;

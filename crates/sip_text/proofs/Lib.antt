@@ -1,10 +1,15 @@
-pub mod Numbers
+pub mod Decimals
 pub mod Escaping
 pub mod Parts
 pub mod Cutting
 pub mod Trims
-pub mod Items
+pub mod ListItems
 pub mod EscapedLaws
 pub mod QuotedLaws
 pub mod ListLaws
 pub mod NoneLaws
+pub mod Splitting
+pub mod CutsOutside
+pub mod PartLaws
+pub mod Dotted
+pub mod Dots

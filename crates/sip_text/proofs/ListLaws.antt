@@ -8,7 +8,7 @@ use Rattle.sip_text.specs.declared.lists.Place.TheVariants.{Outside, Quoted, Esc
 use Rattle.sip_text.specs.Lists.{trimmed, place_after, is_cut, onto, between_cuts, is_nil, all_trimmed, cut}
 use Rattle.sip_text.specs.QuotedText.{QuotedPiece, QdText, QuotedPair, IsQuotedPiece, piece_text}
 use Rattle.sip_text.specs.ListText.{ItemPart, OneByte, Quotes, Brackets, IsItemPart, part_text, IsItemText, IsList}
-use Rattle.sip_text.proofs.Items.{IsOne, AreOnes, are_ones, one_rest, one_more, one_nil, not_cut_one}
+use Rattle.sip_text.proofs.ListItems.{IsOne, AreOnes, are_ones, one_rest, one_more, one_nil, not_cut_one}
 use Rattle.sip_text.proofs.EscapedLaws.{differs, no_match}
 
 -- ---- one item, from each place in it

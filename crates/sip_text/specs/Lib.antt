@@ -6,4 +6,8 @@ pub mod Lists
 pub mod QuotedText
 pub mod EscapedText
 pub mod ListText
+pub mod Splits
+pub mod Cuts
+pub mod Numbers
+pub mod Addresses
 pub mod TextError

@@ -16,9 +16,9 @@ pub enum TextError {
 
 impl fmt::Display for TextError {
     ghost use Rattle.std.specs.Prelude.{Some};
-    ghost use Rattle.sip_text.specs.TextError.{message_of};
+    ghost use Rattle.sip_text.specs.TextError.{words_of};
 
-    ghost output = { λ e. Some (message_of e) };
+    ghost output = { λ e. Some (words_of e) };
 
     fn fmt<W: fmt::Write>(&self, f: &mut fmt::Formatter<W>) -> fmt::Result {
         match self {

@@ -1,4 +1,4 @@
-ghost use Rattle.std.specs.Prelude.{◌≡◌, ◌<◌, true, false, [], ◌∷◌, length, Some, None, codes, MatchOption};
+ghost use Rattle.std.specs.Prelude.{◌≡◌, ◌<◌, true, false, [], ◌∷◌, length, None, MatchOption};
 ghost use Rattle.std.specs.Char.{is_ascii_hexdigit, digit_value};
 ghost use Rattle.sip_text.specs.Escapes.{unescaped, with_front, BeginsEscape};
 ghost use Rattle.sip_text.specs.Reading.{Reads};
@@ -53,9 +53,3 @@ pub fn unescape(alloc: Global, text: &[u8]) -> Result<Bytes, TextError>
     bytes.extend(rest)?;
     Ok(bytes)
 }
-
-/// `%41b` stands for `Ab`.
-pub fn unescape_example()
-    ensures some { unescaped (codes "%41b") ≡ Some (codes "Ab") }
-    ensures none { unescaped (codes "%4") ≡ None }
-{}

@@ -1,22 +1,18 @@
-ghost use Rattle.std.specs.Prelude.{◌≡◌, ◌↔◌, ℕ, List, [], ◌∷◌, Some, None, codes};
+ghost use Rattle.std.specs.Prelude.{◌≡◌, ◌↔◌, ℕ, true, nat_le, List, length, Some, None};
+ghost use Rattle.std.specs.List.{list_all};
+ghost use Rattle.sip_text.specs.Addresses;
 ghost use Rattle.sip_text.specs.Escapes.{unescaped, unquoted};
 ghost use Rattle.sip_text.specs.Lists.{cut};
 ghost use Rattle.sip_text.specs.EscapedText.{IsEscaped};
 ghost use Rattle.sip_text.specs.ListText.{IsList};
 ghost use Rattle.sip_text.specs.QuotedText.{IsQuoted};
+ghost use Rattle.sip_text.specs.Cuts.{IsParted, parts_at};
 
 /// The items that `cut_list` gives are what stands between the commas of the list, and it refuses
 /// what is no list (RFC 3261 7.3.1).
 pub fn items_are_between_commas()
     ensures items { (text : List ℕ) (items : List (List ℕ)) → (cut text ≡ Some items) ↔ IsList text items }
     ensures refused { (text : List ℕ) → (cut text ≡ None) ↔ ((items : List (List ℕ)) → IsList text items → ⊥) }
-{}
-
-/// A comma in quotes or brackets parts nothing, and no item may be empty.
-pub fn list_example()
-    ensures items { cut (codes "a, \"b,\\\"\" ,<c,\">") ≡ Some (codes "a" ∷ codes "\"b,\\\"\"" ∷ codes "<c,\">" ∷ []) }
-    ensures empty { cut (codes "a,,b") ≡ None }
-    ensures left_open { cut (codes "a, <b") ≡ None }
 {}
 
 /// What `unescape` reads is text of single bytes and escapes `%HH`, and it refuses all other text
@@ -31,4 +27,19 @@ pub fn escapes_are_pieces()
 pub fn quotes_are_pieces()
     ensures bytes { (text bytes : List ℕ) → (unquoted text ≡ Some bytes) ↔ IsQuoted text bytes }
     ensures refused { (text : List ℕ) → (unquoted text ≡ None) ↔ ((bytes : List ℕ) → IsQuoted text bytes → ⊥) }
+{}
+
+/// What stands between the bytes of one kind outside quoted text are the parts that make up a text, and no
+/// others do.
+pub fn parts_make_up_a_text()
+    ensures parted { (mark : ℕ) (text : List ℕ) → IsParted mark text (parts_at mark text) }
+    ensures only { (mark : ℕ) (text : List ℕ) (parts : List (List ℕ)) → IsParted mark text parts → parts ≡ parts_at mark text }
+{}
+
+/// The dotted text of each address is read as that address, and no other text is (RFC 3261 25.1,
+/// `IPv4address`).
+pub fn ip_text_is_read()
+    ensures read { (ip : List ℕ) → length ip ≡ 4 → list_all (λ n. nat_le n 255) ip ≡ true
+        → Addresses.ip_of (Addresses.ip_text ip) ≡ Some ip }
+    ensures written { (text : List ℕ) (ip : List ℕ) → Addresses.ip_of text ≡ Some ip → text ≡ Addresses.ip_text ip }
 {}

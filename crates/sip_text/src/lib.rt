@@ -1,24 +1,35 @@
-//! The smallest parts of SIP text: tokens, decimal numbers, text compared without case, lists cut at
-//! their commas, escapes `%HH`, quoted text, the spans that name parts of a source, and bytes that a
-//! value owns. Every crate that reads or writes text stands on this one.
+//! The smallest parts of SIP text: tokens, numbers, text compared with and without case, lists cut at
+//! their commas, text cut at a byte, escapes `%HH`, quoted text, addresses, the spans that name parts of
+//! a source, bytes that a value owns, and lists of items. Every crate that reads or writes text stands
+//! on this one.
 #![tactic(auto)]
 
+mod addr;
 mod bytes;
+mod cuts;
 mod error;
 mod escapes;
-mod laws;
+pub mod examples;
+mod items;
+pub mod laws;
 mod lists;
+mod numbers;
 mod quotes;
 mod span;
+mod splits;
 mod words;
 
+pub use addr::{Addr, addr_of, addr_text, ip_of, ip_text};
 pub use bytes::Bytes;
+pub use cuts::{Quoting, first_part, split_outside, split_word};
 pub use error::TextError;
-pub use escapes::{unescape, unescape_example};
-pub use laws::{escapes_are_pieces, items_are_between_commas, list_example, quotes_are_pieces};
+pub use escapes::unescape;
+pub use items::Items;
 pub use lists::{
     cut_list, is_space_or_tab, without_blanks, without_end_blanks, without_front_blanks,
 };
-pub use quotes::{unquote, unquote_example};
+pub use numbers::{hex_bytes, hex_text, plain_decimal, plain_decimal_below, plain_port};
+pub use quotes::unquote;
 pub use span::Span;
-pub use words::{decimal, is_token, same_no_case};
+pub use splits::split_once;
+pub use words::{decimal, is_token, lower_case, same_bytes, same_no_case};

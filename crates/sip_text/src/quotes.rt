@@ -1,4 +1,4 @@
-ghost use Rattle.std.specs.Prelude.{◌≡◌, ◌<◌, [], ◌∷◌, length, Some, None, codes, MatchOption};
+ghost use Rattle.std.specs.Prelude.{◌≡◌, ◌<◌, [], ◌∷◌, length, MatchOption};
 ghost use Rattle.sip_text.specs.Escapes.{unquoted, inside_quotes, with_front, at_end};
 ghost use Rattle.sip_text.specs.Reading.{Reads};
 
@@ -42,8 +42,3 @@ pub fn unquote(alloc: Global, text: &[u8]) -> Result<Bytes, TextError>
         _ => Err(TextError::Unbalanced),
     }
 }
-
-/// `"a\"b"` says `a"b`.
-pub fn unquote_example()
-    ensures { unquoted (codes "\"a\\\"b\"") ≡ Some (codes "a\"b") }
-{}

@@ -1,6 +1,10 @@
-ghost use Rattle.std.specs.Prelude.{◌≡◌};
+ghost use Rattle.std.specs.Prelude.{◌≡◌, ◌↔◌, IsTrue, IfOk};
+ghost use Rattle.std.specs.Str.{bytes_eq};
 ghost use Rattle.std.specs.List.{list_all};
-ghost use Rattle.sip_text.specs.Words.{is_token_text, decimal_of, is_same_text};
+ghost use Rattle.sip_text.specs.Words.{is_token_text, decimal_of, without_case, is_same_text};
+
+use crate::bytes::Bytes;
+use std::alloc::{AllocError, Global};
 
 /// Whether a byte may stand in a token (RFC 3261 25.1).
 fn is_token_byte(byte: u8) -> bool
@@ -31,7 +35,7 @@ pub fn is_token(bytes: &[u8]) -> bool
 
 /// The number that one or more decimal digits write (RFC 3261 25.1, `1*DIGIT`), if it is below 2^64;
 /// leading zeros may stand. None of any other text.
-#[tactic(auto, using(crate::proofs::Numbers::decimal_is, std::proofs::lemmas::List::at_drop_more, std::proofs::lemmas::List::drop_all))]
+#[tactic(auto, using(crate::proofs::Decimals::decimal_is, std::proofs::lemmas::List::at_drop_more, std::proofs::lemmas::List::drop_all))]
 pub fn decimal(bytes: &[u8]) -> Option<u64>
     ensures { result ≡ decimal_of bytes.now }
 {
@@ -56,4 +60,23 @@ pub fn same_no_case(left: &[u8], right: &[u8]) -> bool
     ensures { result ≡ is_same_text left.now right.now }
 {
     left.eq_ignore_ascii_case(right)
+}
+
+/// Whether two texts are equal, byte by byte. Takes no memory.
+pub fn same_bytes(left: &[u8], right: &[u8]) -> bool
+    ensures value { result ≡ bytes_eq left.now right.now }
+    ensures equal { IsTrue result ↔ (left.now ≡ right.now) }
+{
+    left == right
+}
+
+/// A text with the letters `A` to `Z` in lower case. `AllocError` is the only refusal.
+pub fn lower_case(alloc: Global, text: &[u8]) -> Result<Bytes, AllocError>
+    ensures { IfOk result (λ lower. lower ≡ without_case text.now) }
+{
+    let mut lower = Bytes::new(alloc);
+    for byte in text {
+        lower.push(byte.to_ascii_lowercase())?;
+    }
+    Ok(lower)
 }

@@ -1,4 +1,5 @@
--- Timers as the list of those that stand, in the order in which they fire: by the moment at which they are due, and at one moment in the order in which they were set.
+-- Timers as the list of those that stand, in the order in which they fire: by the moment at which they are
+-- due, and at one moment in the order in which they were set.
 use Rattle.std.specs.Prelude.{ℕ, ◌≡◌, ◌≤◌, ◌+◌, ◌^◌, ◌==◌, nat_lt, nat_le, Bool, true, not, List, [], ◌∷◌, Option, Some, None, filter, count_by, if◌then◌else◌}
 use Rattle.sip_timers.specs.declared.timer.Timer.{Timer}
 
@@ -21,9 +22,10 @@ abbrev pub popped : ℕ → List Timer → Option Timer × List Timer
 popped now [] = (None, [])
 popped now (t ∷ ts) = if nat_le t.due now then (Some t, ts) else (None, t ∷ ts)
 
--- no timer is set that is due 2^30 ms or more past the greatest moment that was popped (this project's profile)
-abbrev pub is_too_far : ℕ → ℕ → Bool
-is_too_far reached due = nat_le (reached + 2 ^ 30) due
+-- a timer that isn't set: it would be due 2^30 ms or more past the greatest moment by which one was asked for
+-- (this project's profile)
+abbrev pub IsTooFar : ℕ → ℕ → Type 0
+IsTooFar reached due = reached + 2 ^ 30 ≤ due
 
 -- how many have this key
 abbrev pub keys_with : ℕ → List Timer → ℕ
@@ -37,7 +39,7 @@ KeysDiffer ts = (key : ℕ) → keys_with key ts ≤ 1
 abbrev pub Stands : Timer → List Timer → Type 0
 Stands t ts = (p : Timer → Bool) → p t ≡ true → 1 ≤ count_by p ts
 
--- how many are due before a moment, and how many by it
+-- how many are due before a moment
 abbrev pub due_before : ℕ → List Timer → ℕ
 due_before moment ts = count_by (λ t. nat_lt t.due moment) ts
 

@@ -10,15 +10,15 @@ use std::fmt;
 pub enum TimerError {
     /// Memory ran out.
     NoMemory = 1,
-    /// It would be due 2^30 ms or more past the greatest moment that was popped.
+    /// It would be due 2^30 ms or more past the greatest moment that was given to `pop_due`.
     TooFar = 2,
 }
 
 impl fmt::Display for TimerError {
     ghost use Rattle.std.specs.Prelude.{Some};
-    ghost use Rattle.sip_timers.specs.TimerError.{message_of};
+    ghost use Rattle.sip_timers.specs.TimerError.{words_of};
 
-    ghost output = { λ e. Some (message_of e) };
+    ghost output = { λ e. Some (words_of e) };
 
     fn fmt<W: fmt::Write>(&self, f: &mut fmt::Formatter<W>) -> fmt::Result {
         match self {

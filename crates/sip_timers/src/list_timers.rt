@@ -1,5 +1,5 @@
-ghost use Rattle.std.specs.Prelude.{◌≡◌, ◌≤◌, ◌<◌, ◌+◌, ◌-◌, ℕ, ◌∷◌, Some, IsOk, OnOk, OnErr, IfSome, IfNone, vec_len, vec_capacity};
-ghost use Rattle.sip_timers.specs.Timers.{placed, without, first_due, place_at};
+ghost use Rattle.std.specs.Prelude.{◌≡◌, ◌≤◌, ◌<◌, ◌+◌, ◌-◌, ℕ, ◌∷◌, Some, OnOk, OnErr, IfSome, IfNone, vec_len, vec_capacity};
+ghost use Rattle.sip_timers.specs.Timers.{placed, without, first_due, place_at, popped};
 
 use crate::error::TimerError;
 use crate::timer::{Name, Timer};
@@ -7,7 +7,8 @@ use crate::timers::Timers;
 use std::alloc::{AllocError, Global};
 use std::marker::Model;
 
-/// The first distance past the greatest popped moment at which no timer is set, in milliseconds.
+/// The first distance past the greatest moment that was given to `pop_due` at which no timer is set, in
+/// milliseconds.
 const TOO_FAR: u64 = 1 << 30;
 
 /// A plain list of timers. Each key serves once: want of keys, after 2^64 timers, counts as want of
@@ -123,7 +124,9 @@ fn due_of_first(rows: &[Timer]) -> Option<u64>
     }
 }
 
+/// The first timer, if it is due.
 fn take_first(rows: &mut Vec<Timer>, now: u64) -> Option<Timer>
+    ensures taken { (result, rows.new.items) ≡ popped now rows.old.items }
     ensures some { IfSome result (λ timer. (rows.old.items ≡ timer ∷ rows.new.items) × (timer.due ≤ now)) }
     ensures none { IfNone result ((rows.new.items ≡ rows.old.items) × ((due : ℕ) → first_due rows.old.items ≡ Some due → now < due)) }
     ensures left { vec_capacity rows.old - vec_len rows.old ≤ vec_capacity rows.new - vec_len rows.new }

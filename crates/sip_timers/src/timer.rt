@@ -1,22 +1,4 @@
-/// Which of its owner's timers one is (RFC 3261 17 and 16.6, RFC 6026 for L and M).
-#[derive(Clone, Copy, Debug, PartialEq, Eq)]
-pub enum Letter {
-    A,
-    B,
-    C,
-    D,
-    E,
-    F,
-    G,
-    H,
-    I,
-    J,
-    K,
-    L,
-    M,
-    /// The end of the wait for a branch that was sent CANCEL (RFC 3261 9.1).
-    Cancelled,
-}
+use sip_transaction::Letter;
 
 /// Which part of an open request a timer belongs to.
 #[derive(Clone, Copy, Debug, PartialEq, Eq)]

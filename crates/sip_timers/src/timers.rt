@@ -1,5 +1,5 @@
-ghost use Rattle.std.specs.Prelude.{◌≡◌, ◌≤◌, ◌<◌, ◌+◌, ◌^◌, ◌↔◌, ℕ, List, [], ◌∷◌, Some, Err, IfOk, IfErr, OnOk, OnErr, IfSome, IfNone, max};
-ghost use Rattle.sip_timers.specs.Timers.{placed, without, keys_with, first_due};
+ghost use Rattle.std.specs.Prelude.{◌≡◌, ◌≤◌, ◌<◌, ◌+◌, ◌↔◌, ℕ, List, [], ◌∷◌, Some, Err, IfOk, IfErr, OnOk, OnErr, IfSome, IfNone, max};
+ghost use Rattle.sip_timers.specs.Timers.{placed, without, keys_with, first_due, popped, IsTooFar};
 ghost use Rattle.sip_timers.specs.declared.timer.Timer.{Timer};
 ghost use Rattle.sip_timers.specs.declared.error.TimerError.TheVariants.{NoMemory, TooFar};
 
@@ -39,7 +39,7 @@ pub trait Timers: Drop {
         ensures added { IfOk result (λ key. pending self.new ≡ placed (record { key = key; due = due; name = name }) (pending self.old)) }
         ensures fresh { IfOk result (λ key. keys_with key (pending self.old) ≡ 0) }
         ensures err { OnErr result (pending self.new ≡ pending self.old) }
-        ensures too_far { (result ≡ Err TooFar) ↔ (reached self.old + 2 ^ 30 ≤ due) }
+        ensures too_far { (result ≡ Err TooFar) ↔ IsTooFar (reached self.old) due }
         ensures memory { (result ≡ Err NoMemory) → room self.old ≡ 0 }
         ensures left { room self.old ≤ room self.new + 1 }
         ensures still { reached self.new ≡ reached self.old };
@@ -57,6 +57,7 @@ pub trait Timers: Drop {
 
     /// Takes the first timer out, if it is due.
     fn pop_due(&mut self, now: u64) -> Option<Timer>
+        ensures taken { (result, pending self.new) ≡ popped now (pending self.old) }
         ensures some { IfSome result (λ timer. (pending self.old ≡ timer ∷ pending self.new) × (timer.due ≤ now)) }
         ensures none { IfNone result ((pending self.new ≡ pending self.old) × ((due : ℕ) → first_due (pending self.old) ≡ Some due → now < due)) }
         ensures left { room self.old ≤ room self.new }

@@ -6,7 +6,8 @@ use Rattle.std.proofs.lemmas.List.{append-nil}
 use Rattle.sip_text.specs.Lists.{onto}
 use Rattle.sip_uri.specs.declared.error.UriError.{UriError}
 use Rattle.sip_uri.specs.declared.error.UriError.TheVariants.{NoMemory, Syntax}
-use Rattle.sip_uri.specs.Reading.{in_front, split_at_byte, parts_between, with_first, each_of}
+use Rattle.sip_uri.specs.Reading.{parts_between, with_first, each_of}
+use Rattle.sip_text.specs.Splits.{in_front, split_at_byte}
 use Rattle.sip_uri.proofs.Tests.{split_is}
 
 -- ---- the first of the parts

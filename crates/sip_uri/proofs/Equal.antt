@@ -193,4 +193,6 @@ symmetric u v =
 
 pub reflexive : (u : Uri) → names_say_different u.parameters ≡ true → same u u ≡ true
 reflexive u differ =
-    and_is _ _ (scheme_own u.scheme) (and_is _ _ (userinfo_own u.userinfo) (and_is _ _ (part_own u.host) (and_is _ _ (optional_own says_same_no_case part_own u.port) (and_is _ _ (parameters_own u.parameters differ) (headers_own u.headers)))))
+    let user = and_is _ _ (scheme_own u.scheme) (userinfo_own u.userinfo) in
+    let place = and_is _ _ (and_is _ _ user (part_own u.host)) (optional_own says_same_no_case part_own u.port) in
+    and_is _ _ (and_is _ _ place (parameters_own u.parameters differ)) (headers_own u.headers)

@@ -1,5 +1,4 @@
 pub mod Collecting
-pub mod Cuts
 pub mod Tests
 pub mod PartLaws
 pub mod ListLaws

@@ -107,11 +107,15 @@ are_same_headers hs gs = list_all (stands_as_often hs gs) hs && list_all (stands
 
 -- ---- the whole
 
--- whether two URIs are equal
+-- whether two URIs are equal: scheme, user with password, host, port, parameters and headers match (RFC 3261 19.1.4)
 abbrev pub same : Uri → Uri → Bool
 same u v =
     is_same_scheme u.scheme v.scheme
-    && (is_same_userinfo u.userinfo v.userinfo && (says_same_no_case u.host v.host && (both_or_none says_same_no_case u.port v.port && (are_same_parameters u.parameters v.parameters && are_same_headers u.headers v.headers))))
+    && is_same_userinfo u.userinfo v.userinfo
+    && says_same_no_case u.host v.host
+    && both_or_none says_same_no_case u.port v.port
+    && are_same_parameters u.parameters v.parameters
+    && are_same_headers u.headers v.headers
 
 -- no two parameters have one name once escapes are resolved
 abbrev pub names_say_different : List Parameter → Bool

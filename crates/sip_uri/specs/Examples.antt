@@ -78,3 +78,7 @@ empty_password = record { scheme = Sip; userinfo = Some (record { user = codes "
 -- `sip:h;x=1;%78=2`, whose names differ as they are written
 abbrev pub escaped_name : Uri
 escaped_name = record { scheme = Sip; userinfo = None; host = codes "h"; port = None; parameters = valued (codes "x") (codes "1") ∷ valued (codes "%78") (codes "2") ∷ []; headers = [] }
+
+-- the domains of the sample configuration
+abbrev pub sample_domains : List (List ℕ)
+sample_domains = codes "host.com" ∷ []

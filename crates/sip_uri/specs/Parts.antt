@@ -34,11 +34,11 @@ is_user_byte b = is_unreserved b || list_any (λ c. b == c) (codes "&=+$,;?/")
 abbrev pub is_user : List ℕ → Bool
 is_user text = is_escaped is_user_byte text
 
--- RFC 3261 25.1: password, which may be empty
+-- a byte of a password that needs no escape (RFC 3261 25.1: password)
 abbrev pub is_password_byte : ℕ → Bool
 is_password_byte b = is_unreserved b || list_any (λ c. b == c) (codes "&=+$,")
 
--- a password of the grammar, which may be empty
+-- RFC 3261 25.1: password, which may be empty
 abbrev pub is_password : List ℕ → Bool
 is_password text = are_escaped is_password_byte text
 
@@ -87,7 +87,7 @@ abbrev pub is_host : List ℕ → Bool
 is_host [] = false
 is_host (b ∷ bs) = if b == byte "[" then is_address_rest false bs else list_all is_host_byte (b ∷ bs)
 
--- whether a number may be a port
+-- a number, if it may be a port
 abbrev pub in_port_range : ℕ → Option ℕ
 in_port_range n = if nat_le 1 n && nat_le n 65535 then Some n else None
 

@@ -1,9 +1,10 @@
 -- The URI that bytes write, or why they write none.
-use Rattle.std.specs.Prelude.{◌≡◌, ◌⊎◌, ℕ, ◌+◌, Bool, false, ◌&&◌, ◌==◌, not, List, [], ◌∷◌, ◌++◌, take, drop, Option, Some, None, option_map, Result, Ok, Err, if◌then◌else◌}
+use Rattle.std.specs.Prelude.{◌≡◌, ◌⊎◌, ℕ, ◌+◌, Bool, false, ◌&&◌, ◌==◌, not, List, [], ◌∷◌, take, drop, Option, Some, None, option_map, Result, Ok, Err, if◌then◌else◌}
 use Rattle.std.specs.Option.{ok_or, option_and_then}
 use Rattle.std.specs.List.{prefix_len}
 use Rattle.std.specs.Str.{byte}
 use Rattle.sip_text.specs.Lists.{onto}
+use Rattle.sip_text.specs.Splits.{split_at_byte}
 use Rattle.sip_uri.specs.declared.error.UriError.{UriError}
 use Rattle.sip_uri.specs.declared.error.UriError.TheVariants.{NoMemory, Syntax}
 use Rattle.sip_uri.specs.declared.scheme.Scheme.{Scheme}
@@ -13,7 +14,7 @@ use Rattle.sip_uri.specs.declared.headers.UriHeader.{UriHeader}
 use Rattle.sip_uri.specs.declared.uri.Uri.{Uri}
 use Rattle.sip_uri.specs.Scheme.{scheme_of}
 use Rattle.sip_uri.specs.Parts.{is_host, is_port}
-use Rattle.sip_uri.specs.Uri.{is_userinfo, is_parameter, names_differ, is_header}
+use Rattle.sip_uri.specs.Uri.{is_userinfo, is_parameter, names_differ, is_header, port_number}
 
 infixl 10 ◌>>=◌
 abbrev pub ◌>>=◌ : {A B : Type 0} → Result A UriError → (A → Result B UriError) → Result B UriError
@@ -24,15 +25,6 @@ abbrev pub ◌>>=◌ : {A B : Type 0} → Result A UriError → (A → Result B 
 abbrev pub Gives : {X Y : Type 0} → (X → Y) → Result X UriError → Result Y UriError → Type 0
 Gives view (Ok x) reading = reading ≡ Ok (view x)
 Gives view (Err e) reading = (e ≡ NoMemory) ⊎ (reading ≡ Err e)
-
--- bytes before the first part of a split text
-abbrev pub in_front : List ℕ → Option (List ℕ × List ℕ) → Option (List ℕ × List ℕ)
-in_front front split = option_map (λ x. (front ++ x.0, x.1)) split
-
--- what stands before the first of a byte, and what follows it
-abbrev pub split_at_byte : ℕ → List ℕ → Option (List ℕ × List ℕ)
-split_at_byte mark [] = None
-split_at_byte mark (b ∷ bs) = if b == mark then Some ([], bs) else in_front (b ∷ []) (split_at_byte mark bs)
 
 -- what stands before a split and what follows it; the whole text, and nothing behind it, where it isn't split
 abbrev pub first_part : List ℕ → Option (List ℕ × List ℕ) → List ℕ × Option (List ℕ)
@@ -111,6 +103,10 @@ port_of (b ∷ digits) = if b == byte ":" && is_port digits then Some (Some digi
 -- a host, and perhaps a port behind it (RFC 3261 25.1: hostport)
 abbrev pub place_of : List ℕ → Option (List ℕ × Option (List ℕ))
 place_of text = option_and_then (λ host. option_map (λ port. (host.0, port)) (port_of host.1)) (host_of text)
+
+-- the same with the port by its number
+abbrev pub host_port_of : List ℕ → Option (List ℕ × Option ℕ)
+host_port_of text = option_map (λ place. (place.0, port_number place.1)) (place_of text)
 
 -- ---- the parameters
 

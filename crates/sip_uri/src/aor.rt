@@ -1,34 +1,20 @@
-ghost use Rattle.std.specs.Prelude.{◌≡◌, ◌↔◌, IfOk, IsTrue, Some};
-ghost use Rattle.std.specs.Str.{bytes_eq};
+ghost use Rattle.std.specs.Prelude.{◌≡◌, ◌↔◌, IfOk, IsTrue};
 ghost use Rattle.std.specs.Option.{unwrap_or};
 ghost use Rattle.sip_text.specs.Escapes.{unescaped};
-ghost use Rattle.sip_text.specs.Words.{without_case};
 ghost use Rattle.sip_uri.specs.Aor as Definitions;
-ghost use Rattle.sip_uri.specs.Uri.{IsValid};
 
 use crate::uri::Uri;
 use crate::user::UserInfo;
-use sip_text::{Bytes, TextError, unescape};
+use sip_text::{Bytes, TextError, lower_case, same_bytes, unescape};
 use std::alloc::{AllocError, Global};
 
 /// An address of record: the user and the host that a registrar keeps bindings for (RFC 3261 10.3).
-#[derive(Debug, Drop)]
+#[derive(Clone, Debug, Drop)]
 pub struct Aor {
     /// The user without escapes; empty where a URI has none.
     pub user: Bytes,
     /// The host. [`aor_of`] gives it in lower case.
     pub host: Bytes,
-}
-
-impl Aor {
-    /// The same address of record.
-    pub fn copy(&self, alloc: Global) -> Result<Aor, AllocError>
-        ensures { IfOk result (λ copy. copy ≡ self.now) }
-    {
-        let user = Bytes::copy(alloc, self.user.as_slice())?;
-        let host = Bytes::copy(alloc, self.host.as_slice())?;
-        Ok(Aor { user, host })
-    }
 }
 
 /// What a user says without its escapes; with a bad escape, the user as it stands.
@@ -51,16 +37,6 @@ fn user_of(alloc: Global, userinfo: &Option<UserInfo>) -> Result<Bytes, AllocErr
     }
 }
 
-fn in_lower_case(alloc: Global, text: &[u8]) -> Result<Bytes, AllocError>
-    ensures { IfOk result (λ lower. lower ≡ without_case text.now) }
-{
-    let mut lower = Bytes::new(alloc);
-    for byte in text {
-        lower.push(byte.to_ascii_lowercase())?;
-    }
-    Ok(lower)
-}
-
 /// The address of record that a URI names: its user without escapes, empty where it has none, and its
 /// host in lower case. Password, port, parameters and headers are dropped (RFC 3261 10.3). A user with
 /// a bad escape, which no URI that is read has, is taken as it stands.
@@ -68,14 +44,8 @@ pub fn aor_of(alloc: Global, uri: &Uri) -> Result<Aor, AllocError>
     ensures { IfOk result (λ aor. aor ≡ Definitions.aor_of uri.now) }
 {
     let user = user_of(alloc, &uri.userinfo)?;
-    let host = in_lower_case(alloc, uri.host.as_slice())?;
+    let host = lower_case(alloc, uri.host.as_slice())?;
     Ok(Aor { user, host })
-}
-
-fn are_same(left: &[u8], right: &[u8]) -> bool
-    ensures { result ≡ bytes_eq left.now right.now }
-{
-    left == right
 }
 
 /// Whether two addresses of record are the same, byte by byte.
@@ -83,12 +53,6 @@ pub fn same_aor(left: &Aor, right: &Aor) -> bool
     ensures value { result ≡ Definitions.is_same_aor left.now right.now }
     ensures equal { IsTrue result ↔ (left.now ≡ right.now) }
 {
-    are_same(left.user.as_slice(), right.user.as_slice())
-        && are_same(left.host.as_slice(), right.host.as_slice())
+    same_bytes(left.user.as_slice(), right.user.as_slice())
+        && same_bytes(left.host.as_slice(), right.host.as_slice())
 }
-
-/// Every escape in the user of a URI of the grammar is good, so its address of record has what the user
-/// says.
-pub fn valid_user_is_unescaped()
-    ensures { (uri : Uri) (info : UserInfo) → IsValid uri → uri.userinfo ≡ Some info → unescaped info.user ≡ Some (Definitions.aor_of uri).user }
-{}

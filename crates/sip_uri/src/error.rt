@@ -18,9 +18,9 @@ pub enum UriError {
 
 impl fmt::Display for UriError {
     ghost use Rattle.std.specs.Prelude.{Some};
-    ghost use Rattle.sip_uri.specs.UriError.{message_of};
+    ghost use Rattle.sip_uri.specs.UriError.{words_of};
 
-    ghost output = { λ e. Some (message_of e) };
+    ghost output = { λ e. Some (words_of e) };
 
     fn fmt<W: fmt::Write>(&self, f: &mut fmt::Formatter<W>) -> fmt::Result {
         match self {

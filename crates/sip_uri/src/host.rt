@@ -1,13 +1,13 @@
-ghost use Rattle.std.specs.Prelude.{◌≡◌, ◌≤◌, false, length, take, drop};
+ghost use Rattle.std.specs.Prelude.{◌≡◌, ◌≤◌, false, length, take, drop, option_map};
 ghost use Rattle.std.specs.List.{list_all, prefix_len};
 ghost use Rattle.sip_uri.specs.Parts;
 ghost use Rattle.std.specs.Option.{ok_or};
 ghost use Rattle.sip_uri.specs.Reading;
-ghost use Rattle.sip_uri.specs.Reading.{Gives, place_of};
+ghost use Rattle.sip_uri.specs.Reading.{Gives, place_of, host_port_of};
 ghost use Rattle.sip_uri.specs.declared.error.UriError.TheVariants.{Syntax};
 
 use crate::error::UriError;
-use crate::parts::port_behind;
+use crate::parts::{copy_part, port_behind, port_value};
 use sip_text::Bytes;
 use std::alloc::Global;
 
@@ -42,8 +42,8 @@ fn is_address_rest(rest: &[u8]) -> bool
     false
 }
 
-/// Whether bytes are a host: a name, or an address in square brackets.
-fn is_host(host: &[u8]) -> bool
+/// Whether bytes are a host: a name, or an address in square brackets (RFC 3261 25.1, `host`). Takes no memory.
+pub fn is_host(host: &[u8]) -> bool
     ensures { result ≡ Parts.is_host host.now }
 {
     let Some((first, rest)) = host.split_first() else {
@@ -92,15 +92,36 @@ fn cut_host(text: &[u8]) -> (&[u8], &[u8])
     text.split_at(end)
 }
 
-/// The host that a text writes, and perhaps a port behind it.
-pub(crate) fn read_place(alloc: Global, text: &[u8]) -> Result<(Bytes, Option<Bytes>), UriError>
-    ensures { Gives (λ x. (x.0, x.1)) result (ok_or (place_of text.now) Syntax) }
+/// The host that a text writes, and perhaps the digits of a port behind it.
+fn place_in(text: &[u8]) -> Option<(&[u8], Option<&[u8]>)>
+    ensures { option_map (λ x. (x.0.now, option_map (λ digits. digits.now) x.1)) result ≡ place_of text.now }
 {
     let (host, rest) = cut_host(text);
     if !is_host(host) {
-        return Err(UriError::Syntax);
+        return None;
     }
-    let port = port_behind(alloc, rest)?;
+    let port = port_behind(rest)?;
+    Some((host, port))
+}
+
+/// The same, copied.
+pub(crate) fn read_place(alloc: Global, text: &[u8]) -> Result<(Bytes, Option<Bytes>), UriError>
+    ensures { Gives (λ x. (x.0, x.1)) result (ok_or (place_of text.now) Syntax) }
+{
+    let (host, port) = place_in(text).ok_or(UriError::Syntax)?;
     let host = Bytes::copy(alloc, host)?;
+    let port = copy_part(alloc, port)?;
     Ok((host, port))
+}
+
+/// The host that a text writes, and the number of the port behind it, if one is written there (RFC 3261 25.1,
+/// `hostport` and `sent-by`). None of any other text. Takes no memory.
+pub fn host_port(text: &[u8]) -> Option<(&[u8], Option<u16>)>
+    ensures { option_map (λ x. (x.0.now, x.1)) result ≡ host_port_of text.now }
+{
+    let (host, port) = place_in(text)?;
+    match port {
+        Some(digits) => Some((host, port_value(digits))),
+        None => Some((host, None)),
+    }
 }

@@ -3,12 +3,12 @@
 #![tactic(auto)]
 
 mod aor;
-mod equality;
 mod error;
 mod escaped;
-mod examples;
+pub mod examples;
 mod headers;
 mod host;
+pub mod laws;
 mod parameters;
 mod parts;
 mod reading;
@@ -17,18 +17,12 @@ mod uri;
 mod user;
 mod writing;
 
-pub use aor::{Aor, aor_of, same_aor, valid_user_is_unescaped};
-pub use equality::{
-    equality_is_not_transitive, equality_is_reflexive, equality_is_symmetric, uri_equality,
-};
+pub use aor::{Aor, aor_of, same_aor};
 pub use error::UriError;
-pub use examples::{
-    bad_parameters_and_headers, bad_places, uri_text, uri_text_with_each_part,
-    uri_text_with_parameter,
-};
-pub use headers::{Headers, UriHeader};
-pub use parameters::{Parameter, Parameters};
-pub use reading::{parse_uri, written_again};
+pub use headers::UriHeader;
+pub use host::{host_port, is_host};
+pub use parameters::Parameter;
+pub use reading::parse_uri;
 pub use scheme::Scheme;
 pub use uri::Uri;
 pub use user::UserInfo;

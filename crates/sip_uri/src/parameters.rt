@@ -1,4 +1,4 @@
-ghost use Rattle.std.specs.Prelude.{◌≡◌, [], ◌∷◌, ◌++◌, IfOk, OnOk, OnErr, option_map};
+ghost use Rattle.std.specs.Prelude.{◌≡◌, option_map};
 ghost use Rattle.std.specs.Option.{ok_or};
 ghost use Rattle.std.specs.List.{list_any};
 ghost use Rattle.sip_text.specs.Words.{is_same_text};
@@ -8,88 +8,17 @@ ghost use Rattle.sip_uri.specs.declared.error.UriError.TheVariants.{Syntax};
 
 use crate::error::UriError;
 use crate::escaped::{Class, is_escaped};
-use crate::parts::{copy_optional, copy_part, part_before, split_once};
-use sip_text::{Bytes, same_no_case};
-use std::alloc::{AllocError, Global};
-use std::marker::Model;
+use crate::parts::{copy_part, part_before};
+use sip_text::{Bytes, Items, same_no_case, split_once};
+use std::alloc::Global;
 
 /// A URI parameter, as written (RFC 3261 19.1.1).
-#[derive(Debug, Drop)]
+#[derive(Clone, Debug, Drop)]
 pub struct Parameter {
     /// The name, with its escapes.
     pub name: Bytes,
     /// The value, with its escapes, where a `=` stands.
     pub value: Option<Bytes>,
-}
-
-impl Parameter {
-    /// The same parameter.
-    pub fn copy(&self, alloc: Global) -> Result<Parameter, AllocError>
-        ensures { IfOk result (λ copy. copy ≡ self.now) }
-    {
-        let name = Bytes::copy(alloc, self.name.as_slice())?;
-        let value = copy_optional(alloc, &self.value)?;
-        Ok(Parameter { name, value })
-    }
-}
-
-/// The parameters of a URI in their order, seen as the list of them.
-#[derive(Debug, Drop)]
-pub struct Parameters {
-    list: Vec<Parameter>,
-}
-
-impl Model for Parameters {
-    ghost use Rattle.std.specs.Prelude.{List};
-    ghost use Rattle.sip_uri.specs.declared.parameters.Parameter.{Parameter};
-
-    ghost Value = { List Parameter };
-
-    ghost view = { λ p. p.list.items };
-}
-
-impl Parameters {
-    /// No parameters. Takes no memory.
-    pub fn new(alloc: Global) -> Self
-        ensures { result ≡ [] }
-    {
-        Parameters {
-            list: Vec::new(alloc),
-        }
-    }
-
-    /// Adds a parameter at the end.
-    pub fn push(&mut self, parameter: Parameter) -> Result<(), AllocError>
-        ensures ok { OnOk result (self.new ≡ self.old ++ parameter ∷ []) }
-        ensures err { OnErr result (self.new ≡ self.old) }
-    {
-        self.list.push(parameter)?;
-        Ok(())
-    }
-
-    /// The parameters.
-    pub fn as_slice(&self) -> &[Parameter]
-        ensures { result.now ≡ self.now }
-    {
-        self.list.as_slice()
-    }
-
-    /// The same parameters.
-    pub fn copy(&self, alloc: Global) -> Result<Parameters, AllocError>
-        ensures { IfOk result (λ copy. copy ≡ self.now) }
-    {
-        copy_parameters(alloc, self.as_slice())
-    }
-}
-
-fn copy_parameters(alloc: Global, parameters: &[Parameter]) -> Result<Parameters, AllocError>
-    ensures { IfOk result (λ copy. copy ≡ parameters.now) }
-{
-    let mut copies = Parameters::new(alloc);
-    for parameter in parameters {
-        copies.push(parameter.copy(alloc)?)?;
-    }
-    Ok(copies)
 }
 
 /// Whether a text is the value of a parameter, or there is none.
@@ -119,10 +48,10 @@ fn read_parameter(alloc: Global, text: &[u8]) -> Result<Parameter, UriError>
 }
 
 /// The parameters between the `;` of a text.
-fn list_parameters(alloc: Global, text: &[u8]) -> Result<Parameters, UriError>
+fn list_parameters(alloc: Global, text: &[u8]) -> Result<Items<Parameter>, UriError>
     ensures { Gives (λ parameters. parameters) result (ok_or (listed_parameters text.now) Syntax) }
 {
-    let mut parameters = Parameters::new(alloc);
+    let mut parameters = Items::new(alloc);
     let mut rest = text;
     while let Some((part, behind)) = split_once(rest, b';') {
         parameters.push(read_parameter(alloc, part)?)?;
@@ -156,11 +85,14 @@ fn names_differ(parameters: &[Parameter]) -> bool
 }
 
 /// The parameters behind the first `;`, if one stands there. No name may stand twice.
-pub(crate) fn read_parameters(alloc: Global, text: Option<&[u8]>) -> Result<Parameters, UriError>
+pub(crate) fn read_parameters(
+    alloc: Global,
+    text: Option<&[u8]>,
+) -> Result<Items<Parameter>, UriError>
     ensures { Gives (λ parameters. parameters) result (ok_or (parameters_behind (option_map (λ x. x.now) text.entry)) Syntax) }
 {
     let Some(text) = text else {
-        return Ok(Parameters::new(alloc));
+        return Ok(Items::new(alloc));
     };
     let parameters = list_parameters(alloc, text)?;
     if !names_differ(parameters.as_slice()) {

@@ -1,27 +1,10 @@
 ghost use Rattle.std.specs.Prelude.{◌≡◌, IfOk, option_map};
-ghost use Rattle.std.specs.Option.{ok_or};
 ghost use Rattle.sip_uri.specs.Parts;
 ghost use Rattle.sip_uri.specs.Reading;
-ghost use Rattle.sip_uri.specs.Reading.{Gives, split_at_byte, port_of};
-ghost use Rattle.sip_uri.specs.declared.error.UriError.TheVariants.{Syntax};
+ghost use Rattle.sip_uri.specs.Reading.{port_of};
 
-use crate::error::UriError;
-use memchr::memchr;
-use sip_text::{Bytes, decimal};
+use sip_text::{Bytes, decimal, split_once};
 use std::alloc::{AllocError, Global};
-
-/// The same text, if there is one.
-pub(crate) fn copy_optional(
-    alloc: Global,
-    text: &Option<Bytes>,
-) -> Result<Option<Bytes>, AllocError>
-    ensures { IfOk result (λ copy. copy ≡ text.now) }
-{
-    match text {
-        Some(text) => Ok(Some(Bytes::copy(alloc, text.as_slice())?)),
-        None => Ok(None),
-    }
-}
 
 /// A text as a value's own, if there is one.
 pub(crate) fn copy_part(alloc: Global, text: Option<&[u8]>) -> Result<Option<Bytes>, AllocError>
@@ -31,16 +14,6 @@ pub(crate) fn copy_part(alloc: Global, text: Option<&[u8]>) -> Result<Option<Byt
         Some(text) => Ok(Some(Bytes::copy(alloc, text)?)),
         None => Ok(None),
     }
-}
-
-/// What stands before the first of a byte, and what follows it.
-pub(crate) fn split_once(bytes: &[u8], mark: u8) -> Option<(&[u8], &[u8])>
-    ensures { option_map (λ x. (x.0.now, x.1.now)) result ≡ split_at_byte mark bytes.now }
-{
-    let at = memchr(mark, bytes)?;
-    let (front, rest) = bytes.split_at(at);
-    let (_, rest) = rest.split_first()?;
-    Some((front, rest))
 }
 
 /// What stands before the first of a byte, and what follows it, if that byte stands there.
@@ -66,18 +39,18 @@ pub(crate) fn port_value(digits: &[u8]) -> Option<u16>
     }
 }
 
-/// The port behind a host, if one is written there and nothing else.
-pub(crate) fn port_behind(alloc: Global, rest: &[u8]) -> Result<Option<Bytes>, UriError>
-    ensures { Gives (λ port. port) result (ok_or (port_of rest.now) Syntax) }
+/// The digits of the port behind a host, if one is written there and nothing else.
+pub(crate) fn port_behind(rest: &[u8]) -> Option<Option<&[u8]>>
+    ensures { option_map (λ port. option_map (λ digits. digits.now) port) result ≡ port_of rest.now }
 {
     let Some((first, digits)) = rest.split_first() else {
-        return Ok(None);
+        return Some(None);
     };
     if *first != b':' {
-        return Err(UriError::Syntax);
+        return None;
     }
     if port_value(digits).is_none() {
-        return Err(UriError::Syntax);
+        return None;
     }
-    Ok(Some(Bytes::copy(alloc, digits)?))
+    Some(Some(digits))
 }

@@ -1,15 +1,16 @@
-ghost use Rattle.std.specs.Prelude.{◌≡◌, List, ℕ, IfOk, Ok};
-ghost use Rattle.sip_uri.specs.Uri.{text_of, IsValid, IsWritten};
+ghost use Rattle.std.specs.Prelude.{IfOk, Ok};
+ghost use Rattle.sip_uri.specs.Uri.{IsWritten};
 ghost use Rattle.sip_uri.specs.Reading.{Gives, rest_of, reading_of};
 
 use crate::error::UriError;
 use crate::headers::read_headers;
 use crate::host::read_place;
 use crate::parameters::read_parameters;
-use crate::parts::{part_before, split_once};
+use crate::parts::part_before;
 use crate::scheme::{Scheme, scheme_named};
 use crate::uri::Uri;
 use crate::user::user_before;
+use sip_text::split_once;
 use std::alloc::Global;
 
 /// The URI that a text behind its scheme writes. The `@` is looked for first, since a user may have `;` and `?`.
@@ -54,9 +55,3 @@ pub fn parse_uri(alloc: Global, text: &[u8]) -> Result<Uri, UriError>
 {
     read_uri(alloc, text)
 }
-
-/// What is written of a URI that was read, and of any URI of the grammar, is read back equal.
-pub fn written_again()
-    ensures was_read { (bytes : List ℕ) (uri : Uri) → reading_of bytes ≡ Ok uri → reading_of (text_of uri) ≡ Ok uri }
-    ensures valid { (uri : Uri) → IsValid uri → reading_of (text_of uri) ≡ Ok uri }
-{}

@@ -1,4 +1,4 @@
-ghost use Rattle.std.specs.Prelude.{◌≡◌, IfOk, option_map};
+ghost use Rattle.std.specs.Prelude.{◌≡◌, option_map};
 ghost use Rattle.std.specs.Option.{ok_or};
 ghost use Rattle.sip_uri.specs.Uri as Definitions;
 ghost use Rattle.sip_uri.specs.Reading.{Gives, userinfo_of, user_of};
@@ -6,28 +6,17 @@ ghost use Rattle.sip_uri.specs.declared.error.UriError.TheVariants.{Syntax};
 
 use crate::error::UriError;
 use crate::escaped::{Class, are_escaped, is_escaped};
-use crate::parts::{copy_optional, copy_part, part_before, split_once};
-use sip_text::Bytes;
-use std::alloc::{AllocError, Global};
+use crate::parts::{copy_part, part_before};
+use sip_text::{Bytes, split_once};
+use std::alloc::Global;
 
 /// What stands before the `@` of a URI, as written (RFC 3261 19.1.1).
-#[derive(Debug, Drop)]
+#[derive(Clone, Debug, Drop)]
 pub struct UserInfo {
     /// The user, with its escapes.
     pub user: Bytes,
     /// The password, with its escapes, where a `:` stands.
     pub password: Option<Bytes>,
-}
-
-impl UserInfo {
-    /// The same user and password.
-    pub fn copy(&self, alloc: Global) -> Result<UserInfo, AllocError>
-        ensures { IfOk result (λ copy. copy ≡ self.now) }
-    {
-        let user = Bytes::copy(alloc, self.user.as_slice())?;
-        let password = copy_optional(alloc, &self.password)?;
-        Ok(UserInfo { user, password })
-    }
 }
 
 /// Whether a text is a password, which may be empty, or there is none.

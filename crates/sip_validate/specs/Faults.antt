@@ -5,7 +5,8 @@ use Rattle.std.specs.List.{list_all, list_any}
 use Rattle.std.specs.Str.{byte, bytes_eq}
 use Rattle.sip_text.specs.Words.{is_same_text}
 use Rattle.sip_uri.specs.Uri.{text_of}
-use Rattle.sip_uri.specs.Reading.{reading_of, split_at_byte}
+use Rattle.sip_uri.specs.Reading.{reading_of}
+use Rattle.sip_text.specs.Splits.{split_at_byte}
 use Rattle.sip_message.specs.declared.field_name.FieldName.TheVariants as Name
 use Rattle.sip_header.specs.declared.name_addr.AnyUri.{AnyUri}
 use Rattle.sip_header.specs.declared.name_addr.AnyUri.TheVariants.{Sip, Other}
@@ -13,24 +14,24 @@ use Rattle.sip_header.specs.declared.contact_item.ContactItem.{ContactItem}
 use Rattle.sip_header.specs.declared.contact_item.ContactItem.TheVariants.{Star, Address}
 use Rattle.sip_header.specs.declared.max_forwards.MaxForwards.{MaxForwards}
 use Rattle.sip_header.specs.declared.max_forwards.MaxForwards.TheVariants.{Absent, Hops, Malformed}
-use Rattle.sip_header.specs.Values.{values_of}
+use Rattle.sip_message.specs.Values.{values_of}
 use Rattle.sip_header.specs.Via.{via_of}
 use Rattle.sip_header.specs.Route.{route_of}
 use Rattle.sip_header.specs.ContactItem.{contact_of}
 use Rattle.sip_header.specs.MaxForwards.{max_forwards_of}
-use Rattle.sip_validate.specs.Asked.{Asked, is_register, core}
+use Rattle.sip_validate.specs.Candidate.{Candidate, is_register, core}
 
 -- fewer bytes of the body came than Content-Length says (RFC 3261 18.3)
-abbrev pub has_short_body : Asked → Bool
-has_short_body asked = asked.short
+abbrev pub has_short_body : Candidate → Bool
+has_short_body r = r.short
 
 -- From, To, Call-ID or CSeq is missing, repeated or malformed; a CSeq of 2 ^ 31 or more is malformed (RFC 3261 8.1.1, 20.16)
-abbrev pub lacks_core_field : Asked → Bool
-lacks_core_field asked = not (is_some (core asked))
+abbrev pub lacks_core_field : Candidate → Bool
+lacks_core_field r = not (is_some (core r))
 
 -- the method of CSeq is another than the request's (RFC 3261 8.1.1.5)
-abbrev pub has_other_cseq_method : Asked → Bool
-has_other_cseq_method asked = option_map_or (λ c. not (bytes_eq c.cseq.method asked.method)) (core asked) false
+abbrev pub has_other_cseq_method : Candidate → Bool
+has_other_cseq_method r = option_map_or (λ c. not (bytes_eq c.cseq.method r.method)) (core r) false
 
 -- whether a Max-Forwards is malformed
 abbrev pub is_malformed : MaxForwards → Bool
@@ -39,25 +40,25 @@ is_malformed (Hops n) = false
 is_malformed Malformed = true
 
 -- Max-Forwards is repeated, or isn't 0 to 255; a request without one is no bad one (RFC 3261 16.3 step 3, 20.22)
-abbrev pub has_bad_max_forwards : Asked → Bool
-has_bad_max_forwards asked = is_malformed (max_forwards_of asked.fields)
+abbrev pub has_bad_max_forwards : Candidate → Bool
+has_bad_max_forwards r = is_malformed (max_forwards_of r.fields)
 
 -- whether what stands before the first `:` is `sip`, in any case
 abbrev pub has_sip_scheme : List ℕ → Bool
 has_sip_scheme uri = option_map_or (λ x. is_same_text x.0 (codes "sip")) (split_at_byte (byte ":") uri) false
 
 -- the Request-URI, as it came, begins with `sip:` and isn't a SIP URI (RFC 3261 16.3 step 1, 19.1.1)
-abbrev pub has_bad_uri : Asked → Bool
-has_bad_uri asked = has_sip_scheme asked.uri && not (is_ok (reading_of asked.uri))
+abbrev pub has_bad_uri : Candidate → Bool
+has_bad_uri r = has_sip_scheme r.uri && not (is_ok (reading_of r.uri))
 
 -- an item of Via, Route, Record-Route or Contact is malformed (RFC 3261 20.42, 20.34, 20.30, 20.10)
-abbrev pub has_bad_item : Asked → Bool
-has_bad_item asked =
+abbrev pub has_bad_item : Candidate → Bool
+has_bad_item r =
     not
-    (list_all (λ value. is_some (via_of value)) (values_of Name.Via asked.fields)
-    && list_all (λ value. is_some (route_of value)) (values_of Name.Route asked.fields)
-    && list_all (λ value. is_some (route_of value)) (values_of Name.RecordRoute asked.fields)
-    && list_all (λ value. is_some (contact_of value)) (values_of Name.Contact asked.fields))
+    (list_all (λ value. is_some (via_of value)) (values_of Name.Via r.fields)
+    && list_all (λ value. is_some (route_of value)) (values_of Name.Route r.fields)
+    && list_all (λ value. is_some (route_of value)) (values_of Name.RecordRoute r.fields)
+    && list_all (λ value. is_some (contact_of value)) (values_of Name.Contact r.fields))
 
 -- whether a URI is a SIP or SIPS URI
 abbrev pub is_sip : AnyUri → Bool
@@ -65,8 +66,8 @@ is_sip (Sip uri) = true
 is_sip (Other text) = false
 
 -- in a REGISTER, To is neither a SIP nor a SIPS URI (RFC 3261 10.2, 10.3 step 5)
-abbrev pub registers_other_scheme : Asked → Bool
-registers_other_scheme asked = is_register asked && option_map_or (λ c. not (is_sip c.to.uri)) (core asked) false
+abbrev pub registers_other_scheme : Candidate → Bool
+registers_other_scheme r = is_register r && option_map_or (λ c. not (is_sip c.to.uri)) (core r) false
 
 -- a SIP or SIPS URI of at most 512 bytes (the limit is this project's profile)
 abbrev pub may_be_bound : AnyUri → Bool
@@ -80,11 +81,11 @@ is_bindable (Some Star) = true
 is_bindable (Some (Address address)) = may_be_bound address.uri
 
 -- in a REGISTER, a Contact is neither `*` nor a SIP or SIPS URI, or is longer than 512 bytes (RFC 3261 10.2.1, 10.3 step 6, in this project's profile)
-abbrev pub binds_other_contact : Asked → Bool
-binds_other_contact asked = is_register asked && not (list_all (λ value. is_bindable (contact_of value)) (values_of Name.Contact asked.fields))
+abbrev pub binds_other_contact : Candidate → Bool
+binds_other_contact r = is_register r && not (list_all (λ value. is_bindable (contact_of value)) (values_of Name.Contact r.fields))
 
 -- all of them
-abbrev pub faults : List (Asked → Bool)
+abbrev pub faults : List (Candidate → Bool)
 faults =
     has_short_body
     ∷ lacks_core_field
@@ -97,5 +98,5 @@ faults =
     ∷ []
 
 -- whether a request has one of them
-abbrev pub is_bad : Asked → Bool
-is_bad asked = list_any (λ has_fault. has_fault asked) faults
+abbrev pub is_bad : Candidate → Bool
+is_bad r = list_any (λ has_fault. has_fault r) faults

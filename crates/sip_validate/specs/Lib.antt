@@ -1,5 +1,6 @@
-pub mod Asked
+pub mod Candidate
 pub mod Faults
 pub mod Refusal
+pub mod Checked
 pub mod Examples
 pub mod Refused

@@ -1,7 +1,6 @@
 -- The checks that a request has to pass, in their order, and the status of the first that it doesn't (RFC 3261 16.3, 8.2.2, 10.3).
-use Rattle.std.specs.Prelude.{ℕ, Bool, false, ◌&&◌, ◌==◌, not, if◌then◌else◌, List, [], ◌∷◌, find, codes, is_some, Option, Some, None, option_map}
+use Rattle.std.specs.Prelude.{ℕ, Bool, false, ◌&&◌, ◌==◌, not, nat_lt, if◌then◌else◌, List, [], ◌∷◌, length, find, codes, is_some, Option, Some, None, option_map}
 use Rattle.std.specs.Option.{option_map_or}
-use Rattle.std.specs.Result.{result_ok}
 use Rattle.std.specs.List.{list_any, join_by}
 use Rattle.std.specs.Str.{bytes_eq}
 use Rattle.sip_message.specs.declared.field_name.FieldName.{FieldName}
@@ -13,26 +12,23 @@ use Rattle.sip_message.specs.declared.message.Message.{Message}
 use Rattle.sip_header.specs.declared.max_forwards.MaxForwards.{MaxForwards}
 use Rattle.sip_header.specs.declared.max_forwards.MaxForwards.TheVariants.{Absent, Hops, Malformed}
 use Rattle.sip_header.specs.declared.own.Own.{Own}
-use Rattle.sip_header.specs.Values.{values_of, first_value}
+use Rattle.sip_message.specs.Values.{values_of, first_value}
 use Rattle.sip_header.specs.Parameters.{tag_of}
 use Rattle.sip_header.specs.Via.{via_of}
 use Rattle.sip_header.specs.MaxForwards.{max_forwards_of}
 use Rattle.sip_header.specs.Own.{is_own_via}
-use Rattle.sip_header.specs.Prepared.{prepared_of}
-use Rattle.sip_header.specs.CoreFields.{core_of}
-use Rattle.sip_validate.specs.declared.checked.Checked.{Checked}
-use Rattle.sip_validate.specs.Asked.{Asked, is_register, core, prepared}
+use Rattle.sip_validate.specs.Candidate.{Candidate, is_register, core, way}
 use Rattle.sip_validate.specs.Faults.{has_sip_scheme, is_bad}
 
 -- ---- the tests behind those of a bad request
 
 -- another version than SIP/2.0 (RFC 3261 7.1, 21.5.6)
-abbrev pub has_other_version : Asked → Bool
-has_other_version asked = not (bytes_eq asked.version (codes "SIP/2.0"))
+abbrev pub has_other_version : Candidate → Bool
+has_other_version r = not (bytes_eq r.version (codes "SIP/2.0"))
 
 -- the Request-URI, without this server's own part of the way, isn't `sip:` (RFC 3261 16.3 step 2)
-abbrev pub has_other_scheme : Asked → Bool
-has_other_scheme asked = not (has_sip_scheme (prepared asked).uri)
+abbrev pub has_other_scheme : Candidate → Bool
+has_other_scheme r = not (has_sip_scheme (way r).uri)
 
 -- whether a Max-Forwards is 0
 abbrev pub is_zero : MaxForwards → Bool
@@ -41,44 +37,44 @@ is_zero (Hops n) = n == 0
 is_zero Malformed = false
 
 -- Max-Forwards is 0 (RFC 3261 16.3 step 3); a REGISTER is for this server all the same (10.3)
-abbrev pub has_no_hops : Asked → Bool
-has_no_hops asked = not (is_register asked) && is_zero (max_forwards_of asked.fields)
+abbrev pub has_no_hops : Candidate → Bool
+has_no_hops r = not (is_register r) && is_zero (max_forwards_of r.fields)
 
 -- a Via is this server's: a loop, and here a spiral, too (RFC 3261 16.3 step 4, in this project's profile)
-abbrev pub has_own_via : Asked → Bool
-has_own_via asked = list_any (λ value. option_map_or (is_own_via asked.own) (via_of value) false) (values_of Name.Via asked.fields)
+abbrev pub has_own_via : Candidate → Bool
+has_own_via r = list_any (λ value. option_map_or (is_own_via r.own) (via_of value) false) (values_of Name.Via r.fields)
 
 -- the field that says which extensions a request needs: of a proxy (RFC 3261 16.3 step 5), and a REGISTER of the registrar (8.2.2.3, 10.3 step 2)
-abbrev pub required_by : Asked → FieldName
-required_by asked = if is_register asked then Name.Require else Name.ProxyRequire
+abbrev pub required_by : Candidate → FieldName
+required_by r = if is_register r then Name.Require else Name.ProxyRequire
 
 -- an extension is needed; none is known here
-abbrev pub needs_extension : Asked → Bool
-needs_extension asked = is_some (first_value (required_by asked) asked.fields)
+abbrev pub needs_extension : Candidate → Bool
+needs_extension r = is_some (first_value (required_by r) r.fields)
 
 -- the value of Unsupported (RFC 3261 20.40)
-abbrev pub unsupported : Asked → List ℕ
-unsupported asked = join_by (λ item. item) (codes ", ") (values_of (required_by asked) asked.fields)
+abbrev pub unsupported : Candidate → List ℕ
+unsupported r = join_by (λ item. item) (codes ", ") (values_of (required_by r) r.fields)
 
 -- whether To has a tag
-abbrev pub is_in_dialog : Asked → Bool
-is_in_dialog asked = option_map_or (λ c. is_some (tag_of c.to.parameters)) (core asked) false
+abbrev pub is_in_dialog : Candidate → Bool
+is_in_dialog r = option_map_or (λ c. is_some (tag_of c.to.parameters)) (core r) false
 
 -- a request outside a dialog wants to go by another place: a Route is left without this server's own (this project's profile)
-abbrev pub has_other_route : Asked → Bool
-has_other_route asked = not (is_register asked) && not (is_in_dialog asked) && is_some (first_value Name.Route (prepared asked).fields)
+abbrev pub has_other_route : Candidate → Bool
+has_other_route r = not (is_register r) && not (is_in_dialog r) && nat_lt 0 (length (way r).routes)
 
 -- ---- the table
 
 -- a status, the test that calls for it, and the value of Unsupported
 pub record Row : Type 0 where
   pub status : ℕ
-  pub applies : Asked → Bool
-  pub extra : Asked → List ℕ
+  pub applies : Candidate → Bool
+  pub extra : Candidate → List ℕ
 
 -- a row without Unsupported
-abbrev pub refused : ℕ → (Asked → Bool) → Row
-refused status applies = record { status = status; applies = applies; extra = λ asked. [] }
+abbrev pub refused : ℕ → (Candidate → Bool) → Row
+refused status applies = record { status = status; applies = applies; extra = λ r. [] }
 
 -- the checks, in their order
 abbrev pub rows : List Row
@@ -93,30 +89,26 @@ rows =
     ∷ []
 
 -- the first row that applies
-abbrev pub refusal : Asked → Option (ℕ × List ℕ)
-refusal asked = option_map (λ row. (row.status, row.extra asked)) (find (λ row. row.applies asked) rows)
+abbrev pub refusal : Candidate → Option (ℕ × List ℕ)
+refusal r = option_map (λ row. (row.status, row.extra r)) (find (λ row. row.applies r) rows)
 
 -- ---- a message
 
 -- a request line and fields as a request that is checked; a response is none
-abbrev pub asked_by : Own → List Field → Bool → Start → Option Asked
-asked_by own fields short (Request method uri version) =
+abbrev pub candidate_by : Own → List Field → Bool → Start → Option Candidate
+candidate_by own fields short (Request method uri version) =
     Some (record { own = own; method = method; uri = uri; version = version; fields = fields; short = short })
-asked_by own fields short (Status code reason) = None
+candidate_by own fields short (Status code reason) = None
 
 -- the request that a message is
-abbrev pub asked_of : Own → Message → Bool → Option Asked
-asked_of own m short = asked_by own m.fields short m.start
+abbrev pub candidate_of : Own → Message → Bool → Option Candidate
+candidate_of own m short = candidate_by own m.fields short m.start
 
 -- The status that refuses a request, and the value of Unsupported, which is empty but in a 420; none where it may be served. `short` says that fewer bytes of
 -- its body came than its Content-Length says.
 abbrev pub refusal_of : Own → Message → Bool → Option (ℕ × List ℕ)
-refusal_of own m short = option_map_or refusal (asked_of own m short) None
+refusal_of own m short = option_map_or refusal (candidate_of own m short) None
 
 -- whether a request is a bad one: the only refusal of a CANCEL (RFC 3261 9.2, 16.10, in this project's profile)
 abbrev pub is_bad_request : Own → Message → Bool → Bool
-is_bad_request own m short = option_map_or is_bad (asked_of own m short) false
-
--- what is read of a request that may be served
-abbrev pub checked_of : Own → Message → Option Checked
-checked_of own m = option_map (λ c. record { core = c; prepared = prepared_of own m }) (result_ok (core_of m))
+is_bad_request own m short = option_map_or is_bad (candidate_of own m short) false

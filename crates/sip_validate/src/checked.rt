@@ -1,9 +1,9 @@
-use sip_header::{CoreFields, Prepared};
+use sip_header::{CoreFields, Way};
 
 /// What was read of a request that passed every check.
 #[derive(Debug, Drop)]
 pub struct Checked {
     pub core: CoreFields,
-    /// Its Request-URI and its Routes, without this server's own.
-    pub prepared: Prepared,
+    /// Where it goes, without this server's own part of the way.
+    pub way: Way,
 }

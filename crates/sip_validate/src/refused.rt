@@ -17,9 +17,9 @@ pub enum Refused {
 
 impl fmt::Display for Refused {
     ghost use Rattle.std.specs.Prelude.{Some};
-    ghost use Rattle.sip_validate.specs.Refused.{message_of};
+    ghost use Rattle.sip_validate.specs.Refused.{words_of};
 
-    ghost output = { λ e. Some (message_of e) };
+    ghost output = { λ e. Some (words_of e) };
 
     fn fmt<W: fmt::Write>(&self, f: &mut fmt::Formatter<W>) -> fmt::Result {
         match self {

@@ -1,4 +1,4 @@
-use crate::fault::Fault;
+use crate::exit::Exit;
 use clap::Command;
 use clap::error::ErrorKind;
 use std::alloc::{AllocError, Global};
@@ -28,16 +28,16 @@ fn command<'a>(alloc: Global) -> Result<Command<'a>, AllocError> {
 }
 
 /// What the words say, the program's own name first.
-pub fn parse(alloc: Global, words: &[String]) -> Result<Parsed, Fault> {
+pub fn parse(alloc: Global, words: &[String]) -> Result<Parsed, Exit> {
     match command(alloc)?.try_get_matches_from(words) {
         // `replay` is the only command, and one is required.
         Ok(_) => Ok(Parsed::Call(Call::Replay)),
         Err(e) => {
             let text = e.to_string(alloc)?;
             match e.kind() {
-                ErrorKind::OutOfMemory => Err(Fault::Memory),
+                ErrorKind::OutOfMemory => Err(Exit::Memory),
                 ErrorKind::DisplayHelp => Ok(Parsed::Help(text)),
-                _ => Err(Fault::Usage(text)),
+                _ => Err(Exit::Usage(text)),
             }
         }
     }

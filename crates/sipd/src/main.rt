@@ -2,17 +2,18 @@
 #![tactic(auto)]
 
 mod commands;
-mod fault;
+mod exit;
 
 use commands::{Call, Parsed, parse};
-use fault::Fault;
-use sip_loop::{replay, sample};
+use exit::Exit;
+use sip_loop::replay;
+use sip_settings::sample;
 use std::io::BufWriter;
 use std::process::ExitCode;
 use std::{env, io};
 
 /// The words of the command line, the program's own name first.
-fn words<R: env::Env + AllocGlobal>(rt: &R) -> Result<Vec<String>, Fault> {
+fn words<R: env::Env + AllocGlobal>(rt: &R) -> Result<Vec<String>, Exit> {
     let mut words = Vec::new(rt.alloc());
     for word in env::args(rt)? {
         words.push(word)?;
@@ -21,7 +22,7 @@ fn words<R: env::Env + AllocGlobal>(rt: &R) -> Result<Vec<String>, Fault> {
 }
 
 /// Replays the script on standard input with the sample configuration.
-fn replay_sample<R: Input + Print + AllocGlobal>(rt: &R) -> Result<(), Fault> {
+fn replay_sample<R: Input + Print + AllocGlobal>(rt: &R) -> Result<(), Exit> {
     let config = sample(rt.alloc())?;
     let mut reader = rt.reader();
     let mut writer = BufWriter::new(rt.alloc(), io::writer(rt))?;
@@ -29,7 +30,7 @@ fn replay_sample<R: Input + Print + AllocGlobal>(rt: &R) -> Result<(), Fault> {
     Ok(())
 }
 
-fn run<R: env::Env + Input + Print + AllocGlobal>(rt: &R) -> Result<(), Fault> {
+fn run<R: env::Env + Input + Print + AllocGlobal>(rt: &R) -> Result<(), Exit> {
     let words = words(rt)?;
     match parse(rt.alloc(), words.as_slice())? {
         Parsed::Help(text) => Ok(rt.print(text.as_str())?),
@@ -40,9 +41,9 @@ fn run<R: env::Env + Input + Print + AllocGlobal>(rt: &R) -> Result<(), Fault> {
 fn main(rt: HostRuntime) -> ExitCode {
     match run(&rt) {
         Ok(()) => ExitCode::SUCCESS,
-        Err(fault) => {
-            let _ = eprintln!(rt; "{fault}");
-            ExitCode::from(fault.status())
+        Err(exit) => {
+            let _ = eprintln!(rt; "{exit}");
+            ExitCode::from(exit.status())
         }
     }
 }

@@ -1,4 +1,4 @@
-use Rattle.std.proofs.Common.{◌≡◌, ◌++◌, take}
+use Rattle.std.proofs.Common.{◌≡◌, take}
 use Rattle.sip_engine.specs.Bindings.{live}
 use Rattle.sip_engine.proofs.bindings.live_copied.Given as goal
 

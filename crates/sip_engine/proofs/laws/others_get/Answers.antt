@@ -1,8 +1,7 @@
-use Rattle.std.proofs.Common.{◌≡◌, ◌∙◌, ap}
-use Rattle.sip_header.specs.Key.{key_of}
+use Rattle.std.proofs.Common.{◌∙◌, ap}
 use Rattle.sip_engine.specs.Registration.{registration_of}
 use Rattle.sip_engine.specs.Serving.{heard, by_key, asked}
-use Rattle.sip_engine.proofs.Asked.{full_is}
+use Rattle.sip_engine.proofs.Arriving.{full_is}
 use Rattle.sip_engine.proofs.laws.others_get.Goals as goal
 
 pub returns-clause-copy : goal.returns-clause-copy

@@ -1,6 +1,6 @@
-use Rattle.std.proofs.Common.{◌≡◌, ◌∙◌, ap, cond, []}
+use Rattle.std.proofs.Common.{◌∙◌, ap, cond, []}
 use Rattle.sip_engine.specs.Serving.{judged_by, registered}
-use Rattle.sip_engine.proofs.Asked.{served_is}
+use Rattle.sip_engine.proofs.Arriving.{served_is}
 use Rattle.sip_engine.proofs.laws.register_gets.Goals as goal
 
 pub returns-clause-right : goal.returns-clause-right

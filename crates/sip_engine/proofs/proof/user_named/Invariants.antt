@@ -1,6 +1,6 @@
 use Rattle.std.proofs.Common.{◌≡◌, drop}
 use Rattle.std.specs.Prelude.{find}
-use Rattle.sip_engine.specs.Registration.{is_named}
+use Rattle.sip_policy.specs.User.{is_named}
 use Rattle.sip_engine.proofs.proof.user_named.Given as goal
 
 -- the first of those that are left

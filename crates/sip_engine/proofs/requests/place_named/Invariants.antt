@@ -1,4 +1,4 @@
-use Rattle.std.proofs.Common.{◌≡◌, ◌≤◌, drop}
+use Rattle.std.proofs.Common.{◌≤◌, drop}
 use Rattle.std.specs.Prelude.{count_by}
 use Rattle.sip_engine.specs.Requests.{is_timer_of}
 use Rattle.sip_engine.proofs.requests.place_named.Given as goal

@@ -1,6 +1,6 @@
 use Rattle.std.proofs.Common.{◌≡◌}
 use Rattle.std.specs.Prelude.{option_map}
-use Rattle.sip_header.specs.Cuts.{parts_behind}
+use Rattle.sip_text.specs.Cuts.{parts_behind}
 use Rattle.sip_header.specs.Parameters.{parameters_in}
 use Rattle.sip_header.proofs.Collecting.{behind, length_left}
 use Rattle.sip_header.proofs.parameters.parameters_from.Given as goal

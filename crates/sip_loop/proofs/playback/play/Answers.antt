@@ -1,22 +1,15 @@
-use Rattle.std.proofs.Common.{ap}
-use Rattle.sip_loop.specs.Lines.{Reading}
-use Rattle.sip_loop.specs.Replays.{opened}
-use Rattle.sip_loop.proofs.Replaying.{plays_more, plays_over}
+use Rattle.sip_loop.specs.Replays.{opened, TakesNext}
+use Rattle.sip_loop.proofs.Replaying.{plays_more}
 use Rattle.sip_loop.proofs.playback.play.Goals as goal
 
-pub returns-in-Ok-None : goal.returns-in-Ok-None
-returns-in-Ok-None g c =
-    plays_over c.args.config c.loop-event.engine c.loop-event.greatest c.in-Ok-new.lines c.loop-event.lines c.next_event.new.lines
-    (g.R.Read.remaining c.args.reader.now) (g.R.Read.remaining c.loop-event.reader) (g.R.Read.remaining c.next_event.new.reader)
-    (g.W.Write.contents c.args.writer.now) (g.W.Write.contents c.loop-event.writer)
-    (ap (λ (r : Reading). r.unread) c.in-Ok-new.ensures) c.loop-event.invariant.1 (rw c.in-Ok-None.field-0-is at c.in-Ok-None.ensures.over)
-
-pub loop-event-preserved : goal.loop-event-preserved
-loop-event-preserved g c = (
-  c.in-Ok-take_event.ensures.later,
-  plays_more (opened c.args.config) c.loop-event.engine c.take_event.new.engine c.loop-event.greatest c.in-Ok-take_event.now
-      c.in-Ok-new.lines c.loop-event.lines c.next_event.new.lines
-      (g.R.Read.remaining c.args.reader.now) (g.R.Read.remaining c.loop-event.reader) (g.R.Read.remaining c.next_event.new.reader)
-      (g.W.Write.contents c.args.writer.now) (g.W.Write.contents c.loop-event.writer) (g.W.Write.contents c.take_event.new.writer)
-      c.in-Ok-Some.event c.loop-event.invariant.1 (rw c.in-Ok-Some.field-0-is at c.in-Ok-Some.ensures.given) c.in-Ok-take_event.ensures.taken,
-)
+pub loop-line-preserved : goal.loop-line-preserved
+loop-line-preserved g c =
+    let taken : TakesNext c.loop-line.lines c.take_next.new.lines (g.R.Read.remaining c.loop-line.reader) (g.R.Read.remaining c.take_next.new.reader) c.loop-line.engine c.take_next.new.engine c.loop-line.greatest c.in-Some.now (g.W.Write.contents c.loop-line.writer) (g.W.Write.contents c.take_next.new.writer) =
+    rw c.in-Some.is at c.in_ok-now.ensures.taken in (
+      rw c.in-Some.is at c.in_ok-now.ensures.later,
+      plays_more (opened c.args.config) c.loop-line.engine c.take_next.new.engine c.loop-line.greatest c.in-Some.now
+          c.in-Ok-new.lines c.loop-line.lines c.take_next.new.lines
+          (g.R.Read.remaining c.args.reader.now) (g.R.Read.remaining c.loop-line.reader) (g.R.Read.remaining c.take_next.new.reader)
+          (g.W.Write.contents c.args.writer.now) (g.W.Write.contents c.loop-line.writer) (g.W.Write.contents c.take_next.new.writer)
+          taken.event c.loop-line.invariant.1 taken.gives taken.takes,
+    )

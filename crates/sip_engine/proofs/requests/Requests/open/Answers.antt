@@ -1,19 +1,22 @@
-use Rattle.std.proofs.Common.{◌≡◌, ℕ, ◌+◌, List, [], ◌∷◌, ◌++◌, map, sym, ap, ◌∙◌, false, refl}
+use Rattle.std.proofs.Common.{◌≡◌, ℕ, ◌+◌, List, [], ◌∷◌, ◌++◌, sym, ap, ◌∙◌, false}
 use Rattle.std.proofs.lemmas.List.{map_push}
 use Rattle.sip_server.specs.declared.actions.Action.{Action}
 use Rattle.sip_server.specs.declared.server_other.ServerOther.{ServerOther}
-use Rattle.sip_model.specs.declared.packet.Packet.{Packet}
 use Rattle.sip_engine.specs.declared.requests.Kept.{Kept}
 use Rattle.sip_engine.specs.declared.requests.OpenRequest.{OpenRequest}
-use Rattle.sip_engine.specs.Requests.{answer_packet, packets_of, interval_of_j, opened, opens_of}
-use Rattle.sip_engine.proofs.Ties.{AreTied-opened, answered_finally}
+use Rattle.sip_engine.specs.Requests.{closing_by, answer_packet, packets_of, interval_of_j, opens_of}
+use Rattle.sip_engine.proofs.Ties.{AreTied-opened, answered_finally, closing_by-tied}
 use Rattle.sip_engine.proofs.requests.Requests.open.Goals as goal
+
+pub set_timer-requires-clause-settled : goal.set_timer-requires-clause-settled
+set_timer-requires-clause-settled c =
+    sym (closing_by-tied c.args.now c.self.inside.timers.pending c.self.inside.rows.items c.self.invariant) ∙ ap (closing_by c.args.now) c.self.view_is ∙ c.requires.settled
 
 pub invariant_of-self-2 : goal.invariant_of-self-2
 invariant_of-self-2 c =
     let on = c.on-server.ensures ∙ answered_finally c.args.request.status c.requires.answered.0 c.requires.answered.1 in
-    rw (c.in_ok-add.ensures.ok, c.push.ensures.items, c.unwrap.ensures, c.reserve.ensures.items)
-    (AreTied-opened _ _ _ c.self.invariant (ap (λ (r : ServerOther × List Action). r.0) on))
+    rw (c.in_ok-set_timer.ensures.ok, c.push.ensures.items, c.unwrap.ensures, c.reserve.ensures.items)
+    (AreTied-opened _ _ _ _ c.self.invariant (ap (λ (r : ServerOther × List Action). r.0) on))
 
 pub returns-clause-ok : goal.returns-clause-ok
 returns-clause-ok c =

@@ -1,9 +1,9 @@
-use Rattle.std.proofs.Common.{◌≡◌, ℕ, List, [], ◌∷◌, Some, sym, ap, ◌∙◌, true}
+use Rattle.std.proofs.Common.{◌≡◌, List, [], ◌∷◌, Some, sym, ap, ◌∙◌, true}
 use Rattle.sip_server.specs.declared.actions.Action.{Action}
 use Rattle.sip_server.specs.declared.server_other.ServerOther.{ServerOther}
 use Rattle.sip_server.specs.declared.server_other.ServerOtherInput.TheVariants.{Request}
 use Rattle.sip_server.specs.ServerOther.{server_other}
-use Rattle.sip_model.specs.declared.packet.Packet.{Packet}
+use Rattle.sip_event.specs.declared.packet.Packet.{Packet}
 use Rattle.sip_engine.specs.Requests.{has_key, answer_packet, packets_of}
 use Rattle.sip_engine.proofs.Ties.{no_copy, a_copy, found_completed}
 use Rattle.sip_engine.proofs.requests.Requests.repeat.Goals as goal

@@ -1,0 +1,17 @@
+//! Tests of the engine and of replays as calls: a worked example through the engine, the limits, many
+//! requests, and want of memory. Whole worked runs are stored as files, in `stored_runs`. Each test
+//! asserts predicates that own one value at most.
+#![tactic(auto)]
+
+#[cfg(test)]
+mod checks;
+#[cfg(test)]
+mod datagrams;
+#[cfg(test)]
+mod engine;
+#[cfg(test)]
+mod limits;
+#[cfg(test)]
+mod memory;
+#[cfg(test)]
+mod replay;

@@ -1,0 +1,137 @@
+use crate::checks::gives;
+use hex::encode_to_slice;
+use md5::{Digest, Md5};
+use sip_digest::{Credential, Nonces, Protection, Worth, a1, answer, nonce_text, word_of};
+use std::alloc::{AllocError, Global};
+
+/// MD5 in hexadecimal digits.
+fn md5_of(text: &[u8]) -> [u8; 32] {
+    let mut hasher = Md5::new();
+    hasher.update(text);
+    let mut digits = [0u8; 32];
+    let _ = encode_to_slice(hasher.finalize().as_slice(), &mut digits);
+    digits
+}
+
+/// Whether MD5 of a text has these digits.
+fn is_md5(text: &[u8], digits: &[u8]) -> bool {
+    md5_of(text).as_slice() == digits
+}
+
+/// The test suite of RFC 1321, appendix A.5.
+#[test]
+fn md5_vectors(rt: HostRuntime) {
+    assert!(rt; is_md5(b"", b"d41d8cd98f00b204e9800998ecf8427e"));
+    assert!(rt; is_md5(b"a", b"0cc175b9c0f1b6a831c399e269772661"));
+    assert!(rt; is_md5(b"abc", b"900150983cd24fb0d6963f7d28e17f72"));
+    assert!(rt; is_md5(b"message digest", b"f96b697d7cb7938d525a2f31aaf161d0"));
+}
+
+fn mufasa() -> [u8; 32] {
+    a1(b"Mufasa", b"testrealm@host.com", b"Circle Of Life")
+}
+
+/// The answer of the example of RFC 2617 3.5, with this quality of protection.
+fn example_answer(protection: Option<Protection<'_>>) -> [u8; 32] {
+    let nonce = b"dcd98b7102dd2f0e8b11d0f600bfb0c093";
+    answer(&mufasa(), b"GET", b"/dir/index.html", nonce, protection)
+}
+
+const PLAIN: &[u8] =
+    b"939e7578ed9e3c518a452acee763bce9:dcd98b7102dd2f0e8b11d0f600bfb0c093:39aff3a2bab6126f332b942af96d3366";
+
+/// Whether an answer has these digits.
+fn is_answer(protection: Option<Protection<'_>>, digits: &[u8]) -> bool {
+    example_answer(protection).as_slice() == digits
+}
+
+/// The example of RFC 2617 3.5; without a quality of protection, the formula of RFC 2069, by MD5 alone.
+#[test]
+fn digest_vector(rt: HostRuntime) {
+    assert!(rt; mufasa().as_slice() == b"939e7578ed9e3c518a452acee763bce9".as_slice());
+    assert!(rt; is_md5(b"GET:/dir/index.html", b"39aff3a2bab6126f332b942af96d3366"));
+    assert!(rt; is_answer(Some(FIRST_USE), b"6629fae49393a05397450978507c4ef1"));
+    assert!(rt; is_answer(None, md5_of(PLAIN).as_slice()));
+}
+
+const FIRST_USE: Protection<'static> = Protection {
+    nc: b"00000001",
+    cnonce: b"0a4f113b",
+};
+
+/// The answer of the user to the nonce of word 1.
+fn register_answer() -> [u8; 32] {
+    let nonce = nonce_text(1);
+    let uri = b"sip:host.com";
+    answer(
+        &mufasa(),
+        b"REGISTER",
+        uri,
+        nonce.as_slice(),
+        Some(FIRST_USE),
+    )
+}
+
+/// The credentials of a REGISTER with this nonce and this answer.
+fn register<'a>(nonce: &'a [u8], response: &'a [u8]) -> Credential<'a> {
+    Credential {
+        method: b"REGISTER",
+        uri: b"sip:host.com",
+        nonce,
+        protection: Some(FIRST_USE),
+        response,
+    }
+}
+
+/// Whether the REGISTER's credentials are worth this for a user.
+fn is_worth(nonces: &Nonces, user: &[u8], at: u64, wanted: Worth) -> bool {
+    let nonce = nonce_text(1);
+    let response = register_answer();
+    nonces.check(user, &register(nonce.as_slice(), response.as_slice()), at) == wanted
+}
+
+/// Uses the REGISTER's credentials up.
+fn spend(nonces: &mut Nonces, at: u64) {
+    let nonce = nonce_text(1);
+    let response = register_answer();
+    nonces.spend(&register(nonce.as_slice(), response.as_slice()), at);
+}
+
+fn issued(alloc: Global) -> Result<Nonces, AllocError> {
+    let mut nonces = Nonces::new(alloc)?;
+    nonces.issue(1, 1_000);
+    Ok(nonces)
+}
+
+fn spent(alloc: Global) -> Result<Nonces, AllocError> {
+    let mut nonces = issued(alloc)?;
+    spend(&mut nonces, 2_000);
+    Ok(nonces)
+}
+
+/// Whether the REGISTER's credentials are right for five minutes.
+fn is_right_at_first(nonces: &Nonces) -> bool {
+    is_worth(nonces, &mufasa(), 300_999, Worth::Right)
+        && is_worth(nonces, &mufasa(), 301_000, Worth::Stale)
+}
+
+/// Whether they are stale once they were used, and wrong for another user.
+fn is_stale_then(nonces: &Nonces) -> bool {
+    let alice = a1(b"alice", b"testrealm@host.com", b"Circle Of Life");
+    is_worth(nonces, &mufasa(), 2_000, Worth::Stale)
+        && is_worth(nonces, &alice, 2_000, Worth::Wrong)
+}
+
+#[test]
+fn nonce_rows(rt: HostRuntime) {
+    assert!(rt; gives(issued(rt.alloc()), is_right_at_first));
+    assert!(rt; gives(spent(rt.alloc()), is_stale_then));
+    assert!(rt; nonce_text(1).as_slice() == b"00000000000000000000000000000001".as_slice());
+}
+
+#[test]
+fn nonce_words(rt: HostRuntime) {
+    assert!(rt; word_of(b"0000000000000000000000000000001f") == Some(31));
+    assert!(rt; word_of(b"0000000000000000000000000000001F").is_none());
+    assert!(rt; word_of(b"1f").is_none());
+}

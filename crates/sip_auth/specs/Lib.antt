@@ -1,0 +1,2 @@
+pub mod Proof
+pub mod Examples

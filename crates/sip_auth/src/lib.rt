@@ -1,0 +1,5 @@
+//! Whom a request proves to come from: its credentials for this server's realm, the configured user whom they
+//! name, and the nonces that were issued (RFC 2617 3.2.2; RFC 3261 22).
+#![tactic(auto)]
+
+pub mod examples;

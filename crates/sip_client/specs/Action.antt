@@ -1,0 +1,16 @@
+-- What the actions of a client transaction start and send.
+use Rattle.std.specs.Prelude.{ℕ, Bool, true, false, Option, Some, None}
+use Rattle.sip_transaction.specs.declared.letter.Letter.{Letter}
+use Rattle.sip_client.specs.declared.actions.Action.{Action}
+use Rattle.sip_client.specs.declared.actions.Action.TheVariants.{Send, SendAgain, Start}
+
+-- the timer that an action starts, and after how many milliseconds it fires
+abbrev pub start_of : Action → Option (Letter × ℕ)
+start_of (Start letter ms) = Some (letter, ms)
+start_of _ = None
+
+-- an action that sends the request
+abbrev pub sends_request : Action → Bool
+sends_request Send = true
+sends_request SendAgain = true
+sends_request _ = false

@@ -1,0 +1,23 @@
+ghost use Rattle.std.specs.Prelude.{◌≡◌, Some, None, codes};
+ghost use Rattle.sip_digest.specs.Answers.{a1_of, a2_of, answer_of};
+ghost use Rattle.sip_digest.specs.Credential.{count_in};
+ghost use Rattle.sip_digest.specs.NonceText.{nonce_text};
+
+/// The worked example of RFC 2617 3.5, from its user to its response.
+pub fn digest_vector()
+    ensures a1 { a1_of (codes "Mufasa") (codes "testrealm@host.com") (codes "Circle Of Life") ≡ codes "939e7578ed9e3c518a452acee763bce9" }
+    ensures a2 { a2_of (codes "GET") (codes "/dir/index.html") ≡ codes "39aff3a2bab6126f332b942af96d3366" }
+    ensures answer { answer_of (codes "939e7578ed9e3c518a452acee763bce9") (codes "GET") (codes "/dir/index.html") (codes "dcd98b7102dd2f0e8b11d0f600bfb0c093") (Some (record { nc = codes "00000001"; cnonce = codes "0a4f113b" })) ≡ codes "6629fae49393a05397450978507c4ef1" }
+{}
+
+/// The nonce of the word 1 reads `00000000000000000000000000000001`.
+pub fn nonce_text_example()
+    ensures { nonce_text 1 ≡ codes "00000000000000000000000000000001" }
+{}
+
+/// A count is eight hexadecimal digits, in either case.
+pub fn count_example()
+    ensures ten { count_in (codes "0000000A") ≡ Some 10 }
+    ensures short { count_in (codes "1") ≡ None }
+    ensures no_digit { count_in (codes "+0000001") ≡ None }
+{}

@@ -1,0 +1,96 @@
+ghost use Rattle.std.specs.Prelude.{◌≡◌, ◌++◌, length, decimal, codes, IfOk, OnOk};
+ghost use Rattle.sip_text.specs.Cuts.{parts_at};
+ghost use Rattle.sip_edit.specs.TopVia;
+
+use sip_header::{HeaderError, via_of};
+use sip_text::{Addr, Bytes, first_part, ip_text, same_no_case, without_blanks};
+use std::alloc::{AllocError, Global};
+
+/// How many bytes stand before the first `=`.
+fn length_before_equals(piece: &[u8]) -> usize
+    ensures { result ≡ length (TopVia.before_equals piece.now) }
+{
+    piece.iter().take_while(|byte| **byte != b'=').count()
+}
+
+/// What stands before the first `=`.
+#[tactic(auto, using(crate::proofs::Edits::front_is))]
+fn before_equals(piece: &[u8]) -> &[u8]
+    ensures { result.now ≡ TopVia.before_equals piece.now }
+{
+    let (front, _) = piece.split_at(length_before_equals(piece));
+    front
+}
+
+/// Whether a piece is the parameter of this name.
+fn is_parameter(name: &[u8], piece: &[u8]) -> bool
+    ensures { result ≡ TopVia.is_parameter name.now piece.now }
+{
+    same_no_case(without_blanks(before_equals(piece)), name)
+}
+
+/// Adds a parameter as it is written in the Via of a request that was received.
+fn put_edited(out: &mut Bytes, port: u16, piece: &[u8]) -> Result<(), AllocError>
+    ensures { OnOk result (out.new ≡ out.old ++ TopVia.edited port piece.now) }
+{
+    if is_parameter(b"received", piece) {
+        return Ok(());
+    }
+    if is_parameter(b"rport", piece) {
+        out.extend(b";rport=")?;
+        return out.push_decimal(u64::from(port));
+    }
+    out.extend(b";")?;
+    out.extend(piece)
+}
+
+/// Adds the source's address, if it is wanted.
+fn put_source(
+    alloc: Global,
+    out: &mut Bytes,
+    host: &[u8],
+    from: Addr,
+    asks: bool,
+) -> Result<(), AllocError>
+    ensures { OnOk result (out.new ≡ out.old ++ TopVia.source_of host.now from asks) }
+{
+    let ip = ip_text(alloc, from.ip)?;
+    if !asks && host == ip.as_slice() {
+        return Ok(());
+    }
+    out.extend(b";received=")?;
+    out.extend(ip.as_slice())
+}
+
+/// The value of a Via whose sent-by has this host, with its source.
+fn with_source(alloc: Global, value: &[u8], host: &[u8], from: Addr) -> Result<Bytes, AllocError>
+    ensures { IfOk result (λ edited. edited ≡ TopVia.with_source host.now from (parts_at 59 value.now)) }
+{
+    let (sent_by, mut rest) = first_part(value, b';');
+    let mut out = Bytes::copy(alloc, sent_by)?;
+    let mut asks = false;
+    while let Some(text) = rest {
+        let (piece, behind) = first_part(text, b';');
+        if is_parameter(b"rport", piece) {
+            asks = true;
+        }
+        put_edited(&mut out, from.port, piece)?;
+        rest = behind;
+    }
+    put_source(alloc, &mut out, host, from, asks)?;
+    Ok(out)
+}
+
+/// The value of the top Via of a request as it came from an address: a `received` that came is removed, an
+/// `rport` gets the source's port, and `received` with the source's address goes last where there was an
+/// `rport`, or where the sent-by is another host. All other text stays, and so does a value that can't be
+/// read (RFC 3261 18.2.1; RFC 3581 4). `AllocError` is the only refusal.
+pub fn received_via(alloc: Global, value: &[u8], from: Addr) -> Result<Bytes, AllocError>
+    ensures { IfOk result (λ edited. edited ≡ TopVia.received_via value.now from) }
+{
+    match via_of(alloc, value) {
+        Ok(via) => with_source(alloc, value, via.host.as_slice(), from),
+        Err(HeaderError::NoMemory) => Err(AllocError),
+        Err(_) => Bytes::copy(alloc, value),
+    }
+}

@@ -1,0 +1,2 @@
+pub use Rattle.sip_audit.specs.declared.record
+pub use Rattle.sip_text.specs.declared.addr

@@ -1,0 +1,41 @@
+use crate::packet::{Packet, Ticket};
+use sip_audit::Record;
+use sip_text::{Addr, Bytes, Items};
+
+/// What a server starts with: the word that its branches and To tags begin with, and the number of its
+/// first datagram.
+#[derive(Clone, Copy, Debug, PartialEq, Eq)]
+pub struct Boot {
+    pub word: u64,
+    pub first: u64,
+}
+
+/// What happens to a server, at a moment in milliseconds.
+#[derive(Debug, Drop)]
+pub enum Event {
+    /// A datagram came from an address. The word makes the nonce of a challenge.
+    Datagram {
+        at: u64,
+        word: u128,
+        from: Addr,
+        bytes: Bytes,
+    },
+    /// Time passed up to this moment.
+    Time {
+        at: u64,
+    },
+    /// The packet of this ticket could not be sent.
+    Fault {
+        at: u64,
+        ticket: Ticket,
+    },
+}
+
+/// What a step puts out: the moment at which it stood, in milliseconds, its packets, in the order in
+/// which they are to be sent, and its records.
+#[derive(Debug, Drop)]
+pub struct StepOut {
+    pub at: u64,
+    pub packets: Items<Packet>,
+    pub records: Items<Record>,
+}

@@ -1,0 +1,18 @@
+-- The sample configuration. Its parts stand where the examples of lower crates use them.
+use Rattle.sip_header.specs.RoutingExamples.{own, sample_realm}
+use Rattle.sip_hops.specs.Examples.{sample_hops, sample_addresses}
+use Rattle.sip_policy.specs.Examples.{sample_users, sample_rules}
+use Rattle.sip_settings.specs.declared.config.Config.{Config}
+
+-- a server that is known by the port that it binds
+abbrev pub sample : Config
+sample =
+    record {
+      own = own;
+      bound_port = 5060;
+      realm = sample_realm;
+      users = sample_users;
+      rules = sample_rules;
+      hops = sample_hops;
+      addresses = sample_addresses;
+    }

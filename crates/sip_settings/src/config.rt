@@ -1,0 +1,23 @@
+use sip_header::Own;
+use sip_hops::{Hop, HostAddress};
+use sip_policy::{Rule, User};
+use sip_text::{Bytes, Items};
+
+/// What a server is told before it starts.
+#[derive(Debug, Drop)]
+pub struct Config {
+    /// Where it is.
+    pub own: Own,
+    /// The UDP port that it binds, at the IPv4 address of its own. `own.port` is the one by which others
+    /// know it.
+    pub bound_port: u16,
+    /// The realm of its challenges (RFC 2617 1.2).
+    pub realm: Bytes,
+    pub users: Items<User>,
+    /// The first that matches a request decides.
+    pub rules: Items<Rule>,
+    /// The hops that rules name.
+    pub hops: Items<Hop>,
+    /// The addresses of hosts.
+    pub addresses: Items<HostAddress>,
+}

@@ -1,0 +1,7 @@
+use Rattle.std.proofs.Common.{◌≡◌, take}
+use Rattle.sip_text.specs.Words.{without_case}
+use Rattle.sip_text.proofs.words.lower_case.Given as goal
+
+-- the bytes so far, in lower case
+abbrev pub invariant-loop-byte : goal.invariant-loop-byte
+invariant-loop-byte l = l.lower ≡ without_case (take l.byte-index l.text)

@@ -1,0 +1,82 @@
+ghost use Rattle.std.specs.Prelude.{◌≡◌, ◌<◌, ◌∷◌, length, take_while, option_map, IfSome};
+ghost use Rattle.sip_text.specs.Cuts as Definitions;
+ghost use Rattle.sip_text.specs.Cuts.{quoting_after, is_mark, parts_at, parts_behind, is_full, word_at, behind_word};
+
+use crate::lists::{is_space_or_tab, without_front_blanks};
+
+/// Where a byte stands as to quoted text.
+#[derive(Clone, Copy)]
+pub enum Quoting {
+    Outside,
+    Inside,
+    Escaped,
+}
+
+impl Quoting {
+    fn after(self, byte: u8) -> Quoting
+        ensures { result ≡ quoting_after self byte }
+    {
+        match (self, byte) {
+            (Quoting::Outside, b'"') => Quoting::Inside,
+            (Quoting::Outside, _) => Quoting::Outside,
+            (Quoting::Inside, b'"') => Quoting::Outside,
+            (Quoting::Inside, b'\\') => Quoting::Escaped,
+            (Quoting::Inside, _) => Quoting::Inside,
+            (Quoting::Escaped, _) => Quoting::Inside,
+        }
+    }
+
+    fn is_mark(self, mark: u8, byte: u8) -> bool
+        ensures { result ≡ is_mark self mark byte }
+    {
+        matches!(self, Quoting::Outside) && byte == mark
+    }
+}
+
+/// What stands before the first of a byte outside quoted text (RFC 3261 25.1, `quoted-string`), and what
+/// follows it. Takes no memory.
+#[tactic(auto, using(crate::proofs::CutsOutside::split_ends, crate::proofs::CutsOutside::split_goes_on, crate::proofs::CutsOutside::split_nowhere))]
+pub fn split_outside(bytes: &[u8], mark: u8) -> Option<(&[u8], &[u8])>
+    ensures { option_map (λ x. (x.0.now, x.1.now)) result ≡ Definitions.split_outside mark bytes.now }
+{
+    let mut quoting = Quoting::Outside;
+    for at in 0..bytes.len() {
+        let byte = bytes[at];
+        if quoting.is_mark(mark, byte) {
+            return Some((&bytes[..at], &bytes[at + 1..]));
+        }
+        quoting = quoting.after(byte);
+    }
+    None
+}
+
+/// The part of a text before the first of a byte outside quoted text, and what follows that byte, if it is there.
+/// Takes no memory.
+#[tactic(auto, using(crate::proofs::CutsOutside::parts_split, crate::proofs::CutsOutside::one_part, crate::proofs::CutsOutside::is_shorter))]
+pub fn first_part(bytes: &[u8], mark: u8) -> (&[u8], Option<&[u8]>)
+    ensures parts { parts_at mark bytes.now ≡ result.0.now ∷ parts_behind mark (option_map (λ x. x.now) result.1) }
+    ensures shorter { IfSome result.1 (λ rest. length rest.now < length bytes.now) }
+{
+    match split_outside(bytes, mark) {
+        Some((part, rest)) => (part, Some(rest)),
+        None => (bytes, None),
+    }
+}
+
+fn length_of_word(bytes: &[u8]) -> usize
+    ensures { result ≡ length (take_while is_full bytes.now) }
+{
+    bytes
+        .iter()
+        .take_while(|byte| !is_space_or_tab(**byte))
+        .count()
+}
+
+/// The bytes before the first space or tab, and what follows the spaces and tabs there.
+pub fn split_word(bytes: &[u8]) -> (&[u8], &[u8])
+    ensures word { result.0.now ≡ word_at bytes.now }
+    ensures rest { result.1.now ≡ behind_word bytes.now }
+{
+    let (word, rest) = bytes.split_at(length_of_word(bytes));
+    (word, without_front_blanks(rest))
+}

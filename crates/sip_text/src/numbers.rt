@@ -1,0 +1,70 @@
+ghost use Rattle.std.specs.Prelude.{◌≡◌, ◌<◌, IfOk, IfSome};
+ghost use Rattle.sip_text.specs.Numbers;
+
+use crate::bytes::Bytes;
+use crate::words::decimal;
+use hex::encode_to_slice;
+use std::alloc::{AllocError, Global};
+
+/// Whether digits begin with a 0 that another one follows.
+pub(crate) fn has_leading_zero(digits: &[u8]) -> bool
+    ensures { result ≡ Numbers.has_leading_zero digits.now }
+{
+    let [first, _, ..] = digits else {
+        return false;
+    };
+    *first == b'0'
+}
+
+/// The number that one or more decimal digits without leading zeros write, if it is below 2^64. Takes no
+/// memory.
+pub fn plain_decimal(digits: &[u8]) -> Option<u64>
+    ensures { result ≡ Numbers.plain_decimal_of digits.now }
+{
+    if has_leading_zero(digits) {
+        return None;
+    }
+    decimal(digits)
+}
+
+/// Such a number below a limit.
+pub fn plain_decimal_below(digits: &[u8], limit: u64) -> Option<u64>
+    ensures value { result ≡ Numbers.plain_decimal_below limit digits.now }
+    ensures below { IfSome result (λ number. number < limit) }
+{
+    let number = plain_decimal(digits)?;
+    if number < limit { Some(number) } else { None }
+}
+
+/// A port, 1 to 65535, that decimal digits without leading zeros write.
+pub fn plain_port(digits: &[u8]) -> Option<u16>
+    ensures { result ≡ Numbers.plain_port_of digits.now }
+{
+    let port = plain_decimal_below(digits, 65536)?;
+    if port == 0 { None } else { Some(port as u16) }
+}
+
+/// The bytes that hexadecimal digits in either case write, two for each byte and at least one byte. None of
+/// any other text; `AllocError` is the only refusal.
+pub fn hex_bytes(alloc: Global, digits: &[u8]) -> Result<Option<Bytes>, AllocError>
+    ensures { IfOk result (λ bytes. bytes ≡ Numbers.hex_bytes_of digits.now) }
+{
+    if digits.is_empty() {
+        return Ok(None);
+    }
+    match hex::decode(alloc, digits) {
+        Ok(bytes) => Ok(Some(Bytes::copy(alloc, bytes.as_slice())?)),
+        Err(hex::FromHexError::OutOfMemory) => Err(AllocError),
+        Err(_) => Ok(None),
+    }
+}
+
+/// A number in 16 hexadecimal digits in lower case. Takes no memory.
+pub fn hex_text(number: u64) -> [u8; 16]
+    ensures { result ≡ Numbers.hex_text number }
+{
+    let mut text = [0u8; 16];
+    let done = encode_to_slice(number.to_be_bytes().as_slice(), &mut text);
+    prove!(done.is_ok());
+    text
+}

@@ -1,0 +1,38 @@
+//! Replays every stored run of the folder that it runs in, and prints how many agree with their files
+//! and the name of each that doesn't. A run NAME is files alone:
+//!
+//! - NAME.args: the words of the command line, one a line;
+//! - NAME.script: standard input;
+//! - NAME.out: what must be written; nothing, where it is absent;
+//! - NAME.err: the complaint; none, where it is absent;
+//! - NAME.status: the exit status; 0, where it is absent.
+#![tactic(auto)]
+
+mod names;
+mod run;
+
+use names::names_in;
+use run::agrees;
+use std::io;
+use std::rt::Files;
+
+/// Whether a run agrees; the name of one that doesn't is printed.
+fn is_told<R: Files + Print + AllocGlobal>(rt: &R, name: &str) -> io::Result<bool> {
+    if agrees(rt, name) {
+        return Ok(true);
+    }
+    rt.println(name)?;
+    Ok(false)
+}
+
+fn main(rt: HostRuntime) -> io::Result<()> {
+    let names = names_in(&rt, ".")?;
+    let runs = names.len();
+    let mut agreed = 0usize;
+    for name in &names {
+        if is_told(&rt, name.as_str())? {
+            agreed += 1;
+        }
+    }
+    println!(rt; "{agreed} of {runs} runs agree")
+}
