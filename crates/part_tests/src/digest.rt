@@ -1,7 +1,10 @@
 use crate::checks::gives;
 use hex::encode_to_slice;
 use md5::{Digest, Md5};
-use sip_digest::{Credential, Nonces, Protection, Worth, a1, answer, nonce_text, word_of};
+use sip_digest::{
+    Algorithm, Credential, Nonces, Protection, Worth, a1, a1_sha256, answer, answer_sha256,
+    nonce_text, word_of,
+};
 use std::alloc::{AllocError, Global};
 
 /// MD5 in hexadecimal digits.
@@ -54,6 +57,23 @@ fn digest_vector(rt: HostRuntime) {
     assert!(rt; is_answer(None, md5_of(PLAIN).as_slice()));
 }
 
+/// The response of the example of RFC 7616 3.9.1 by SHA-256.
+fn sha256_answer() -> [u8; 64] {
+    let a1 = a1_sha256(b"Mufasa", b"http-auth@example.org", b"Circle of Life");
+    let nonce = b"7ypf/xlj9XXwfDPEoM4URrv/xwf94BcCAzFZH4GiTo0v";
+    let protection = Some(Protection {
+        nc: b"00000001",
+        cnonce: b"f2/wE4q74E6zIJEtWaHKaf5wv/H5QzzpXusqGemxURZJ",
+    });
+    answer_sha256(&a1, b"GET", b"/dir/index.html", nonce, protection)
+}
+
+#[test]
+fn sha256_vector(rt: HostRuntime) {
+    let response = b"753927fa0e85d155564e2e272a28d1802ca10daf4496794697cf8db5856cb6c1";
+    assert!(rt; sha256_answer().as_slice() == response.as_slice());
+}
+
 const FIRST_USE: Protection<'static> = Protection {
     nc: b"00000001",
     cnonce: b"0a4f113b",
@@ -75,6 +95,7 @@ fn register_answer() -> [u8; 32] {
 /// The credentials of a REGISTER with this nonce and this answer.
 fn register<'a>(nonce: &'a [u8], response: &'a [u8]) -> Credential<'a> {
     Credential {
+        algorithm: Algorithm::Md5,
         method: b"REGISTER",
         uri: b"sip:host.com",
         nonce,

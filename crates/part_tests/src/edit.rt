@@ -1,8 +1,10 @@
 use crate::checks::{gives, gives_bytes};
+use sip_digest::Algorithm;
 use sip_edit::{
-    challenge, contact_value, reason_of, received, received_via, respond, response_address, to_tag,
+    challenge, challenge_fields, contact_value, reason_of, received, received_via, respond,
+    response_address, to_tag,
 };
-use sip_message::{Fields, Message, read, write};
+use sip_message::{Field, FieldName, Fields, Message, read, write};
 use sip_text::Addr;
 use std::alloc::{AllocError, Global};
 
@@ -67,7 +69,7 @@ fn parts(rt: HostRuntime) {
     let alloc = rt.alloc();
     assert!(rt; gives_bytes(to_tag(alloc, 255, 7), b"00000000000000ff.7"));
     assert!(rt; gives_bytes(received_via(alloc, VIA, PHONE), VIA));
-    assert!(rt; gives_bytes(challenge(alloc, b"r", b"n", true), STALE));
+    assert!(rt; gives_bytes(challenge(alloc, Algorithm::Md5, b"r", b"n", true), STALE));
     assert!(rt;
         gives_bytes(
             contact_value(alloc, b"sip:a@b", 60),
@@ -75,4 +77,37 @@ fn parts(rt: HostRuntime) {
         )
     );
     assert!(rt; reason_of(481) == b"Call/Transaction Does Not Exist".as_slice());
+}
+
+const BY_SHA256: &[u8] =
+    b"Digest realm=\"r\", nonce=\"n\", algorithm=SHA-256, qop=\"auth\", stale=true";
+
+/// Whether fields are these values of WWW-Authenticate.
+fn are_values(fields: &Fields, values: &[&[u8]]) -> bool {
+    let fields = fields.as_slice();
+    fields.len() == values.len()
+        && fields
+            .iter()
+            .zip(values)
+            .all(|(field, value)| is_challenge(field, value))
+}
+
+fn is_challenge(field: &Field, value: &[u8]) -> bool {
+    matches!(field.name, FieldName::WwwAuthenticate) && field.value.as_slice() == value
+}
+
+/// Whether a stale challenge has these values.
+fn are_offered(alloc: Global, with_sha256: bool, values: &[&[u8]]) -> bool {
+    let name = FieldName::WwwAuthenticate;
+    gives(
+        challenge_fields(alloc, &name, with_sha256, b"r", b"n", true),
+        |fields| are_values(fields, values),
+    )
+}
+
+#[test]
+fn challenges(rt: HostRuntime) {
+    let alloc = rt.alloc();
+    assert!(rt; are_offered(alloc, false, &[STALE]));
+    assert!(rt; are_offered(alloc, true, &[BY_SHA256, STALE]));
 }

@@ -1,5 +1,5 @@
 -- Audit lines (this project's profile).
-use Rattle.std.specs.Prelude.{◌≡◌, ℕ, true, ◌+◌, ◌/◌, ◌%◌, nat_lt, List, [], ◌∷◌, ◌++◌, codes, decimal, Option, Some, None, if◌then◌else◌}
+use Rattle.std.specs.Prelude.{◌≡◌, ℕ, Bool, true, ◌&&◌, ◌+◌, ◌/◌, ◌%◌, nat_lt, List, [], ◌∷◌, ◌++◌, codes, decimal, Option, Some, None, if◌then◌else◌}
 use Rattle.std.specs.List.{flat_map}
 use Rattle.std.specs.Str.{byte}
 use Rattle.sip_text.specs.Words.{is_token_text}
@@ -34,21 +34,39 @@ operation_text Operation.Register = codes "register"
 operation_text Operation.List = codes "list"
 operation_text Operation.Send = codes "send"
 
+-- a rule that decided: its number, and behind it the minute of the day, if it has a window
+abbrev pub rule_text : ℕ → Option ℕ → List ℕ
+rule_text rule None = decimal rule
+rule_text rule (Some minute) = decimal rule ++ codes "@" ++ decimal minute
+
 -- the rule that decided, `-` for a challenge, and what became of the request
-abbrev pub outcome_text : Outcome → List ℕ
-outcome_text (Challenge status) = codes "- challenge " ++ decimal status
-outcome_text (Deny rule) = decimal rule ++ codes " deny"
-outcome_text (Sent rule targets) = decimal rule ++ codes " sent " ++ decimal targets
-outcome_text (Answer rule status) = decimal rule ++ codes " answer " ++ decimal status
+abbrev pub outcome_text : Option ℕ → Outcome → List ℕ
+outcome_text minute (Challenge status) = codes "- challenge " ++ decimal status
+outcome_text minute (Deny rule) = rule_text rule minute ++ codes " deny"
+outcome_text minute (Sent rule targets) = rule_text rule minute ++ codes " sent " ++ decimal targets
+outcome_text minute (Answer rule status) = rule_text rule minute ++ codes " answer " ++ decimal status
 
 -- a record as a line, without its end: moment, number, method, who, target, operation, rule and outcome, a space between each two
 abbrev pub line_of : Record → List ℕ
 line_of r =
     decimal r.at ++ codes " " ++ decimal r.number ++ codes " " ++ r.method ++ codes " " ++ who_text r.who ++ codes " " ++ target_text r.target ++ codes " "
-    ++ operation_text r.operation ++ codes " " ++ outcome_text r.outcome
+    ++ operation_text r.operation ++ codes " " ++ outcome_text r.minute r.outcome
 
--- A record of a request: its method is a token, its user has a name, and its host is one. Only such records are written, and each line that is read is one's.
+-- the rule that decided; 0 is none, and none decided at a challenge
+abbrev pub rule_of : Outcome → ℕ
+rule_of (Challenge status) = 0
+rule_of (Deny rule) = rule
+rule_of (Sent rule targets) = rule
+rule_of (Answer rule status) = rule
+
+-- whether a minute goes with an outcome: none does; one of the day, where a rule decided
+abbrev pub is_minute_of : Outcome → Option ℕ → Bool
+is_minute_of outcome None = true
+is_minute_of outcome (Some minute) = nat_lt 0 (rule_of outcome) && nat_lt minute 1440
+
+-- A record of a request: its method is a token, its user has a name, its host is one, and its minute goes with its outcome. Only such records are written, and each line that is read is one's.
 pub record IsOfRequest (r : Record) : Type 0 where
   pub method : is_token_text r.method ≡ true
   pub who : is_name_or_none r.who ≡ true
   pub host : is_host r.target.host ≡ true
+  pub minute : is_minute_of r.outcome r.minute ≡ true

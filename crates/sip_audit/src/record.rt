@@ -27,7 +27,8 @@ pub enum Outcome {
 
 /// What is recorded of a request: the moment in milliseconds and the number of the datagram that brought
 /// it, its method, which is a token, the name of the user that was proven, the address of record that it
-/// is for, what it asks for and what became of it.
+/// is for, what it asks for, the minute of the day at which the rule decided, if it has a window, and what
+/// became of it.
 #[derive(Debug, Drop)]
 pub struct Record {
     pub at: u64,
@@ -36,5 +37,6 @@ pub struct Record {
     pub who: Option<Bytes>,
     pub target: Aor,
     pub operation: Operation,
+    pub minute: Option<u16>,
     pub outcome: Outcome,
 }

@@ -4,6 +4,7 @@ use Rattle.sip_message.specs.declared.field_name.FieldName.{FieldName}
 use Rattle.sip_message.specs.declared.message.Start.TheVariants.{Request}
 use Rattle.sip_message.specs.declared.message.Message.{Message}
 use Rattle.sip_header.specs.RoutingExamples.{sample_realm}
+use Rattle.sip_digest.specs.declared.algorithm.Algorithm.TheVariants.{Md5}
 use Rattle.sip_digest.specs.Answers.{answer_of}
 use Rattle.sip_digest.specs.Credential.{Credential}
 use Rattle.sip_digest.specs.Protection.{Protection}
@@ -23,13 +24,13 @@ protected count = record { nc = count; cnonce = codes "0a4f113b" }
 abbrev pub credential : List ℕ → List ℕ → List ℕ → List ℕ → List ℕ → List ℕ
 credential name a1 method uri count =
     codes "Digest username=\"" ++ name ++ codes "\", realm=\"testrealm@host.com\", nonce=\"00000000000000000000000000000001\", uri=\"" ++ uri ++ codes "\", response=\""
-    ++ answer_of a1 method uri nonce (Some (protected count))
+    ++ answer_of Md5 a1 method uri nonce (Some (protected count))
     ++ codes "\", algorithm=MD5, cnonce=\"0a4f113b\", qop=auth, nc=" ++ count
 
 -- what it says
 abbrev pub said : List ℕ → List ℕ → List ℕ → List ℕ → Credential
 said a1 method uri count =
-    record { method = method; uri = uri; nonce = nonce; protection = Some (protected count); response = answer_of a1 method uri nonce (Some (protected count)) }
+    record { algorithm = Md5; method = method; uri = uri; nonce = nonce; protection = Some (protected count); response = answer_of Md5 a1 method uri nonce (Some (protected count)) }
 
 -- a request whose one field is this value
 abbrev pub request_with : List ℕ → List ℕ → FieldName → List ℕ → Message

@@ -1,2 +1,5 @@
 pub mod Proof
+pub mod Offer
 pub mod Examples
+pub mod Sha256Examples
+pub mod RealmExamples

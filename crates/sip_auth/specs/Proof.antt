@@ -1,4 +1,4 @@
--- Who a request proves to come from (RFC 2617 3.2.2, 3.3; RFC 3261 22).
+-- Who a request proves to come from (RFC 2617 3.2.2, 3.3; RFC 3261 22; RFC 8760 2).
 use Rattle.std.specs.Prelude.{ℕ, Bool, true, false, ◌&&◌, is_some, if◌then◌else◌, List, [], ◌∷◌, codes, Option, Some, None, find}
 use Rattle.std.specs.Option.{option_and_then}
 use Rattle.std.specs.Result.{result_ok}
@@ -7,6 +7,9 @@ use Rattle.sip_text.specs.Words.{is_same_text}
 use Rattle.sip_uri.specs.declared.uri.Uri.{Uri}
 use Rattle.sip_uri.specs.Equality.{same}
 use Rattle.sip_uri.specs.Reading.{reading_of}
+use Rattle.sip_digest.specs.declared.algorithm.Algorithm.{Algorithm}
+use Rattle.sip_digest.specs.declared.algorithm.Algorithm.TheVariants.{Md5, Sha256}
+use Rattle.sip_digest.specs.Algorithm.{name_of}
 use Rattle.sip_digest.specs.Protection.{Protection}
 use Rattle.sip_digest.specs.Credential.{Credential, count_of}
 use Rattle.sip_digest.specs.Nonces.{worth_of, spent_by}
@@ -57,10 +60,10 @@ pub record Claim : Type 0 where
   pub name : List ℕ
   pub credential : Credential
 
--- the algorithm is MD5, also where none is named (RFC 2617 3.2.1)
-abbrev pub is_md5 : Option (List ℕ) → Bool
-is_md5 None = true
-is_md5 (Some algorithm) = is_same_text algorithm (codes "MD5")
+-- the algorithm of a name, in any case; MD5 where none is named (RFC 2617 3.2.1; RFC 8760 2.1)
+abbrev pub algorithm_of : Option (List ℕ) → Option Algorithm
+algorithm_of None = Some Md5
+algorithm_of (Some name) = if is_same_text name (name_of Md5) then Some Md5 else if is_same_text name (name_of Sha256) then Some Sha256 else None
 
 -- no quality of protection, or `auth` with a count and a nonce of the client's (RFC 2617 3.2.2)
 abbrev pub protection_of : Option (List ℕ) → Option (List ℕ) → Option (List ℕ) → Option (Option Protection)
@@ -68,17 +71,26 @@ protection_of None _ _ = Some None
 protection_of (Some qop) (Some count) (Some client) = if bytes_eq qop (codes "auth") then Some (Some (record { nc = count; cnonce = client })) else None
 protection_of (Some qop) _ _ = None
 
--- a claim with all its parts, or none
-abbrev pub claim_with : List ℕ → Option Protection → Option (List ℕ) → Option (List ℕ) → Option (List ℕ) → Option (List ℕ) → Option Claim
-claim_with method protection (Some name) (Some text) (Some uri) (Some response) =
-    Some (record { name = name; credential = record { method = method; uri = uri; nonce = text; protection = protection; response = response } })
-claim_with method protection _ _ _ _ = None
+-- an algorithm goes without a quality of protection only where RFC 2617 let it: SHA-256 needs one (RFC 7616 3.4)
+abbrev pub is_protected : Algorithm → Option Protection → Bool
+is_protected Md5 protection = true
+is_protected Sha256 protection = is_some protection
 
--- what credentials claim for a request of a method: they have a user's name, a nonce, a URI and a response
+-- a claim with all its parts, or none
+abbrev pub claim_with : List ℕ → Algorithm → Option Protection → Option (List ℕ) → Option (List ℕ) → Option (List ℕ) → Option (List ℕ) → Option Claim
+claim_with method algorithm protection (Some name) (Some text) (Some uri) (Some response) =
+    Some (record { name = name; credential = record { algorithm = algorithm; method = method; uri = uri; nonce = text; protection = protection; response = response } })
+claim_with method algorithm protection _ _ _ _ = None
+
+-- a claim by an algorithm, with a quality of protection where it needs one
+abbrev pub claim_by : List ℕ → Credentials → Algorithm → Option Protection → Option Claim
+claim_by method c algorithm protection =
+    if is_protected algorithm protection then claim_with method algorithm protection c.username c.nonce c.uri c.response else None
+
+-- what credentials claim for a request of a method: they have a user's name, a nonce, a URI and a response, by an algorithm that is known
 abbrev pub claim_of : List ℕ → Credentials → Option Claim
 claim_of method c =
-    if is_md5 c.algorithm then option_and_then (λ protection. claim_with method protection c.username c.nonce c.uri c.response) (protection_of c.qop c.nc c.cnonce)
-    else None
+    option_and_then (λ algorithm. option_and_then (claim_by method c algorithm) (protection_of c.qop c.nc c.cnonce)) (algorithm_of c.algorithm)
 
 -- ---- what it is worth
 
@@ -97,10 +109,20 @@ judged claim Worth.Right = Right claim.name claim.credential
 judged claim Worth.Stale = Stale
 judged claim Worth.Wrong = Wrong
 
+-- the H(A1) of a user by an algorithm; that by SHA-256 isn't configured for each
+abbrev pub key_of : User → Algorithm → Option (List ℕ)
+key_of user Md5 = Some user.a1
+key_of user Sha256 = user.a1_sha256
+
+-- a claim by an H(A1), or none
+abbrev pub proof_with_key : List Nonce → ℕ → Claim → Option (List ℕ) → Proof
+proof_with_key nonces now claim None = Wrong
+proof_with_key nonces now claim (Some a1) = judged claim (worth_of nonces a1 claim.credential now)
+
 -- a claim to be a configured user, or none
 abbrev pub proof_by : List Nonce → ℕ → Claim → Option User → Proof
 proof_by nonces now claim None = Wrong
-proof_by nonces now claim (Some user) = judged claim (worth_of nonces user.a1 claim.credential now)
+proof_by nonces now claim (Some user) = proof_with_key nonces now claim (key_of user claim.credential.algorithm)
 
 -- a claim is for the Request-URI as it came, and has a count of eight digits where it has one
 abbrev pub proof_from : List User → List Nonce → ℕ → List ℕ → Option Claim → Proof

@@ -1,5 +1,9 @@
 //! Whom a request proves to come from: its credentials for this server's realm, the configured user whom they
-//! name, and the nonces that were issued (RFC 2617 3.2.2; RFC 3261 22).
+//! name, and the nonces that were issued (RFC 2617 3.2.2; RFC 3261 22; RFC 8760 2).
 #![tactic(auto)]
 
 pub mod examples;
+pub mod laws;
+mod offer;
+
+pub use offer::offers_sha256;

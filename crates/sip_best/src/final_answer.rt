@@ -2,7 +2,7 @@ use sip_message::Message;
 
 /// The final answer of a branch: its status, and the message that came, without its top Via. No message
 /// came where the answer is made here (RFC 3261 16.7 and 16.8).
-#[derive(Debug, Drop)]
+#[derive(Drop)]
 pub struct Final {
     pub status: u16,
     pub message: Option<Message>,

@@ -1,7 +1,7 @@
 use sip_transaction::Letter;
 
 /// What goes up to the core.
-#[derive(Clone, Copy, Debug, PartialEq, Eq)]
+#[derive(Clone, Copy, PartialEq, Eq)]
 pub enum Report {
     /// The response that came.
     Response,
@@ -12,7 +12,7 @@ pub enum Report {
 }
 
 /// What is to be done for a client transaction.
-#[derive(Clone, Copy, Debug, Default, PartialEq, Eq)]
+#[derive(Clone, Copy, Default, PartialEq, Eq)]
 pub enum Action {
     /// Send the request.
     #[default]

@@ -3,3 +3,4 @@ pub mod Addresses
 pub mod Dialogs
 pub mod Examples
 pub mod DialogError
+pub mod Sameness

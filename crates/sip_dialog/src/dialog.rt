@@ -2,7 +2,7 @@ use sip_text::{Addr, Bytes, Items};
 
 /// What names a dialog (RFC 3261 12): its Call-ID and both tags, as a message of it has them. A From
 /// without a tag has an empty one.
-#[derive(Debug, Drop)]
+#[derive(Drop)]
 pub struct DialogId {
     pub call_id: Bytes,
     pub from_tag: Bytes,
@@ -10,7 +10,7 @@ pub struct DialogId {
 }
 
 /// A dialog (RFC 3261 12).
-#[derive(Debug, Drop)]
+#[derive(Drop)]
 pub struct Dialog {
     /// The INVITE's Call-ID and From tag, and the To tag of the answer that made it known.
     pub id: DialogId,
@@ -25,7 +25,7 @@ pub struct Dialog {
 }
 
 /// What a forwarded answer of 101 to 299 with a To tag tells of the dialog that an INVITE begins.
-#[derive(Debug, Drop)]
+#[derive(Drop)]
 pub struct InviteAnswer {
     /// The INVITE's Call-ID and From tag, and the answer's To tag.
     pub id: DialogId,

@@ -1,4 +1,6 @@
 pub mod Counting
+pub mod Formulas
 pub mod HexNumbers
 pub mod NonceTexts
 pub mod Replays
+pub mod LiveRows

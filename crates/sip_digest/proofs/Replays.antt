@@ -5,9 +5,10 @@ use Rattle.std.specs.Option.{option_and_then, option_map_or}
 use Rattle.std.proofs.lemmas.Bool.Decides.{nat_tests}
 use Rattle.sip_digest.specs.declared.nonces.Nonce.{Nonce}
 use Rattle.sip_digest.specs.declared.nonces.Worth.TheVariants.{Right, Stale, Wrong}
+use Rattle.sip_digest.specs.declared.nonces.Worth.{Worth}
 use Rattle.sip_digest.specs.Credential.{Credential, is_answer, count_of}
 use Rattle.sip_digest.specs.NonceText.{word_of}
-use Rattle.sip_digest.specs.Nonces.{is_this, counted, standing, worth_of, spent_by}
+use Rattle.sip_digest.specs.Nonces.{is_this, counted, standing, row_of, worth_of, spent_by}
 use Rattle.sip_digest.proofs.Counting.{with_count}
 
 found_here : (b : Bool) (word count now : ℕ) (row : Nonce) (rows : List Nonce) (r : Nonce) → is_this word now row ≡ b
@@ -36,13 +37,32 @@ uncounted : (o : Option Nonce) → standing o None ≡ Right → ⊥
 uncounted None right = absurd cc
 uncounted (Some r) right = absurd cc
 
-stale_by : (answer : Bool) (word count : Option ℕ) (rows : List Nonce) (now : ℕ)
-    → cond answer (standing (option_and_then (λ w. find (is_this w now) rows) word) count) Wrong ≡ Right
-    → cond answer (standing (option_and_then (λ w. find (is_this w now) (option_map_or (λ n. option_map_or (λ w'. counted w' n rows now) word rows) count rows)) word) count) Wrong ≡ Stale
-stale_by false word count rows now right = absurd cc
-stale_by true None count rows now right = absurd cc
-stale_by true (Some w) None rows now right = absurd (uncounted (find (is_this w now) rows) right)
-stale_by true (Some w) (Some n) rows now right = stale_where (find (is_this w now) rows) w n now rows refl right
+-- the count of a live nonce is stale once it was written
+stale_standing : (word count : Option ℕ) (rows : List Nonce) (now : ℕ)
+    → standing (option_and_then (λ w. find (is_this w now) rows) word) count ≡ Right
+    → standing (option_and_then (λ w. find (is_this w now) (option_map_or (λ n. option_map_or (λ w'. counted w' n rows now) word rows) count rows)) word) count ≡ Stale
+stale_standing None count rows now right = absurd cc
+stale_standing (Some w) None rows now right = absurd (uncounted (find (is_this w now) rows) right)
+stale_standing (Some w) (Some n) rows now right = stale_where (find (is_this w now) rows) w n now rows refl right
+
+answered_right : (answer : Bool) (worth : Worth) → cond answer worth Wrong ≡ Right → (answer ≡ true) × (worth ≡ Right)
+answered_right true worth right = (refl, right)
+answered_right false worth right = absurd cc
+
+-- the same of the credential that was accepted
+stale_for : (rows : List Nonce) (a1 : List ℕ) (c : Credential) (now : ℕ) → worth_of rows a1 c now ≡ Right → standing (row_of (spent_by rows c now) c.nonce now) (count_of c) ≡ Stale
+stale_for rows a1 c now right =
+    stale_standing (word_of c.nonce) (count_of c) rows now (answered_right (is_answer a1 c) _ right).1
 
 pub stale_once_spent : (rows : List Nonce) (a1 : List ℕ) (c : Credential) (now : ℕ) → worth_of rows a1 c now ≡ Right → worth_of (spent_by rows c now) a1 c now ≡ Stale
-stale_once_spent rows a1 c now right = stale_by (is_answer a1 c) (word_of c.nonce) (count_of c) rows now right
+stale_once_spent rows a1 c now right =
+    let answers = (answered_right (is_answer a1 c) _ right).0 in rw answers (stale_for rows a1 c now right)
+
+not_right : (answer : Bool) (worth : Worth) → worth ≡ Stale → cond answer worth Wrong ≡ Right → ⊥
+not_right true worth stale right = absurd cc
+not_right false worth stale right = absurd cc
+
+pub counts_once : (rows : List Nonce) (a1 b1 : List ℕ) (c d : Credential) (now : ℕ) → d.nonce ≡ c.nonce → count_of d ≡ count_of c
+    → worth_of rows a1 c now ≡ Right → worth_of (spent_by rows c now) b1 d now ≡ Right → ⊥
+counts_once rows a1 b1 c d now nonce count right =
+    not_right (is_answer b1 d) _ (rw (nonce, count) (stale_for rows a1 c now right))

@@ -1,13 +1,15 @@
--- What a request says to prove its user (RFC 2617 3.2.2).
+-- What a request says to prove its user (RFC 2617 3.2.2; RFC 8760 2.4).
 use Rattle.std.specs.Prelude.{ℕ, Bool, ◌==◌, if◌then◌else◌, List, length, Option, Some, None}
 use Rattle.std.specs.Str.{bytes_eq}
 use Rattle.sip_digest.specs.Protection.{Protection, seen}
 use Rattle.sip_digest.specs.Answers.{answer_of}
 use Rattle.sip_digest.specs.NonceText.{hex_number_of}
+use Rattle.sip_digest.specs.declared.algorithm.Algorithm.{Algorithm}
 use Rattle.sip_digest.specs.declared.credential.Credential.{Credential as Given}
 
--- a request's method, and of its credential the URI, nonce, quality of protection and response
+-- of a credential the algorithm, URI, nonce, quality of protection and response, and its request's method
 pub record Credential : Type 0 where
+  pub algorithm : Algorithm
   pub method : List ℕ
   pub uri : List ℕ
   pub nonce : List ℕ
@@ -16,11 +18,11 @@ pub record Credential : Type 0 where
 
 -- the bytes of a credential that a call is given
 abbrev pub shown : Given → Credential
-shown c = record { method = c.method.now; uri = c.uri.now; nonce = c.nonce.now; protection = seen c.protection; response = c.response.now }
+shown c = record { algorithm = c.algorithm; method = c.method.now; uri = c.uri.now; nonce = c.nonce.now; protection = seen c.protection; response = c.response.now }
 
--- whether the response is, byte by byte, the answer of the user of this H(A1)
+-- whether the response is, byte by byte, the answer of the user of this H(A1), which is of the same algorithm
 abbrev pub is_answer : List ℕ → Credential → Bool
-is_answer a1 c = bytes_eq c.response (answer_of a1 c.method c.uri c.nonce c.protection)
+is_answer a1 c = bytes_eq c.response (answer_of c.algorithm a1 c.method c.uri c.nonce c.protection)
 
 -- the number in eight hexadecimal digits, in either case; other text counts nothing (RFC 2617 3.2.2)
 abbrev pub count_in : List ℕ → Option ℕ

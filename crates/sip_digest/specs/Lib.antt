@@ -1,3 +1,4 @@
+pub mod Algorithm
 pub mod Protection
 pub mod Answers
 pub mod NonceText

@@ -1,6 +1,6 @@
 -- The nonces that were issued (RFC 2617 3.2.1; their life and number are this project's profile).
 -- Rows of nonces stand in the order in which they were issued, the oldest first.
-use Rattle.std.specs.Prelude.{◌≡◌, ℕ, ◌-◌, ◌<◌, Bool, ◌&&◌, ◌==◌, nat_lt, if◌then◌else◌, List, [], ◌∷◌, ◌++◌, Option, Some, None, find}
+use Rattle.std.specs.Prelude.{◌≡◌, ℕ, ◌-◌, ◌<◌, ◌≤◌, Bool, ◌&&◌, ◌==◌, nat_lt, if◌then◌else◌, List, [], ◌∷◌, ◌++◌, Option, Some, None, find, count_by}
 use Rattle.std.specs.List.{list_any}
 use Rattle.std.specs.Option.{option_and_then, option_map_or}
 use Rattle.circular_buffer.specs.Buffer.{keep_last}
@@ -25,6 +25,10 @@ IsNonceOf word now row = (row.word ≡ word) × IsLive now row
 -- the same as a test
 abbrev pub is_this : ℕ → ℕ → Nonce → Bool
 is_this word now row = row.word == word && is_live now row
+
+-- at most one row of each word lives: `one_live_row` says that it stays so, and that the first live row of a word is then its newest
+abbrev pub HasOneLive : ℕ → List Nonce → Type 0
+HasOneLive now rows = (word : ℕ) → count_by (is_this word now) rows ≤ 1
 
 -- the rows after a word is issued: a live nonce of the word stays as it is, else a new one comes last,
 -- and the last 4,096 are kept

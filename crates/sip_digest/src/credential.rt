@@ -1,14 +1,17 @@
 ghost use Rattle.std.specs.Prelude.{◌≡◌};
+ghost use Rattle.std.specs.Str.{bytes_eq};
 ghost use Rattle.sip_digest.specs.Credential.{shown, is_answer, count_of, count_in};
 
-use crate::answers::answer;
+use crate::algorithm::Algorithm;
+use crate::answers::{answer, answer_sha256};
 use crate::nonce_texts::hex_number;
 use crate::protection::Protection;
 
-/// What a request says to prove its user: its method, the `uri`, `nonce` and `response` of its
-/// credentials, and their quality of protection, if they name one (RFC 2617 3.2.2).
+/// What a request says to prove its user: its method, the algorithm, `uri`, `nonce` and `response` of its
+/// credentials, and their quality of protection, if they name one (RFC 2617 3.2.2; RFC 8760 2.4).
 #[derive(Clone, Copy)]
 pub struct Credential<'a> {
+    pub algorithm: Algorithm,
     pub method: &'a [u8],
     pub uri: &'a [u8],
     pub nonce: &'a [u8],
@@ -17,12 +20,31 @@ pub struct Credential<'a> {
 }
 
 impl Credential<'_> {
-    /// Whether the response is, byte by byte, the answer of the user of this `a1`.
+    /// Whether the response is, byte by byte, the answer of the user of this `a1`, which is of the
+    /// credential's algorithm.
     pub fn is_answer(&self, a1: &[u8]) -> bool
         ensures { result ≡ is_answer a1.now (shown self.now) }
     {
-        let expected = answer(a1, self.method, self.uri, self.nonce, self.protection);
-        self.response == expected.as_slice()
+        let Credential {
+            method,
+            uri,
+            nonce,
+            protection,
+            ..
+        } = *self;
+        match self.algorithm {
+            Algorithm::Md5 => self.is_response(&answer(a1, method, uri, nonce, protection)),
+            Algorithm::Sha256 => self.is_response(&answer_sha256(
+                a1, method, uri, nonce, protection,
+            )),
+        }
+    }
+
+    /// Whether the response is this text, byte by byte.
+    fn is_response(&self, text: &[u8]) -> bool
+        ensures { result ≡ bytes_eq self.now.response.now text.now }
+    {
+        self.response == text
     }
 
     /// Which use of the nonce this is: the number in `nc`, if that is eight hexadecimal digits, and 1

@@ -7,6 +7,7 @@ pub mod Reply
 pub mod ReceivedRequest
 pub mod Examples
 pub mod OwnVia
+pub mod BranchId
 pub mod Onward
 pub mod OwnRequests
 pub mod OnwardExamples

@@ -1,6 +1,6 @@
 -- The requests that this server makes: ACK of a final answer that is no 2xx, and CANCEL.
-use Rattle.std.specs.Prelude.{ℕ, List, [], ◌∷◌, ◌++◌, decimal, codes, Option, Some, None}
-use Rattle.std.specs.Option.{option_and_then}
+use Rattle.std.specs.Prelude.{ℕ, List, [], ◌∷◌, ◌++◌, decimal, codes, Option, Some, None, option_map}
+use Rattle.std.specs.Option.{option_and_then, option_to_list}
 use Rattle.sip_message.specs.declared.field_name.FieldName.TheVariants as Name
 use Rattle.sip_message.specs.declared.field.Field.{Field}
 use Rattle.sip_message.specs.declared.message.Start.TheVariants.{Request}
@@ -29,9 +29,17 @@ abbrev pub request_like : List ℕ → List Field → Message → Message
 request_like method to sent =
     record { start = Request method (request_uri sent.start) (codes "SIP/2.0"); fields = fields_like method to sent.fields; body = [] }
 
+-- a To of this value, if there is one
+abbrev pub to_field : Option (List ℕ) → List Field
+to_field to = option_to_list (option_map (λ value. record { name = Name.To; value = value }) to)
+
+-- the ACK of a final answer with this To, if that had one, to an INVITE that was sent (RFC 3261 17.1.1.3)
+abbrev pub ack_with : Option (List ℕ) → Message → Message
+ack_with to sent = request_like (codes "ACK") (to_field to) sent
+
 -- the ACK of a response to an INVITE that was sent: its To is the response's, if that has one (RFC 3261 17.1.1.3)
 abbrev pub ack_of : Message → Message → Message
-ack_of sent response = request_like (codes "ACK") (first_of Name.To response.fields) sent
+ack_of sent response = ack_with (first_value Name.To response.fields) sent
 
 -- the CANCEL of a request that was sent (RFC 3261 9.1)
 abbrev pub cancel_of : Message → Message

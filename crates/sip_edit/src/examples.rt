@@ -1,5 +1,7 @@
-ghost use Rattle.std.specs.Prelude.{◌≡◌, codes, length, []};
+ghost use Rattle.std.specs.Prelude.{◌≡◌, ◌∷◌, codes, length, [], true};
 ghost use Rattle.sip_message.specs.Text.{text_of};
+ghost use Rattle.sip_message.specs.declared.field_name.FieldName.TheVariants as Name;
+ghost use Rattle.sip_edit.specs.Challenges.{challenge_fields};
 ghost use Rattle.sip_edit.specs.Examples;
 ghost use Rattle.sip_edit.specs.ReceivedRequest.{response_address};
 ghost use Rattle.sip_edit.specs.TopVia.{received_via};
@@ -48,6 +50,16 @@ pub fn timestamp_example()
 pub fn challenge_example()
     ensures text { text_of Examples.challenged ≡ Examples.challenged_text }
     ensures length { length Examples.challenged_text ≡ 348 }
+{}
+
+/// The same where SHA-256 is offered; a stale one says so in both fields.
+pub fn two_challenges_example()
+    ensures text { text_of (Examples.challenged_by (Examples.first_challenge true)) ≡ Examples.challenged_twice_text }
+    ensures length { length Examples.challenged_twice_text ≡ 474 }
+    ensures stale { challenge_fields Name.ProxyAuthenticate true (codes "r") (codes "n") true
+        ≡ record { name = Name.ProxyAuthenticate; value = codes "Digest realm=\"r\", nonce=\"n\", algorithm=SHA-256, qop=\"auth\", stale=true" }
+        ∷ record { name = Name.ProxyAuthenticate; value = codes "Digest realm=\"r\", nonce=\"n\", algorithm=MD5, qop=\"auth\", stale=true" }
+        ∷ [] }
 {}
 
 /// The tag of the first datagram after the boot word 0.

@@ -6,6 +6,7 @@ use Rattle.std.specs.Str.{bytes_eq}
 use Rattle.sip_text.specs.Words.{is_same_text}
 use Rattle.sip_uri.specs.Uri.{text_of}
 use Rattle.sip_uri.specs.Reading.{reading_of}
+use Rattle.sip_digest.specs.declared.algorithm.Algorithm.TheVariants.{Md5}
 use Rattle.sip_digest.specs.Credential.{Credential, count_of}
 use Rattle.sip_digest.specs.Nonces.{worth_of}
 use Rattle.sip_digest.specs.declared.nonces.Nonce.{Nonce}
@@ -65,10 +66,10 @@ claim_of c =
     if is_md5 c.algorithm then option_and_then (λ quality. claim_from quality c.username c.nonce c.uri c.response) (quality_of c.qop c.nc c.cnonce)
     else None
 
--- a claim on a request of a method
+-- a claim on a request of a method; it is by MD5, as each is for now
 abbrev pub credential_of : List ℕ → Claim → Credential
 credential_of method c =
-    record { method = method; uri = c.uri; nonce = c.nonce; protection = option_map (λ q. record { nc = q.nc; cnonce = q.cnonce }) c.quality; response = c.response }
+    record { algorithm = Md5; method = method; uri = c.uri; nonce = c.nonce; protection = option_map (λ q. record { nc = q.nc; cnonce = q.cnonce }) c.quality; response = c.response }
 
 abbrev pub same_text : Option (List ℕ) → Option (List ℕ) → Bool
 same_text (Some left) (Some right) = bytes_eq left right

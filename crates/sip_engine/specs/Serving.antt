@@ -1,6 +1,7 @@
 -- What the bytes of a datagram call for, with the narrow rules that hold for now: a REGISTER is served, and nothing else.
 use Rattle.std.specs.Prelude.{ℕ, ◌+◌, ◌-◌, ◌/◌, ◌&&◌, Bool, true, false, not, nat_le, if◌then◌else◌, List, [], ◌∷◌, ◌++◌, map, length, find, codes, Option, Some, None, Result, Ok, Err}
 use Rattle.std.specs.Str.{bytes_eq}
+use Rattle.sip_digest.specs.declared.algorithm.Algorithm.TheVariants.{Md5}
 use Rattle.sip_digest.specs.NonceText.{nonce_text}
 use Rattle.sip_digest.specs.Nonces.{issued, spent_by}
 use Rattle.sip_message.specs.declared.field_name.FieldName.TheVariants as Name
@@ -51,9 +52,9 @@ replied word a m key status extras t =
 
 -- ---- a REGISTER
 
--- a challenge (RFC 3261 22.1)
+-- a challenge, by MD5 alone for now (RFC 3261 22.1)
 abbrev pub challenge_field : Config → Arrival → Bool → Field
-challenge_field config a stale = record { name = Name.WwwAuthenticate; value = challenge config.realm (nonce_text a.word) stale }
+challenge_field config a stale = record { name = Name.WwwAuthenticate; value = challenge Md5 config.realm (nonce_text a.word) stale }
 
 -- a 401 with a nonce that is issued for it; nothing is bound
 abbrev pub challenged : Config → ℕ → Arrival → Message → Key → Bool → Tables → List Packet × Tables

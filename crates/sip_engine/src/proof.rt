@@ -6,7 +6,7 @@ ghost use Rattle.sip_header.specs.Credentials as Said;
 ghost use Rattle.sip_policy.specs.User.{is_named};
 ghost use Rattle.sip_engine.specs.Proof.{is_realm, matching, first_for_realm, is_md5, quality_of, claim_from, claim_of, credential_of, written, is_same_uri, judged, proof_by, proof_from, proof_in, proof_of};
 
-use sip_digest::{Nonces, Worth};
+use sip_digest::{Algorithm, Nonces, Worth};
 use sip_header::{Credentials, HeaderError, credentials_of};
 use sip_message::{FieldName, Fields, Message, Start};
 use sip_policy::User;
@@ -53,6 +53,7 @@ impl Claim {
             None => None,
         };
         sip_digest::Credential {
+            algorithm: Algorithm::Md5,
             method,
             uri: self.uri.as_slice(),
             nonce: self.nonce.as_slice(),

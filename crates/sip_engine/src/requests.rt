@@ -16,7 +16,7 @@ use std::marker::Model;
 
 /// A request that is open: what identifies its server transaction, where its answers go, the number of
 /// the datagram that brought it, its last answer, and the moment at which it closes, in milliseconds.
-#[derive(Debug, Drop)]
+#[derive(Drop)]
 pub struct OpenRequest {
     pub key: Key,
     pub source: Addr,
@@ -26,7 +26,7 @@ pub struct OpenRequest {
 }
 
 /// A request that has its final answer, whose status is 200 to 699.
-#[derive(Debug, Drop)]
+#[derive(Drop)]
 pub struct Answered {
     pub key: Key,
     pub source: Addr,

@@ -13,7 +13,7 @@ use crate::proof::{Claim, Proof, proof_of};
 use crate::registration::{Registration, registration_of};
 use crate::requests::{Answered, Requests};
 use crate::tables::{Arrival, Tables};
-use sip_digest::nonce_text;
+use sip_digest::{Algorithm, nonce_text};
 use sip_edit::{challenge, contact_value, received, respond, response_address, to_tag};
 use sip_event::Packet;
 use sip_header::{Key, key_of};
@@ -106,7 +106,13 @@ fn challenge_field(
     ensures { IfOk result (λ field. field ≡ challenge_field config.now arrival stale) }
 {
     let nonce = nonce_text(arrival.word);
-    let value = challenge(alloc, config.realm.as_slice(), nonce.as_slice(), stale)?;
+    let value = challenge(
+        alloc,
+        Algorithm::Md5,
+        config.realm.as_slice(),
+        nonce.as_slice(),
+        stale,
+    )?;
     Ok(Field {
         name: FieldName::WwwAuthenticate,
         value,

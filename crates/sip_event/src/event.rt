@@ -4,14 +4,14 @@ use sip_text::{Addr, Bytes, Items};
 
 /// What a server starts with: the word that its branches and To tags begin with, and the number of its
 /// first datagram.
-#[derive(Clone, Copy, Debug, PartialEq, Eq)]
+#[derive(Clone, Copy, PartialEq, Eq)]
 pub struct Boot {
     pub word: u64,
     pub first: u64,
 }
 
 /// What happens to a server, at a moment in milliseconds.
-#[derive(Debug, Drop)]
+#[derive(Drop)]
 pub enum Event {
     /// A datagram came from an address. The word makes the nonce of a challenge.
     Datagram {
@@ -33,7 +33,7 @@ pub enum Event {
 
 /// What a step puts out: the moment at which it stood, in milliseconds, its packets, in the order in
 /// which they are to be sent, and its records.
-#[derive(Debug, Drop)]
+#[derive(Drop)]
 pub struct StepOut {
     pub at: u64,
     pub packets: Items<Packet>,

@@ -2,14 +2,14 @@ use sip_text::{Addr, Bytes};
 
 /// To which request a packet belongs: the number of the datagram that brought the request, and the
 /// number of the branch, from 1; 0 names a packet that isn't a branch's request.
-#[derive(Clone, Copy, Debug, PartialEq, Eq)]
+#[derive(Clone, Copy, PartialEq, Eq)]
 pub struct Ticket {
     pub datagram: u64,
     pub branch: u32,
 }
 
 /// A datagram that is handed out, to be sent to an address.
-#[derive(Debug, Drop)]
+#[derive(Drop)]
 pub struct Packet {
     pub to: Addr,
     pub bytes: Bytes,

@@ -37,3 +37,7 @@ register_with more = record { start = Request (codes "REGISTER") (codes "sip:hos
 -- the same with a CSeq
 abbrev pub register_numbered : List ℕ → Message
 register_numbered cseq = register_with (record { name = Name.CSeq; value = cseq } ∷ [])
+
+-- a request of a method whose one field is this Via
+abbrev pub request_by : List ℕ → List ℕ → Message
+request_by method via = record { start = Request method (codes "sip:help@host.com") (codes "SIP/2.0"); fields = record { name = Name.Via; value = via } ∷ []; body = [] }

@@ -9,13 +9,24 @@ use sip_text::Bytes;
 use std::alloc::Global;
 
 /// The fields that every message needs (RFC 3261 8.1.1).
-#[derive(Debug, Drop)]
 pub struct CoreFields {
     pub from: NameAddr,
     pub to: NameAddr,
     /// Not empty.
     pub call_id: Bytes,
     pub cseq: CSeq,
+}
+
+/// Written out, so that it is proved once and not wherever these fields are dropped.
+impl Drop for CoreFields {
+    fn drop(self) {
+        let CoreFields {
+            from: _,
+            to: _,
+            call_id: _,
+            cseq: _,
+        } = self;
+    }
 }
 
 /// The one value of a field.

@@ -1,4 +1,4 @@
-ghost use Rattle.std.specs.Prelude.{◌≡◌, IfOk, option_map};
+ghost use Rattle.std.specs.Prelude.{◌≡◌, IfOk, OnOk, option_map};
 ghost use Rattle.sip_text.specs.Cuts.{parts_at};
 ghost use Rattle.sip_header.specs.Credentials.{value_said, item_from, item_in, items_in, item_value, names_differ, credentials_from, from_items, credentials_of};
 ghost use Rattle.sip_header.specs.Reading.{Reads};
@@ -12,7 +12,7 @@ use sip_text::{
 use std::alloc::{AllocError, Global};
 
 /// What Digest credentials say (RFC 2617 3.2.2), without quotes. Nothing is checked but their form.
-#[derive(Debug, Drop)]
+#[derive(Drop)]
 pub struct Credentials {
     pub username: Option<Bytes>,
     pub realm: Option<Bytes>,
@@ -121,20 +121,32 @@ fn copied_value(alloc: Global, items: &[Item], name: &[u8]) -> Result<Option<Byt
     }
 }
 
-fn credentials_from(alloc: Global, items: &[Item]) -> Result<Credentials, AllocError>
-    ensures { IfOk result (λ credentials. credentials ≡ credentials_from items.now) }
+/// Puts the value of the first item of a name into its place.
+fn put_value(
+    alloc: Global,
+    items: &[Item],
+    name: &[u8],
+    place: &mut Option<Bytes>,
+) -> Result<(), AllocError>
+    ensures { OnOk result (place.new ≡ item_value name.now items.now) }
 {
-    Ok(Credentials {
-        username: copied_value(alloc, items, b"username")?,
-        realm: copied_value(alloc, items, b"realm")?,
-        nonce: copied_value(alloc, items, b"nonce")?,
-        uri: copied_value(alloc, items, b"uri")?,
-        response: copied_value(alloc, items, b"response")?,
-        algorithm: copied_value(alloc, items, b"algorithm")?,
-        qop: copied_value(alloc, items, b"qop")?,
-        nc: copied_value(alloc, items, b"nc")?,
-        cnonce: copied_value(alloc, items, b"cnonce")?,
-    })
+    *place = copied_value(alloc, items, name)?;
+    Ok(())
+}
+
+/// Puts the values of the items into their places.
+fn put_values(alloc: Global, items: &[Item], places: &mut Credentials) -> Result<(), AllocError>
+    ensures { OnOk result (places.new ≡ credentials_from items.now) }
+{
+    put_value(alloc, items, b"username", &mut places.username)?;
+    put_value(alloc, items, b"realm", &mut places.realm)?;
+    put_value(alloc, items, b"nonce", &mut places.nonce)?;
+    put_value(alloc, items, b"uri", &mut places.uri)?;
+    put_value(alloc, items, b"response", &mut places.response)?;
+    put_value(alloc, items, b"algorithm", &mut places.algorithm)?;
+    put_value(alloc, items, b"qop", &mut places.qop)?;
+    put_value(alloc, items, b"nc", &mut places.nc)?;
+    put_value(alloc, items, b"cnonce", &mut places.cnonce)
 }
 
 fn credentials_of_items(alloc: Global, items: &[Item]) -> Result<Option<Credentials>, AllocError>
@@ -143,7 +155,19 @@ fn credentials_of_items(alloc: Global, items: &[Item]) -> Result<Option<Credenti
     if !all_names_differ(items) {
         return Ok(None);
     }
-    Ok(Some(credentials_from(alloc, items)?))
+    let mut credentials = Credentials {
+        username: None,
+        realm: None,
+        nonce: None,
+        uri: None,
+        response: None,
+        algorithm: None,
+        qop: None,
+        nc: None,
+        cnonce: None,
+    };
+    put_values(alloc, items, &mut credentials)?;
+    Ok(Some(credentials))
 }
 
 /// What the value of a field of credentials says, None where it is malformed.

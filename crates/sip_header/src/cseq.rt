@@ -8,7 +8,7 @@ use sip_text::{Bytes, decimal, is_token, split_word};
 use std::alloc::{AllocError, Global};
 
 /// What a CSeq says.
-#[derive(Debug, Drop)]
+#[derive(Drop)]
 pub struct CSeq {
     /// Below 2^31.
     pub number: u32,

@@ -1,5 +1,5 @@
 /// How long something is to last: what an Expires field, or the `expires` of a contact, says (RFC 3261 20.19, 20.10).
-#[derive(Clone, Copy, Debug, PartialEq, Eq)]
+#[derive(Clone, Copy, PartialEq, Eq)]
 pub enum Expires {
     /// Nothing is said.
     Absent,

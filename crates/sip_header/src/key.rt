@@ -9,7 +9,7 @@ use sip_text::{Bytes, lower_case};
 use std::alloc::{AllocError, Global};
 
 /// What a request's server transaction is found by (RFC 3261 17.2.3).
-#[derive(Debug, Drop)]
+#[derive(Drop)]
 pub struct Key {
     /// The branch of the top Via, with the magic cookie.
     pub branch: Bytes,

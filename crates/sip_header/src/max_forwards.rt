@@ -1,5 +1,5 @@
 /// What the Max-Forwards of a message says (RFC 3261 20.22).
-#[derive(Clone, Copy, Debug, PartialEq, Eq)]
+#[derive(Clone, Copy, PartialEq, Eq)]
 pub enum MaxForwards {
     /// There is no such field.
     Absent,

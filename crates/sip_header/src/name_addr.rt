@@ -15,7 +15,7 @@ use sip_uri::{Uri, UriError, parse_uri};
 use std::alloc::{AllocError, Global};
 
 /// A URI of any scheme.
-#[derive(Debug, Drop)]
+#[derive(Drop)]
 pub enum AnyUri {
     Sip(Uri),
     /// One of another scheme than `sip` and `sips`, as it was written.
@@ -23,10 +23,19 @@ pub enum AnyUri {
 }
 
 /// A URI with header parameters. A display name is read and not kept.
-#[derive(Debug, Drop)]
 pub struct NameAddr {
     pub uri: AnyUri,
     pub parameters: Items<Parameter>,
+}
+
+/// Written out, so that it is proved once and not wherever an address is dropped.
+impl Drop for NameAddr {
+    fn drop(self) {
+        let NameAddr {
+            uri: _,
+            parameters: _,
+        } = self;
+    }
 }
 
 fn is_opaque_byte(byte: u8) -> bool

@@ -12,7 +12,7 @@ use sip_uri::is_host;
 use std::alloc::{AllocError, Global};
 
 /// A header parameter: its name, and its value as it was written, quotes included.
-#[derive(Debug, Drop)]
+#[derive(Drop)]
 pub struct Parameter {
     pub name: Bytes,
     pub value: Option<Bytes>,

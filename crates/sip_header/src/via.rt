@@ -12,7 +12,6 @@ use sip_uri::host_port;
 use std::alloc::{AllocError, Global};
 
 /// What a Via says.
-#[derive(Debug, Drop)]
 pub struct Via {
     pub transport: Bytes,
     /// The host of sent-by, as it was written.
@@ -20,6 +19,18 @@ pub struct Via {
     /// The port of sent-by, if there is one.
     pub port: Option<u16>,
     pub parameters: Items<Parameter>,
+}
+
+/// Written out, so that it is proved once and not wherever a Via is dropped.
+impl Drop for Via {
+    fn drop(self) {
+        let Via {
+            transport: _,
+            host: _,
+            port: _,
+            parameters: _,
+        } = self;
+    }
 }
 
 /// A Via without its parameters.

@@ -1,7 +1,7 @@
 use sip_text::{Bytes, Items};
 
 /// Where a request goes once this server's own part of its way is taken off (RFC 3261 16.4).
-#[derive(Debug, Drop)]
+#[derive(Drop)]
 pub struct Way {
     /// The Request-URI.
     pub uri: Bytes,

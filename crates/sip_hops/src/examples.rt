@@ -36,8 +36,9 @@ pub fn parameters_of_an_address()
     ensures lr { address_of sample_addresses (with_parameter pc (record { name = codes "lr"; value = None })) ≡ Some (local 5091) }
 {}
 
-/// The sample's hop `gw` is at 127.0.0.1:5090; names are compared with case.
-pub fn hop_named()
-    ensures gw { hop_of sample_hops (codes "gw") ≡ Some (local 5090) }
-    ensures other { hop_of sample_hops (codes "GW") ≡ None }
+/// The sample's hop, `gw`, is at 127.0.0.1:5090, and there is no second. Of two, each is at its own place.
+pub fn hop_at_a_place()
+    ensures gw { hop_of sample_hops 0 ≡ Some (local 5090) }
+    ensures no_second { hop_of sample_hops 1 ≡ None }
+    ensures second { hop_of (record { name = codes "pbx"; address = local 5092 } ∷ sample_hops) 1 ≡ Some (local 5090) }
 {}

@@ -1,6 +1,7 @@
 use sip_text::{Addr, Bytes};
 
-/// A hop that rules name, as a gateway to another network. No two of a list have one name.
+/// A hop to which rules send, as a gateway to another network. No two of a list have one name; who reads a
+/// configuration turns the name in a rule into a place of the list.
 #[derive(Debug, Drop)]
 pub struct Hop {
     pub name: Bytes,

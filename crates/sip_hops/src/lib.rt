@@ -1,4 +1,4 @@
-//! Addresses of the next hop: the configured tables that give the address of a URI and of a named hop. A
+//! Addresses of the next hop: the configured tables that give the address of a URI and of a hop. A
 //! table stands in for DNS (RFC 3263).
 #![tactic(auto)]
 

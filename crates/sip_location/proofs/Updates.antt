@@ -23,14 +23,14 @@ use Rattle.sip_location.proofs.Filters.{all_filtered, all_weaker, each_passes, f
 
 -- ---- addresses of record
 
-same_is : (left right : Aor) → is_same_aor left right ≡ true → left ≡ right
+pub same_is : (left right : Aor) → is_same_aor left right ≡ true → left ≡ right
 same_is left right e =
     let user : bytes_eq left.user right.user ≡ true = grind (arith, nat_tests) in
     let host : bytes_eq left.host right.host ≡ true = grind (arith, nat_tests) in
     let first : left ≡ record { user = right.user; host = left.host } = ap (λ u. record { user = u; host = left.host }) ((bytes_eq-Decides left.user right.user).0 user) in
     first ∙ ap (λ h. record { user = right.user; host = h }) ((bytes_eq-Decides left.host right.host).0 host)
 
-same_itself : (aor : Aor) → is_same_aor aor aor ≡ true
+pub same_itself : (aor : Aor) → is_same_aor aor aor ≡ true
 same_itself aor =
     let user = (bytes_eq-Decides aor.user aor.user).1 refl in
     let host = (bytes_eq-Decides aor.host aor.host).1 refl in

@@ -84,3 +84,20 @@ sixteen_contacts = map (λ letter. user_at (codes "Mufasa") (letter ∷ [])) (co
 
 abbrev pub sixteen_bindings : List Binding
 sixteen_bindings = map (binding_by (codes "c1") 1) sixteen_contacts
+
+-- the live bindings of an address of record at a moment, after a REGISTER at 1,000
+abbrev pub live_after : Aor → ℕ → List Binding → Registration → Result (List Binding) LocationError
+live_after aor moment rows r = result_map_both (λ after. live aor moment after) (λ e. e) (registered rows r 1000)
+
+-- a binding of alice's
+abbrev pub alices_binding : Uri → ℕ → Binding
+alices_binding uri expires_at = record { aor = alice; uri = uri; call_id = codes "c7"; cseq = 4; expires_at = expires_at }
+
+-- Mufasa's two bindings between two of alice's, of which the first expires at 1,000
+abbrev pub beside_alice : List Binding
+beside_alice =
+    alices_binding second_contact 1000
+    ∷ binding_by (codes "c1") 2 first_contact
+    ∷ binding_by (codes "c9") 5 second_contact
+    ∷ alices_binding first_contact 3601000
+    ∷ []

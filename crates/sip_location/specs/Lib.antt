@@ -4,3 +4,4 @@ pub mod Registration
 pub mod Examples
 pub mod LocationError
 pub mod Registering
+pub mod Sameness

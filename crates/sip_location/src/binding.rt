@@ -4,7 +4,7 @@ use sip_uri::{Aor, Uri};
 /// A binding: an address of record, the URI of a contact where its user can be reached, the Call-ID and
 /// the CSeq number of the REGISTER that made it, and the moment at which it expires, in milliseconds
 /// (RFC 3261 10.3).
-#[derive(Debug, Drop)]
+#[derive(Drop)]
 pub struct Binding {
     pub aor: Aor,
     pub uri: Uri,

@@ -3,7 +3,7 @@ use sip_text::{Bytes, Items};
 use sip_uri::Aor;
 
 /// What a registrar reads of a REGISTER (RFC 3261 10.3). Without contacts it is a query.
-#[derive(Debug, Drop)]
+#[derive(Drop)]
 pub struct Registration {
     /// The address of record that To names.
     pub aor: Aor,

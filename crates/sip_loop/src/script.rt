@@ -13,7 +13,7 @@ use std::alloc::{AllocError, Global};
 const TOO_LARGE: u64 = 0x4000_0000_0000_0000;
 
 /// A datagram without its bytes: the moment in milliseconds, the word of a nonce, and the source.
-#[derive(Clone, Copy, Debug, PartialEq, Eq)]
+#[derive(Clone, Copy, PartialEq, Eq)]
 pub struct DatagramHead {
     pub at: u64,
     pub word: u128,
@@ -21,7 +21,7 @@ pub struct DatagramHead {
 }
 
 /// What the first line of an event says.
-#[derive(Debug, Drop)]
+#[derive(Drop)]
 pub enum Line {
     /// A datagram whose bytes stand in the lines that follow.
     Head(DatagramHead),

@@ -7,7 +7,7 @@ use sip_engine::StepError;
 use std::alloc::{AllocError, AllocFailed};
 
 /// Why an event wasn't replayed.
-#[derive(Clone, Copy, Debug, PartialEq, Eq)]
+#[derive(Clone, Copy, PartialEq, Eq)]
 pub enum Stop {
     NoMemory,
     /// Its lines aren't an event, or its step was refused.

@@ -6,7 +6,7 @@ use sip_text::{Bytes, same_no_case};
 use std::alloc::{AllocError, Global};
 
 /// The name of a field: one that this project knows (RFC 3261 20), or any other as it was written.
-#[derive(Clone, Debug, Drop)]
+#[derive(Clone, Debug)]
 pub enum FieldName {
     Via,
     From,
@@ -34,6 +34,40 @@ pub enum FieldName {
     MinExpires,
     Timestamp,
     Other(Bytes),
+}
+
+/// Written out, so that it is proved once and not wherever a name is dropped.
+impl Drop for FieldName {
+    fn drop(self) {
+        match self {
+            FieldName::Other(_) => {}
+            FieldName::Via
+            | FieldName::From
+            | FieldName::To
+            | FieldName::CallId
+            | FieldName::CSeq
+            | FieldName::Contact
+            | FieldName::MaxForwards
+            | FieldName::ContentLength
+            | FieldName::ContentType
+            | FieldName::ContentEncoding
+            | FieldName::Subject
+            | FieldName::Supported
+            | FieldName::Route
+            | FieldName::RecordRoute
+            | FieldName::Expires
+            | FieldName::Require
+            | FieldName::ProxyRequire
+            | FieldName::Unsupported
+            | FieldName::Authorization
+            | FieldName::ProxyAuthorization
+            | FieldName::WwwAuthenticate
+            | FieldName::ProxyAuthenticate
+            | FieldName::Warning
+            | FieldName::MinExpires
+            | FieldName::Timestamp => {}
+        }
+    }
 }
 
 /// Whether a name is this one, or its compact form in lower case.

@@ -6,11 +6,14 @@ use Rattle.std.proofs.lemmas.List.Sums.{sum_by-append}
 use Rattle.sip_best.specs.Best.{best_of}
 use Rattle.sip_message.specs.Text.{text_of}
 use Rattle.sip_event.specs.declared.packet.Packet.{Packet}
-use Rattle.sip_model.specs.Server.{Server}
-use Rattle.sip_model.specs.State.{Side, Closing, OpenRequest, is_invite, is_answering}
-use Rattle.sip_model.specs.Sending.{is_success, is_provisional}
-use Rattle.sip_model.specs.Dialogs.{Upward}
-use Rattle.sip_model.specs.Branches.{Change, upward_of, all_final, best_upward, with_cancels, after_upward, upward_list, settled, has_success}
+use Rattle.sip_state.specs.Server.{Server}
+use Rattle.sip_state.specs.declared.open_request.Side.{Side}
+use Rattle.sip_state.specs.declared.open_request.OpenRequest.{OpenRequest}
+use Rattle.sip_state.specs.declared.open_request.Side.TheVariants.{Closing}
+use Rattle.sip_state.specs.State.{is_invite, is_answering}
+use Rattle.sip_state.specs.Sending.{is_success, is_provisional}
+use Rattle.sip_state.specs.declared.open_request.Upward.{Upward}
+use Rattle.sip_state.specs.Branches.{Change, upward_of, all_final, best_upward, with_cancels, after_upward, upward_list, settled, has_success}
 use Rattle.sip_model.specs.Order.{is_final_answer, AddsSuccessesAlone, AnswersOnce}
 use Rattle.sip_model.proofs.Places.{count_cons, one_at, none_at}
 use Rattle.sip_model.proofs.Settling.{all_append}

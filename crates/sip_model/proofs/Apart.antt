@@ -1,10 +1,9 @@
 -- No two branches of a request go to one target: their numbers tell them apart.
-use Rattle.std.proofs.Common.{◌≡◌, inl, inr, ℕ, ◌+◌, ◌≤◌, ◌<◌, Bool, true, false, not, ◌&&◌, ◌==◌, cond, List, [], ◌∷◌, ◌++◌, map, refl, sym, ap, ap₂, ◌∙◌, arith, count_by}
+use Rattle.std.proofs.Common.{◌≡◌, inl, inr, ℕ, ◌+◌, ◌≤◌, ◌<◌, Bool, true, false, not, ◌&&◌, ◌==◌, cond, List, [], ◌∷◌, ◌++◌, map, flat_map, refl, sym, ap, ap₂, ◌∙◌, arith, count_by}
 use Rattle.std.proofs.lemmas.Bool.Decides.{nat_tests}
-use Rattle.std.proofs.lemmas.List.Sums.{sum_by-append}
 use Rattle.sip_targets.specs.declared.target.Target.{Target}
-use Rattle.sip_model.specs.State.{Branch}
-use Rattle.sip_model.specs.Branches.{cancel_branch}
+use Rattle.sip_state.specs.declared.branch.Branch.{Branch}
+use Rattle.sip_state.specs.Branches.{is_cancellable, cancel_branch, held_branch, with_cancel}
 use Rattle.sip_model.specs.Effect.{branch_to, branches_from}
 use Rattle.sip_model.proofs.Places.{IsIn, count_cons, one_at, none_at, counts_in, same_number}
 
@@ -37,16 +36,26 @@ no_target number now b = by_test (b.number == number) where
   by_test true = refl
   by_test false = refl
 
--- nor do several
-no_targets : (number now : ℕ) (bs : List Branch) → count_by (goes_to number) (map (cancel_branch now) bs) ≡ 0
-no_targets number now [] = refl
-no_targets number now (b ∷ bs) =
-    omega (arith, count_cons (goes_to number) (cancel_branch now b) (map (cancel_branch now) bs), none_at (goes_to number (cancel_branch now b)) (no_target number now b), no_targets number now bs)
+-- so CANCELs add none that does
+count_with_cancels : (number now : ℕ) (bs : List Branch) → count_by (goes_to number) (flat_map (with_cancel now) bs) ≡ count_by (goes_to number) bs
+count_with_cancels number now [] = refl
+count_with_cancels number now (b ∷ bs) = by_test (is_cancellable b) (count_with_cancels number now bs) where
+  by_test : (t : Bool) → count_by (goes_to number) (flat_map (with_cancel now) bs) ≡ count_by (goes_to number) bs
+      → count_by (goes_to number) (cond t (held_branch now b ∷ cancel_branch now b ∷ []) (b ∷ []) ++ flat_map (with_cancel now) bs) ≡ count_by (goes_to number) (b ∷ bs)
+  by_test true rest =
+      omega (
+        arith,
+        rest,
+        count_cons (goes_to number) b bs,
+        count_cons (goes_to number) (held_branch now b) (cancel_branch now b ∷ flat_map (with_cancel now) bs),
+        count_cons (goes_to number) (cancel_branch now b) (flat_map (with_cancel now) bs),
+        none_at (goes_to number (cancel_branch now b)) (no_target number now b),
+      )
+  by_test false rest = omega (arith, rest, count_cons (goes_to number) b bs, count_cons (goes_to number) b (flat_map (with_cancel now) bs))
 
--- so CANCELs keep them apart
-pub differ_cancels : (now : ℕ) (bs cs : List Branch) → TargetsDiffer bs → TargetsDiffer (bs ++ map (cancel_branch now) cs)
-differ_cancels now bs cs h =
-    λ number. omega (arith, sum_by-append (λ (b : Branch). cond {A = ℕ} (goes_to number b) 1 0) bs (map (cancel_branch now) cs), no_targets number now cs, h number)
+-- and keep them apart
+pub differ_with_cancels : (now : ℕ) (bs : List Branch) → TargetsDiffer bs → TargetsDiffer (flat_map (with_cancel now) bs)
+differ_with_cancels now bs h = λ number. omega (arith, count_with_cancels number now bs, h number)
 
 -- ---- the branches of a new request
 

@@ -1,17 +1,25 @@
--- No deadline is passed over: what stands after a step isn't before it, and what had to fire has fired.
+-- No deadline is passed over: what stands after a step isn't before it, and later where all that was due fired.
 use Rattle.std.proofs.Common.{◌≡◌, ℕ, ◌+◌, ◌≤◌, ◌<◌, Bool, true, false, cond, ◌&&◌, List, [], ◌∷◌, ◌++◌, Option, Some, None, sym, subst, arith, filter_map, option_to_list}
 use Rattle.std.specs.List.{AllByRecursion, cons_option}
+use Rattle.sip_text.specs.declared.addr.Addr.{Addr}
 use Rattle.sip_event.specs.declared.event.StepOut.{StepOut}
-use Rattle.sip_event.specs.declared.event.Event.TheVariants.{Datagram, Time, Fault}
-use Rattle.sip_model.specs.Server.{Server}
-use Rattle.sip_model.specs.State.{Side, Answering, Closing, Acknowledged, Closed, Branch, OpenRequest, ProxyState, first_state, deadlines, deadlines_of, side_deadline, phase_deadline, is_invite}
-use Rattle.sip_model.specs.Branches.{acknowledged, acknowledged_side, was_refused}
-use Rattle.sip_model.specs.Step.{Act, Given, Passing, IsStep, NoneBy, NoneBefore, moment_of}
+use Rattle.sip_event.specs.declared.event.Event.TheVariants.{Datagram, Time}
+use Rattle.sip_state.specs.Server.{Server}
+use Rattle.sip_state.specs.declared.open_request.Side.{Side}
+use Rattle.sip_state.specs.declared.branch.Branch.{Branch}
+use Rattle.sip_state.specs.declared.open_request.OpenRequest.{OpenRequest}
+use Rattle.sip_state.specs.declared.proxy_state.ProxyState.{ProxyState}
+use Rattle.sip_state.specs.declared.open_request.Side.TheVariants.{Answering, Closing, Acknowledged, Closed}
+use Rattle.sip_state.specs.State.{first_state, deadlines, deadlines_of, side_deadline, phase_deadline, is_invite}
+use Rattle.sip_state.specs.SameState.{SameState}
+use Rattle.sip_state.specs.Branches.{acknowledged, acknowledged_side, was_refused}
+use Rattle.sip_model.specs.Step.{Act, Given, IsStep, NoneBy, NoneBefore, moment_of}
 use Rattle.sip_model.specs.Run.{Link, IsChain}
-use Rattle.sip_model.specs.Order.{HasFired, FinalAnswer}
+use Rattle.sip_model.specs.Order.{FinalAnswer}
 use Rattle.sip_model.proofs.Places.{all_in, all_push, all_weaker, all_replaced}
-use Rattle.sip_model.proofs.Moves.{IsMove, Stays, TurnsAway, Opens, Changes, Acknowledges, kept_by_moves}
-use Rattle.sip_model.proofs.Events.{DueFrom, IsDue, change_event}
+use Rattle.sip_model.proofs.Moves.{Resends, IsMove, Stays, TurnsAway, Opens, Changes, Acknowledges, kept_by_moves}
+use Rattle.sip_model.proofs.Resending.{DueFrom}
+use Rattle.sip_model.proofs.Events.{resent_due, IsDue, change_event}
 use Rattle.sip_model.proofs.Settling.{event_due, all_append}
 use Rattle.sip_model.proofs.Openings.{opening_due}
 use Rattle.sip_model.proofs.Steps.{IsTaken, stands_at, step_taken}
@@ -23,27 +31,27 @@ abbrev pub IsFrom : ℕ → ℕ → Type 0
 IsFrom floor due = floor ≤ due
 
 -- what holds of a whole list holds of its parts
-parts_of_append : (P : ℕ → Type 0) (xs ys : List ℕ) → AllByRecursion P (xs ++ ys) → AllByRecursion P xs × AllByRecursion P ys
+pub parts_of_append : (P : ℕ → Type 0) (xs ys : List ℕ) → AllByRecursion P (xs ++ ys) → AllByRecursion P xs × AllByRecursion P ys
 parts_of_append P [] ys all = (tt, all)
 parts_of_append P (x ∷ xs) ys all = let rest = parts_of_append P xs ys all.1 in ((all.0, rest.0), rest.1)
 
 -- of a deadline that may not be there
-due_from_list : (floor : ℕ) (o : Option ℕ) → AllByRecursion (IsFrom floor) (option_to_list o) → DueFrom floor o
+pub due_from_list : (floor : ℕ) (o : Option ℕ) → AllByRecursion (IsFrom floor) (option_to_list o) → DueFrom floor o
 due_from_list floor None all = tt
 due_from_list floor (Some due) all = all.0
 
 -- and back
-list_from_due : (floor : ℕ) (o : Option ℕ) → DueFrom floor o → AllByRecursion (IsFrom floor) (option_to_list o)
+pub list_from_due : (floor : ℕ) (o : Option ℕ) → DueFrom floor o → AllByRecursion (IsFrom floor) (option_to_list o)
 list_from_due floor None h = tt
 list_from_due floor (Some due) h = (h, tt)
 
 -- the first deadline of a list, if there is one, and the others
-first_due : (floor : ℕ) (o : Option ℕ) (rest : List ℕ) → AllByRecursion (IsFrom floor) (cons_option o rest) → DueFrom floor o × AllByRecursion (IsFrom floor) rest
+pub first_due : (floor : ℕ) (o : Option ℕ) (rest : List ℕ) → AllByRecursion (IsFrom floor) (cons_option o rest) → DueFrom floor o × AllByRecursion (IsFrom floor) rest
 first_due floor None rest all = (tt, all)
 first_due floor (Some due) rest all = (all.0, all.1)
 
 -- and back
-first_with : (floor : ℕ) (o : Option ℕ) (rest : List ℕ) → DueFrom floor o → AllByRecursion (IsFrom floor) rest → AllByRecursion (IsFrom floor) (cons_option o rest)
+pub first_with : (floor : ℕ) (o : Option ℕ) (rest : List ℕ) → DueFrom floor o → AllByRecursion (IsFrom floor) rest → AllByRecursion (IsFrom floor) (cons_option o rest)
 first_with floor None rest h all = all
 first_with floor (Some due) rest h all = (h, all)
 
@@ -72,7 +80,7 @@ all_from_due floor r h =
     (list_from_due floor (side_deadline r.side) h.side_due) (list_from_branches floor r.branches h.branches_due)
 
 -- of the deadlines of all requests
-each_due : (floor : ℕ) (requests : List OpenRequest) → AllByRecursion (IsFrom floor) (deadlines requests) → AllByRecursion (IsDue floor) requests
+pub each_due : (floor : ℕ) (requests : List OpenRequest) → AllByRecursion (IsFrom floor) (deadlines requests) → AllByRecursion (IsDue floor) requests
 each_due floor [] all = tt
 each_due floor (r ∷ rs) all =
     let parts = parts_of_append (IsFrom floor) (deadlines_of r) (deadlines rs) all in
@@ -109,6 +117,8 @@ move_due server floor now low requests next after after_next finals (Opens a m r
 move_due server floor now low requests next after after_next finals (Changes r change there is more e up) h =
     let event = change_event server now r change is in
     subst (AllByRecursion (IsDue floor)) (sym e) (all_replaced (IsDue floor) change.request requests h (λ stays. event_due server floor now r change event low (all_in (IsDue floor) requests r h there)))
+move_due server floor now low requests next after after_next finals (Resends r packets later there goes more e up) h =
+    subst (AllByRecursion (IsDue floor)) (sym e) (all_replaced (IsDue floor) later requests h (λ stays. resent_due server floor now r packets later goes (all_in (IsDue floor) requests r h there)))
 move_due server floor now low requests next after after_next finals (Acknowledges r there more e up) h =
     subst (AllByRecursion (IsDue floor)) (sym e) (all_replaced (IsDue floor) (acknowledged now r) requests h (λ stays. acknowledged_due floor now r low (all_in (IsDue floor) requests r h there)))
 
@@ -135,27 +145,24 @@ chain_passes_none server first (link ∷ history) last h =
     subst (λ (s : ProxyState). NoneBefore s.moment s.requests) (sym h.0) (step_passes_none server link.before link.act link.out link.after h.1)
 
 -- what is later than a moment is from the next one on
-later_all : (now : ℕ) (dues : List ℕ) → AllByRecursion (λ due. now < due) dues → AllByRecursion (IsFrom (now + 1)) dues
+pub later_all : (now : ℕ) (dues : List ℕ) → AllByRecursion (λ due. now < due) dues → AllByRecursion (IsFrom (now + 1)) dues
 later_all now dues all = all_weaker (λ due. now < due) (IsFrom (now + 1)) dues (λ due h. omega arith) all
 
 -- and back
-all_later : (now : ℕ) (dues : List ℕ) → AllByRecursion (IsFrom (now + 1)) dues → AllByRecursion (λ due. now < due) dues
+pub all_later : (now : ℕ) (dues : List ℕ) → AllByRecursion (IsFrom (now + 1)) dues → AllByRecursion (λ due. now < due) dues
 all_later now dues all = all_weaker (IsFrom (now + 1)) (λ due. now < due) dues (λ due h. omega arith) all
 
--- what had to fire has fired once a datagram was taken, or time passed up to a moment
-pub step_has_fired : (server : Server) (old : ProxyState) (act : Act) (out : StepOut) (new : ProxyState) → IsStep server old act out new → HasFired act new
-step_has_fired server old (Given (Datagram at word from bytes)) out new h =
+-- once a datagram was taken no deadline stands by then
+pub delivery_fired : (server : Server) (old : ProxyState) (at word : ℕ) (from : Addr) (bytes : List ℕ) (out : StepOut) (new : ProxyState) → IsStep server old (Given (Datagram at word from bytes)) out new → NoneBy new.moment new.requests
+delivery_fired server old at word from bytes out new h =
     let now = moment_of old at in
     let taken = step_taken server old (Given (Datagram at word from bytes)) out new h in
     subst (λ (moment : ℕ). NoneBy moment new.requests) (sym taken.is_at)
     (all_later now (deadlines new.requests) (taken_due server (now + 1) old now new _ (omega arith) taken (later_all now (deadlines old.requests) h.none_due)))
-step_has_fired server old (Given (Time at)) out new h =
-    let same : new ≡ record old { moment = out.at } = h.quiet.does.leaves in
-    subst (λ (s : ProxyState). NoneBy s.moment s.requests) (sym same) (subst (λ (moment : ℕ). NoneBy moment old.requests) (sym h.at_moment) h.none_due)
-step_has_fired server old (Given (Fault at ticket)) out new h = tt
-step_has_fired server old (Passing at) out new h = tt
 
--- in each step of a history
-pub chain_has_fired : (server : Server) (first last : ProxyState) (history : List Link) → IsChain server first history last → AllByRecursion (λ (link : Link). HasFired link.act link.after) history
-chain_has_fired server first last [] h = tt
-chain_has_fired server first last (link ∷ history) h = (step_has_fired server link.before link.act link.out link.after h.1, chain_has_fired server first link.before history h.2)
+-- nor once time passed up to a moment
+pub time_fired : (server : Server) (old : ProxyState) (at : ℕ) (out : StepOut) (new : ProxyState) → IsStep server old (Given (Time at)) out new → NoneBy new.moment new.requests
+time_fired server old at out new h =
+    let same : SameState new (record old { moment = out.at }) = h.quiet.does.leaves in
+    subst (λ (moment : ℕ). NoneBy moment new.requests) (sym same.moment)
+    (subst (NoneBy out.at) (sym same.requests) (subst (λ (moment : ℕ). NoneBy moment old.requests) (sym h.at_moment) h.none_due))

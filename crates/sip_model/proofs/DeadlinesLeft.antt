@@ -1,17 +1,22 @@
 -- Each deadline of a request that passes leaves fewer that may still pass.
-use Rattle.std.proofs.Common.{◌≡◌, inl, inr, ℕ, ◌+◌, ◌≤◌, Bool, true, false, not, ◌&&◌, cond, ◌==◌, List, [], ◌∷◌, map, filter, Option, Some, None, refl, sym, ap, subst, ◌∙◌, arith, sum_by, count_by}
+use Rattle.std.proofs.Common.{◌++◌, ◌≡◌, inl, inr, ℕ, ◌+◌, ◌≤◌, Bool, true, false, not, ◌&&◌, cond, ◌==◌, List, [], ◌∷◌, map, filter, Option, Some, None, refl, sym, ap, subst, ◌∙◌, arith, sum_by, count_by, flat_map}
 use Rattle.std.proofs.lemmas.Bool.Decides.{nat_tests}
 use Rattle.std.proofs.lemmas.List.Sums.{sum_by-cons, sum_by-append}
-use Rattle.sip_model.specs.Server.{Server}
-use Rattle.sip_model.specs.State.{Phase, Unheard, Heard, Cancelled, Done, Ended, Side, Answering, Closing, Acknowledged, Closed, Branch, OpenRequest, is_invite, is_answering, phase_deadline, side_deadline}
-use Rattle.sip_model.specs.Sending.{is_provisional}
-use Rattle.sip_model.specs.Dialogs.{Upward}
-use Rattle.sip_model.specs.Branches.{Change, is_same_branch, with_phase, given_up, best_upward, is_ready, is_cancellable, cancel_branch, new_cancels, after_upward, settled, target_overdue, side_overdue}
+use Rattle.sip_state.specs.Server.{Server}
+use Rattle.sip_state.specs.declared.branch.Phase.{Phase}
+use Rattle.sip_state.specs.declared.open_request.Side.{Side}
+use Rattle.sip_state.specs.declared.branch.Branch.{Branch}
+use Rattle.sip_state.specs.declared.open_request.OpenRequest.{OpenRequest}
+use Rattle.sip_state.specs.declared.branch.Phase.TheVariants.{Unheard, Heard, Cancelled, Done, Ended}
+use Rattle.sip_state.specs.declared.open_request.Side.TheVariants.{Answering, Closing, Acknowledged, Closed}
+use Rattle.sip_state.specs.State.{is_invite, is_answering, phase_deadline, side_deadline}
+use Rattle.sip_state.specs.Sending.{is_provisional}
+use Rattle.sip_state.specs.declared.open_request.Upward.{Upward}
+use Rattle.sip_state.specs.Branches.{Change, is_same_branch, with_phase, given_up, best_upward, is_ready, is_cancellable, cancel_branch, new_cancels, after_upward, settled, target_overdue, side_overdue, turned, held_branch, with_cancel}
 use Rattle.sip_model.specs.Step.{IsOverdue, OfSide, OfBranch}
 use Rattle.sip_model.specs.Order.{phase_left, side_left, deadlines_left}
 use Rattle.sip_model.proofs.Places.{IsIn, in_from_contains, count_cons, one_at, none_at}
 use Rattle.sip_model.proofs.Events.{wanting}
-use Rattle.sip_model.proofs.Waits.{sent_cancel}
 
 -- ---- sums over branches
 
@@ -58,24 +63,23 @@ cancellable_left : (b : Branch) → is_cancellable b ≡ true → phase_left b.p
 cancellable_left b e = ready_left b.phase (last_true (not b.is_cancel) b.wants_cancel (is_ready b.phase) e)
 
 -- each CANCEL that is sent leaves one deadline fewer
-with_cancels_left : (now : ℕ) (bs : List Branch) → branches_left (map (sent_cancel now) bs) + branches_left (map (cancel_branch now) (filter is_cancellable bs)) + count_by is_cancellable bs ≤ branches_left bs
+with_cancels_left : (now : ℕ) (bs : List Branch) → branches_left (flat_map (with_cancel now) bs) + count_by is_cancellable bs ≤ branches_left bs
 with_cancels_left now [] = omega arith
 with_cancels_left now (b ∷ bs) = by_test (is_cancellable b) refl (with_cancels_left now bs) where
-  by_test : (t : Bool) → is_cancellable b ≡ t → branches_left (map (sent_cancel now) bs) + branches_left (map (cancel_branch now) (filter is_cancellable bs)) + count_by is_cancellable bs ≤ branches_left bs
-      → branches_left (cond t (record b { phase = Cancelled (now + 32000) }) b ∷ map (sent_cancel now) bs) + branches_left (map (cancel_branch now) (cond t (b ∷ filter is_cancellable bs) (filter is_cancellable bs))) + count_by is_cancellable (b ∷ bs)
-      ≤ branches_left (b ∷ bs)
+  by_test : (t : Bool) → is_cancellable b ≡ t → branches_left (flat_map (with_cancel now) bs) + count_by is_cancellable bs ≤ branches_left bs
+      → branches_left (cond t (held_branch now b ∷ cancel_branch now b ∷ []) (b ∷ []) ++ flat_map (with_cancel now) bs) + count_by is_cancellable (b ∷ bs) ≤ branches_left (b ∷ bs)
   by_test true is rest =
       omega (
         arith,
         rest,
         left_cons b bs,
-        left_cons (record b { phase = Cancelled (now + 32000) }) (map (sent_cancel now) bs),
-        left_cons (cancel_branch now b) (map (cancel_branch now) (filter is_cancellable bs)),
+        left_cons (held_branch now b) (cancel_branch now b ∷ flat_map (with_cancel now) bs),
+        left_cons (cancel_branch now b) (flat_map (with_cancel now) bs),
         count_cons is_cancellable b bs,
         one_at (is_cancellable b) is,
         cancellable_left b is,
       )
-  by_test false is rest = omega (arith, rest, left_cons b bs, left_cons b (map (sent_cancel now) bs), count_cons is_cancellable b bs, none_at (is_cancellable b) is)
+  by_test false is rest = omega (arith, rest, left_cons b bs, left_cons b (flat_map (with_cancel now) bs), count_cons is_cancellable b bs, none_at (is_cancellable b) is)
 
 -- an answer leaves the side no more
 side_not_more : (t : Bool) (side : Side) (due : ℕ) → is_answering side ≡ t → (x : Bool) → side_left (cond (t && x) (Closing due) side) ≤ side_left side
@@ -100,7 +104,7 @@ settled_left server now r =
     let side : side_left after.side ≤ side_left r.side = up.0 in
     let same : branches_left after.branches ≡ branches_left r.branches = ap branches_left up.1 in
     let ready : count_by is_cancellable after.branches ≡ count_by is_cancellable r.branches = ap (count_by is_cancellable) up.1 in
-    omega (arith, side, same, ready, with_cancels_left now after.branches, sum_by-append (λ (b : Branch). phase_left b.phase) (map (sent_cancel now) after.branches) (new_cancels now after))
+    omega (arith, side, same, ready, with_cancels_left now after.branches)
 
 -- ---- a deadline that passes
 
@@ -114,12 +118,12 @@ due_left Ended due e = absurd (cc)
 
 -- a branch that ends
 abbrev ended : Branch → Branch → Branch
-ended b x = cond (is_same_branch x b) (record x { phase = Ended }) x
+ended b x = cond (is_same_branch x b) (turned b Ended x) x
 
 -- it has no more left
-ended_not_more : (x : Branch) (t : Bool) → phase_left (cond t (record x { phase = Ended }) x).phase ≤ phase_left x.phase
-ended_not_more x true = omega arith
-ended_not_more x false = omega arith
+ended_not_more : (b x : Branch) (t : Bool) → phase_left (cond t (turned b Ended x) x).phase ≤ phase_left x.phase
+ended_not_more b x true = omega arith
+ended_not_more b x false = omega arith
 
 -- a test agrees with itself
 both_same : (t : Bool) → cond t t (not t) ≡ true
@@ -134,8 +138,8 @@ same_branch b = let number : (b.number == b.number) ≡ true = grind (arith, nat
 ended_left : (b : Branch) (bs : List Branch) (due : ℕ) → IsIn b bs → phase_deadline b.phase ≡ Some due → branches_left (map (ended b) bs) + 1 ≤ branches_left bs
 ended_left b bs due there e =
     map_left_less (ended b) bs b there
-    (subst (λ (t : Bool). phase_left (cond t (record b { phase = Ended }) b).phase + 1 ≤ phase_left b.phase) (sym (same_branch b)) (let one = due_left b.phase due e in omega arith))
-    (λ x. ended_not_more x (is_same_branch x b))
+    (subst (λ (t : Bool). phase_left (cond t (turned b Ended b) b).phase + 1 ≤ phase_left b.phase) (sym (same_branch b)) (let one = due_left b.phase due e in omega arith))
+    (λ x. ended_not_more b x (is_same_branch x b))
 
 -- a branch that ends leaves a deadline fewer
 ends_left : (server : Server) (now due : ℕ) (r between : OpenRequest) (b : Branch) → IsIn b r.branches → phase_deadline b.phase ≡ Some due → between.side ≡ r.side → between.branches ≡ map (ended b) r.branches

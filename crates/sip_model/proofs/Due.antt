@@ -5,6 +5,8 @@ use Rattle.std.specs.Option.{option_map_or}
 use Rattle.sip_message.specs.declared.field.Field.{Field}
 use Rattle.sip_message.specs.declared.message.Start.TheVariants.{Status}
 use Rattle.sip_message.specs.declared.message.Message.{Message}
+use Rattle.sip_message.specs.declared.field_name.FieldName.TheVariants as Name
+use Rattle.sip_message.specs.Values.{first_value}
 use Rattle.sip_message.specs.Text.{text_of}
 use Rattle.sip_edit.specs.OwnVia.{without_top_via}
 use Rattle.sip_edit.specs.OwnRequests.{cancel_of}
@@ -12,15 +14,21 @@ use Rattle.sip_location.specs.declared.binding.Binding.{Binding}
 use Rattle.sip_best.specs.declared.final_answer.Final.{Final}
 use Rattle.sip_best.specs.Best.{best_of, is_challenge_status, taking_along}
 use Rattle.sip_event.specs.declared.packet.Packet.{Packet}
-use Rattle.sip_model.specs.Server.{Server}
-use Rattle.sip_model.specs.State.{Phase, Unheard, Heard, Cancelled, Done, Ended, Branch, OpenRequest, ProxyState, Closed, is_invite, is_final, is_answering, has_left}
-use Rattle.sip_model.specs.Sending.{made_answer, answer_to, to_branch, request_of, branch_packets, ack_packets, is_success, is_failure, is_provisional}
-use Rattle.sip_model.specs.Dialogs.{Upward}
-use Rattle.sip_model.specs.Branches.{Change, with_phase, upward_of, all_final, best_upward, is_ready, is_cancellable, cancel_branch, new_cancels, with_cancels, after_upward, upward_list, settled, heard, other_heard, relayed_from, relayed_provisional, is_accepted, relayed_success, final_of, with_answer, acks_of, further, target_responded, cancel_responded, responded, branch_overdue, overdue, side_overdue, given_up, send_failed, marked, cancelled}
+use Rattle.sip_state.specs.Server.{Server}
+use Rattle.sip_state.specs.declared.branch.Phase.{Phase}
+use Rattle.sip_state.specs.declared.branch.Branch.{Branch}
+use Rattle.sip_state.specs.declared.open_request.OpenRequest.{OpenRequest}
+use Rattle.sip_state.specs.declared.proxy_state.ProxyState.{ProxyState}
+use Rattle.sip_state.specs.declared.branch.Phase.TheVariants.{Unheard, Heard, Cancelled, Done, Ended}
+use Rattle.sip_state.specs.declared.open_request.Side.TheVariants.{Closed}
+use Rattle.sip_state.specs.State.{is_invite, is_final, is_answering, has_left}
+use Rattle.sip_state.specs.Sending.{made_answer, answer_to, to_branch, request_of, branch_packets, ack_packets, is_success, is_failure, is_provisional}
+use Rattle.sip_state.specs.declared.open_request.Upward.{Upward}
+use Rattle.sip_state.specs.Branches.{Change, with_phase, upward_of, all_final, best_upward, is_ready, is_cancellable, cancel_branch, new_cancels, with_cancels, after_upward, upward_list, settled, heard, other_heard, relayed_from, relayed_provisional, is_accepted, relayed_success, final_of, with_answer, acks_of, further, target_responded, cancel_responded, responded, branch_overdue, overdue, side_overdue, given_up, send_failed, marked, cancelled}
 use Rattle.sip_model.specs.Effect.{replaced, upward_packets, change_packets}
 use Rattle.sip_model.specs.Step.{Act}
 use Rattle.sip_model.specs.Run.{Link}
-use Rattle.sip_model.specs.Verdict.{Arrival, responding}
+use Rattle.sip_verdict.specs.Verdict.{Arrival, responding}
 use Rattle.sip_model.specs.Access.{CameFor, IsTakenAlong, IsSaidAt, IsOpen, IsDenied, IsHeardNow, IsOwed, Answers, Forwards, Acknowledges, Cancels}
 use Rattle.sip_model.proofs.Places.{in_from_contains}
 use Rattle.sip_model.proofs.Apart.{TargetsDiffer, only_target}
@@ -134,7 +142,7 @@ module _ (server : Server) (history : List Link) (state : ProxyState) (act : Act
   acks_owed : (r : OpenRequest) (b : Branch) (status : ℕ) (m : Message) → IsAcknowledgeable r b status m → AllByRecursion Owed (acks_of server r b status m)
   acks_owed r b status m ack = by_tests (is_invite r) refl (is_failure status) refl where
     sent : List Packet
-    sent = ack_packets server false r b m
+    sent = ack_packets server false r b (first_value Name.To m.fields)
 
     by_tests : (t : Bool) → is_invite r ≡ t → (u : Bool) → is_failure status ≡ u → AllByRecursion Owed (cond (t && u) sent [])
     by_tests true invite true failure =
@@ -194,7 +202,7 @@ module _ (server : Server) (history : List Link) (state : ProxyState) (act : Act
   further_answers r b (Unheard due) status m there came = tt
   further_answers r b (Heard due) status m there came = tt
   further_answers r b (Cancelled due) status m there came = tt
-  further_answers r b (Done due f) status m there came = by_test (is_invite r && is_success f.status) where
+  further_answers r b (Done due first) status m there came = by_test (is_invite r && is_success first) where
     by_test : (t : Bool) → IfSome (cond t (relayed_success r b status m) None) (MayGoUp r)
     by_test true = relayed_if (is_success status && (is_answering r.side || is_accepted r)) r b status m there came
     by_test false = tt
@@ -255,10 +263,10 @@ module _ (server : Server) (history : List Link) (state : ProxyState) (act : Act
         (later_with_phase server history state act r b phase r (λ branch in_it target other number ready. absurd (true≢false (sym is_cancel ∙ other))) self) tt tt
 
     by_tests : (t u : Bool) → IsDue r (cond t (settled server now [] None (with_phase b (other_heard b.phase) r))
-        (cond u (settled server now [] None r) (settled server now [] None (with_phase b (Done (now + 5000) (final_of status m)) r))))
+        (cond u (settled server now [] None r) (settled server now [] None (with_phase b (Done (now + 5000) status) r))))
     by_tests true u = in_phase (other_heard b.phase)
     by_tests false true = open_due now r r [] None there self tt tt
-    by_tests false false = in_phase (Done (now + 5000) (final_of status m))
+    by_tests false false = in_phase (Done (now + 5000) status)
 
   -- what a response makes of an open request is owed
   pub responded_due : (now : ℕ) (r : OpenRequest) (b : Branch) (status : ℕ) (m : Message) → Contains state.requests r → IsAcknowledgeable r b status m → (b.is_cancel ≡ false → CameFor server history r.number status m)

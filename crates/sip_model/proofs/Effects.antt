@@ -17,12 +17,15 @@ use Rattle.sip_targets.specs.Targets.{target_list}
 use Rattle.sip_dialog.specs.declared.dialog.DialogId.{DialogId}
 use Rattle.sip_audit.specs.declared.record.Record.{Record}
 use Rattle.sip_event.specs.declared.packet.Packet.{Packet}
-use Rattle.sip_model.specs.Server.{Server}
-use Rattle.sip_model.specs.State.{Branch, OpenRequest, ProxyState, is_invite}
-use Rattle.sip_model.specs.Sending.{made_answer, branch_packets, request_of, onward_as, begins_dialog}
-use Rattle.sip_model.specs.Dialogs.{Upward}
-use Rattle.sip_model.specs.Branches.{Change, settled, answered, responded, cancelled, acknowledged, is_ready, is_cancellable, cancel_branch, new_cancels}
-use Rattle.sip_model.specs.Verdict.{Arrival, Question, Registered, Bound, Refused, Verdict, Drop, Respond, Copy, AckOn, Cancel, Answer, InDialog, Challenge, Deny, Send, Register, is_full, question_of, request_targets}
+use Rattle.sip_state.specs.Server.{Server}
+use Rattle.sip_state.specs.declared.branch.Branch.{Branch}
+use Rattle.sip_state.specs.declared.open_request.OpenRequest.{OpenRequest}
+use Rattle.sip_state.specs.declared.proxy_state.ProxyState.{ProxyState}
+use Rattle.sip_state.specs.State.{is_invite}
+use Rattle.sip_state.specs.Sending.{made_answer, branch_packets, request_of, onward_as, begins_dialog}
+use Rattle.sip_state.specs.declared.open_request.Upward.{Upward}
+use Rattle.sip_state.specs.Branches.{Change, settled, answered, responded, cancelled, acknowledged, is_ready, is_cancellable, cancel_branch, new_cancels}
+use Rattle.sip_verdict.specs.Verdict.{Arrival, Question, Registered, Bound, Refused, Verdict, Drop, Respond, Copy, AckOn, Cancel, Answer, InDialog, Challenge, Deny, Send, Register, is_full, question_of, request_targets}
 use Rattle.sip_model.specs.Effect.{Effect, arriving, replaced, upward_packets, change_packets, changed, nothing, opened, replied, is_registration, challenge_status, registering, branches_from, unsent, forking, is_tried, trying, tried, forked, sent_to, sending, dialog_branch, renewing, copied, cancelling, counted, asked, issuing, method_of, effect_of}
 use Rattle.sip_model.specs.Step.{Act}
 use Rattle.sip_model.specs.Run.{Link}
@@ -321,7 +324,7 @@ module _ (server : Server) (history : List Link) (state : ProxyState) (act : Act
         → ((r : OpenRequest) (b : Branch) (status : ℕ) → IsResponding server state m short r b status → b.is_cancel ≡ false → CameFor server history r.number status m)
         → AreHonest server history state.requests → IsGood (effect_of server a m v (counted a state))
     effect_good Drop fits came h = nothing_good (counted a state) h
-    effect_good (Respond r b status) fits came h = responded_good r b status fits (came r b status fits) h
+    effect_good (Respond r b status) fits came h = let good = responded_good r b status fits (came r b status fits) h in record { sends = good.sends; honest = good.honest }
     effect_good (Copy r) fits came h = copied_good r (counted a state) (kept_honest r fits h) h
     effect_good (AckOn address id) fits came h = record { sends = (within_owed address id fits _ refl refl refl, tt); honest = h }
     effect_good (Cancel found) fits came h = cancelling_good found (counted a state) fits.1 (opened_by fits.0) h h

@@ -3,18 +3,28 @@ use Rattle.std.proofs.Common.{◌≡◌, inl, inr, ℕ, ◌+◌, Bool, true, fal
 use Rattle.std.specs.List.{AllByRecursion, list_any, list_all, cons_option}
 use Rattle.sip_message.specs.declared.message.Message.{Message}
 use Rattle.sip_best.specs.declared.final_answer.Final.{Final}
-use Rattle.sip_model.specs.Server.{Server}
-use Rattle.sip_model.specs.State.{Phase, Unheard, Heard, Cancelled, Done, Ended, Side, Answering, Closing, Acknowledged, Closed, Branch, OpenRequest, ProxyState, first_state, is_invite, is_final, is_ended, is_answering, is_closed, phase_deadline, side_deadline, deadlines_of, has_left}
-use Rattle.sip_model.specs.Sending.{is_provisional}
-use Rattle.sip_model.specs.Dialogs.{Upward}
-use Rattle.sip_model.specs.Branches.{all_final, best_upward, after_upward, settled, acknowledged, acknowledged_side, was_refused}
-use Rattle.sip_model.specs.Verdict.{Arrival}
+use Rattle.sip_event.specs.declared.packet.Packet.{Packet}
+use Rattle.sip_state.specs.declared.resend.Resend.{Resend}
+use Rattle.sip_state.specs.Server.{Server}
+use Rattle.sip_state.specs.declared.branch.Phase.{Phase}
+use Rattle.sip_state.specs.declared.open_request.Side.{Side}
+use Rattle.sip_state.specs.declared.branch.Branch.{Branch}
+use Rattle.sip_state.specs.declared.open_request.OpenRequest.{OpenRequest}
+use Rattle.sip_state.specs.declared.proxy_state.ProxyState.{ProxyState}
+use Rattle.sip_state.specs.declared.branch.Phase.TheVariants.{Unheard, Heard, Cancelled, Done, Ended}
+use Rattle.sip_state.specs.declared.open_request.Side.TheVariants.{Answering, Closing, Acknowledged, Closed}
+use Rattle.sip_state.specs.State.{first_state, is_invite, is_final, is_ended, is_answering, is_closed, phase_deadline, side_deadline, deadlines_of, has_left}
+use Rattle.sip_state.specs.Sending.{is_provisional}
+use Rattle.sip_state.specs.declared.open_request.Upward.{Upward}
+use Rattle.sip_state.specs.Retransmission.{IsResent, OfAnswer, OfRequest, branch_next}
+use Rattle.sip_state.specs.Branches.{is_same_branch, all_final, best_upward, after_upward, settled, acknowledged, acknowledged_side, was_refused}
+use Rattle.sip_verdict.specs.Verdict.{Arrival}
 use Rattle.sip_model.specs.Effect.{forking, unsent, tried, trying}
 use Rattle.sip_model.specs.Run.{Link, IsChain}
 use Rattle.sip_model.specs.Order.{CanEnd, FinalAnswer}
 use Rattle.sip_model.proofs.Places.{IsIn, all_in, all_push, all_weaker, all_replaced, contains_from_in}
-use Rattle.sip_model.proofs.Moves.{IsStarted, IsOpening, Answered, Sent, IsMove, Stays, TurnsAway, Opens, Changes, Acknowledges, kept_by_moves}
-use Rattle.sip_model.proofs.Events.{IsSome, IsSeen, IsFinalStatus, is_target, IsCounted, change_event}
+use Rattle.sip_model.proofs.Moves.{Resends, IsStarted, IsOpening, Answered, Sent, IsMove, Stays, TurnsAway, Opens, Changes, Acknowledges, kept_by_moves}
+use Rattle.sip_model.proofs.Events.{resent_counted, IsSome, IsSeen, IsFinalStatus, is_target, IsCounted, change_event}
 use Rattle.sip_model.proofs.Openings.{tried_first, tried_is}
 use Rattle.sip_model.proofs.Waits.{IsSound, targets_final, upward_counted, settled_counted, settled_waits, event_sound}
 use Rattle.sip_model.proofs.Steps.{stands_at, step_taken}
@@ -99,6 +109,32 @@ acknowledged_answering now (Closing due) = refl
 acknowledged_answering now (Acknowledged due) = refl
 acknowledged_answering now Closed = refl
 
+-- what goes again makes no branch final
+again_final : (again : Resend) (test : Branch → Bool) (bs : List Branch) → targets_final (map (λ (x : Branch). cond (test x) (record x { again = again }) x) bs) ≡ targets_final bs
+again_final again test [] = refl
+again_final again test (x ∷ xs) = by_test (again_final again test xs) (test x) where
+  by_cancel : targets_final (map (λ (y : Branch). cond (test y) (record y { again = again }) y) xs) ≡ targets_final xs → (t : Bool)
+      → list_all (λ (b : Branch). is_final b.phase) (cond (not t) (x ∷ filter (λ (b : Branch). not b.is_cancel) (map (λ (y : Branch). cond (test y) (record y { again = again }) y) xs)) (filter (λ (b : Branch). not b.is_cancel) (map (λ (y : Branch). cond (test y) (record y { again = again }) y) xs)))
+      ≡ list_all (λ (b : Branch). is_final b.phase) (cond (not t) (x ∷ filter (λ (b : Branch). not b.is_cancel) xs) (filter (λ (b : Branch). not b.is_cancel) xs))
+  by_cancel rest true = rest
+  by_cancel rest false = ap (λ (v : Bool). is_final x.phase && v) rest
+
+  by_again : targets_final (map (λ (y : Branch). cond (test y) (record y { again = again }) y) xs) ≡ targets_final xs → (t : Bool)
+      → list_all (λ (b : Branch). is_final b.phase) (cond (not t) (record x { again = again } ∷ filter (λ (b : Branch). not b.is_cancel) (map (λ (y : Branch). cond (test y) (record y { again = again }) y) xs)) (filter (λ (b : Branch). not b.is_cancel) (map (λ (y : Branch). cond (test y) (record y { again = again }) y) xs)))
+      ≡ list_all (λ (b : Branch). is_final b.phase) (cond (not t) (x ∷ filter (λ (b : Branch). not b.is_cancel) xs) (filter (λ (b : Branch). not b.is_cancel) xs))
+  by_again rest true = rest
+  by_again rest false = ap (λ (v : Bool). is_final x.phase && v) rest
+
+  by_test : targets_final (map (λ (y : Branch). cond (test y) (record y { again = again }) y) xs) ≡ targets_final xs → (t : Bool) → targets_final (cond t (record x { again = again }) x ∷ map (λ (y : Branch). cond (test y) (record y { again = again }) y) xs) ≡ targets_final (x ∷ xs)
+  by_test rest true = by_again rest x.is_cancel
+  by_test rest false = by_cancel rest x.is_cancel
+
+-- a request of which something went again
+resent_sound : (server : Server) (now : ℕ) (r : OpenRequest) (packets : List Packet) (next : OpenRequest) → IsResent server now r packets next → IsSound r → has_left next ≡ false → IsSound next
+resent_sound server now r _ _ (OfAnswer is) h stays = record { counted = resent_counted server now r _ _ (OfAnswer is) h.counted; waits = h.waits; stays = stays }
+resent_sound server now r _ _ (OfRequest b there is) h stays =
+    record { counted = resent_counted server now r _ _ (OfRequest b there is) h.counted; waits = λ owes. again_final (branch_next r b) (λ x. is_same_branch x b) r.branches ∙ h.waits owes; stays = stays }
+
 -- an acknowledged request that stays open
 acknowledged_sound : (now : ℕ) (r : OpenRequest) → IsSound r → has_left (acknowledged now r) ≡ false → IsSound (acknowledged now r)
 acknowledged_sound now r h stays = by_test (is_invite r && was_refused r.answer) stays where
@@ -120,6 +156,8 @@ move_sound server now requests next after after_next finals (Opens a m r opening
 move_sound server now requests next after after_next finals (Changes r change there is more e up) h =
     let event = change_event server now r change is in
     subst (AllByRecursion IsSound) (sym e) (all_replaced IsSound change.request requests h (λ stays. event_sound server now r change event (all_in IsSound requests r h there) stays))
+move_sound server now requests next after after_next finals (Resends r packets later there goes more e up) h =
+    subst (AllByRecursion IsSound) (sym e) (all_replaced IsSound later requests h (λ stays. resent_sound server now r packets later goes (all_in IsSound requests r h there) stays))
 move_sound server now requests next after after_next finals (Acknowledges r there more e up) h =
     subst (AllByRecursion IsSound) (sym e) (all_replaced IsSound (acknowledged now r) requests h (λ stays. acknowledged_sound now r (all_in IsSound requests r h there) stays))
 

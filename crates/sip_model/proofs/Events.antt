@@ -4,14 +4,23 @@ use Rattle.std.specs.List.{AllByRecursion, list_any}
 use Rattle.sip_message.specs.declared.message.Message.{Message}
 use Rattle.sip_best.specs.declared.final_answer.Final.{Final}
 use Rattle.sip_event.specs.declared.packet.Packet.{Packet}
-use Rattle.sip_model.specs.Server.{Server}
-use Rattle.sip_model.specs.State.{Phase, Unheard, Heard, Cancelled, Done, Ended, Side, Answering, Closing, Acknowledged, Closed, Branch, OpenRequest, is_invite, is_final, is_answering, phase_deadline, side_deadline}
-use Rattle.sip_model.specs.Sending.{is_success, is_decline, is_provisional}
-use Rattle.sip_model.specs.Dialogs.{Upward}
-use Rattle.sip_model.specs.Branches.{Change, is_same_branch, with_phase, with_final, marked, given_up, settled, invite_heard, other_heard, heard, relayed_from, relayed_provisional, relayed_success, is_accepted, further, with_answer, acks_of, final_of, linger, target_responded, cancel_responded, responded, target_overdue, side_overdue}
+use Rattle.sip_state.specs.declared.resend.Resend.{Resend}
+use Rattle.sip_state.specs.Server.{Server}
+use Rattle.sip_state.specs.declared.branch.Phase.{Phase}
+use Rattle.sip_state.specs.declared.open_request.Side.{Side}
+use Rattle.sip_state.specs.declared.branch.Branch.{Branch}
+use Rattle.sip_state.specs.declared.open_request.OpenRequest.{OpenRequest}
+use Rattle.sip_state.specs.declared.branch.Phase.TheVariants.{Unheard, Heard, Cancelled, Done, Ended}
+use Rattle.sip_state.specs.declared.open_request.Side.TheVariants.{Answering, Closing, Acknowledged, Closed}
+use Rattle.sip_state.specs.State.{is_invite, is_final, is_answering, phase_deadline, side_deadline}
+use Rattle.sip_state.specs.Sending.{is_success, is_decline, is_provisional}
+use Rattle.sip_state.specs.declared.open_request.Upward.{Upward}
+use Rattle.sip_state.specs.Retransmission.{IsResent, OfAnswer, OfRequest, branch_next}
+use Rattle.sip_state.specs.Branches.{Change, is_same_branch, with_phase, with_final, marked, given_up, settled, invite_heard, other_heard, heard, relayed_from, relayed_provisional, relayed_success, is_accepted, further, with_answer, acks_of, final_of, linger, target_responded, cancel_responded, responded, target_overdue, side_overdue, turned, told_to}
 use Rattle.sip_model.specs.Step.{IsOverdue, OfSide, OfBranch}
 use Rattle.sip_model.specs.Order.{IsChangeOf, ByResponse, ByDeadline, ByFault, ByCancel}
-use Rattle.sip_model.proofs.Places.{IsIn, all_in, in_from_contains}
+use Rattle.sip_model.proofs.Places.{IsIn, all_in, in_from_contains, contains_from_in}
+use Rattle.sip_model.proofs.Resending.{DueFrom, both_cancel, goes, IsBranchAgain, IsAgain, branch_again, phase_again, final_only, other_only, heard_only, marked_again, wanting_again, final_again, closed_again}
 
 -- ---- what an event keeps
 
@@ -19,11 +28,6 @@ use Rattle.sip_model.proofs.Places.{IsIn, all_in, in_from_contains}
 abbrev pub IsSome : {X : Type 0} → List X → Type 0
 IsSome [] = ⊥
 IsSome (x ∷ xs) = Unit {0}
-
--- a deadline that isn't before a moment
-abbrev pub DueFrom : ℕ → Option ℕ → Type 0
-DueFrom floor None = Unit {0}
-DueFrom floor (Some due) = floor ≤ due
 
 -- no deadline of a request stands before a moment
 pub record IsDue (floor : ℕ) (r : OpenRequest) : Type 0 where
@@ -57,7 +61,8 @@ IsRelayed r (Some u) = ((is_provisional u.status ≡ true) × (is_answering r.si
 abbrev pub IsSideAfter : Side → Side → Type 0
 IsSideAfter old new = (new ≡ old) ⊎ ((is_answering old ≡ false) × (new ≡ Closed))
 
--- A change is a request in between that settles: it has the name and the last answer of the request; what went up at once may; it arms nothing before the moment; and its final answers are all there.
+-- A change is a request in between that settles: it has the name and the last answer of the request; what went up at once may; it arms nothing before the moment,
+-- and brings nothing forward that goes again; and its final answers are all there.
 pub record IsEvent (server : Server) (now : ℕ) (r : OpenRequest) (change : Change) : Type 0 where
   pub acks : List Packet
   pub relayed : Option Upward
@@ -69,6 +74,7 @@ pub record IsEvent (server : Server) (now : ℕ) (r : OpenRequest) (change : Cha
   pub side_is : IsSideAfter r.side between.side
   pub relayed_is : IsRelayed r relayed
   pub due : (floor : ℕ) → floor ≤ now + 1 → IsDue floor r → IsDue floor between
+  pub again : (floor : ℕ) → IsAgain floor r → IsAgain floor between
   pub counted : IsCounted r → IsCounted between
 
 -- ---- lists of branches
@@ -87,37 +93,28 @@ any_map f (x ∷ xs) same = let here = same x in let rest = any_map f xs same in
 
 -- a branch in another phase
 abbrev in_phase : Branch → Phase → Branch → Branch
-in_phase b phase x = cond (is_same_branch x b) (record x { phase = phase }) x
+in_phase b phase x = cond (is_same_branch x b) (turned b phase x) x
 
 -- it goes where it went
-same_cancel : (b x : Branch) (phase : Phase) (t : Bool) → (cond t (record x { phase = phase }) x).is_cancel ≡ x.is_cancel
+same_cancel : (b x : Branch) (phase : Phase) (t : Bool) → (cond t (turned b phase x) x).is_cancel ≡ x.is_cancel
 same_cancel b x phase true = refl
 same_cancel b x phase false = refl
 
 -- its deadline is the phase's
-due_in_phase : (floor : ℕ) (phase : Phase) (x : Branch) (t : Bool) → DueFrom floor (phase_deadline phase) → DueFrom floor (phase_deadline x.phase) → DueFrom floor (phase_deadline (cond t (record x { phase = phase }) x).phase)
-due_in_phase floor phase x true later before = later
-due_in_phase floor phase x false later before = before
+due_in_phase : (floor : ℕ) (b : Branch) (phase : Phase) (x : Branch) (t : Bool) → DueFrom floor (phase_deadline phase) → DueFrom floor (phase_deadline x.phase) → DueFrom floor (phase_deadline (cond t (turned b phase x) x).phase)
+due_in_phase floor b phase x true later before = later
+due_in_phase floor b phase x false later before = before
 
 -- deadlines of a request with a branch in another phase
 phase_due : (floor : ℕ) (b : Branch) (phase : Phase) (r : OpenRequest) → DueFrom floor (phase_deadline phase) → IsDue floor r → IsDue floor (with_phase b phase r)
 phase_due floor b phase r later h = record {
   side_due = h.side_due;
-  branches_due = all_map (λ x. DueFrom floor (phase_deadline x.phase)) (λ x. DueFrom floor (phase_deadline x.phase)) (in_phase b phase) r.branches (λ x before. due_in_phase floor phase x (is_same_branch x b) later before) h.branches_due;
+  branches_due = all_map (λ x. DueFrom floor (phase_deadline x.phase)) (λ x. DueFrom floor (phase_deadline x.phase)) (in_phase b phase) r.branches (λ x before. due_in_phase floor b phase x (is_same_branch x b) later before) h.branches_due;
 }
-
--- two branches that are one are both CANCELs or neither is
-both_cancel : (x b : Bool) (t : Bool) → (t && cond x b (not b)) ≡ true → x ≡ b
-both_cancel true true t e = refl
-both_cancel true false true e = absurd (cc)
-both_cancel true false false e = absurd (cc)
-both_cancel false true true e = absurd (cc)
-both_cancel false true false e = absurd (cc)
-both_cancel false false t e = refl
 
 -- the final answer of the branch is there
 seen_in_phase : (finals : List Final) (b : Branch) (phase : Phase) (x : Branch) (t : Bool) → is_same_branch x b ≡ t → (b.is_cancel ≡ false → is_final phase ≡ true → IsSome finals) → IsSeen finals x
-    → IsSeen finals (cond t (record x { phase = phase }) x)
+    → IsSeen finals (cond t (turned b phase x) x)
 seen_in_phase finals b phase x true same later before = λ target final. later (sym (both_cancel x.is_cancel b.is_cancel (x.number == b.number) same) ∙ target) final
 seen_in_phase finals b phase x false same later before = before
 
@@ -306,7 +303,7 @@ success_relayed r u = by_tests (is_success u.status) (is_answering r.side || is_
 
 -- a further 2xx that goes up may
 further_relayed : (r : OpenRequest) (b : Branch) (phase : Phase) (status : ℕ) (m : Message) → IsRelayed r (further r b phase status m)
-further_relayed r b (Done due f) status m = by_test (is_invite r && is_success f.status) where
+further_relayed r b (Done due first) status m = by_test (is_invite r && is_success first) where
   by_test : (t : Bool) → IsRelayed r (cond t (relayed_success r b status m) None)
   by_test true = success_relayed r (relayed_from b status m)
   by_test false = tt
@@ -330,12 +327,26 @@ branch_due floor r b there h = all_in (λ x. DueFrom floor (phase_deadline x.pha
 branch_seen : (r : OpenRequest) (b : Branch) → IsIn b r.branches → IsCounted r → IsSeen r.finals b
 branch_seen r b there h = all_in (IsSeen r.finals) r.branches b h.seen there
 
+-- a branch in a phase in which it goes again only if it did
+phase_keeps : (floor : ℕ) (r : OpenRequest) (b : Branch) (phase : Phase) → IsIn b r.branches → (goes b.is_cancel (is_invite r) phase ≡ true → goes b.is_cancel (is_invite r) b.phase ≡ true) → IsAgain floor r
+    → IsAgain floor (with_phase b phase r)
+phase_keeps floor r b phase there only h = phase_again floor b phase r only (branch_again floor r b (contains_from_in r.branches b there) h) h
+
+-- the same where it was told what its ACK is made with, and is done
+done_keeps : (floor : ℕ) (r : OpenRequest) (b : Branch) (status due : ℕ) (m : Message) → IsIn b r.branches → IsAgain floor r → IsAgain floor (with_final (final_of status m) (with_phase (told_to r b status m) (Done due status) r))
+done_keeps floor r b status due m there h =
+    let this : IsBranchAgain floor (is_invite r) b = branch_again floor r b (contains_from_in r.branches b there) h in
+    final_again floor (final_of status m) (with_phase (told_to r b status m) (Done due status) r)
+    (phase_again floor (told_to r b status m) (Done due status) r (final_only b.is_cancel (is_invite r) (Done due status) (goes b.is_cancel (is_invite r) b.phase) refl)
+    (record { due_from = this.due_from; waits = this.waits }) h)
+
 -- a branch in another phase, which is final only if the branch was
 phase_event : (server : Server) (now : ℕ) (r : OpenRequest) (b : Branch) (phase : Phase) (relayed : Option Upward) → IsIn b r.branches → IsRelayed r relayed
     → ((floor : ℕ) → floor ≤ now + 1 → DueFrom floor (phase_deadline b.phase) → DueFrom floor (phase_deadline phase))
     → (b.is_cancel ≡ false → is_final phase ≡ true → is_final b.phase ≡ true)
+    → (goes b.is_cancel (is_invite r) phase ≡ true → goes b.is_cancel (is_invite r) b.phase ≡ true)
     → IsEvent server now r (settled server now [] relayed (with_phase b phase r))
-phase_event server now r b phase relayed there is_relayed later final = record {
+phase_event server now r b phase relayed there is_relayed later final only = record {
   acks = [];
   relayed = relayed;
   between = with_phase b phase r;
@@ -346,6 +357,7 @@ phase_event server now r b phase relayed there is_relayed later final = record {
   side_is = inl refl;
   relayed_is = is_relayed;
   due = λ floor low h. phase_due floor b phase r (later floor low (branch_due floor r b there h)) h;
+  again = λ floor h. phase_keeps floor r b phase there only h;
   counted = λ h. phase_counted b phase r (λ target is. branch_seen r b there h target (final target is)) h;
 }
 
@@ -362,6 +374,7 @@ same_event server now r relayed is_relayed = record {
   side_is = inl refl;
   relayed_is = is_relayed;
   due = λ floor low h. h;
+  again = λ floor h. h;
   counted = λ h. h;
 }
 
@@ -375,36 +388,38 @@ lingers floor now true low = omega arith
 lingers floor now false low = omega arith
 
 -- the first final answer of a branch, after which the others are to be cancelled or not
-answer_event : (server : Server) (now : ℕ) (r : OpenRequest) (b : Branch) (status : ℕ) (m : Message) (acks : List Packet) (relayed : Option Upward) (t : Bool) → is_provisional status ≡ false → IsRelayed r relayed
+answer_event : (server : Server) (now : ℕ) (r : OpenRequest) (b : Branch) (status : ℕ) (m : Message) (acks : List Packet) (relayed : Option Upward) (t : Bool) → is_provisional status ≡ false → IsRelayed r relayed → IsIn b r.branches
     → IsEvent server now r (settled server now acks relayed
-    (cond t (marked (with_final (final_of status m) (with_phase b (Done (now + linger r) (final_of status m)) r))) (with_final (final_of status m) (with_phase b (Done (now + linger r) (final_of status m)) r))))
-answer_event server now r b status m acks relayed true e is_relayed = record {
+    (cond t (marked (with_final (final_of status m) (with_phase (told_to r b status m) (Done (now + linger r) status) r))) (with_final (final_of status m) (with_phase (told_to r b status m) (Done (now + linger r) status) r))))
+answer_event server now r b status m acks relayed true e is_relayed is_there = record {
   acks = acks;
   relayed = relayed;
-  between = marked (with_final (final_of status m) (with_phase b (Done (now + linger r) (final_of status m)) r));
+  between = marked (with_final (final_of status m) (with_phase (told_to r b status m) (Done (now + linger r) status) r));
   is_change = refl;
   key_is = refl;
   number_is = refl;
   answer_is = refl;
   side_is = inl refl;
   relayed_is = is_relayed;
-  due = λ floor low h. let there = phase_due floor b (Done (now + linger r) (final_of status m)) r (lingers floor now (is_invite r) low) h in
-      marked_due floor (with_final (final_of status m) (with_phase b (Done (now + linger r) (final_of status m)) r)) (record { side_due = there.side_due; branches_due = there.branches_due });
-  counted = λ h. marked_counted (with_final (final_of status m) (with_phase b (Done (now + linger r) (final_of status m)) r)) (final_counted (final_of status m) b (Done (now + linger r) (final_of status m)) r e h);
+  due = λ floor low h. let there = phase_due floor (told_to r b status m) (Done (now + linger r) status) r (lingers floor now (is_invite r) low) h in
+      marked_due floor (with_final (final_of status m) (with_phase (told_to r b status m) (Done (now + linger r) status) r)) (record { side_due = there.side_due; branches_due = there.branches_due });
+  again = λ floor h. marked_again floor (with_final (final_of status m) (with_phase (told_to r b status m) (Done (now + linger r) status) r)) (done_keeps floor r b status (now + linger r) m is_there h);
+  counted = λ h. marked_counted (with_final (final_of status m) (with_phase (told_to r b status m) (Done (now + linger r) status) r)) (final_counted (final_of status m) (told_to r b status m) (Done (now + linger r) status) r e h);
 }
-answer_event server now r b status m acks relayed false e is_relayed = record {
+answer_event server now r b status m acks relayed false e is_relayed is_there = record {
   acks = acks;
   relayed = relayed;
-  between = with_final (final_of status m) (with_phase b (Done (now + linger r) (final_of status m)) r);
+  between = with_final (final_of status m) (with_phase (told_to r b status m) (Done (now + linger r) status) r);
   is_change = refl;
   key_is = refl;
   number_is = refl;
   answer_is = refl;
   side_is = inl refl;
   relayed_is = is_relayed;
-  due = λ floor low h. let there = phase_due floor b (Done (now + linger r) (final_of status m)) r (lingers floor now (is_invite r) low) h in
+  due = λ floor low h. let there = phase_due floor (told_to r b status m) (Done (now + linger r) status) r (lingers floor now (is_invite r) low) h in
       record { side_due = there.side_due; branches_due = there.branches_due };
-  counted = λ h. final_counted (final_of status m) b (Done (now + linger r) (final_of status m)) r e h;
+  again = λ floor h. done_keeps floor r b status (now + linger r) m is_there h;
+  counted = λ h. final_counted (final_of status m) (told_to r b status m) (Done (now + linger r) status) r e h;
 }
 
 -- a response to the request of a branch
@@ -415,21 +430,22 @@ target_response server now r b status m there =
     (λ provisional. phase_event server now r b (heard r now status b.phase) (relayed_provisional r b status m) there
     (provisional_relayed r (relayed_from b status m) (not (status == 100)) (not (is_final b.phase)) provisional)
     (λ floor low h. heard_due_by floor now status (is_invite r) b.phase low h)
-    (λ target is. sym (heard_final_is r now status b.phase) ∙ is))
+    (λ target is. sym (heard_final_is r now status b.phase) ∙ is) (heard_only b.is_cancel (is_invite r) now status b.phase))
     (λ final. either_event server now r (is_final b.phase) (settled server now [] (further r b b.phase status m) r)
     (settled server now (acks_of server r b status m) (relayed_success r b status m) (with_answer r b now status m))
     (λ again. same_event server now r (further r b b.phase status m) (further_relayed r b b.phase status m))
-    (λ first. answer_event server now r b status m (acks_of server r b status m) (relayed_success r b status m) (is_invite r && (is_success status || is_decline status)) final (success_relayed r (relayed_from b status m))))
+    (λ first. answer_event server now r b status m (acks_of server r b status m) (relayed_success r b status m) (is_invite r && (is_success status || is_decline status)) final (success_relayed r (relayed_from b status m)) there))
 
 -- a response to a CANCEL
 cancel_response : (server : Server) (now : ℕ) (r : OpenRequest) (b : Branch) (status : ℕ) (m : Message) → b.is_cancel ≡ true → IsIn b r.branches → IsEvent server now r (cancel_responded server now r b status m)
 cancel_response server now r b status m is_cancel there =
     either_event server now r (is_provisional status) (settled server now [] None (with_phase b (other_heard b.phase) r))
-    (cond (is_final b.phase) (settled server now [] None r) (settled server now [] None (with_phase b (Done (now + 5000) (final_of status m)) r)))
-    (λ provisional. phase_event server now r b (other_heard b.phase) None there tt (λ floor low h. other_heard_due floor b.phase h) (λ target is. sym (other_heard_final b.phase) ∙ is))
-    (λ final. either_event server now r (is_final b.phase) (settled server now [] None r) (settled server now [] None (with_phase b (Done (now + 5000) (final_of status m)) r))
+    (cond (is_final b.phase) (settled server now [] None r) (settled server now [] None (with_phase b (Done (now + 5000) status) r)))
+    (λ provisional. phase_event server now r b (other_heard b.phase) None there tt (λ floor low h. other_heard_due floor b.phase h) (λ target is. sym (other_heard_final b.phase) ∙ is) (other_only b.is_cancel (is_invite r) b.phase))
+    (λ final. either_event server now r (is_final b.phase) (settled server now [] None r) (settled server now [] None (with_phase b (Done (now + 5000) status) r))
     (λ again. same_event server now r None tt)
-    (λ first. phase_event server now r b (Done (now + 5000) (final_of status m)) None there tt (λ floor low h. let due : floor ≤ now + 5000 = omega arith in due) (λ target is. absurd (cc))))
+    (λ first. phase_event server now r b (Done (now + 5000) status) None there tt (λ floor low h. let due : floor ≤ now + 5000 = omega arith in due) (λ target is. absurd (cc))
+    (final_only b.is_cancel (is_invite r) (Done (now + 5000) status) (goes b.is_cancel (is_invite r) b.phase) refl)))
 
 -- a response
 response_event : (server : Server) (now : ℕ) (r : OpenRequest) (b : Branch) (status : ℕ) (m : Message) → IsIn b r.branches → IsEvent server now r (responded server now r b status m)
@@ -440,8 +456,8 @@ response_event server now r b status m there =
 -- ---- a deadline, a fault, and the caller's CANCEL
 
 -- a branch is given up with a status
-given_up_event : (server : Server) (now : ℕ) (r : OpenRequest) (b : Branch) (status : ℕ) → is_provisional status ≡ false → IsEvent server now r (settled server now [] None (given_up b status r))
-given_up_event server now r b status e = record {
+given_up_event : (server : Server) (now : ℕ) (r : OpenRequest) (b : Branch) (status : ℕ) → is_provisional status ≡ false → IsIn b r.branches → IsEvent server now r (settled server now [] None (given_up b status r))
+given_up_event server now r b status e is_there = record {
   acks = [];
   relayed = None;
   between = given_up b status r;
@@ -452,6 +468,8 @@ given_up_event server now r b status e = record {
   side_is = inl refl;
   relayed_is = tt;
   due = λ floor low h. let there = phase_due floor b Ended r tt h in record { side_due = there.side_due; branches_due = there.branches_due };
+  again = λ floor h. final_again floor (record { status = status; message = None }) (with_phase b Ended r)
+      (phase_keeps floor r b Ended is_there (final_only b.is_cancel (is_invite r) Ended (goes b.is_cancel (is_invite r) b.phase) refl) h);
   counted = λ h. final_counted (record { status = status; message = None }) b Ended r e h;
 }
 
@@ -468,23 +486,25 @@ wanting_event server now r b = record {
   side_is = inl refl;
   relayed_is = tt;
   due = λ floor low h. wanting_due floor b r h;
+  again = λ floor h. wanting_again floor b r h;
   counted = λ h. wanting_counted b r h;
 }
 
 -- a branch ends that is a CANCEL or has its final answer
 ended_event : (server : Server) (now : ℕ) (r : OpenRequest) (b : Branch) → IsIn b r.branches → (b.is_cancel ≡ false → is_final b.phase ≡ true) → IsEvent server now r (settled server now [] None (with_phase b Ended r))
 ended_event server now r b there final = phase_event server now r b Ended None there tt (λ floor low h. tt) (λ target is. final target)
+    (final_only b.is_cancel (is_invite r) Ended (goes b.is_cancel (is_invite r) b.phase) refl)
 
 -- the deadline of a branch that was heard, by the method
-heard_overdue : (server : Server) (now : ℕ) (r : OpenRequest) (b : Branch) (t : Bool) → IsEvent server now r (settled server now [] None (cond t (wanting b r) (given_up b 408 r)))
-heard_overdue server now r b true = wanting_event server now r b
-heard_overdue server now r b false = given_up_event server now r b 408 refl
+heard_overdue : (server : Server) (now : ℕ) (r : OpenRequest) (b : Branch) (t : Bool) → IsIn b r.branches → IsEvent server now r (settled server now [] None (cond t (wanting b r) (given_up b 408 r)))
+heard_overdue server now r b true there = wanting_event server now r b
+heard_overdue server now r b false there = given_up_event server now r b 408 refl there
 
 -- the deadline of a branch to a target
 target_overdue_event : (server : Server) (now : ℕ) (r : OpenRequest) (b : Branch) (phase : Phase) → b.phase ≡ phase → IsIn b r.branches → IsEvent server now r (settled server now [] None (target_overdue r b phase))
-target_overdue_event server now r b (Unheard due) is there = given_up_event server now r b 408 refl
-target_overdue_event server now r b (Heard due) is there = heard_overdue server now r b (is_invite r)
-target_overdue_event server now r b (Cancelled due) is there = given_up_event server now r b 487 refl
+target_overdue_event server now r b (Unheard due) is there = given_up_event server now r b 408 refl there
+target_overdue_event server now r b (Heard due) is there = heard_overdue server now r b (is_invite r) there
+target_overdue_event server now r b (Cancelled due) is there = given_up_event server now r b 487 refl there
 target_overdue_event server now r b (Done due f) is there = ended_event server now r b there (λ target. ap is_final is)
 target_overdue_event server now r b Ended is there = same_event server now r None tt
 
@@ -514,6 +534,7 @@ closed_event server now r closes = record {
   side_is = inr (closes, refl);
   relayed_is = tt;
   due = λ floor low h. record { side_due = tt; branches_due = h.branches_due };
+  again = λ floor h. closed_again floor r h;
   counted = λ h. record { seen = h.seen; final = h.final; has_target = λ answering. absurd (cc) };
 }
 
@@ -535,13 +556,56 @@ cancelled_event server now r true = record {
   side_is = inl refl;
   relayed_is = tt;
   due = λ floor low h. marked_due floor r h;
+  again = λ floor h. marked_again floor r h;
   counted = λ h. marked_counted r h;
 }
 cancelled_event server now r false = same_event server now r None tt
+
+-- other moments of going again at its branches
+again_due_at : (floor : ℕ) (x : Branch) (t : Bool) (again : Resend) → DueFrom floor (phase_deadline x.phase) → DueFrom floor (phase_deadline (cond t (record x { again = again }) x).phase)
+again_due_at floor x true again h = h
+again_due_at floor x false again h = h
+
+again_seen_at : (finals : List Final) (x : Branch) (t : Bool) (again : Resend) → IsSeen finals x → IsSeen finals (cond t (record x { again = again }) x)
+again_seen_at finals x true again h = h
+again_seen_at finals x false again h = h
+
+again_cancel : (x : Branch) (t : Bool) (again : Resend) → (cond t (record x { again = again }) x).is_cancel ≡ x.is_cancel
+again_cancel x true again = refl
+again_cancel x false again = refl
+
+-- something of it goes again: what is due stays so
+pub resent_due : (server : Server) (floor now : ℕ) (r : OpenRequest) (packets : List Packet) (next : OpenRequest) → IsResent server now r packets next → IsDue floor r → IsDue floor next
+resent_due server floor now r _ _ (OfAnswer is) h = record { side_due = h.side_due; branches_due = h.branches_due }
+resent_due server floor now r _ _ (OfRequest b there is) h = record {
+  side_due = h.side_due;
+  branches_due = all_map (λ x. DueFrom floor (phase_deadline x.phase)) (λ x. DueFrom floor (phase_deadline x.phase)) (λ (x : Branch). cond (is_same_branch x b) (record x { again = branch_next r b }) x) r.branches
+      (λ x. again_due_at floor x (is_same_branch x b) (branch_next r b)) h.branches_due;
+}
+
+-- so do its final answers
+pub resent_counted : (server : Server) (now : ℕ) (r : OpenRequest) (packets : List Packet) (next : OpenRequest) → IsResent server now r packets next → IsCounted r → IsCounted next
+resent_counted server now r _ _ (OfAnswer is) h = record { seen = h.seen; final = h.final; has_target = h.has_target }
+resent_counted server now r _ _ (OfRequest b there is) h =
+    let edit : Branch → Branch = λ x. cond (is_same_branch x b) (record x { again = branch_next r b }) x in
+    record {
+      seen = all_map (IsSeen r.finals) (IsSeen r.finals) edit r.branches (λ x. again_seen_at r.finals x (is_same_branch x b) (branch_next r b)) h.seen;
+      final = h.final;
+      has_target = λ answering. any_map edit r.branches (λ x. again_cancel x (is_same_branch x b) (branch_next r b)) ∙ h.has_target answering;
+    }
+
+-- and its name, its side and its last answer
+pub resent_key : (server : Server) (now : ℕ) (r : OpenRequest) (packets : List Packet) (next : OpenRequest) → IsResent server now r packets next → next.key ≡ r.key
+resent_key server now r _ _ (OfAnswer is) = refl
+resent_key server now r _ _ (OfRequest b there is) = refl
+
+pub resent_number : (server : Server) (now : ℕ) (r : OpenRequest) (packets : List Packet) (next : OpenRequest) → IsResent server now r packets next → next.number ≡ r.number
+resent_number server now r _ _ (OfAnswer is) = refl
+resent_number server now r _ _ (OfRequest b there is) = refl
 
 -- each change of an open request is an event of it
 pub change_event : (server : Server) (now : ℕ) (r : OpenRequest) (change : Change) → IsChangeOf server now r change → IsEvent server now r change
 change_event server now r change (ByResponse b status m there) = response_event server now r b status m (in_from_contains r.branches b there)
 change_event server now r change (ByDeadline same passes) = overdue_event server now r same passes
-change_event server now r change (ByFault b number there fails) = given_up_event server now r b 503 refl
+change_event server now r change (ByFault b number there fails) = given_up_event server now r b 503 refl (in_from_contains r.branches b there)
 change_event server now r change ByCancel = cancelled_event server now r (is_invite r && is_answering r.side)

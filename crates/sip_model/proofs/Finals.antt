@@ -10,8 +10,10 @@ use Rattle.sip_message.specs.Values.{without_first}
 use Rattle.sip_edit.specs.OwnVia.{without_top_via}
 use Rattle.sip_best.specs.declared.final_answer.Final.{Final}
 use Rattle.sip_best.specs.Best.{picked, chosen_of, is_unbeaten, is_challenge_status, is_challenge_field, challenge_fields, challenges_of, challenging, going_up, best_of, taking_along}
-use Rattle.sip_model.specs.Server.{Server}
-use Rattle.sip_model.specs.State.{Branch, OpenRequest, is_invite}
+use Rattle.sip_state.specs.Server.{Server}
+use Rattle.sip_state.specs.declared.branch.Branch.{Branch}
+use Rattle.sip_state.specs.declared.open_request.OpenRequest.{OpenRequest}
+use Rattle.sip_state.specs.State.{is_invite}
 use Rattle.sip_model.specs.Run.{Link}
 use Rattle.sip_model.specs.Access.{CameFor, IsTakenAlong}
 use Rattle.sip_model.proofs.Apart.{TargetsDiffer}

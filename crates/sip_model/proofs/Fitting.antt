@@ -14,9 +14,8 @@ use Rattle.sip_header.specs.declared.key.Key.{Key}
 use Rattle.sip_header.specs.declared.cseq.CSeq.{CSeq}
 use Rattle.sip_header.specs.declared.core_fields.CoreFields.{CoreFields}
 use Rattle.sip_header.specs.Key.{key_of}
-use Rattle.sip_header.specs.CSeq.{cseq_of}
-use Rattle.sip_message.specs.Values.{values_of, first_value}
-use Rattle.sip_header.specs.CoreFields.{core_of}
+use Rattle.sip_message.specs.Values.{values_of}
+use Rattle.sip_header.specs.CoreFields.{core_of, cseq_in}
 use Rattle.sip_header.specs.Way.{request_uri_of}
 use Rattle.sip_policy.specs.User.{is_users_address}
 use Rattle.sip_text.specs.declared.addr.Addr.{Addr}
@@ -33,12 +32,15 @@ use Rattle.sip_dialog.specs.Dialogs.{IsInDialog, is_in_dialog}
 use Rattle.std.proofs.lemmas.Slice.Eq.{bytes_eq-Decides}
 use Rattle.sip_dialog.specs.DialogId.{id_of}
 use Rattle.sip_dialog.proofs.Tests.{test_says}
-use Rattle.sip_model.specs.Server.{Server}
+use Rattle.sip_state.specs.Server.{Server}
 use Rattle.sip_location.specs.Registering.{registration_of, to_aor}
-use Rattle.sip_model.specs.State.{Branch, OpenRequest, ProxyState, has_key}
-use Rattle.sip_model.specs.Sending.{dialog_of}
-use Rattle.sip_model.specs.Branches.{is_accepted}
-use Rattle.sip_model.specs.Verdict.{Arrival, Question, Registered, Bound, Refused, Verdict, Drop, Respond, Copy, AckOn, Cancel, Answer, InDialog, Challenge, Deny, Send, Register, is_branch, branch_in, found_branch, is_many, response_verdict, top_branch, responding, next_address, within_at, within, ack_verdict, is_full, is_cancelled_by, found_for_cancel, cancel_verdict, is_register, question_of, registered_by, registration_by, is_own_uri, request_targets, decided, policy_verdict, is_outside, core_verdict, checked_verdict, new_verdict, by_open, by_key, by_start, message_verdict, message_in}
+use Rattle.sip_state.specs.declared.branch.Branch.{Branch}
+use Rattle.sip_state.specs.declared.open_request.OpenRequest.{OpenRequest}
+use Rattle.sip_state.specs.declared.proxy_state.ProxyState.{ProxyState}
+use Rattle.sip_state.specs.State.{has_key}
+use Rattle.sip_state.specs.Sending.{dialog_of}
+use Rattle.sip_state.specs.Branches.{is_accepted}
+use Rattle.sip_verdict.specs.Verdict.{Arrival, Question, Registered, Bound, Refused, Verdict, Drop, Respond, Copy, AckOn, Cancel, Answer, InDialog, Challenge, Deny, Send, Register, is_branch, branch_in, found_branch, is_many, response_verdict, top_branch, responding, next_address, within_at, within, ack_verdict, is_full, is_cancelled_by, found_for_cancel, cancel_verdict, is_register, question_of, registered_by, registration_by, is_own_uri, request_targets, decided, policy_verdict, is_outside, core_verdict, checked_verdict, new_verdict, by_open, by_key, by_start, message_verdict, message_in}
 use Rattle.sip_model.specs.Effect.{method_of}
 use Rattle.sip_model.specs.Access.{IsNewRequest, decision_on, rule_of}
 use Rattle.sip_model.proofs.Lists.{all_find, all_there}
@@ -170,10 +172,10 @@ found_there server text method requests (r ∷ rs) h =
 responding_there : (server : Server) (requests : List OpenRequest) (fields : List Field) → IfSome (responding server requests fields) (λ x. Contains requests x.0 × Contains x.0.branches x.1)
 responding_there server requests fields =
     and_then_all (λ (x : OpenRequest × Branch). Contains requests x.0 × Contains x.0.branches x.1)
-    (λ text. option_and_then (λ (cseq : CSeq). found_branch server text cseq.method requests) (option_and_then cseq_of (first_value Name.CSeq fields)))
+    (λ text. option_and_then (λ (cseq : CSeq). found_branch server text cseq.method requests) (result_ok (cseq_in fields)))
     (λ text.
     and_then_all (λ (x : OpenRequest × Branch). Contains requests x.0 × Contains x.0.branches x.1) (λ (cseq : CSeq). found_branch server text cseq.method requests)
-    (λ cseq. found_there server text cseq.method requests requests (all_there requests)) (option_and_then cseq_of (first_value Name.CSeq fields))) (top_branch server fields)
+    (λ cseq. found_there server text cseq.method requests requests (all_there requests)) (result_ok (cseq_in fields))) (top_branch server fields)
 
 -- ---- registration
 

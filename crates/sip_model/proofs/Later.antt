@@ -4,26 +4,37 @@ use Rattle.std.proofs.lemmas.Bool.Decides.{nat_tests}
 use Rattle.std.specs.List.{AllByRecursion}
 use Rattle.sip_message.specs.declared.message.Message.{Message}
 use Rattle.sip_best.specs.declared.final_answer.Final.{Final}
-use Rattle.sip_model.specs.Server.{Server}
-use Rattle.sip_model.specs.State.{Phase, Unheard, Heard, Cancelled, Done, Ended, Side, Closed, Branch, OpenRequest, ProxyState, is_invite, is_final}
-use Rattle.sip_model.specs.Sending.{is_success, is_decline}
-use Rattle.sip_model.specs.Dialogs.{Upward}
-use Rattle.sip_model.specs.Branches.{is_same_branch, with_phase, with_final, marked, given_up, answered, after_upward, is_ready, is_cancellable, cancel_branch, new_cancels, with_cancels, search_ended, with_answer, final_of, linger, target_overdue, branch_overdue, acknowledged_side, was_refused, acknowledged}
+use Rattle.sip_event.specs.declared.packet.Packet.{Packet}
+use Rattle.sip_state.specs.declared.resend.Resend.{Resend}
+use Rattle.sip_state.specs.Server.{Server}
+use Rattle.sip_state.specs.declared.branch.Phase.{Phase}
+use Rattle.sip_state.specs.declared.open_request.Side.{Side}
+use Rattle.sip_state.specs.declared.branch.Branch.{Branch}
+use Rattle.sip_state.specs.declared.open_request.OpenRequest.{OpenRequest}
+use Rattle.sip_state.specs.declared.proxy_state.ProxyState.{ProxyState}
+use Rattle.sip_state.specs.declared.branch.Phase.TheVariants.{Unheard, Heard, Cancelled, Done, Ended}
+use Rattle.sip_state.specs.declared.open_request.Side.TheVariants.{Closed}
+use Rattle.sip_state.specs.State.{first_resend, is_invite, is_final}
+use Rattle.sip_state.specs.Sending.{is_success, is_decline}
+use Rattle.sip_state.specs.declared.open_request.Upward.{Upward}
+use Rattle.sip_state.specs.Retransmission.{IsResent, OfAnswer, OfRequest, branch_next}
+use Rattle.sip_state.specs.Branches.{is_same_branch, with_phase, with_final, marked, given_up, answered, after_upward, is_ready, is_cancellable, cancel_branch, new_cancels, with_cancels, search_ended, with_answer, final_of, linger, target_overdue, branch_overdue, acknowledged_side, was_refused, acknowledged, turned, told_to}
 use Rattle.sip_model.specs.Run.{Link}
 use Rattle.sip_model.specs.Step.{Act}
 use Rattle.sip_model.specs.Effect.{tried}
 use Rattle.sip_model.specs.Access.{WasHeard}
 use Rattle.sip_model.proofs.Lists.{all_append, all_filter, all_map, all_weaker, all_contains, all_there}
-use Rattle.sip_model.proofs.Apart.{TargetsDiffer, goes_to, differ_edited, differ_cancels}
+use Rattle.sip_model.proofs.Apart.{TargetsDiffer, goes_to, differ_edited, differ_with_cancels}
+use Rattle.sip_model.proofs.Cancels.{all_with_cancels}
 use Rattle.sip_model.proofs.Finals.{IsHonest, IsMarked, IsHonestRequest}
 
 -- what an open request is from its first moment: its key, the request, its source and its number
 abbrev pub bare : OpenRequest → OpenRequest
-bare r = record r { arrived_at = 0; answer = None; side = Closed; finals = []; branches = [] }
+bare r = record r { arrived_at = 0; answer = None; side = Closed; again = first_resend 0; finals = []; branches = [] }
 
 -- what a branch is from its first moment: its number, its Request-URI and its address
 abbrev pub bare_branch : Branch → Branch
-bare_branch b = record b { is_cancel = false; wants_cancel = false; phase = Ended }
+bare_branch b = record b { is_cancel = false; wants_cancel = false; phase = Ended; final_to = None; again = first_resend 0 }
 
 -- A branch was made from one of a request; one that is no CANCEL was made from one that is none, which was heard if this one is ready for a CANCEL. It is to be cancelled only if the
 -- request is an INVITE.
@@ -78,7 +89,7 @@ module _ (server : Server) (state : ProxyState) (act : Act) (r : OpenRequest) wh
 
   -- a branch in another phase, if it is the one of that phase
   phased_branch : (b : Branch) (phase : Phase) → IsHeardIn server state act r b phase → (x : Branch) (t : Bool) → is_same_branch x b ≡ t → IsBranchOf server state act r x
-      → IsBranchOf server state act r (cond t (record x { phase = phase }) x)
+      → IsBranchOf server state act r (cond t (turned b phase x) x)
   phased_branch b phase heard x true same h =
       let parts : ((x.number == b.number) ≡ true) × (x.is_cancel ≡ b.is_cancel) = same_parts (x.number == b.number) x.is_cancel b.is_cancel same in
       let number : h.branch.number ≡ b.number = ap (λ (y : Branch). y.number) (sym h.is_same) ∙ number_is x.number b.number parts.0 in
@@ -138,11 +149,11 @@ module _ (server : Server) (history : List Link) (state : ProxyState) (act : Act
   -- with a branch in another phase
   pub later_with_phase : (b : Branch) (phase : Phase) (s : OpenRequest) → IsHeardIn server state act r b phase → IsLater server history state act r s → IsLater server history state act r (with_phase b phase s)
   later_with_phase b phase s heard h =
-      let edit : Branch → Branch = λ x. cond (is_same_branch x b) (record x { phase = phase }) x in
+      let edit : Branch → Branch = λ x. cond (is_same_branch x b) (turned b phase x) x in
       record {
         is_same = h.is_same;
         branches = kept_branches server state act r edit (λ x. phased_branch server state act r b phase heard x (is_same_branch x b) refl) s.branches h.branches;
-        differ = differ_edited edit (λ number x. goes_either number (is_same_branch x b) (record x { phase = phase }) x x refl refl) s.branches h.differ;
+        differ = differ_edited edit (λ number x. goes_either number (is_same_branch x b) (turned b phase x) x x refl refl) s.branches h.differ;
         finals = h.finals;
       }
 
@@ -194,8 +205,9 @@ module _ (server : Server) (history : List Link) (state : ProxyState) (act : Act
   -- with the first final answer of a branch
   pub later_with_answer : (q : OpenRequest) (b : Branch) (now status : ℕ) (m : Message) → IsHonest server history r.number (final_of status m) → IsLater server history state act r q → IsLater server history state act r (with_answer q b now status m)
   later_with_answer q b now status m honest h =
-      let phase : Phase = Done (now + linger q) (final_of status m) in
-      later_search_ended q status (with_final (final_of status m) (with_phase b phase q)) h.is_same (later_with_final (final_of status m) (with_phase b phase q) honest (later_with_phase b phase q (never b phase refl) h))
+      let phase : Phase = Done (now + linger q) status in
+      let told : Branch = told_to q b status m in
+      later_search_ended q status (with_final (final_of status m) (with_phase told phase q)) h.is_same (later_with_final (final_of status m) (with_phase told phase q) honest (later_with_phase told phase q (never told phase refl) h))
 
   -- once an answer went to the caller
   later_answered : (now : ℕ) (u : Upward) (s : OpenRequest) → IsLater server history state act r s → IsLater server history state act r (answered now u s)
@@ -225,17 +237,12 @@ module _ (server : Server) (history : List Link) (state : ProxyState) (act : Act
   -- with the CANCELs of its branches
   pub later_with_cancels : (now : ℕ) (s : OpenRequest) → IsLater server history state act r s → IsLater server history state act r (with_cancels now s)
   later_with_cancels now s h =
-      let edit : Branch → Branch = λ b. cond (is_cancellable b) (record b { phase = Cancelled (now + 32000) }) b in
       record {
         is_same = h.is_same;
         branches =
-            all_append (IsBranchOf server state act r) (map edit s.branches) (new_cancels now s)
-            (kept_branches server state act r edit (λ b. cancelled_branch server state act r (now + 32000) b (is_cancellable b)) s.branches h.branches)
-            (kept_branches server state act r (cancel_branch now) (sent_branch server state act r now) (filter is_cancellable s.branches)
-            (all_filter (IsBranchOf server state act r) is_cancellable s.branches h.branches));
-        differ =
-            differ_cancels now (map edit s.branches) (filter is_cancellable s.branches)
-            (differ_edited edit (λ number b. goes_either number (is_cancellable b) (record b { phase = Cancelled (now + 32000) }) b b refl refl) s.branches h.differ);
+            all_with_cancels (IsBranchOf server state act r) (IsBranchOf server state act r) now s.branches (λ b own. own) (λ b own. cancelled_branch server state act r (now + 32000) b true own)
+            (λ b own. sent_branch server state act r now b own) h.branches;
+        differ = differ_with_cancels now s.branches h.differ;
         finals = h.finals;
       }
 
@@ -257,3 +264,20 @@ module _ (server : Server) (history : List Link) (state : ProxyState) (act : Act
     by_test : (t : Bool) → IsLater server history state act r (cond t (with_phase b Ended s) (target_overdue s b b.phase))
     by_test true = later_with_phase b Ended s (never b Ended refl) h
     by_test false = by_phase b.phase
+
+  -- with another moment at which a branch goes again
+  resent_branch : (x : Branch) (t : Bool) (again : Resend) → IsBranchOf server state act r x → IsBranchOf server state act r (cond t (record x { again = again }) x)
+  resent_branch x true again h = record { branch = h.branch; there = h.there; is_same = h.is_same; is_target = h.is_target; is_marked = h.is_marked; was_heard = h.was_heard }
+  resent_branch x false again h = h
+
+  -- once something of it went again
+  pub later_resent : (due : ℕ) (packets : List Packet) (next s : OpenRequest) → IsResent server due s packets next → IsLater server history state act r s → IsLater server history state act r next
+  later_resent due _ _ s (OfAnswer is) h = record { is_same = h.is_same; branches = h.branches; differ = h.differ; finals = h.finals }
+  later_resent due _ _ s (OfRequest b there is) h =
+      let edit : Branch → Branch = λ x. cond (is_same_branch x b) (record x { again = branch_next s b }) x in
+      record {
+        is_same = h.is_same;
+        branches = kept_branches server state act r edit (λ x. resent_branch x (is_same_branch x b) (branch_next s b)) s.branches h.branches;
+        differ = differ_edited edit (λ number x. goes_either number (is_same_branch x b) (record x { again = branch_next s b }) x x refl refl) s.branches h.differ;
+        finals = h.finals;
+      }

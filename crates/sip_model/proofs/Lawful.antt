@@ -1,31 +1,33 @@
 -- Every step of a run is lawful by its history.
-use Rattle.std.proofs.Common.{◌≡◌, ℕ, List, [], ◌∷◌, sym, subst, ◌∙◌, ap}
-use Rattle.std.specs.List.{AllByRecursion}
-use Rattle.sip_location.specs.declared.binding.Binding.{Binding}
+use Rattle.std.proofs.Common.{ℕ, List, [], ◌∷◌, Option, subst}
+use Rattle.sip_location.specs.Sameness.{SameBindings}
 use Rattle.sip_event.specs.declared.event.StepOut.{StepOut}
 use Rattle.sip_event.specs.declared.event.Event.{Event}
-use Rattle.sip_model.specs.Server.{Server}
-use Rattle.sip_model.specs.State.{ProxyState, first_state}
+use Rattle.sip_state.specs.Server.{Server}
+use Rattle.sip_state.specs.declared.proxy_state.ProxyState.{ProxyState}
+use Rattle.sip_state.specs.State.{first_state}
 use Rattle.sip_model.specs.Step.{originals}
 use Rattle.sip_model.specs.Run.{Link, IsChain, IsRun}
 use Rattle.sip_model.specs.Bindings.{bindings_after}
-use Rattle.sip_model.specs.Access.{Serves, IsOwed, IsLawful, Access}
+use Rattle.sip_model.specs.Access.{IsOwed, IsLawful, Access}
 use Rattle.sip_model.proofs.Registers.{bindings_of_chain}
 use Rattle.sip_model.proofs.Services.{serves_of_step}
 use Rattle.sip_model.proofs.Owing.{owed_of_step, honest_of_chain}
+use Rattle.sip_model.proofs.Places.{all_weaker}
+use Rattle.sip_model.proofs.Sameness.{serves_same, owed_same}
 
 -- the last step of a chain is lawful by the history before it
 lawful_of_chain : (server : Server) (first : ℕ) (link : Link) (history : List Link) (last : ProxyState) → IsChain server (first_state first) (link ∷ history) last
     → IsLawful server history link
 lawful_of_chain server first link history last chain =
-    let before : link.before.bindings ≡ bindings_after server history = bindings_of_chain server first history link.before chain.2 in
+    let before : SameBindings link.before.moment link.before.bindings (bindings_after server history) = bindings_of_chain server first history link.before chain.2 in
     record {
       bindings = before;
-      binds = ap (λ (s : ProxyState). s.bindings) (sym chain.0) ∙ bindings_of_chain server first (link ∷ history) last chain;
-      serves =
-          subst (λ (rows : List Binding). Serves server rows link.before link.act link.out) before (serves_of_step server link.before link.act link.out link.after chain.1);
+      binds = subst (λ (s : ProxyState). SameBindings s.moment s.bindings (bindings_after server (link ∷ history))) chain.0 (bindings_of_chain server first (link ∷ history) last chain);
+      serves = serves_same server link.before.bindings (bindings_after server history) link.before link.act link.out before (serves_of_step server link.before link.act link.out link.after chain.1);
       owed =
-          subst (λ (rows : List Binding). AllByRecursion (IsOwed server (link ∷ history) link.before link.act rows) (originals link.out.packets)) before
+          all_weaker (IsOwed server (link ∷ history) link.before link.act link.before.bindings) (IsOwed server (link ∷ history) link.before link.act (bindings_after server history))
+          (originals link.out.packets) (owed_same server (link ∷ history) link.before link.act link.before.bindings (bindings_after server history) before)
           (owed_of_step server history link chain.1 (honest_of_chain server first history link.before chain.2));
     }
 
@@ -36,6 +38,6 @@ access_of_chain server first (link ∷ history) last chain =
     (lawful_of_chain server first link history last chain, access_of_chain server first history link.before chain.2)
 
 -- So is every step of a run
-pub access_of_run : (server : Server) (first : ℕ) (events : List Event) (steps : List StepOut) (history : List Link) (last : ProxyState)
-    → IsRun server (first_state first) events steps history last → Access server history
-access_of_run server first events steps history last run = access_of_chain server first history last run.chain
+pub access_of_run : (server : Server) (first : ℕ) (events : List Event) (until : Option ℕ) (steps : List StepOut) (history : List Link) (last : ProxyState)
+    → IsRun server (first_state first) events until steps history last → Access server history
+access_of_run server first events until steps history last run = access_of_chain server first history last run.chain

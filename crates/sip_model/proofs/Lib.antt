@@ -6,12 +6,15 @@ pub mod Allowed
 pub mod Places
 pub mod Moves
 pub mod Verdicts
+pub mod Resending
 pub mod Events
 pub mod Settling
 pub mod Openings
 pub mod Steps
 pub mod Orders
 pub mod Deadlines
+pub mod Again
+pub mod Repeats
 pub mod Answers
 pub mod Apart
 pub mod Waits
@@ -28,3 +31,10 @@ pub mod Effects
 pub mod Owing
 pub mod Lawful
 pub mod Reaching
+pub mod Joins
+pub mod Cancels
+pub mod Sameness
+pub mod Moments
+pub mod Followed
+pub mod NonceUses
+pub mod CountsRise

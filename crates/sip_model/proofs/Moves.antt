@@ -2,10 +2,15 @@
 use Rattle.std.proofs.Common.{◌≡◌, ℕ, ◌+◌, ◌≤◌, false, cond, List, [], ◌∷◌, ◌++◌, None, sym, ap, subst, ◌∙◌, append_assoc, count_by, is_some}
 use Rattle.std.specs.List.{AllByRecursion}
 use Rattle.sip_message.specs.declared.message.Message.{Message}
-use Rattle.sip_model.specs.Server.{Server}
-use Rattle.sip_model.specs.State.{Unheard, Ended, Branch, OpenRequest, has_key}
-use Rattle.sip_model.specs.Branches.{Change, settled, acknowledged}
-use Rattle.sip_model.specs.Verdict.{Arrival}
+use Rattle.sip_event.specs.declared.packet.Packet.{Packet}
+use Rattle.sip_state.specs.Server.{Server}
+use Rattle.sip_state.specs.declared.branch.Branch.{Branch}
+use Rattle.sip_state.specs.declared.open_request.OpenRequest.{OpenRequest}
+use Rattle.sip_state.specs.declared.branch.Phase.TheVariants.{Unheard, Ended}
+use Rattle.sip_state.specs.State.{first_resend, has_key}
+use Rattle.sip_state.specs.Retransmission.{IsResent}
+use Rattle.sip_state.specs.Branches.{Change, settled, acknowledged}
+use Rattle.sip_verdict.specs.Verdict.{Arrival}
 use Rattle.sip_model.specs.Effect.{replaced, closing, forking, tried, trying}
 use Rattle.sip_model.specs.Order.{IsChangeOf, FinalAnswer, change_finals, reply_finals, forked_finals}
 use Rattle.sip_model.proofs.Places.{IsIn}
@@ -14,6 +19,7 @@ use Rattle.sip_model.proofs.Places.{IsIn}
 pub record IsStarted (now : ℕ) (b : Branch) : Type 0 where
   pub is_target : b.is_cancel ≡ false
   pub is_due : b.phase ≡ cond (is_some b.address) (Unheard (now + 32000)) Ended
+  pub goes_next : b.again ≡ first_resend now
 
 -- a request that was sent to its branches
 abbrev pub sent_request : Server → Arrival → Message → List Branch → OpenRequest
@@ -32,6 +38,8 @@ pub data IsMove (server : Server) (now : ℕ) (requests : List OpenRequest) (nex
   Opens : (a : Arrival) (m : Message) (r : OpenRequest) → IsOpening server a m r finals → a.now ≡ now → a.number ≡ next → next + 1 ≤ after_next → count_by (has_key r.key) requests ≡ 0
       → after ≡ requests ++ r ∷ [] → IsMove server now requests next after after_next finals
   Changes : (r : OpenRequest) (change : Change) → IsIn r requests → IsChangeOf server now r change → next ≤ after_next → after ≡ replaced change.request requests → finals ≡ change_finals change
+      → IsMove server now requests next after after_next finals
+  Resends : (r : OpenRequest) (packets : List Packet) (later : OpenRequest) → IsIn r requests → IsResent server now r packets later → next ≤ after_next → after ≡ replaced later requests → finals ≡ []
       → IsMove server now requests next after after_next finals
   Acknowledges : (r : OpenRequest) → IsIn r requests → next ≤ after_next → after ≡ replaced (acknowledged now r) requests → finals ≡ [] → IsMove server now requests next after after_next finals
 

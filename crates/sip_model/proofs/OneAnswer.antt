@@ -4,16 +4,21 @@ use Rattle.std.specs.List.{AllByRecursion}
 use Rattle.std.proofs.lemmas.Bool.Decides.{nat_tests}
 use Rattle.sip_message.specs.declared.message.Message.{Message}
 use Rattle.sip_header.specs.declared.key.Key.{Key}
-use Rattle.sip_model.specs.Server.{Server}
-use Rattle.sip_model.specs.State.{Branch, OpenRequest, ProxyState, first_state, is_invite, is_answering, has_left}
-use Rattle.sip_model.specs.Sending.{is_provisional, made_answer}
-use Rattle.sip_model.specs.Branches.{Change, settled, acknowledged, acknowledged_side, was_refused}
-use Rattle.sip_model.specs.Verdict.{Arrival}
+use Rattle.sip_event.specs.declared.packet.Packet.{Packet}
+use Rattle.sip_state.specs.Server.{Server}
+use Rattle.sip_state.specs.declared.branch.Branch.{Branch}
+use Rattle.sip_state.specs.declared.open_request.OpenRequest.{OpenRequest}
+use Rattle.sip_state.specs.declared.proxy_state.ProxyState.{ProxyState}
+use Rattle.sip_state.specs.State.{first_state, is_invite, is_answering, has_left}
+use Rattle.sip_state.specs.Retransmission.{IsResent, OfAnswer, OfRequest}
+use Rattle.sip_state.specs.Sending.{is_provisional, made_answer}
+use Rattle.sip_state.specs.Branches.{Change, settled, acknowledged, acknowledged_side, was_refused}
+use Rattle.sip_verdict.specs.Verdict.{Arrival}
 use Rattle.sip_model.specs.Effect.{replaced, arriving, closing, forking, is_tried, tried, trying}
 use Rattle.sip_model.specs.Run.{Link, IsChain}
 use Rattle.sip_model.specs.Order.{is_numbered, AreNumbered, FinalAnswer, finals_up, change_finals, reply_finals, forked_finals, step_finals, history_finals, finals_to, IsAccepting, AreOneAnswer}
 use Rattle.sip_model.proofs.Places.{same_number, IsIn, all_in, all_push, all_replaced, counts_in, count_cons, one_at}
-use Rattle.sip_model.proofs.Moves.{sent_request, IsOpening, Answered, Sent, IsMove, Stays, TurnsAway, Opens, Changes, Acknowledges, finals_by_moves}
+use Rattle.sip_model.proofs.Moves.{Resends, sent_request, IsOpening, Answered, Sent, IsMove, Stays, TurnsAway, Opens, Changes, Acknowledges, finals_by_moves}
 use Rattle.sip_model.proofs.Events.{IsEvent, change_event}
 use Rattle.sip_model.proofs.Settling.{event_key, event_number}
 use Rattle.sip_model.proofs.Openings.{opening_number}
@@ -168,6 +173,10 @@ change_answers server now sent r change false e event one fit =
     further_answers sent r change (adds_successes server now r change event e) (event_number server now r change event) (same_invite change.request r (event_key server now r change event)) one fit
 
 -- an ACK sends nothing
+resent_fit : (server : Server) (now : ℕ) (sent : List FinalAnswer) (r : OpenRequest) (packets : List Packet) (next : OpenRequest) → IsResent server now r packets next → IsFit sent r → IsFit sent next
+resent_fit server now sent r _ _ (OfAnswer is) h = record { owes = h.owes; accepts = h.accepts }
+resent_fit server now sent r _ _ (OfRequest b there is) h = record { owes = h.owes; accepts = h.accepts }
+
 acknowledged_fit : (now : ℕ) (sent : List FinalAnswer) (r : OpenRequest) → IsFit sent r → IsFit sent (acknowledged now r)
 acknowledged_fit now sent r h = by_test (is_invite r && was_refused r.answer) where
   by_test : (t : Bool) → IsFit sent (cond t (record r { side = acknowledged_side now r.side }) r)
@@ -233,6 +242,15 @@ move_answered server now requests next after after_next finals sent (Changes r c
       fit = subst (AllByRecursion (IsFit (finals ++ sent))) (sym e)
           (fit_replaced finals sent change.request r requests (subst (λ (n : ℕ). AreTo n finals) number answer.numbered_so) number (h.named.numbers.differ r.number) there answer.fits h.fit);
     }
+move_answered server now requests next after after_next finals sent (Resends r packets later there goes more e up) h = record {
+  named = move_named server now requests next after after_next finals (Resends r packets later there goes more e up) h.named;
+  none_later = λ n high. same n ∙ h.none_later n (omega arith);
+  each_one = λ n. subst AreOneAnswer (sym (same n)) (h.each_one n);
+  fit = subst (AllByRecursion (IsFit (finals ++ sent))) (sym e) (subst (λ (fs : List FinalAnswer). AllByRecursion (IsFit (fs ++ sent)) (replaced later requests)) (sym up)
+      (all_replaced (IsFit sent) later requests h.fit (λ stays. resent_fit server now sent r packets later goes (all_in (IsFit sent) requests r h.fit there))));
+} where
+  same : (n : ℕ) → finals_to n (finals ++ sent) ≡ finals_to n sent
+  same n = ap (λ (fs : List FinalAnswer). finals_to n (fs ++ sent)) up
 move_answered server now requests next after after_next finals sent (Acknowledges r there more e up) h = record {
   named = move_named server now requests next after after_next finals (Acknowledges r there more e up) h.named;
   none_later = λ n high. same n ∙ h.none_later n (omega arith);

@@ -2,16 +2,23 @@
 use Rattle.std.proofs.Common.{◌≡◌, ℕ, ◌+◌, ◌≤◌, Bool, true, false, cond, List, [], ◌∷◌, Option, Some, None, refl, sym, ap, subst, ◌∙◌, arith, is_some}
 use Rattle.std.specs.List.{AllByRecursion}
 use Rattle.sip_message.specs.declared.message.Message.{Message}
-use Rattle.sip_model.specs.Server.{Server}
-use Rattle.sip_model.specs.State.{Phase, Unheard, Ended, Branch, OpenRequest, phase_deadline}
-use Rattle.sip_model.specs.Sending.{made_answer}
-use Rattle.sip_model.specs.Dialogs.{Upward}
-use Rattle.sip_model.specs.Branches.{after_upward}
-use Rattle.sip_model.specs.Verdict.{Arrival}
-use Rattle.sip_model.specs.Effect.{forking, is_tried, tried, trying}
+use Rattle.sip_state.specs.Server.{Server}
+use Rattle.sip_state.specs.declared.branch.Phase.{Phase}
+use Rattle.sip_state.specs.declared.branch.Branch.{Branch}
+use Rattle.sip_state.specs.declared.open_request.OpenRequest.{OpenRequest}
+use Rattle.sip_state.specs.declared.branch.Phase.TheVariants.{Unheard, Ended}
+use Rattle.sip_state.specs.State.{first_resend, is_invite, phase_deadline}
+use Rattle.sip_state.specs.Sending.{made_answer}
+use Rattle.sip_state.specs.declared.open_request.Upward.{Upward}
+use Rattle.sip_state.specs.declared.resend.Resend.{Resend}
+use Rattle.sip_state.specs.Branches.{after_upward}
+use Rattle.sip_state.specs.Retransmission.{insists}
+use Rattle.sip_verdict.specs.Verdict.{Arrival}
+use Rattle.sip_model.specs.Effect.{closing, forking, is_tried, tried, trying}
 use Rattle.sip_model.specs.Order.{FinalAnswer}
 use Rattle.sip_model.proofs.Moves.{IsStarted, sent_request, IsOpening, Answered, Sent}
-use Rattle.sip_model.proofs.Events.{DueFrom, IsDue}
+use Rattle.sip_model.proofs.Resending.{DueFrom, due_if, goes, IsBranchAgain, IsAgain, upward_again, settled_again}
+use Rattle.sip_model.proofs.Events.{IsDue}
 use Rattle.sip_model.proofs.Settling.{settled_key, settled_number, settled_due, upward_key, upward_number, upward_due}
 
 -- the 100 that goes up first, if one does
@@ -76,3 +83,43 @@ opening_due server floor a m r finals (Sent first others started e up) low =
     let tried_due : IsDue floor (tried a.now (trying server fork) fork) =
     subst (IsDue floor) (sym (tried_is server a.now fork)) (upward_due floor a.now (tried_first server fork) fork low (forking_due floor a m (first ∷ others) low started)) in
     subst (IsDue floor) (sym e) (settled_due server floor a.now [] None (tried a.now (trying server fork) fork) low tried_due)
+
+-- ---- when it goes again
+
+-- a branch that was just sent goes again later
+started_again_by : (floor now : ℕ) (invite : Bool) (b : Branch) → floor ≤ now + 1 → b.again ≡ first_resend now → IsBranchAgain floor invite b
+started_again_by floor now invite b low same =
+    let later : floor ≤ now + 500 = omega arith in
+    let some : 1 ≤ 500 = omega arith in
+    record {
+      due_from = subst (λ (y : Resend). DueFrom floor (cond (goes b.is_cancel invite b.phase) (Some y.due) None)) (sym same) (due_if floor (now + 500) (goes b.is_cancel invite b.phase) later);
+      waits = subst (λ (y : Resend). 1 ≤ y.wait) (sym same) some;
+    }
+
+-- so do all of them
+started_again : (floor now : ℕ) (invite : Bool) (bs : List Branch) → floor ≤ now + 1 → AllByRecursion (IsStarted now) bs → AllByRecursion (IsBranchAgain floor invite) bs
+started_again floor now invite [] low all = tt
+started_again floor now invite (b ∷ bs) low all = (started_again_by floor now invite b low all.0.goes_next, started_again floor now invite bs low all.1)
+
+-- and the request
+forking_again : (floor : ℕ) (a : Arrival) (m : Message) (bs : List Branch) → floor ≤ a.now + 1 → AllByRecursion (IsStarted a.now) bs → IsAgain floor (forking a m bs)
+forking_again floor a m bs low all =
+    let later : floor ≤ a.now + 500 = omega arith in
+    let some : 1 ≤ 500 = omega arith in
+    record {
+      answer_from = due_if floor (a.now + 500) (insists (forking a m bs)) later;
+      answer_waits = some;
+      branches_again = started_again floor a.now (is_invite (forking a m bs)) bs low all;
+    }
+
+-- nothing of a request goes again before its arrival, or at it
+pub opening_again : (server : Server) (floor : ℕ) (a : Arrival) (m : Message) (r : OpenRequest) (finals : List FinalAnswer) → IsOpening server a m r finals → floor ≤ a.now + 1 → IsAgain floor r
+opening_again server floor a m r finals (Answered status text e up) low =
+    let later : floor ≤ a.now + 500 = omega arith in
+    let some : 1 ≤ 500 = omega arith in
+    subst (IsAgain floor) (sym e) (record { answer_from = due_if floor (a.now + 500) (insists (closing a m status text)) later; answer_waits = some; branches_again = tt })
+opening_again server floor a m r finals (Sent first others started e up) low =
+    let fork : OpenRequest = forking a m (first ∷ others) in
+    let tried_again : IsAgain floor (tried a.now (trying server fork) fork) =
+    subst (IsAgain floor) (sym (tried_is server a.now fork)) (upward_again floor a.now (tried_first server fork) fork low (forking_again floor a m (first ∷ others) low started)) in
+    subst (IsAgain floor) (sym e) (settled_again server floor a.now [] None (tried a.now (trying server fork) fork) low tried_again)

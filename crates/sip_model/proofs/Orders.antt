@@ -4,15 +4,17 @@ use Rattle.std.proofs.lemmas.Bool.Decides.{nat_tests}
 use Rattle.std.proofs.lemmas.Slice.Eq.{bytes_eq-Decides}
 use Rattle.sip_header.specs.declared.key.Key.{Key}
 use Rattle.sip_header.specs.Key.{same_key}
-use Rattle.sip_model.specs.Server.{Server}
-use Rattle.sip_model.specs.State.{OpenRequest, ProxyState, first_state, has_key, is_invite}
-use Rattle.sip_model.specs.Branches.{acknowledged, acknowledged_side, was_refused}
+use Rattle.sip_state.specs.Server.{Server}
+use Rattle.sip_state.specs.declared.open_request.OpenRequest.{OpenRequest}
+use Rattle.sip_state.specs.declared.proxy_state.ProxyState.{ProxyState}
+use Rattle.sip_state.specs.State.{first_state, has_key, is_invite}
+use Rattle.sip_state.specs.Branches.{acknowledged, acknowledged_side, was_refused}
 use Rattle.sip_model.specs.Effect.{replaced}
 use Rattle.sip_model.specs.Run.{Link, IsChain}
 use Rattle.sip_model.specs.Order.{KeysDiffer, is_numbered, AreNumbered, FinalAnswer}
 use Rattle.sip_model.proofs.Places.{IsIn, count_push, one_at, none_at, count_replaced}
-use Rattle.sip_model.proofs.Moves.{IsMove, Stays, TurnsAway, Opens, Changes, Acknowledges, kept_by_moves}
-use Rattle.sip_model.proofs.Events.{change_event}
+use Rattle.sip_model.proofs.Moves.{Resends, IsMove, Stays, TurnsAway, Opens, Changes, Acknowledges, kept_by_moves}
+use Rattle.sip_model.proofs.Events.{resent_key, resent_number, change_event}
 use Rattle.sip_model.proofs.Settling.{event_key, event_number}
 use Rattle.sip_model.proofs.Openings.{opening_number}
 use Rattle.sip_model.proofs.Steps.{stands_at, step_taken}
@@ -115,6 +117,8 @@ move_named server now requests next after after_next finals (Opens a m r opening
 move_named server now requests next after after_next finals (Changes r change there is more e up) h =
     let event = change_event server now r change is in
     subst (λ rs. AreNamed rs after_next) (sym e) (replaced_named requests next after_next change.request r there (event_key server now r change event) (event_number server now r change event) more h)
+move_named server now requests next after after_next finals (Resends r packets later there goes more e up) h =
+    subst (λ rs. AreNamed rs after_next) (sym e) (replaced_named requests next after_next later r there (resent_key server now r packets later goes) (resent_number server now r packets later goes) more h)
 move_named server now requests next after after_next finals (Acknowledges r there more e up) h =
     subst (λ rs. AreNamed rs after_next) (sym e) (replaced_named requests next after_next (acknowledged now r) r there (acknowledged_key now r) (acknowledged_number now r) more h)
 

@@ -9,17 +9,21 @@ use Rattle.sip_event.specs.declared.packet.Packet.{Packet}
 use Rattle.sip_event.specs.declared.packet.Ticket.{Ticket}
 use Rattle.sip_event.specs.declared.event.StepOut.{StepOut}
 use Rattle.sip_event.specs.declared.event.Event.TheVariants.{Datagram, Time, Fault}
-use Rattle.sip_model.specs.Server.{Server}
-use Rattle.sip_model.specs.State.{Branch, OpenRequest, ProxyState, first_state}
-use Rattle.sip_model.specs.Branches.{Change, send_failed}
-use Rattle.sip_model.specs.Verdict.{Arrival, message_verdict, message_in, verdict_in}
+use Rattle.sip_state.specs.Server.{Server}
+use Rattle.sip_state.specs.declared.branch.Branch.{Branch}
+use Rattle.sip_state.specs.declared.open_request.OpenRequest.{OpenRequest}
+use Rattle.sip_state.specs.declared.proxy_state.ProxyState.{ProxyState}
+use Rattle.sip_state.specs.State.{first_state}
+use Rattle.sip_state.specs.Branches.{Change, send_failed}
+use Rattle.sip_verdict.specs.Verdict.{Arrival, message_verdict, message_in, verdict_in}
 use Rattle.sip_model.specs.Effect.{Effect, counted, effect_of, datagram_effect, nothing}
-use Rattle.sip_model.specs.Step.{Act, Given, Passing, Does, IsOverdue, OfSide, OfBranch, IsQuiet, IsDeadline, IsStep, originals, moment_of, arrival_of, is_failed, failed_branch, failed_request, fault_effect}
+use Rattle.sip_model.specs.Step.{Act, Given, Passing, Does, IsOverdue, OfSide, OfBranch, IsQuiet, IsDeadline, IsResend, resent, IsStep, originals, moment_of, arrival_of, is_failed, failed_branch, failed_request, fault_effect}
 use Rattle.sip_model.specs.Run.{Link, IsChain}
 use Rattle.sip_model.specs.Access.{CameFor, IsSaidAt, IsOwed}
+use Rattle.sip_model.proofs.Later.{IsLater, later_itself, later_resent, later_honest}
 use Rattle.sip_model.proofs.Lists.{all_find, all_there, head_there}
 use Rattle.sip_model.proofs.Finals.{AreHonest, honest_before}
-use Rattle.sip_model.proofs.Due.{IsDue, overdue_due, side_due, failed_due}
+use Rattle.sip_model.proofs.Due.{replaced_honest, IsDue, overdue_due, side_due, failed_due}
 use Rattle.sip_model.proofs.Fitting.{IsResponding, message_fits}
 use Rattle.sip_model.proofs.Effects.{IsGood, nothing_good, changed_good, kept_honest, effect_good}
 
@@ -105,7 +109,7 @@ does_good : (server : Server) (history : List Link) (old : ProxyState) (act : Ac
 does_good server history old act at effect out new does good =
     record {
       sends = subst (λ (ps : List Packet). AllByRecursion (IsOwed server history old act old.bindings) ps) (sym does.sends) good.sends;
-      honest = subst (λ (s : ProxyState). AreHonest server history s.requests) (sym does.leaves) good.honest;
+      honest = subst (AreHonest server history) (sym does.leaves.requests) good.honest;
     }
 
 -- where nothing happens
@@ -121,6 +125,15 @@ deadline_good server history old act at out new d h =
     does_good server history old act out.at _ out new d.does
     (changed_good server history old act out.at old d.request d.change d.is_open (passed_due server history old act h out.at d.request d.is_open d.change d.passes) h)
 
+-- where something goes again
+resend_good : (server : Server) (history : List Link) (old : ProxyState) (act : Act) (at : ℕ) (out : StepOut) (new : ProxyState) → IsResend server old at out new → AreHonest server history old.requests
+    → IsGoodStep server history old act out new
+resend_good server history old act at out new d h =
+    let later : IsLater server history old act d.request d.next =
+    later_resent server history old act d.request out.at d.packets d.next d.request d.goes (later_itself server history old act d.request (kept_honest server history old act d.request d.is_open h)) in
+    does_good server history old act out.at (resent out.at old d.packets d.next) out new d.does
+    (record { sends = tt; honest = replaced_honest server history d.next old.requests (later_honest server history old act d.request d.next later) h })
+
 -- every step is good
 step_good : (server : Server) (past : List Link) (old : ProxyState) (act : Act) (out : StepOut) (new : ProxyState) → IsStep server old act out new
     → AreHonest server (record { before = old; act = act; out = out; after = new } ∷ past) old.requests
@@ -131,7 +144,7 @@ step_good server past old (Given (Time at)) out new step h = quiet_good server _
 step_good server past old (Given (Fault at ticket)) out new step h =
     does_good server _ old (Given (Fault at ticket)) (moment_of old at) _ out new step.does (failed_good server _ old (Given (Fault at ticket)) h (moment_of old at) ticket)
 step_good server past old (Passing at) out new step h =
-    ⊎_elim (λ quiet. quiet_good server _ old (Passing at) at out new quiet h) (λ deadline. deadline_good server _ old (Passing at) at out new deadline h) step
+    ⊎_elim (λ quiet. quiet_good server _ old (Passing at) at out new quiet h) (λ due. ⊎_elim (λ deadline. deadline_good server _ old (Passing at) at out new deadline h) (λ goes. resend_good server _ old (Passing at) at out new goes h) due) step
 
 -- ---- a run
 

@@ -16,10 +16,10 @@ use Rattle.sip_targets.specs.declared.target.Target.{Target}
 use Rattle.sip_targets.specs.Target.{target_for}
 use Rattle.sip_targets.specs.declared.targets.Targets.{Targets}
 use Rattle.sip_targets.specs.Targets.{targets_at, target_by, target_list}
-use Rattle.sip_model.specs.Server.{Server}
+use Rattle.sip_state.specs.Server.{Server}
 use Rattle.sip_location.specs.Registering.{to_aor, aor_or_nobody}
-use Rattle.sip_model.specs.State.{ProxyState}
-use Rattle.sip_model.specs.Verdict.{is_register, targets_by}
+use Rattle.sip_state.specs.declared.proxy_state.ProxyState.{ProxyState}
+use Rattle.sip_verdict.specs.Verdict.{is_register, targets_by}
 use Rattle.sip_model.specs.Access.{decision_on, targets_on}
 
 -- one target for each contact, also where there is none
@@ -47,7 +47,7 @@ allowed_targets server rows now id target o uri u t known =
     ∙ each_contact server (live (aor_of uri) now rows)
 
 -- the target that a decision for a hop gives
-hop_targets : (server : Server) (rows : List Binding) (now id : ℕ) (hop : List ℕ) (target : Aor) (o : Option Uri) (uri : Uri) (address : Addr) → o ≡ Some uri → hop_of server.config.hops hop ≡ Some address
+hop_targets : (server : Server) (rows : List Binding) (now id : ℕ) (hop : ℕ) (target : Aor) (o : Option Uri) (uri : Uri) (address : Addr) → o ≡ Some uri → hop_of server.config.hops hop ≡ Some address
     → target_list (targets_by server rows now target (Decision.Via id hop) o) ≡ record { uri = uri; address = Some address } ∷ []
 hop_targets server rows now id hop target o uri address u h =
     ap (λ x. target_list (targets_by server rows now target (Decision.Via id hop) x)) u ∙ ap (λ found. target_list (target_by uri found)) h
@@ -64,7 +64,7 @@ module _ (server : Server) (rows : List Binding) (state : ProxyState) (now : ℕ
       (asked_aor (is_register method) core (request_uri_of server.config.own m) uri r u) known
 
   -- one that is let through by a hop goes there
-  pub reaches_hop : (id : ℕ) (hop : List ℕ) (uri : Uri) (address : Addr) → is_register method ≡ false → decision_on server state now m method core ≡ Decision.Via id hop
+  pub reaches_hop : (id : ℕ) (hop : ℕ) (uri : Uri) (address : Addr) → is_register method ≡ false → decision_on server state now m method core ≡ Decision.Via id hop
       → request_uri_of server.config.own m ≡ Some uri → hop_of server.config.hops hop ≡ Some address → targets_on server rows state now m method core ≡ record { uri = uri; address = Some address } ∷ []
   reaches_hop id hop uri address r d u h =
       ap (λ b. cond b [] (target_list (targets_by server rows now (cond (is_register method) (to_aor core) (aor_or_nobody (request_uri_of server.config.own m))) (decision_on server state now m method core) (request_uri_of server.config.own m)))) r

@@ -1,5 +1,5 @@
--- The bindings after a history are those that its allowed REGISTERs make.
-use Rattle.std.proofs.Common.{◌≡◌, ℕ, List, [], ◌∷◌, cond, Bool, true, false, refl, sym, ◌∙◌, ap, subst, Option, Some, None, ⊎_elim}
+-- From its moment on the bindings after a history say the same as those that its allowed REGISTERs make.
+use Rattle.std.proofs.Common.{◌≡◌, ℕ, ◌≤◌, List, [], ◌∷◌, cond, Bool, true, false, refl, sym, ◌∙◌, ap, subst, Option, Some, None, ⊎_elim}
 use Rattle.std.specs.Prelude.{◌++◌, Ok, find, ◌==◌}
 use Rattle.std.specs.Option.{option_and_then, option_map_or, option_to_list}
 use Rattle.std.specs.Result.{result_ok}
@@ -13,14 +13,24 @@ use Rattle.sip_targets.specs.declared.targets.Targets.{Targets}
 use Rattle.sip_event.specs.declared.event.StepOut.{StepOut}
 use Rattle.sip_event.specs.declared.event.Event.TheVariants.{Datagram, Time, Fault}
 use Rattle.sip_event.specs.declared.packet.Ticket.{Ticket}
-use Rattle.sip_model.specs.Server.{Server}
-use Rattle.sip_model.specs.State.{ProxyState, OpenRequest, Branch, first_state}
-use Rattle.sip_model.specs.Verdict.{Arrival, Question, Bound, Refused, Verdict, Drop, Respond, Copy, AckOn, Cancel, Answer, InDialog, Challenge, Deny, Send, Register, is_register, question_of, answer_of, registration_by, request_targets, decided, message_verdict, message_in, verdict_in}
+use Rattle.sip_state.specs.Server.{Server}
+use Rattle.sip_state.specs.declared.proxy_state.ProxyState.{ProxyState}
+use Rattle.sip_state.specs.declared.open_request.OpenRequest.{OpenRequest}
+use Rattle.sip_state.specs.declared.branch.Branch.{Branch}
+use Rattle.sip_state.specs.State.{first_state}
+use Rattle.sip_verdict.specs.Verdict.{Arrival, Question, Bound, Refused, Verdict, Drop, Respond, Copy, AckOn, Cancel, Answer, InDialog, Challenge, Deny, Send, Register, is_register, question_of, answer_of, registration_by, request_targets, decided, message_verdict, message_in, verdict_in, verdict_of}
 use Rattle.sip_model.specs.Effect.{counted, effect_of, nothing}
 use Rattle.sip_model.specs.Step.{Act, Given, Passing, IsStep, arrival_of, is_failed, failed_branch, failed_request, fault_effect, moment_of}
 use Rattle.sip_model.specs.Run.{Link, IsChain}
 use Rattle.sip_model.specs.Bindings.{Arrived, rows_after, after_register, bindings_by, allowed_by, allowed_at, allowed_registers, bindings_after}
+use Rattle.sip_model.proofs.Again.{chain_again}
 use Rattle.sip_model.proofs.Judging.{is_by_policy, judged, judged_verdict}
+use Rattle.sip_model.proofs.Steps.{stands_at, step_taken}
+use Rattle.sip_model.proofs.Deadlines.{chain_passes_none}
+use Rattle.sip_model.proofs.Moments.{moment_rises}
+use Rattle.sip_model.proofs.Sameness.{register_same}
+use Rattle.sip_location.specs.Sameness.{SameBindings}
+use Rattle.sip_location.proofs.Sameness.{same_self, same_later, same_joined}
 
 -- ---- what a verdict does to the bindings
 
@@ -147,16 +157,16 @@ failed_request_binds server now ticket state (Some r) = failed_branch_binds serv
 fault_binds : (server : Server) (now : ℕ) (ticket : Ticket) (state : ProxyState) → (fault_effect server now ticket state).state.bindings ≡ state.bindings
 fault_binds server now ticket state = failed_request_binds server now ticket state (find (λ (r : OpenRequest). r.number == ticket.datagram) state.requests)
 
--- The bindings after a step are those that the REGISTER makes which it lets through
+-- From its moment on the bindings after a step say the same as those that the REGISTER makes which it lets through
 pub step_binds : (server : Server) (old : ProxyState) (act : Act) (out : StepOut) (new : ProxyState) → IsStep server old act out new
-    → new.bindings ≡ after_allowed server old.bindings (allowed_at server old act)
+    → SameBindings new.moment new.bindings (after_allowed server old.bindings (allowed_at server old act))
 step_binds server old (Given (Datagram at word from bytes)) out new h =
-    ap (λ (s : ProxyState). s.bindings) h.does.leaves ∙ said_binds server old (arrival_of old at word from) bytes (message_in (reading_of bytes)) refl
-step_binds server old (Given (Time at)) out new h = ap (λ (s : ProxyState). s.bindings) h.quiet.does.leaves
+    subst (SameBindings new.moment new.bindings) (said_binds server old (arrival_of old at word from) bytes (message_in (reading_of bytes)) refl) h.does.leaves.bindings
+step_binds server old (Given (Time at)) out new h = h.quiet.does.leaves.bindings
 step_binds server old (Given (Fault at ticket)) out new h =
-    ap (λ (s : ProxyState). s.bindings) h.does.leaves ∙ fault_binds server (moment_of old at) ticket (record old { moment = moment_of old at })
+    subst (SameBindings new.moment new.bindings) (fault_binds server (moment_of old at) ticket (record old { moment = moment_of old at })) h.does.leaves.bindings
 step_binds server old (Passing at) out new h =
-    ⊎_elim (λ quiet. ap (λ (s : ProxyState). s.bindings) quiet.does.leaves) (λ due. ap (λ (s : ProxyState). s.bindings) due.does.leaves) h
+    ⊎_elim (λ quiet. quiet.does.leaves.bindings) (λ due. ⊎_elim (λ passed. passed.does.leaves.bindings) (λ goes. goes.does.leaves.bindings) due) h
 
 -- ---- a history
 
@@ -166,11 +176,52 @@ one_more : (server : Server) (allowed : Option Arrived) (earlier : List Arrived)
 one_more server None earlier = refl
 one_more server (Some r) earlier = refl
 
--- The bindings after a history are those that its allowed REGISTERs make
+-- a REGISTER that a verdict lets through comes at the moment of its datagram: rows that say the same are so after it
+verdict_same : (server : Server) (left right : List Binding) (now : ℕ) (m : Message) (v : Verdict) → SameBindings now left right
+    → SameBindings now (after_allowed server left (allowed_by now m v)) (after_allowed server right (allowed_by now m v))
+verdict_same server left right now m (Register q id outcome) h = register_same server (record { at = now; request = m }) left right h
+verdict_same server left right now m Drop h = h
+verdict_same server left right now m (Respond r b status) h = h
+verdict_same server left right now m (Copy r) h = h
+verdict_same server left right now m (AckOn address id) h = h
+verdict_same server left right now m (Cancel found) h = h
+verdict_same server left right now m (Answer status extras) h = h
+verdict_same server left right now m (InDialog address id) h = h
+verdict_same server left right now m (Challenge q) h = h
+verdict_same server left right now m (Deny q id) h = h
+verdict_same server left right now m (Send q id targets) h = h
+
+-- so they are after what a datagram says
+said_same : (server : Server) (now : ℕ) (left right : List Binding) (said : Option (Message × Verdict)) → SameBindings now left right
+    → SameBindings now (after_allowed server left (option_and_then (λ x. allowed_by now x.0 x.1) said)) (after_allowed server right (option_and_then (λ x. allowed_by now x.0 x.1) said))
+said_same server now left right None h = h
+said_same server now left right (Some x) h = verdict_same server left right now x.0 x.1 h
+
+-- and after what a step lets through, from the moment at which it stands
+allowed_same : (server : Server) (old : ProxyState) (act : Act) (out : StepOut) (left right : List Binding) → SameBindings (stands_at old act out) left right
+    → SameBindings (stands_at old act out) (after_allowed server left (allowed_at server old act)) (after_allowed server right (allowed_at server old act))
+allowed_same server old (Given (Datagram at word from bytes)) out left right h = said_same server (moment_of old at) left right (verdict_of server old (arrival_of old at word from) bytes) h
+allowed_same server old (Given (Time at)) out left right h = h
+allowed_same server old (Given (Fault at ticket)) out left right h = h
+allowed_same server old (Passing at) out left right h = h
+
+-- From its moment on the bindings after a history say the same as those that its allowed REGISTERs make
 pub bindings_of_chain : (server : Server) (first : ℕ) (history : List Link) (last : ProxyState) → IsChain server (first_state first) history last
-    → last.bindings ≡ bindings_after server history
-bindings_of_chain server first [] last h = ap (λ (s : ProxyState). s.bindings) h
+    → SameBindings last.moment last.bindings (bindings_after server history)
+bindings_of_chain server first [] last h = same_self last.moment _ _ (ap (λ (s : ProxyState). s.bindings) h)
 bindings_of_chain server first (link ∷ history) last h =
-    ap (λ (s : ProxyState). s.bindings) h.0 ∙ step_binds server link.before link.act link.out link.after h.1
-    ∙ ap (λ rows. after_allowed server rows (allowed_at server link.before link.act)) (bindings_of_chain server first history link.before h.2)
-    ∙ sym (one_more server (allowed_at server link.before link.act) (allowed_registers server history))
+    let old : ProxyState = link.before in
+    let earlier : List Binding = bindings_after server history in
+    let now : ℕ = stands_at old link.act link.out in
+    let is_at : link.after.moment ≡ now = (step_taken server old link.act link.out link.after h.1).is_at in
+    let rises : old.moment ≤ link.after.moment = moment_rises server old link.act link.out link.after (chain_passes_none server first history old h.2) (chain_again server first history old h.2) h.1 in
+    let before : SameBindings link.after.moment old.bindings earlier =
+    same_later old.moment link.after.moment old.bindings earlier rises (bindings_of_chain server first history old h.2) in
+    let allowed : Option Arrived = allowed_at server old link.act in
+    let both : SameBindings link.after.moment (after_allowed server old.bindings allowed) (after_allowed server earlier allowed) =
+    subst (λ (moment : ℕ). SameBindings moment (after_allowed server old.bindings allowed) (after_allowed server earlier allowed)) (sym is_at)
+    (allowed_same server old link.act link.out old.bindings earlier (subst (λ (moment : ℕ). SameBindings moment old.bindings earlier) is_at before)) in
+    subst (λ (s : ProxyState). SameBindings s.moment s.bindings (bindings_after server (link ∷ history))) (sym h.0)
+    (subst (SameBindings link.after.moment link.after.bindings) (sym (one_more server allowed (allowed_registers server history)))
+    (same_joined link.after.moment link.after.bindings (after_allowed server old.bindings allowed) (after_allowed server earlier allowed)
+    (step_binds server old link.act link.out link.after h.1) both))

@@ -17,10 +17,10 @@ use Rattle.sip_audit.specs.declared.record.Outcome.{Outcome}
 use Rattle.sip_event.specs.declared.event.StepOut.{StepOut}
 use Rattle.sip_event.specs.declared.event.Event.TheVariants.{Datagram, Time, Fault}
 use Rattle.sip_event.specs.declared.packet.Packet.{Packet}
-use Rattle.sip_model.specs.Server.{Server}
+use Rattle.sip_state.specs.Server.{Server}
 use Rattle.sip_location.specs.Registering.{to_aor, aor_or_nobody}
-use Rattle.sip_model.specs.State.{ProxyState}
-use Rattle.sip_model.specs.Verdict.{Arrival, Question, Registered, Bound, Refused, Send, Register, is_register, question_of, answer_of, registration_by, targets_by, request_targets, let_through, decided, policy_verdict, verdict_in}
+use Rattle.sip_state.specs.declared.proxy_state.ProxyState.{ProxyState}
+use Rattle.sip_verdict.specs.Verdict.{Arrival, Question, Registered, Bound, Refused, Send, Register, is_register, question_of, answer_of, registration_by, targets_by, request_targets, let_through, decided, policy_verdict, verdict_in}
 use Rattle.sip_model.specs.Effect.{Effect, forking, branches_from, registering, sending, sent_to, record_of, contact_fields, counted, asked, effect_of, datagram_effect, nothing}
 use Rattle.sip_model.specs.Step.{Act, Given, Passing, IsStep, originals, arrival_of}
 use Rattle.sip_model.specs.Access.{IsNewRequest, requests_to, rule_of, answer_alone, IsServed, Serves}
@@ -61,7 +61,7 @@ either_empty false targets h = h
 sent_reaches : (server : Server) (a : Arrival) (m : Message) (q : Question) (id : ℕ) (targets : List Target) (state : ProxyState)
     → of_branches (sent_to server a m q id targets state).originals ≡ requests_to server a m targets
 sent_reaches server a m q id targets state =
-    forked_sends server a.now (forking a m (branches_from a.now 1 targets)) (record_of a m q (Outcome.Sent id (length targets)) ∷ []) (asked a q state) (none_cancellable a.now 1 targets)
+    forked_sends server a.now (forking a m (branches_from a.now 1 targets)) (record_of server a m q (Outcome.Sent id (length targets)) ∷ []) (asked a q state) (none_cancellable a.now 1 targets)
     ∙ all_kept server (forking a m (branches_from a.now 1 targets)) a.now 1 targets (omega arith)
 
 -- a request that was let through goes to its targets; at 404 and 480 it goes nowhere

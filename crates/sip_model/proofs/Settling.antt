@@ -1,13 +1,20 @@
 -- What settling makes of an open request, after every event of it.
-use Rattle.std.proofs.Common.{◌≡◌, ℕ, ◌+◌, ◌≤◌, Bool, true, false, not, ◌&&◌, cond, List, [], ◌∷◌, ◌++◌, map, filter, Option, Some, None, refl, sym, ap, subst, ◌∙◌, arith}
+use Rattle.std.proofs.Common.{◌≡◌, ℕ, ◌+◌, ◌≤◌, Bool, true, false, not, ◌&&◌, cond, List, [], ◌∷◌, ◌++◌, map, filter, Option, Some, None, refl, sym, ap, subst, ◌∙◌, arith, flat_map}
 use Rattle.std.specs.List.{AllByRecursion}
 use Rattle.sip_event.specs.declared.packet.Packet.{Packet}
-use Rattle.sip_model.specs.Server.{Server}
-use Rattle.sip_model.specs.State.{Cancelled, Side, Closing, Branch, OpenRequest, is_answering, phase_deadline, side_deadline}
-use Rattle.sip_model.specs.Sending.{is_provisional}
-use Rattle.sip_model.specs.Dialogs.{Upward}
-use Rattle.sip_model.specs.Branches.{Change, best_upward, is_cancellable, cancel_branch, new_cancels, with_cancels, after_upward, settled}
-use Rattle.sip_model.proofs.Events.{DueFrom, IsDue, IsEvent, all_map}
+use Rattle.sip_state.specs.Server.{Server}
+use Rattle.sip_state.specs.declared.open_request.Side.{Side}
+use Rattle.sip_state.specs.declared.branch.Branch.{Branch}
+use Rattle.sip_state.specs.declared.open_request.OpenRequest.{OpenRequest}
+use Rattle.sip_state.specs.declared.branch.Phase.TheVariants.{Cancelled}
+use Rattle.sip_state.specs.declared.open_request.Side.TheVariants.{Closing}
+use Rattle.sip_state.specs.State.{is_answering, phase_deadline, side_deadline}
+use Rattle.sip_state.specs.Sending.{is_provisional}
+use Rattle.sip_state.specs.declared.open_request.Upward.{Upward}
+use Rattle.sip_state.specs.Branches.{Change, best_upward, is_cancellable, cancel_branch, new_cancels, with_cancels, after_upward, settled, held_branch, with_cancel}
+use Rattle.sip_model.proofs.Cancels.{all_with_cancels}
+use Rattle.sip_model.proofs.Resending.{DueFrom, IsAgain, settled_again}
+use Rattle.sip_model.proofs.Events.{IsDue, IsEvent, all_map}
 
 -- ---- the name of a request
 
@@ -63,19 +70,12 @@ each_map : (P : Branch → Type 0) (f : Branch → Branch) (xs : List Branch) �
 each_map P f [] each = tt
 each_map P f (x ∷ xs) each = (each x, each_map P f xs each)
 
--- a branch that is sent a CANCEL has time
-cancelled_due : (floor now : ℕ) (x : Branch) (t : Bool) → floor ≤ now + 1 → DueFrom floor (phase_deadline x.phase) → DueFrom floor (phase_deadline (cond t (record x { phase = Cancelled (now + 32000) }) x).phase)
-cancelled_due floor now x true low h = omega arith
-cancelled_due floor now x false low h = h
-
 -- CANCELs arm nothing before
 cancels_due : (floor now : ℕ) (r : OpenRequest) → floor ≤ now + 1 → IsDue floor r → IsDue floor (with_cancels now r)
 cancels_due floor now r low h = record {
   side_due = h.side_due;
-  branches_due = all_append (λ b. DueFrom floor (phase_deadline b.phase)) (map (λ (b : Branch). cond (is_cancellable b) (record b { phase = Cancelled (now + 32000) }) b) r.branches) (new_cancels now r)
-      (all_map (λ b. DueFrom floor (phase_deadline b.phase)) (λ b. DueFrom floor (phase_deadline b.phase)) (λ (b : Branch). cond (is_cancellable b) (record b { phase = Cancelled (now + 32000) }) b) r.branches
-      (λ x before. cancelled_due floor now x (is_cancellable x) low before) h.branches_due)
-      (each_map (λ b. DueFrom floor (phase_deadline b.phase)) (cancel_branch now) (filter is_cancellable r.branches) (λ x. let due : floor ≤ now + 32000 = omega arith in due));
+  branches_due = all_with_cancels (λ b. DueFrom floor (phase_deadline b.phase)) (λ b. DueFrom floor (phase_deadline b.phase)) now r.branches (λ x before. before)
+      (λ x before. let due : floor ≤ now + 32000 = omega arith in due) (λ x before. let due : floor ≤ now + 32000 = omega arith in due) h.branches_due;
 }
 
 -- nor does settling
@@ -89,3 +89,8 @@ settled_due server floor now acks relayed r low h =
 pub event_due : (server : Server) (floor now : ℕ) (r : OpenRequest) (change : Change) → IsEvent server now r change → floor ≤ now + 1 → IsDue floor r → IsDue floor change.request
 event_due server floor now r change e low h =
     subst (λ (c : Change). IsDue floor c.request) (sym e.is_change) (settled_due server floor now e.acks e.relayed e.between low (e.due floor low h))
+
+-- nor does anything go again before it that didn't
+pub event_again : (server : Server) (floor now : ℕ) (r : OpenRequest) (change : Change) → IsEvent server now r change → floor ≤ now + 1 → IsAgain floor r → IsAgain floor change.request
+event_again server floor now r change e low h =
+    subst (λ (c : Change). IsAgain floor c.request) (sym e.is_change) (settled_again server floor now e.acks e.relayed e.between low (e.again floor h))

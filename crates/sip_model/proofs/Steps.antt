@@ -1,5 +1,5 @@
 -- What each step of a proxy makes of its open requests.
-use Rattle.std.proofs.Common.{◌≡◌, inl, inr, ℕ, ◌+◌, ◌≤◌, ◌<◌, Bool, true, false, cond, List, [], ◌∷◌, ◌++◌, find, codes, Option, Some, None, refl, sym, subst, arith, count_by, bytes_eq, ◌==◌}
+use Rattle.std.proofs.Common.{◌≡◌, ◌∙◌, inl, inr, ℕ, ◌+◌, ◌≤◌, ◌<◌, Bool, true, false, cond, List, [], ◌∷◌, ◌++◌, find, codes, Option, Some, None, refl, sym, subst, arith, count_by, bytes_eq, ◌==◌}
 use Rattle.std.specs.Option.{option_map_or}
 use Rattle.std.specs.List.{AllByRecursion}
 use Rattle.std.proofs.lemmas.List.Elements.{Contains-append_left}
@@ -10,15 +10,19 @@ use Rattle.sip_targets.specs.declared.targets.Targets.{Targets}
 use Rattle.sip_event.specs.declared.packet.Ticket.{Ticket}
 use Rattle.sip_event.specs.declared.event.StepOut.{StepOut}
 use Rattle.sip_event.specs.declared.event.Event.TheVariants.{Datagram, Time, Fault}
-use Rattle.sip_model.specs.Server.{Server}
-use Rattle.sip_model.specs.State.{Branch, OpenRequest, ProxyState, has_key}
-use Rattle.sip_model.specs.Branches.{responded, cancelled, acknowledged, send_failed}
-use Rattle.sip_model.specs.Verdict.{Arrival, Question, Registered, Bound, Refused, Verdict, Drop, Respond, Copy, AckOn, Cancel, Answer, InDialog, Challenge, Deny, Send, Register, is_full, message_verdict, message_in, verdict_in, verdict_of}
+use Rattle.sip_state.specs.Server.{Server}
+use Rattle.sip_state.specs.declared.branch.Branch.{Branch}
+use Rattle.sip_state.specs.declared.open_request.OpenRequest.{OpenRequest}
+use Rattle.sip_state.specs.declared.proxy_state.ProxyState.{ProxyState}
+use Rattle.sip_state.specs.SameState.{SameState}
+use Rattle.sip_state.specs.State.{has_key}
+use Rattle.sip_state.specs.Branches.{responded, cancelled, acknowledged, send_failed}
+use Rattle.sip_verdict.specs.Verdict.{Arrival, Question, Registered, Bound, Refused, Verdict, Drop, Respond, Copy, AckOn, Cancel, Answer, InDialog, Challenge, Deny, Send, Register, is_full, message_verdict, message_in, verdict_in, verdict_of}
 use Rattle.sip_model.specs.Effect.{Effect, replaced, opened, closing, forking, branch_to, branches_from, dialog_branch, counted, asked, issuing, renewing, registering, sending, method_of, nothing, changed, effect_of, datagram_effect}
-use Rattle.sip_model.specs.Step.{Act, Given, Passing, IsStep, IsQuiet, IsDeadline, NoneBefore, moment_of, arrival_of, is_failed, failed_branch, failed_request, fault_effect}
+use Rattle.sip_model.specs.Step.{Act, Given, Passing, IsStep, IsQuiet, IsDeadline, IsResend, resent, NoneBefore, NoneAgainBefore, moment_of, arrival_of, is_failed, failed_branch, failed_request, fault_effect}
 use Rattle.sip_model.specs.Order.{ByResponse, ByDeadline, ByFault, ByCancel, FinalAnswer, change_finals, reply_finals, forked_finals, sending_finals, registered_finals, verdict_finals, datagram_finals, branch_finals, fault_finals, step_finals}
 use Rattle.sip_model.proofs.Places.{IsIn, in_from_contains, contains_from_in, found_in, all_weaker}
-use Rattle.sip_model.proofs.Moves.{IsStarted, sent_request, IsOpening, Answered, Sent, IsMove, Stays, TurnsAway, Opens, Changes, Acknowledges, AreMoves, One, Two}
+use Rattle.sip_model.proofs.Moves.{IsStarted, sent_request, IsOpening, Answered, Sent, IsMove, Stays, TurnsAway, Opens, Changes, Resends, Acknowledges, AreMoves, One, Two}
 use Rattle.sip_model.proofs.Verdicts.{IsNewKey, IsThereOne, AreNotEmpty, Fits, verdict_fits}
 use Rattle.sip_model.proofs.Openings.{sent_key}
 
@@ -51,7 +55,7 @@ forks server state a m first others started is_new =
 -- the branches of targets, as they are first sent
 started : (now number : ℕ) (ts : List Target) → AllByRecursion (IsStarted now) (branches_from now number ts)
 started now number [] = tt
-started now number (t ∷ ts) = (record { is_target = refl; is_due = refl }, started now (number + 1) ts)
+started now number (t ∷ ts) = (record { is_target = refl; is_due = refl; goes_next = refl }, started now (number + 1) ts)
 
 -- a request is sent to targets
 sends_to : (server : Server) (state : ProxyState) (a : Arrival) (m : Message) (targets : List Target) → IsThereOne targets → IsNewKey state.requests m
@@ -103,7 +107,7 @@ effect_moves server state a m (Cancel None) fits = replies server (counted a sta
 effect_moves server state a m (Cancel (Some r)) fits = cancel_moves server state a m r _ (is_full (counted a state)) fits.0 fits.1
 effect_moves server state a m (Answer status extras) fits = replies server (counted a state) a m status _ fits
 effect_moves server state a m (InDialog address id) fits =
-    forks server (renewing server a m id (counted a state)) a m (dialog_branch server a.now m address) [] (record { is_target = refl; is_due = refl }, tt) fits
+    forks server (renewing server a m id (counted a state)) a m (dialog_branch server a.now m address) [] (record { is_target = refl; is_due = refl; goes_next = refl }, tt) fits
 effect_moves server state a m (Challenge q) fits = replies server (issuing a (asked a q (counted a state))) a m _ _ fits
 effect_moves server state a m (Deny q id) fits = replies server (asked a q (counted a state)) a m 403 _ fits
 effect_moves server state a m (Send q id targets) fits = sending_moves server state a m q id targets fits.1 fits.0
@@ -187,17 +191,25 @@ fault_at server now ticket state (Some r) = failed_at server now state r (find (
 
 -- ---- a step
 
--- A step at a moment: what it makes of the open requests, the state's moment after it, and that no deadline was passed over.
+-- A step at a moment: what it makes of the open requests, the state's moment after it, and that no deadline was passed over, and nothing that goes again.
 pub record IsTaken (server : Server) (old : ProxyState) (now : ℕ) (new : ProxyState) (finals : List FinalAnswer) : Type 0 where
   pub moves : AreMoves server now old.requests old.next new.requests new.next finals
   pub is_at : new.moment ≡ now
   pub none_passed : NoneBefore now old.requests
+  pub none_again : NoneAgainBefore now old.requests
 
 -- the same of a state that an effect leaves
-taken : (server : Server) (old : ProxyState) (now : ℕ) (effect new : ProxyState) (finals : List FinalAnswer) → new ≡ effect → AreMoves server now old.requests old.next effect.requests effect.next finals → effect.moment ≡ now
-    → NoneBefore now old.requests → IsTaken server old now new finals
-taken server old now effect new finals e moves at none =
-    subst (λ (s : ProxyState). IsTaken server old now s finals) (sym e) (record { moves = moves; is_at = at; none_passed = none })
+taken : (server : Server) (old : ProxyState) (now : ℕ) (effect new : ProxyState) (finals : List FinalAnswer) → SameState new effect → AreMoves server now old.requests old.next effect.requests effect.next finals → effect.moment ≡ now
+    → NoneBefore now old.requests → NoneAgainBefore now old.requests → IsTaken server old now new finals
+taken server old now effect new finals e moves at none again =
+    record {
+      moves =
+          subst (λ (next : ℕ). AreMoves server now old.requests old.next new.requests next finals) (sym e.next)
+          (subst (λ (requests : List OpenRequest). AreMoves server now old.requests old.next requests effect.next finals) (sym e.requests) moves);
+      is_at = e.moment ∙ at;
+      none_passed = none;
+      none_again = again;
+    }
 
 -- what is later isn't before
 none_before : (now : ℕ) (dues : List ℕ) → AllByRecursion (λ due. now < due) dues → AllByRecursion (λ due. now ≤ due) dues
@@ -206,13 +218,19 @@ none_before now dues all = all_weaker (λ due. now < due) (λ due. now ≤ due) 
 -- time passes
 quiet_taken : (server : Server) (old : ProxyState) (at : ℕ) (out : StepOut) (new : ProxyState) → IsQuiet server old at out new → IsTaken server old out.at new []
 quiet_taken server old at out new h =
-    taken server old out.at (record old { moment = out.at }) new [] h.does.leaves (One (Stays refl (omega arith) refl)) refl h.none_passed
+    taken server old out.at (record old { moment = out.at }) new [] h.does.leaves (One (Stays refl (omega arith) refl)) refl h.none_passed h.none_again_passed
 
 -- a deadline passes
 deadline_taken : (server : Server) (old : ProxyState) (at : ℕ) (out : StepOut) (new : ProxyState) → (h : IsDeadline server old at out new) → IsTaken server old out.at new (change_finals h.change)
 deadline_taken server old at out new h =
     taken server old out.at (changed server out.at old h.change).state new (change_finals h.change) h.does.leaves
-    (One (Changes h.request h.change (in_from_contains old.requests h.request h.is_open) (ByDeadline h.change h.passes) (omega arith) refl refl)) refl h.is_first
+    (One (Changes h.request h.change (in_from_contains old.requests h.request h.is_open) (ByDeadline h.change h.passes) (omega arith) refl refl)) refl h.is_first h.none_again
+
+-- something goes again
+resend_taken : (server : Server) (old : ProxyState) (at : ℕ) (out : StepOut) (new : ProxyState) → (h : IsResend server old at out new) → IsTaken server old out.at new []
+resend_taken server old at out new h =
+    taken server old out.at (resent out.at old h.packets h.next).state new [] h.does.leaves
+    (One (Resends h.request h.packets h.next (in_from_contains old.requests h.request h.is_open) h.goes (omega arith) refl refl)) refl h.is_first h.none_again
 
 -- the moment at which a step stands
 abbrev pub stands_at : ProxyState → Act → StepOut → ℕ
@@ -226,12 +244,13 @@ pub step_taken : (server : Server) (old : ProxyState) (act : Act) (out : StepOut
 step_taken server old (Given (Datagram at word from bytes)) out new h =
     let a : Arrival = arrival_of old at word from in
     taken server old a.now (datagram_effect server old a bytes).state new (datagram_finals server a (verdict_of server old a bytes)) h.does.leaves (datagram_moves server old a (message_in (reading_of bytes))) (datagram_at server old a (verdict_of server old a bytes))
-    (none_before a.now _ h.none_due)
+    (none_before a.now _ h.none_due) (none_before a.now _ h.none_again)
 step_taken server old (Given (Time at)) out new h = quiet_taken server old at out new h.quiet
 step_taken server old (Given (Fault at ticket)) out new h =
     let now = moment_of old at in
     let o = find (λ (r : OpenRequest). r.number == ticket.datagram) old.requests in
     taken server old now (fault_effect server now ticket (record old { moment = now })).state new (fault_finals server now ticket o) h.does.leaves
-    (fault_moves server now ticket old o (λ r e. (found_in (λ (x : OpenRequest). x.number == ticket.datagram) old.requests r e).0)) (fault_at server now ticket old o) h.none_passed
+    (fault_moves server now ticket old o (λ r e. (found_in (λ (x : OpenRequest). x.number == ticket.datagram) old.requests r e).0)) (fault_at server now ticket old o) h.none_passed h.none_again
 step_taken server old (Passing at) out new (inl quiet) = quiet_taken server old at out new quiet
-step_taken server old (Passing at) out new (inr due) = deadline_taken server old at out new due
+step_taken server old (Passing at) out new (inr (inl due)) = deadline_taken server old at out new due
+step_taken server old (Passing at) out new (inr (inr goes)) = resend_taken server old at out new goes

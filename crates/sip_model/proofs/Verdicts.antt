@@ -5,16 +5,13 @@ use Rattle.std.specs.Result.{result_ok}
 use Rattle.sip_uri.specs.declared.uri.Uri.{Uri}
 use Rattle.sip_uri.specs.declared.aor.Aor.{Aor}
 use Rattle.sip_message.specs.declared.field.Field.{Field}
-use Rattle.sip_message.specs.declared.field_name.FieldName.TheVariants as Name
 use Rattle.sip_message.specs.declared.message.Start.{Start}
 use Rattle.sip_message.specs.declared.message.Start.TheVariants.{Request, Status}
 use Rattle.sip_message.specs.declared.message.Message.{Message}
 use Rattle.sip_header.specs.declared.key.Key.{Key}
 use Rattle.sip_header.specs.declared.core_fields.CoreFields.{CoreFields}
 use Rattle.sip_header.specs.Key.{key_of}
-use Rattle.sip_header.specs.CSeq.{cseq_of}
-use Rattle.sip_message.specs.Values.{first_value}
-use Rattle.sip_header.specs.CoreFields.{core_of}
+use Rattle.sip_header.specs.CoreFields.{core_of, cseq_in}
 use Rattle.sip_header.specs.declared.cseq.CSeq.{CSeq}
 use Rattle.sip_header.specs.Way.{request_uri_of}
 use Rattle.sip_text.specs.declared.addr.Addr.{Addr}
@@ -30,11 +27,14 @@ use Rattle.sip_validate.specs.Refusal.{refusal_of, is_bad_request}
 use Rattle.sip_dialog.specs.declared.dialog.DialogId.{DialogId}
 use Rattle.sip_dialog.specs.Dialogs.{is_in_dialog}
 use Rattle.sip_policy.specs.User.{is_users_address}
-use Rattle.sip_model.specs.Server.{Server}
-use Rattle.sip_model.specs.State.{ProxyState, OpenRequest, Branch, has_key}
-use Rattle.sip_model.specs.Sending.{dialog_of}
-use Rattle.sip_model.specs.Branches.{is_accepted}
-use Rattle.sip_model.specs.Verdict.{Arrival, Question, Verdict, Drop, Respond, Copy, AckOn, Cancel, Answer, InDialog, Challenge, Deny, Send, Register, is_branch, branch_in, found_branch, response_verdict, responding, within_at, within, ack_verdict, is_full, is_cancelled_by, found_for_cancel, cancel_verdict, targets_by, request_targets, let_through, decided, policy_verdict, question_of, answer_of, is_register, is_outside, registration_by, core_verdict, checked_verdict, new_verdict, by_open, by_key, by_start, message_verdict, top_branch, next_address}
+use Rattle.sip_state.specs.Server.{Server}
+use Rattle.sip_state.specs.declared.proxy_state.ProxyState.{ProxyState}
+use Rattle.sip_state.specs.declared.open_request.OpenRequest.{OpenRequest}
+use Rattle.sip_state.specs.declared.branch.Branch.{Branch}
+use Rattle.sip_state.specs.State.{has_key}
+use Rattle.sip_state.specs.Sending.{dialog_of}
+use Rattle.sip_state.specs.Branches.{is_accepted}
+use Rattle.sip_verdict.specs.Verdict.{Arrival, Question, Verdict, Drop, Respond, Copy, AckOn, Cancel, Answer, InDialog, Challenge, Deny, Send, Register, is_branch, branch_in, found_branch, response_verdict, responding, within_at, within, ack_verdict, is_full, is_cancelled_by, found_for_cancel, cancel_verdict, targets_by, request_targets, let_through, decided, policy_verdict, question_of, answer_of, is_register, is_outside, registration_by, core_verdict, checked_verdict, new_verdict, by_open, by_key, by_start, message_verdict, top_branch, next_address}
 use Rattle.sip_model.specs.Effect.{request_key}
 use Rattle.sip_model.proofs.Places.{IsIn, found_in, none_found}
 
@@ -177,7 +177,7 @@ allowed_targets server rows now target id (Some uri) =
     not_empty_either (is_users_address server.config.users server.config.own.domains target) (targets_at server.config.addresses (contacts_of rows now target)) Targets.NotFound (at_contacts server.config.addresses (contacts_of rows now target)) tt
 
 -- a request that goes by a hop has a target, or is answered
-hop_targets : (server : Server) (rows : List Binding) (now : ℕ) (target : Aor) (id : ℕ) (hop : List ℕ) (uri : Option Uri) → AreNotEmpty (targets_by server rows now target (Decision.Via id hop) uri)
+hop_targets : (server : Server) (rows : List Binding) (now : ℕ) (target : Aor) (id : ℕ) (hop : ℕ) (uri : Option Uri) → AreNotEmpty (targets_by server rows now target (Decision.Via id hop) uri)
 hop_targets server rows now target id hop None = tt
 hop_targets server rows now target id hop (Some uri) = by_hop uri (hop_of server.config.hops hop)
 
@@ -239,7 +239,7 @@ start_fits : (server : Server) (state : ProxyState) (a : Arrival) (m : Message) 
 start_fits server state a m short (Status code reason) =
     fits_either state.requests m short Drop (response_verdict m.fields code (responding server state.requests m.fields)) tt
     (response_fits state.requests m m.fields code (responding server state.requests m.fields)
-    (found_for server state.requests (top_branch server m.fields) (option_and_then cseq_of (first_value Name.CSeq m.fields))))
+    (found_for server state.requests (top_branch server m.fields) (result_ok (cseq_in m.fields))))
 start_fits server state a m short (Request method uri version) = key_fits server state a m short method (key_of m) refl
 
 -- a verdict is about requests that are there, or about a request whose key is new

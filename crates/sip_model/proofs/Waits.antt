@@ -1,16 +1,22 @@
 -- Every open request has a deadline: one that owes an answer waits for a branch, since the best answer goes up with the last branch's.
-use Rattle.std.proofs.Common.{◌≡◌, ℕ, ◌+◌, Bool, true, false, not, ◌&&◌, ◌||◌, cond, ◌==◌, List, [], ◌∷◌, ◌++◌, map, filter, Option, Some, None, refl, sym, ap, subst, ◌∙◌, arith, option_map, count_by, IsSome as IsSomeOption}
+use Rattle.std.proofs.Common.{◌≡◌, ℕ, ◌+◌, Bool, true, false, not, ◌&&◌, ◌||◌, cond, ◌==◌, List, [], ◌∷◌, ◌++◌, map, filter, Option, Some, None, refl, sym, ap, subst, ◌∙◌, arith, option_map, count_by, IsSome as IsSomeOption, flat_map}
 use Rattle.std.specs.List.{AllByRecursion, list_any, list_all}
 use Rattle.sip_best.specs.declared.final_answer.Final.{Final}
 use Rattle.sip_best.specs.Best.{best_of, picked, chosen_of, going_up, is_unbeaten, is_challenge_status, challenging}
 use Rattle.sip_best.proofs.Choices.{one_goes_up}
 use Rattle.sip_event.specs.declared.packet.Packet.{Packet}
-use Rattle.sip_model.specs.Server.{Server}
-use Rattle.sip_model.specs.State.{Phase, Unheard, Heard, Cancelled, Done, Ended, Closing, Branch, OpenRequest, is_final, is_answering, has_left}
-use Rattle.sip_model.specs.Sending.{is_provisional}
-use Rattle.sip_model.specs.Dialogs.{Upward}
-use Rattle.sip_model.specs.Branches.{Change, upward_of, all_final, best_upward, is_ready, is_cancellable, cancel_branch, new_cancels, with_cancels, after_upward, upward_list, settled}
+use Rattle.sip_state.specs.Server.{Server}
+use Rattle.sip_state.specs.declared.branch.Phase.{Phase}
+use Rattle.sip_state.specs.declared.branch.Branch.{Branch}
+use Rattle.sip_state.specs.declared.open_request.OpenRequest.{OpenRequest}
+use Rattle.sip_state.specs.declared.branch.Phase.TheVariants.{Unheard, Heard, Cancelled, Done, Ended}
+use Rattle.sip_state.specs.declared.open_request.Side.TheVariants.{Closing}
+use Rattle.sip_state.specs.State.{is_final, is_answering, has_left}
+use Rattle.sip_state.specs.Sending.{is_provisional}
+use Rattle.sip_state.specs.declared.open_request.Upward.{Upward}
+use Rattle.sip_state.specs.Branches.{Change, upward_of, all_final, best_upward, is_ready, is_cancellable, cancel_branch, new_cancels, with_cancels, after_upward, upward_list, settled, held_branch, with_cancel}
 use Rattle.sip_model.specs.Order.{is_final_answer}
+use Rattle.sip_model.proofs.Cancels.{all_with_cancels}
 use Rattle.sip_model.proofs.Places.{count_cons, one_at}
 use Rattle.sip_model.proofs.Events.{IsSome, IsSeen, IsFinalStatus, is_target, IsCounted, IsEvent, all_map, any_map}
 use Rattle.sip_model.proofs.Settling.{all_append}
@@ -66,42 +72,21 @@ ready_open (Cancelled due) e = refl
 ready_open (Done due f) e = absurd (cc)
 ready_open Ended e = absurd (cc)
 
--- a branch after CANCELs were sent
-abbrev pub sent_cancel : ℕ → Branch → Branch
-sent_cancel now b = cond (is_cancellable b) (record b { phase = Cancelled (now + 32000) }) b
-
--- its final answer is there, if it has one
-sent_cancel_seen : (now : ℕ) (finals : List Final) (x : Branch) (t : Bool) → IsSeen finals x → IsSeen finals (cond t (record x { phase = Cancelled (now + 32000) }) x)
-sent_cancel_seen now finals x true h = λ target final. absurd (cc)
-sent_cancel_seen now finals x false h = h
-
--- it goes where it went
-sent_cancel_same : (now : ℕ) (x : Branch) (t : Bool) → (cond t (record x { phase = Cancelled (now + 32000) }) x).is_cancel ≡ x.is_cancel
-sent_cancel_same now x true = refl
-sent_cancel_same now x false = refl
-
--- CANCELs are no branches to targets
-cancels_seen : (now : ℕ) (finals : List Final) (xs : List Branch) → AllByRecursion (IsSeen finals) (map (cancel_branch now) xs)
-cancels_seen now finals [] = tt
-cancels_seen now finals (x ∷ xs) = (λ target final. absurd (cc), cancels_seen now finals xs)
-
--- a branch to a target stays in front of the CANCELs
-any_in_front : (xs ys : List Branch) → list_any is_target xs ≡ true → list_any is_target (xs ++ ys) ≡ true
-any_in_front [] ys e = absurd (cc)
-any_in_front (x ∷ xs) ys e = by_test (is_target x) (any_in_front xs ys) e where
-  by_test : (t : Bool) → (list_any is_target xs ≡ true → list_any is_target (xs ++ ys) ≡ true) → (t || list_any is_target xs) ≡ true → (t || list_any is_target (xs ++ ys)) ≡ true
-  by_test true rest e = refl
-  by_test false rest e = rest e
+-- CANCELs are no branches to targets, and those stay
+any_with_cancels : (now : ℕ) (bs : List Branch) → list_any is_target (flat_map (with_cancel now) bs) ≡ list_any is_target bs
+any_with_cancels now [] = refl
+any_with_cancels now (b ∷ bs) = by_test (is_cancellable b) (any_with_cancels now bs) where
+  by_test : (t : Bool) → list_any is_target (flat_map (with_cancel now) bs) ≡ list_any is_target bs
+      → list_any is_target (cond t (held_branch now b ∷ cancel_branch now b ∷ []) (b ∷ []) ++ flat_map (with_cancel now) bs) ≡ list_any is_target (b ∷ bs)
+  by_test true same = ap (λ (v : Bool). is_target b || v) same
+  by_test false same = ap (λ (v : Bool). is_target b || v) same
 
 -- CANCELs leave final answers all there
 cancels_counted : (now : ℕ) (r : OpenRequest) → IsCounted r → IsCounted (with_cancels now r)
 cancels_counted now r h = record {
-  seen = all_append (IsSeen r.finals) (map (sent_cancel now) r.branches) (new_cancels now r)
-      (all_map (IsSeen r.finals) (IsSeen r.finals) (sent_cancel now) r.branches (λ x before. sent_cancel_seen now r.finals x (is_cancellable x) before) h.seen)
-      (cancels_seen now r.finals (filter is_cancellable r.branches));
+  seen = all_with_cancels (IsSeen r.finals) (IsSeen r.finals) now r.branches (λ x before. before) (λ x before target final. absurd (cc)) (λ x before target final. absurd (cc)) h.seen;
   final = h.final;
-  has_target = λ answering. any_in_front (map (sent_cancel now) r.branches) (new_cancels now r)
-      (any_map (sent_cancel now) r.branches (λ x. sent_cancel_same now x (is_cancellable x)) ∙ h.has_target answering);
+  has_target = λ answering. any_with_cancels now r.branches ∙ h.has_target answering;
 }
 
 -- ---- whether all branches are final
@@ -110,12 +95,7 @@ cancels_counted now r h = record {
 abbrev pub targets_final : List Branch → Bool
 targets_final bs = list_all (λ (b : Branch). is_final b.phase) (filter (λ (b : Branch). not b.is_cancel) bs)
 
--- CANCELs don't count in that
-cancels_final : (now : ℕ) (xs : List Branch) → targets_final (map (cancel_branch now) xs) ≡ true
-cancels_final now [] = refl
-cancels_final now (x ∷ xs) = cancels_final now xs
-
--- nor does one branch that is sent one
+-- one branch that is sent a CANCEL doesn't count in that
 one_final_more : (now : ℕ) (x : Branch) (rest others : List Branch) (t : Bool) → is_cancellable x ≡ t → targets_final rest ≡ targets_final others
     → targets_final (cond t (record x { phase = Cancelled (now + 32000) }) x ∷ rest) ≡ targets_final (x ∷ others)
 one_final_more now x rest others true is same = by_cancel x.is_cancel refl where
@@ -138,11 +118,14 @@ one_final_more now x rest others false is same = by_cancel x.is_cancel where
   by_cancel true = same
   by_cancel false = ap (λ (v : Bool). is_final x.phase && v) same
 
--- so CANCELs change nothing of it
-with_cancels_final : (now : ℕ) (xs ys : List Branch) → targets_final (map (sent_cancel now) xs ++ map (cancel_branch now) ys) ≡ targets_final xs
-with_cancels_final now [] ys = cancels_final now ys
-with_cancels_final now (x ∷ xs) ys =
-    one_final_more now x (map (sent_cancel now) xs ++ map (cancel_branch now) ys) xs (is_cancellable x) refl (with_cancels_final now xs ys)
+-- nor does the CANCEL, so CANCELs change nothing of it
+with_cancels_final : (now : ℕ) (xs : List Branch) → targets_final (flat_map (with_cancel now) xs) ≡ targets_final xs
+with_cancels_final now [] = refl
+with_cancels_final now (x ∷ xs) = by_test (is_cancellable x) refl (with_cancels_final now xs) where
+  by_test : (t : Bool) → is_cancellable x ≡ t → targets_final (flat_map (with_cancel now) xs) ≡ targets_final xs
+      → targets_final (cond t (held_branch now x ∷ cancel_branch now x ∷ []) (x ∷ []) ++ flat_map (with_cancel now) xs) ≡ targets_final (x ∷ xs)
+  by_test true is same = one_final_more now x (cancel_branch now x ∷ flat_map (with_cancel now) xs) xs true is same
+  by_test false is same = one_final_more now x (flat_map (with_cancel now) xs) xs false is same
 
 -- ---- where all branches are final, a final answer goes up
 
@@ -217,7 +200,7 @@ pub settled_waits : (server : Server) (now : ℕ) (acks : List Packet) (relayed 
 settled_waits server now acks relayed r h owes =
     let told : OpenRequest = after_upward now relayed r in
     let after : OpenRequest = after_upward now (best_upward server told) told in
-    with_cancels_final now after.branches (filter is_cancellable after.branches) ∙ ap targets_final (upward_branches now (best_upward server told) told)
+    with_cancels_final now after.branches ∙ ap targets_final (upward_branches now (best_upward server told) told)
     ∙ waits_after server now told (upward_counted now relayed r h) owes
 
 -- an event of a request that stays open

@@ -5,6 +5,8 @@ use Rattle.std.specs.Str.{bytes_eq}
 use Rattle.sip_message.specs.declared.field.Field.{Field}
 use Rattle.sip_message.specs.declared.message.Start.TheVariants.{Request, Status}
 use Rattle.sip_message.specs.declared.message.Message.{Message}
+use Rattle.sip_message.specs.declared.field_name.FieldName.TheVariants as Name
+use Rattle.sip_message.specs.Values.{first_value}
 use Rattle.sip_message.specs.Reading.{reading_of}
 use Rattle.sip_message.specs.Text.{text_of}
 use Rattle.sip_header.specs.declared.key.Key.{Key}
@@ -19,6 +21,7 @@ use Rattle.sip_edit.specs.OwnVia.{without_top_via}
 use Rattle.sip_policy.specs.declared.decision.Decision.{Decision}
 use Rattle.sip_policy.specs.Operation.{operation_of}
 use Rattle.sip_location.specs.declared.binding.Binding.{Binding}
+use Rattle.sip_location.specs.Sameness.{SameBindings}
 use Rattle.sip_targets.specs.declared.target.Target.{Target}
 use Rattle.sip_targets.specs.declared.targets.Targets.{Targets}
 use Rattle.sip_targets.specs.Targets.{target_list}
@@ -29,13 +32,16 @@ use Rattle.sip_dialog.specs.Dialogs.{IsInDialog}
 use Rattle.sip_event.specs.declared.packet.Packet.{Packet}
 use Rattle.sip_event.specs.declared.event.StepOut.{StepOut}
 use Rattle.sip_event.specs.declared.event.Event.TheVariants.{Datagram, Time, Fault}
-use Rattle.sip_model.specs.Server.{Server}
+use Rattle.sip_state.specs.Server.{Server}
 use Rattle.sip_location.specs.Registering.{to_aor}
-use Rattle.sip_model.specs.State.{ProxyState, OpenRequest, Branch, is_invite, has_key}
-use Rattle.sip_model.specs.Sending.{made_answer, answer_packet, answer_to, to_branch, ack_packets, branch_packets, onward_as, request_of, dialog_of, is_failure, is_provisional}
-use Rattle.sip_model.specs.Branches.{is_ready}
-use Rattle.sip_model.specs.Verdict.{Arrival, Bound, Refused, has_contact, is_full, is_register, is_outside, question_of, answer_of, request_targets, registration_by, next_address, responding, message_in}
-use Rattle.sip_model.specs.Effect.{arriving, branches_from, contact_fields, challenge_status, challenge_field, method_of}
+use Rattle.sip_state.specs.declared.proxy_state.ProxyState.{ProxyState}
+use Rattle.sip_state.specs.declared.open_request.OpenRequest.{OpenRequest}
+use Rattle.sip_state.specs.declared.branch.Branch.{Branch}
+use Rattle.sip_state.specs.State.{is_invite, has_key}
+use Rattle.sip_state.specs.Sending.{made_answer, answer_packet, answer_to, to_branch, ack_packets, branch_packets, onward_as, request_of, dialog_of, is_failure, is_provisional}
+use Rattle.sip_state.specs.Branches.{is_ready}
+use Rattle.sip_verdict.specs.Verdict.{Arrival, Bound, Refused, has_contact, is_full, is_register, is_outside, question_of, answer_of, request_targets, registration_by, next_address, responding, message_in}
+use Rattle.sip_model.specs.Effect.{arriving, branches_from, contact_fields, challenge_status, challenges_to, method_of}
 use Rattle.sip_model.specs.Step.{Act, Given, Passing, originals, arrival_of}
 use Rattle.sip_model.specs.Run.{Link}
 use Rattle.sip_model.specs.Bindings.{Arrived, bindings_after}
@@ -119,7 +125,7 @@ pub record IsServed (server : Server) (rows : List Binding) (state : ProxyState)
       → targets_given server rows state a.now m method core ≡ Targets.Unavailable → originals out.packets ≡ answer_alone server a m 480 []
   pub challenges : decision_on server state a.now m method core ≡ Decision.Challenge
       → originals out.packets
-      ≡ answer_alone server a m (challenge_status (operation_of method (has_contact m.fields))) (challenge_field server a (question_of server state.nonces a.now m method core) ∷ [])
+      ≡ answer_alone server a m (challenge_status (operation_of method (has_contact m.fields))) (challenges_to server a (question_of server state.nonces a.now m method core))
   pub denies : (id : ℕ) → decision_on server state a.now m method core ≡ Decision.Deny id → originals out.packets ≡ answer_alone server a m 403 (denial_warning server.config.own id ∷ [])
 
 -- the same of a step: where it is taken for such a request
@@ -142,7 +148,7 @@ pub record IsSaidAt (state : ProxyState) (act : Act) (a : Arrival) (bytes : List
   pub says : message_in (reading_of bytes) ≡ Some (m, short)
 
 -- A response came in a datagram of a history, for a branch to a target of the request of a number, which was open then: its top Via is the one that this server put on that branch's
--- request, and its CSeq has the request's method (RFC 3261 17.1.3). Nobody looks at the address that it came from.
+-- request, and its one CSeq has the request's method (RFC 3261 17.1.3, 20.16). Nobody looks at the address that it came from.
 pub record CameFor (server : Server) (history : List Link) (number status : ℕ) (response : Message) : Type 0 where
   pub link : Link
   pub a : Arrival
@@ -237,7 +243,7 @@ pub data IsOwed (server : Server) (history : List Link) (state : ProxyState) (ac
       → p ≡ answer_to false r (text_of (taking_along (without_top_via response) challenges)) → IsOwed server history state act rows p
   Acknowledges : (a : Arrival) (bytes : List ℕ) (r : OpenRequest) (b : Branch) (status : ℕ) (reason : List ℕ) (response : Message) → IsSaidAt state act a bytes response false
       → response.start ≡ Status status reason → responding server state.requests response.fields ≡ Some (r, b) → is_invite r ≡ true → is_failure status ≡ true
-      → Contains (ack_packets server false r b response) p → IsOwed server history state act rows p
+      → Contains (ack_packets server false r b (first_value Name.To response.fields)) p → IsOwed server history state act rows p
   Cancels : (r : OpenRequest) (b : Branch) → Contains state.requests r → Contains r.branches b → b.is_cancel ≡ false → is_invite r ≡ true → WasHeard server state act r b
       → Contains (to_branch r b 0 false (cancel_of (request_of server r b))) p → IsOwed server history state act rows p
   InKnownDialog : (a : Arrival) (m : Message) (address : Addr) → IsWithin server state act a m address → p.to ≡ address
@@ -245,11 +251,11 @@ pub data IsOwed (server : Server) (history : List Link) (state : ProxyState) (ac
 
 -- ---- the law
 
--- A step is lawful by its history: the bindings before it are those that the allowed REGISTERs of its history make, and those after it are so with its own; what it is taken for is
--- served by these; and all that it sends for the first time is owed.
+-- A step is lawful by its history: from its moment on the bindings before it say the same as those that the allowed REGISTERs of its history make, and those after it do so with its own;
+-- what it is taken for is served by these; and all that it sends for the first time is owed.
 pub record IsLawful (server : Server) (history : List Link) (link : Link) : Type 0 where
-  pub bindings : link.before.bindings ≡ bindings_after server history
-  pub binds : link.after.bindings ≡ bindings_after server (link ∷ history)
+  pub bindings : SameBindings link.before.moment link.before.bindings (bindings_after server history)
+  pub binds : SameBindings link.after.moment link.after.bindings (bindings_after server (link ∷ history))
   pub serves : Serves server (bindings_after server history) link.before link.act link.out
   pub owed : AllByRecursion (IsOwed server (link ∷ history) link.before link.act (bindings_after server history)) (originals link.out.packets)
 

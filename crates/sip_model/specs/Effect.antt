@@ -8,6 +8,7 @@ use Rattle.sip_digest.specs.Nonces.{issued}
 use Rattle.sip_uri.specs.declared.aor.Aor.{Aor}
 use Rattle.sip_uri.specs.Uri as UriText
 use Rattle.sip_message.specs.declared.field.Field.{Field}
+use Rattle.sip_message.specs.declared.field_name.FieldName.{FieldName}
 use Rattle.sip_message.specs.declared.field_name.FieldName.TheVariants as Name
 use Rattle.sip_message.specs.declared.message.Start.{Start}
 use Rattle.sip_message.specs.declared.message.Start.TheVariants.{Request, Status}
@@ -16,7 +17,8 @@ use Rattle.sip_message.specs.Text.{text_of}
 use Rattle.sip_header.specs.declared.key.Key.{Key}
 use Rattle.sip_header.specs.Key.{key_of}
 use Rattle.sip_text.specs.declared.addr.Addr.{Addr}
-use Rattle.sip_edit.specs.Challenges.{challenge}
+use Rattle.sip_edit.specs.Challenges.{challenge_fields}
+use Rattle.sip_auth.specs.Offer.{offers_sha256}
 use Rattle.sip_edit.specs.Contacts.{contact_value}
 use Rattle.sip_edit.specs.Extras.{denial_warning}
 use Rattle.sip_edit.specs.Onward.{onward_uri}
@@ -34,17 +36,25 @@ use Rattle.sip_audit.specs.declared.record.Operation.TheVariants as RecordedAs
 use Rattle.sip_audit.specs.declared.record.Operation as AuditOperation
 use Rattle.sip_audit.specs.declared.record.Outcome.{Outcome}
 use Rattle.sip_event.specs.declared.packet.Packet.{Packet}
-use Rattle.sip_model.specs.Server.{Server}
+use Rattle.sip_state.specs.Server.{Server}
 use Rattle.sip_auth.specs.Proof.{proven, is_stale, used}
-use Rattle.sip_model.specs.State.{Unheard, Ended, Answering, Closing, Branch, OpenRequest, ProxyState, is_invite, has_left}
-use Rattle.sip_model.specs.Sending.{made_answer, answer_packet, answer_to, onward_as, branch_packets}
-use Rattle.sip_model.specs.Dialogs.{Upward, after_request, after_answers, after_leaving}
-use Rattle.sip_model.specs.Branches.{Change, settled, responded, cancelled, acknowledged, answered}
-use Rattle.sip_model.specs.Verdict.{Arrival, Question, Registered, Bound, Refused, Verdict, Drop, Respond, Copy, AckOn, Cancel, Answer, InDialog, Challenge, Deny, Send, Register, is_full, verdict_of}
+use Rattle.sip_state.specs.declared.branch.Branch.{Branch}
+use Rattle.sip_state.specs.declared.open_request.OpenRequest.{OpenRequest}
+use Rattle.sip_state.specs.declared.proxy_state.ProxyState.{ProxyState}
+use Rattle.sip_state.specs.declared.branch.Phase.TheVariants.{Unheard, Ended}
+use Rattle.sip_state.specs.declared.open_request.Side.TheVariants.{Answering, Closing}
+use Rattle.sip_state.specs.State.{first_resend, is_invite, has_left}
+use Rattle.sip_state.specs.Sending.{made_answer, answer_packet, answer_to, onward_as, branch_packets}
+use Rattle.sip_state.specs.declared.open_request.Upward.{Upward}
+use Rattle.sip_state.specs.Dialogs.{after_request, after_answers, after_leaving}
+use Rattle.sip_state.specs.Branches.{Change, settled, responded, cancelled, acknowledged, answered}
+use Rattle.sip_state.specs.Retransmission.{answers_again, acked_again}
+use Rattle.sip_verdict.specs.Verdict.{Arrival, Question, Registered, Bound, Refused, Verdict, Drop, Respond, Copy, AckOn, Cancel, Answer, InDialog, Challenge, Deny, Send, Register, is_full, minute_on, verdict_of}
 
--- what is sent for the first time, in its order; what is recorded; and the state after it
+-- what is sent for the first time, in its order; what goes again; what is recorded; and the state after it
 pub record Effect : Type 0 where
   pub originals : List Packet
+  pub again : List Packet
   pub records : List Record
   pub state : ProxyState
 
@@ -72,13 +82,14 @@ abbrev pub changed : Server → ℕ → ProxyState → Change → Effect
 changed server now state change =
     record {
       originals = change_packets change;
+      again = [];
       records = [];
       state = record state { moment = now; requests = replaced change.request state.requests; dialogs = dialogs_after server now change state.dialogs };
     }
 
 -- nothing is sent and nothing changes
 abbrev pub nothing : ProxyState → Effect
-nothing state = record { originals = []; records = []; state = state }
+nothing state = record { originals = []; again = []; records = []; state = state }
 
 -- ---- a request is answered at once
 
@@ -89,7 +100,7 @@ request_key m = unwrap_or (key_of m) (record { branch = []; host = []; port = 0;
 -- a request that comes, before anything was sent for it
 abbrev pub arriving : Arrival → Message → OpenRequest
 arriving a m =
-    record { key = request_key m; request = m; source = a.from; number = a.number; arrived_at = a.now; answer = None; side = Answering; finals = []; branches = [] }
+    record { key = request_key m; request = m; source = a.from; number = a.number; arrived_at = a.now; answer = None; side = Answering; again = first_resend a.now; finals = []; branches = [] }
 
 -- the same, with its final answer
 abbrev pub closing : Arrival → Message → ℕ → List ℕ → OpenRequest
@@ -105,6 +116,7 @@ replied server a m status extras records state =
     let text : List ℕ = text_of (made_answer server a.number m a.from status extras) in
     record {
       originals = answer_packet false a.number m a.from text ∷ [];
+      again = [];
       records = records;
       state = record state { requests = opened (closing a m status text) state };
     }
@@ -122,9 +134,9 @@ recorded Operation.Register = RecordedAs.Register
 recorded Operation.List = RecordedAs.List
 recorded (Operation.Send method) = RecordedAs.Send
 
--- what is recorded of a request: when and as which datagram it came, its method, who proved to ask, for which address of record, and what became of it
-abbrev pub record_of : Arrival → Message → Question → Outcome → Record
-record_of a m q outcome =
+-- what is recorded of a request: when and as which datagram it came, its method, who proved to ask, for which address of record, the minute of a rule with a window, and what became of it
+abbrev pub record_of : Server → Arrival → Message → Question → Outcome → Record
+record_of server a m q outcome =
     record {
       at = a.now;
       number = a.number;
@@ -132,6 +144,7 @@ record_of a m q outcome =
       who = proven q.proof;
       target = q.target;
       operation = recorded q.operation;
+      minute = minute_on server q;
       outcome = outcome;
     }
 
@@ -147,13 +160,14 @@ is_registration (Operation.Send method) = false
 abbrev pub challenge_status : Operation → ℕ
 challenge_status operation = if is_registration operation then 401 else 407
 
--- the challenge: WWW-Authenticate by a registrar, Proxy-Authenticate by a proxy (RFC 3261 20.44, 20.27)
-abbrev pub challenge_field : Server → Arrival → Question → Field
-challenge_field server a q =
-    record {
-      name = if is_registration q.operation then Name.WwwAuthenticate else Name.ProxyAuthenticate;
-      value = challenge server.config.realm (nonce_text a.word) (is_stale q.proof);
-    }
+-- the field of a challenge: WWW-Authenticate by a registrar, Proxy-Authenticate by a proxy (RFC 3261 20.44, 20.27)
+abbrev pub challenge_name : Operation → FieldName
+challenge_name operation = if is_registration operation then Name.WwwAuthenticate else Name.ProxyAuthenticate
+
+-- the challenge, by each algorithm by which some user may answer, with the nonce of the datagram's word (RFC 3261 22.1, RFC 8760 2.3)
+abbrev pub challenges_to : Server → Arrival → Question → List Field
+challenges_to server a q =
+    challenge_fields (challenge_name q.operation) (offers_sha256 server.config.users) server.config.realm (nonce_text a.word) (is_stale q.proof)
 
 -- the state after policy was asked: a right credential is used up, whatever was decided
 abbrev pub asked : Arrival → Question → ProxyState → ProxyState
@@ -166,15 +180,15 @@ issuing a state = record state { nonces = issued state.nonces a.word a.now }
 -- a challenge answers the request, and its nonce is issued (RFC 3261 22.1)
 abbrev pub challenged : Server → Arrival → Message → Question → ProxyState → Effect
 challenged server a m q state =
-    replied server a m (challenge_status q.operation) (challenge_field server a q ∷ []) (record_of a m q (Outcome.Challenge (challenge_status q.operation)) ∷ []) (issuing a (asked a q state))
+    replied server a m (challenge_status q.operation) (challenges_to server a q) (record_of server a m q (Outcome.Challenge (challenge_status q.operation)) ∷ []) (issuing a (asked a q state))
 
 -- a denial names its rule (this project's profile)
 abbrev pub denied : Server → Arrival → Message → Question → ℕ → ProxyState → Effect
-denied server a m q id state = replied server a m 403 (denial_warning server.config.own id ∷ []) (record_of a m q (Outcome.Deny id) ∷ []) (asked a q state)
+denied server a m q id state = replied server a m 403 (denial_warning server.config.own id ∷ []) (record_of server a m q (Outcome.Deny id) ∷ []) (asked a q state)
 
 -- an answer to a request that was let through
 abbrev pub refused : Server → Arrival → Message → Question → ℕ → ℕ → List Field → ProxyState → Effect
-refused server a m q id status extras state = replied server a m status extras (record_of a m q (Outcome.Answer id status) ∷ []) (asked a q state)
+refused server a m q id status extras state = replied server a m status extras (record_of server a m q (Outcome.Answer id status) ∷ []) (asked a q state)
 
 -- ---- registration
 
@@ -203,6 +217,8 @@ branch_to now number t =
       address = t.address;
       wants_cancel = false;
       phase = if is_some t.address then Unheard (now + 32000) else Ended;
+      final_to = None;
+      again = first_resend now;
     }
 
 -- the branches to targets, numbered from a number
@@ -237,6 +253,7 @@ forked server now r records state =
     let change : Change = settled server now [] None (tried now (trying server r) r) in
     record {
       originals = upward_packets r (trying server r) ++ change_packets change ++ flat_map (branch_packets server false r) r.branches;
+      again = [];
       records = records;
       state = record state { requests = opened change.request state; dialogs = dialogs_after server now change state.dialogs };
     }
@@ -244,7 +261,7 @@ forked server now r records state =
 -- a request that was let through gets one branch for each of its targets, in their order
 abbrev pub sent_to : Server → Arrival → Message → Question → ℕ → List Target → ProxyState → Effect
 sent_to server a m q id targets state =
-    forked server a.now (forking a m (branches_from a.now 1 targets)) (record_of a m q (Outcome.Sent id (length targets)) ∷ []) (asked a q state)
+    forked server a.now (forking a m (branches_from a.now 1 targets)) (record_of server a m q (Outcome.Sent id (length targets)) ∷ []) (asked a q state)
 
 -- a request that was let through goes to its targets; without a user 404, without a live binding 480 (RFC 3261 16.5)
 abbrev pub sending : Server → Arrival → Message → Question → ℕ → Targets → ProxyState → Effect
@@ -258,7 +275,7 @@ sending server a m q id (Targets.Hop uri address) state = sent_to server a m q i
 -- the branch of a request in a dialog: its own Request-URI, to the address that the dialog holds (RFC 3261 16.12)
 abbrev pub dialog_branch : Server → ℕ → Message → Addr → Branch
 dialog_branch server now m address =
-    record { number = 1; is_cancel = false; uri = onward_uri server.config.own m; address = Some address; wants_cancel = false; phase = Unheard (now + 32000) }
+    record { number = 1; is_cancel = false; uri = onward_uri server.config.own m; address = Some address; wants_cancel = false; phase = Unheard (now + 32000); final_to = None; again = first_resend now }
 
 -- the dialog of a request that is sent on is renewed
 abbrev pub renewing : Server → Arrival → Message → DialogId → ProxyState → ProxyState
@@ -281,22 +298,23 @@ ack_packet server a m address =
 
 -- an ACK of a dialog goes to the address that the dialog holds, and renews the dialog
 abbrev pub ack_sent : Server → Arrival → Message → Addr → DialogId → ProxyState → Effect
-ack_sent server a m address id state = record { originals = ack_packet server a m address ∷ []; records = []; state = renewing server a m id state }
+ack_sent server a m address id state = record { originals = ack_packet server a m address ∷ []; again = []; records = []; state = renewing server a m id state }
 
 -- ---- copies and CANCEL
 
--- a copy of an open request; an ACK acknowledges its answer
+-- a copy of an open request gets its last answer again; an ACK acknowledges that
 abbrev pub copied : Arrival → Message → OpenRequest → ProxyState → Effect
 copied a m r state =
     record {
       originals = [];
+      again = if bytes_eq (method_of m.start) (codes "ACK") then [] else answers_again r r.answer;
       records = [];
       state = if bytes_eq (method_of m.start) (codes "ACK") then record state { requests = replaced (acknowledged a.now r) state.requests } else state;
     }
 
 -- one effect behind another: what the second sends goes behind what the first does
 abbrev pub behind : Effect → Effect → Effect
-behind first second = record { originals = first.originals ++ second.originals; records = first.records ++ second.records; state = second.state }
+behind first second = record { originals = first.originals ++ second.originals; again = first.again ++ second.again; records = first.records ++ second.records; state = second.state }
 
 -- a CANCEL: 481 without the request that it names; else 200, and that request is cancelled (RFC 3261 9.2, 16.10)
 abbrev pub cancelling : Server → Arrival → Message → Option OpenRequest → ProxyState → Effect
@@ -314,7 +332,7 @@ counted a state = record state { moment = a.now; next = a.number + 1 }
 -- what a verdict on a message does
 abbrev pub effect_of : Server → Arrival → Message → Verdict → ProxyState → Effect
 effect_of server a m Drop state = nothing state
-effect_of server a m (Respond r b status) state = changed server a.now state (responded server a.now r b status m)
+effect_of server a m (Respond r b status) state = record (changed server a.now state (responded server a.now r b status m)) { again = acked_again server r b status }
 effect_of server a m (Copy r) state = copied a m r state
 effect_of server a m (AckOn address id) state = ack_sent server a m address id state
 effect_of server a m (Cancel found) state = cancelling server a m found state

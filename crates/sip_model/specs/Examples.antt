@@ -20,10 +20,13 @@ use Rattle.sip_settings.specs.Sample as Settings
 use Rattle.sip_auth.specs.Examples.{credential}
 use Rattle.sip_location.specs.declared.binding.Binding.{Binding}
 use Rattle.sip_event.specs.declared.packet.Packet.{Packet}
-use Rattle.sip_model.specs.Server.{Server}
-use Rattle.sip_model.specs.State.{ProxyState, OpenRequest, Branch, first_state, phase_deadline}
-use Rattle.sip_model.specs.Branches.{overdue, side_overdue}
-use Rattle.sip_model.specs.Verdict.{Arrival, message_verdict}
+use Rattle.sip_state.specs.Server.{Server}
+use Rattle.sip_state.specs.declared.proxy_state.ProxyState.{ProxyState}
+use Rattle.sip_state.specs.declared.open_request.OpenRequest.{OpenRequest}
+use Rattle.sip_state.specs.declared.branch.Branch.{Branch}
+use Rattle.sip_state.specs.State.{first_state, phase_deadline}
+use Rattle.sip_state.specs.Branches.{overdue, side_overdue}
+use Rattle.sip_verdict.specs.Verdict.{Arrival, message_verdict}
 use Rattle.sip_model.specs.Effect.{Effect, counted, effect_of, changed, nothing}
 use Rattle.sip_model.specs.Step.{fault_effect}
 
@@ -275,6 +278,16 @@ to_vault =
 -- it comes from nobody who proved anything
 abbrev pub vault_effect : Effect
 vault_effect = whole_effect (first_state 1) (arriving_at 1 1000 5070) to_vault
+
+-- an ACK of the denial
+abbrev pub vault_ack : Message
+vault_ack = record to_vault { start = Request (codes "ACK") (codes "sip:vault@host.com") (codes "SIP/2.0") }
+
+-- ---- what goes again
+
+-- the start lines of what goes again
+abbrev pub lines_again : Effect → List (List ℕ)
+lines_again effect = map first_line effect.again
 
 -- ---- requests of the dialog that the call begins
 

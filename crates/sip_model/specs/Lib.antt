@@ -1,11 +1,4 @@
-pub mod Server
-pub mod State
-pub mod Sending
-pub mod Dialogs
-pub mod Branches
-pub mod Verdict
 pub mod Effect
-pub mod Retransmission
 pub mod Step
 pub mod Run
 pub mod Bindings
@@ -13,3 +6,6 @@ pub mod Access
 pub mod Order
 pub mod Lives
 pub mod Examples
+pub mod RegisterExamples
+pub mod ConfigurationExamples
+pub mod Histories

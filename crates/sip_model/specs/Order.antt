@@ -10,14 +10,21 @@ use Rattle.sip_targets.specs.Targets.{target_list}
 use Rattle.sip_event.specs.declared.packet.Ticket.{Ticket}
 use Rattle.sip_event.specs.declared.event.StepOut.{StepOut}
 use Rattle.sip_event.specs.declared.event.Event.TheVariants.{Datagram, Time, Fault}
-use Rattle.sip_model.specs.Server.{Server}
-use Rattle.sip_model.specs.State.{Phase, Unheard, Heard, Cancelled, Done, Ended, Side, Answering, Closing, Acknowledged, Closed, Branch, OpenRequest, ProxyState, is_invite, is_answering, deadlines_of, has_left, has_key}
-use Rattle.sip_model.specs.Sending.{is_success, is_provisional}
-use Rattle.sip_model.specs.Dialogs.{Upward}
-use Rattle.sip_model.specs.Branches.{Change, settled, responded, send_failed, cancelled, has_success}
-use Rattle.sip_model.specs.Verdict.{Arrival, Registered, Bound, Refused, Verdict, Drop, Respond, Copy, AckOn, Cancel, Answer, InDialog, Challenge, Deny, Send, Register, verdict_of}
+use Rattle.sip_state.specs.Server.{Server}
+use Rattle.sip_state.specs.declared.branch.Phase.{Phase}
+use Rattle.sip_state.specs.declared.open_request.Side.{Side}
+use Rattle.sip_state.specs.declared.branch.Branch.{Branch}
+use Rattle.sip_state.specs.declared.open_request.OpenRequest.{OpenRequest}
+use Rattle.sip_state.specs.declared.proxy_state.ProxyState.{ProxyState}
+use Rattle.sip_state.specs.declared.branch.Phase.TheVariants.{Unheard, Heard, Cancelled, Done, Ended}
+use Rattle.sip_state.specs.declared.open_request.Side.TheVariants.{Answering, Closing, Acknowledged, Closed}
+use Rattle.sip_state.specs.State.{is_invite, is_answering, deadlines_of, has_left, has_key}
+use Rattle.sip_state.specs.Sending.{is_success, is_provisional}
+use Rattle.sip_state.specs.declared.open_request.Upward.{Upward}
+use Rattle.sip_state.specs.Branches.{Change, settled, responded, send_failed, cancelled, has_success}
+use Rattle.sip_verdict.specs.Verdict.{Arrival, Registered, Bound, Refused, Verdict, Drop, Respond, Copy, AckOn, Cancel, Answer, InDialog, Challenge, Deny, Send, Register, verdict_of}
 use Rattle.sip_model.specs.Effect.{arriving, forking, branches_from, dialog_branch, tried, trying, challenge_status}
-use Rattle.sip_model.specs.Step.{Act, Given, Passing, IsStep, IsOverdue, NoneBy, is_failed, moment_of, arrival_of}
+use Rattle.sip_model.specs.Step.{Act, Given, Passing, IsStep, IsOverdue, NoneBy, NoneAgainBy, is_failed, moment_of, arrival_of}
 use Rattle.sip_model.specs.Run.{Link, IsChain}
 
 -- ---- open requests are told apart
@@ -37,10 +44,11 @@ pub record AreNumbered (next : ℕ) (requests : List OpenRequest) : Type 0 where
 
 -- ---- deadlines
 
--- Once a datagram was taken, or time passed up to a moment, no deadline stands at or before the state's moment: what had to fire has fired, and all that was armed since is later.
+-- Once a datagram was taken, or time passed up to a moment, no deadline stands at or before the state's moment, and nothing is to go again by then: what had to fire has fired, what was
+-- to go again went, and all that was armed since is later.
 abbrev pub HasFired : Act → ProxyState → Type 0
-HasFired (Given (Datagram at word from bytes)) state = NoneBy state.moment state.requests
-HasFired (Given (Time at)) state = NoneBy state.moment state.requests
+HasFired (Given (Datagram at word from bytes)) state = NoneBy state.moment state.requests × NoneAgainBy state.moment state.requests
+HasFired (Given (Time at)) state = NoneBy state.moment state.requests × NoneAgainBy state.moment state.requests
 HasFired (Given (Fault at ticket)) state = Unit {0}
 HasFired (Passing at) state = Unit {0}
 
@@ -144,7 +152,8 @@ step_finals server old (Given (Time at)) out new step = []
 step_finals server old (Given (Fault at ticket)) out new step =
     fault_finals server (moment_of old at) ticket (find (λ (r : OpenRequest). r.number == ticket.datagram) old.requests)
 step_finals server old (Passing at) out new (inl quiet) = []
-step_finals server old (Passing at) out new (inr passed) = change_finals passed.change
+step_finals server old (Passing at) out new (inr (inl passed)) = change_finals passed.change
+step_finals server old (Passing at) out new (inr (inr goes)) = []
 
 -- those of a history, the newest step's first
 abbrev pub history_finals : (server : Server) (first : ProxyState) (history : List Link) (last : ProxyState) → IsChain server first history last → List FinalAnswer

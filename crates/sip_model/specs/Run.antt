@@ -3,8 +3,8 @@ use Rattle.std.specs.Prelude.{◌≡◌, ℕ, List, [], ◌∷◌, reverse, Opti
 use Rattle.sip_event.specs.declared.event.StepOut.{StepOut}
 use Rattle.sip_event.specs.declared.event.Event.{Event}
 use Rattle.sip_event.specs.declared.event.Event.TheVariants.{Datagram, Time, Fault}
-use Rattle.sip_model.specs.Server.{Server}
-use Rattle.sip_model.specs.State.{ProxyState}
+use Rattle.sip_state.specs.Server.{Server}
+use Rattle.sip_state.specs.declared.proxy_state.ProxyState.{ProxyState}
 use Rattle.sip_model.specs.Step.{Act, Given, Passing, IsStep}
 
 -- a step: the state before it, what it was taken for, what it put out, and the state after it
@@ -57,10 +57,15 @@ abbrev pub IsPaced : Option ℕ → List Link → Type 0
 IsPaced next [] = Unit {0}
 IsPaced next (link ∷ history) = IsUpTo next link.act × IsPaced (next_moment next link.act) history
 
+-- the moment of the first of some events; without one a moment up to which time may pass
+abbrev pub first_moment : List Event → Option ℕ → Option ℕ
+first_moment [] until = until
+first_moment (event ∷ events) until = Some (event_moment event)
+
 -- These steps, for these events, are a run of a proxy: each event has its own step, before which time passes step by step up to the event's moment. No step's moment passes a deadline
--- that stands.
-pub record IsRun (server : Server) (first : ProxyState) (events : List Event) (steps : List StepOut) (history : List Link) (last : ProxyState) : Type 0 where
+-- that stands, or one at which something goes again. Behind the last of these events time passes only up to the moment of one that wasn't taken, if there was one.
+pub record IsRun (server : Server) (first : ProxyState) (events : List Event) (until : Option ℕ) (steps : List StepOut) (history : List Link) (last : ProxyState) : Type 0 where
   pub chain : IsChain server first history last
-  pub paced : IsPaced None history
+  pub paced : IsPaced until history
   pub of_events : reverse (events_of history) ≡ events
   pub of_steps : reverse (steps_of history) ≡ steps

@@ -62,6 +62,22 @@ pub fn decline_wins()
     ensures ends { Examples.first_lines (Examples.hearing (Examples.hearing (Examples.hearing (Examples.hearing (Examples.calling (codes "5082" ∷ codes "5083" ∷ codes "5084" ∷ [])).state 63000 (Examples.answer_with 1 486 (codes "Busy Here") [])).state 63100 (Examples.answer_with 2 603 (codes "Decline") [])).state 63200 (Examples.ringing_from 3)).state 63300 (Examples.answer_with 3 487 (codes "Request Terminated") [])) ≡ codes "ACK sip:help@127.0.0.1:5084 SIP/2.0" ∷ codes "SIP/2.0 603 Decline" ∷ [] }
 {}
 
+/// A copied INVITE gets its denial again, or its 100, and nothing for the first time, and changes nothing; an
+/// ACK of the denial gets nothing, nor does a copy after it, nor one of an INVITE that was accepted. A further
+/// 603 behind a 486 gets the ACK of that again; a 200 behind one, and a 486 behind a 200, get none.
+pub fn goes_again()
+    ensures copied { Examples.lines_again (Examples.asking Examples.vault_effect.state 1700 Examples.to_vault) ≡ codes "SIP/2.0 403 Forbidden" ∷ [] }
+    ensures no_original { (Examples.asking Examples.vault_effect.state 1700 Examples.to_vault).originals ≡ [] }
+    ensures unchanged { (Examples.asking Examples.vault_effect.state 1700 Examples.to_vault).state.requests ≡ Examples.vault_effect.state.requests }
+    ensures tried { Examples.lines_again (Examples.asking (Examples.calling (codes "5082" ∷ [])).state 62100 Onward.invite) ≡ codes "SIP/2.0 100 Trying" ∷ [] }
+    ensures acknowledged { Examples.lines_again (Examples.asking Examples.vault_effect.state 1700 Examples.vault_ack) ≡ [] }
+    ensures then_copied { Examples.lines_again (Examples.asking (Examples.asking Examples.vault_effect.state 1700 Examples.vault_ack).state 1800 Examples.to_vault) ≡ [] }
+    ensures accepted { Examples.lines_again (Examples.asking Examples.in_call 63500 Onward.invite) ≡ [] }
+    ensures busy { Examples.lines_again (Examples.hearing (Examples.hearing (Examples.calling (codes "5082" ∷ codes "5083" ∷ [])).state 63000 (Examples.answer_with 1 486 (codes "Busy Here") [])).state 63500 (Examples.answer_with 1 603 (codes "Decline") [])) ≡ codes "ACK sip:help@127.0.0.1:5082 SIP/2.0" ∷ [] }
+    ensures success_again { Examples.lines_again (Examples.hearing (Examples.hearing (Examples.calling (codes "5082" ∷ codes "5083" ∷ [])).state 63000 (Examples.answer_with 1 486 (codes "Busy Here") [])).state 63500 (Examples.accepted_from 1)) ≡ [] }
+    ensures after_success { Examples.lines_again (Examples.hearing Examples.in_call 63500 (Examples.answer_with 1 486 (codes "Busy Here") [])) ≡ [] }
+{}
+
 /// Two bindings ring and both answer: the first 200 goes up and the other binding gets a CANCEL; the second
 /// 200 goes up, too.
 pub fn two_answers()

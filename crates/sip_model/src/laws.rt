@@ -1,4 +1,4 @@
-ghost use Rattle.std.specs.Prelude.{◌≡◌, ◌↔◌, ℕ, true, false, List, [], ◌∷◌, map, Some};
+ghost use Rattle.std.specs.Prelude.{◌≡◌, ◌↔◌, ℕ, true, false, List, [], ◌∷◌, map, Option, Some};
 ghost use Rattle.sip_uri.specs.declared.uri.Uri.{Uri};
 ghost use Rattle.sip_uri.specs.Aor.{aor_of};
 ghost use Rattle.sip_message.specs.declared.message.Message.{Message};
@@ -11,11 +11,12 @@ ghost use Rattle.sip_policy.specs.User.{is_users_address};
 ghost use Rattle.sip_location.specs.declared.binding.Binding.{Binding};
 ghost use Rattle.sip_location.specs.Binding.{live};
 ghost use Rattle.sip_targets.specs.Target.{target_for};
-ghost use Rattle.sip_model.specs.Server.{Server};
+ghost use Rattle.sip_state.specs.Server.{Server};
 ghost use Rattle.sip_event.specs.declared.event.Event.{Event};
 ghost use Rattle.sip_event.specs.declared.event.StepOut.{StepOut};
-ghost use Rattle.sip_model.specs.State.{ProxyState, first_state};
-ghost use Rattle.sip_model.specs.Verdict.{Arrival, is_register};
+ghost use Rattle.sip_state.specs.declared.proxy_state.ProxyState.{ProxyState};
+ghost use Rattle.sip_state.specs.State.{first_state};
+ghost use Rattle.sip_verdict.specs.Verdict.{Arrival, is_register};
 ghost use Rattle.sip_model.specs.Run.{Link, IsRun};
 ghost use Rattle.sip_model.specs.Bindings.{Arrived, allowed_in};
 ghost use Rattle.sip_model.specs.Access.{IsAllowedRegister, decision_on, targets_on, Access};
@@ -33,8 +34,8 @@ pub fn allowed_registers_are_allowed()
 /// REGISTER says; every policy denial is a 403 whose Warning names that rule; all else sent belongs to an open
 /// request or known dialog.
 pub fn every_run_has_access()
-    ensures { (server : Server) (first : ℕ) (events : List Event) (steps : List StepOut) (history : List Link) (last : ProxyState)
-        → IsRun server (first_state first) events steps history last → Access server history }
+    ensures { (server : Server) (first : ℕ) (events : List Event) (until : Option ℕ) (steps : List StepOut) (history : List Link) (last : ProxyState)
+        → IsRun server (first_state first) events until steps history last → Access server history }
 {}
 
 /// The targets of a request outside a dialog, in the words of the headline: where the first rule that matches
@@ -46,7 +47,7 @@ pub fn targets_are_bindings_or_hop()
         → is_register method ≡ false → decision_on server state now m method core ≡ Decision.Allow id
         → request_uri_of server.config.own m ≡ Some uri → is_users_address server.config.users server.config.own.domains (aor_of uri) ≡ true
         → targets_on server rows state now m method core ≡ map (λ (b : Binding). target_for server.config.addresses b.uri) (live (aor_of uri) now rows) }
-    ensures hop { (server : Server) (rows : List Binding) (state : ProxyState) (now : ℕ) (m : Message) (method : List ℕ) (core : CoreFields) (id : ℕ) (hop : List ℕ) (uri : Uri) (address : Addr)
+    ensures hop { (server : Server) (rows : List Binding) (state : ProxyState) (now : ℕ) (m : Message) (method : List ℕ) (core : CoreFields) (id : ℕ) (hop : ℕ) (uri : Uri) (address : Addr)
         → is_register method ≡ false → decision_on server state now m method core ≡ Decision.Via id hop
         → request_uri_of server.config.own m ≡ Some uri → hop_of server.config.hops hop ≡ Some address
         → targets_on server rows state now m method core ≡ record { uri = uri; address = Some address } ∷ [] }

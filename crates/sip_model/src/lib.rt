@@ -2,6 +2,10 @@
 //! server does is said in their words; nothing runs here.
 #![tactic(auto)]
 
+pub mod configurations;
 pub mod examples;
+pub mod histories;
 pub mod laws;
 pub mod order;
+pub mod registrations;
+pub mod runs;

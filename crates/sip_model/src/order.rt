@@ -1,9 +1,13 @@
 ghost use Rattle.std.specs.Prelude.{◌≡◌, ◌≤◌, ◌+◌, ℕ, true, false, List};
 ghost use Rattle.std.specs.List.{AllByRecursion};
-ghost use Rattle.sip_model.specs.Server.{Server};
-ghost use Rattle.sip_model.specs.State.{OpenRequest, ProxyState, first_state, is_answering};
-ghost use Rattle.sip_model.specs.Branches.{Change};
-ghost use Rattle.sip_model.specs.Step.{NoneBefore, IsOverdue};
+ghost use Rattle.sip_state.specs.Server.{Server};
+ghost use Rattle.sip_state.specs.declared.open_request.OpenRequest.{OpenRequest};
+ghost use Rattle.sip_state.specs.declared.proxy_state.ProxyState.{ProxyState};
+ghost use Rattle.sip_state.specs.State.{first_state, is_answering};
+ghost use Rattle.sip_state.specs.Branches.{Change};
+ghost use Rattle.sip_state.specs.Retransmission.{IsRetransmission};
+ghost use Rattle.sip_event.specs.declared.event.StepOut.{StepOut};
+ghost use Rattle.sip_model.specs.Step.{Act, IsStep, NoneBefore, NoneAgainBefore, IsOverdue, retransmissions};
 ghost use Rattle.sip_model.specs.Run.{Link, IsChain};
 ghost use Rattle.sip_model.specs.Order.{KeysDiffer, AreNumbered, HasFired, IsChangeOf, AddsSuccessesAlone, AnswersOnce, AreOneAnswer, CanEnd, deadlines_left, finals_to, history_finals};
 
@@ -20,15 +24,26 @@ pub fn numbers_differ()
         → IsChain server (first_state first) history last → AreNumbered last.next last.requests }
 {}
 
-/// No deadline of an open request stands before the moment of its state; once a datagram was taken, or
-/// time passed up to a moment, none stands at it either: what had to fire has fired, and what was armed
-/// since is later.
+/// No deadline of an open request stands before the moment of its state, and nothing of one is to go again
+/// before it; once a datagram was taken, or time passed up to a moment, nothing is due at it either: what
+/// had to fire has fired, what was to go again went, and what was armed since is later.
 pub fn no_deadline_passed()
     ensures none_before { (server : Server) (first : ℕ) (history : List Link) (last : ProxyState)
         → IsChain server (first_state first) history last → NoneBefore last.moment last.requests }
+    ensures none_again { (server : Server) (first : ℕ) (history : List Link) (last : ProxyState)
+        → IsChain server (first_state first) history last → NoneAgainBefore last.moment last.requests }
     ensures has_fired { (server : Server) (first : ℕ) (history : List Link) (last : ProxyState)
         → IsChain server (first_state first) history last
         → AllByRecursion (λ (link : Link). HasFired link.act link.after) history }
+{}
+
+/// Each packet that goes again in a step is what may be sent again of a request that was open before it: its
+/// last answer while that side is answering or closing, but no 2xx to an INVITE; the request of an INVITE's
+/// branch that is unheard, or of another one's that has no final answer; a CANCEL without one; or the ACK of
+/// a final answer that is no 2xx.
+pub fn repeats_are_of_open_requests()
+    ensures { (server : Server) (old : ProxyState) (act : Act) (out : StepOut) (new : ProxyState)
+        → IsStep server old act out new → AllByRecursion (IsRetransmission server old.requests) (retransmissions out.packets) }
 {}
 
 /// Of each request at most one final answer goes up in a whole history, or several 2xx to an INVITE. A

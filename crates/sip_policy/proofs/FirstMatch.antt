@@ -11,7 +11,7 @@ or_neither : (a b : Bool) → (a || b) ≡ false → (a ≡ false) × (b ≡ fal
 or_neither true b e = absurd cc
 or_neither false b e = (refl, e)
 
-and_both : (a b : Bool) → (a && b) ≡ true → (a ≡ true) × (b ≡ true)
+pub and_both : (a b : Bool) → (a && b) ≡ true → (a ≡ true) × (b ≡ true)
 and_both true b e = (refl, e)
 and_both false b e = absurd cc
 

@@ -1,1 +1,2 @@
 pub mod FirstMatch
+pub mod Windows

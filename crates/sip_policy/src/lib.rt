@@ -1,4 +1,5 @@
-//! Call policy: rules in the order of the file, of which the first that matches a request decides.
+//! Call policy: rules in the order of the file, of which the first that holds at the minute of a request
+//! and matches it decides.
 #![tactic(auto)]
 
 mod decision;
@@ -10,6 +11,7 @@ mod rule_verdict;
 mod target_pattern;
 mod user;
 mod who;
+mod window;
 
 pub use decision::Decision;
 pub use operation::{Operation, OperationPattern};
@@ -18,3 +20,4 @@ pub use rule_verdict::RuleVerdict;
 pub use target_pattern::TargetPattern;
 pub use user::User;
 pub use who::Who;
+pub use window::Window;

@@ -2,6 +2,7 @@ use crate::operation::OperationPattern;
 use crate::rule_verdict::RuleVerdict;
 use crate::target_pattern::TargetPattern;
 use crate::who::Who;
+use crate::window::Window;
 
 /// A policy rule.
 #[derive(Debug, Drop)]
@@ -11,5 +12,7 @@ pub struct Rule {
     pub who: Who,
     pub operation: OperationPattern,
     pub target: TargetPattern,
+    /// When it holds; without one, always.
+    pub window: Option<Window>,
     pub verdict: RuleVerdict,
 }

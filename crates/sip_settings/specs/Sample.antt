@@ -1,10 +1,11 @@
 -- The sample configuration. Its parts stand where the examples of lower crates use them.
+use Rattle.std.specs.Prelude.{pos}
 use Rattle.sip_header.specs.RoutingExamples.{own, sample_realm}
 use Rattle.sip_hops.specs.Examples.{sample_hops, sample_addresses}
 use Rattle.sip_policy.specs.Examples.{sample_users, sample_rules}
 use Rattle.sip_settings.specs.declared.config.Config.{Config}
 
--- a server that is known by the port that it binds
+-- a server that is known by the port that it binds, at UTC, and rules without windows
 abbrev pub sample : Config
 sample =
     record {
@@ -13,6 +14,7 @@ sample =
       realm = sample_realm;
       users = sample_users;
       rules = sample_rules;
+      offset = pos 0;
       hops = sample_hops;
       addresses = sample_addresses;
     }

@@ -14,9 +14,11 @@ pub struct Config {
     /// The realm of its challenges (RFC 2617 1.2).
     pub realm: Bytes,
     pub users: Items<User>,
-    /// The first that matches a request decides.
+    /// The first that holds at the minute of a request and matches it decides.
     pub rules: Items<Rule>,
-    /// The hops that rules name.
+    /// How many minutes the time of day of the rules' windows is ahead of UTC, -720 to 840.
+    pub offset: i16,
+    /// The hops that rules send to, by their places.
     pub hops: Items<Hop>,
     /// The addresses of hosts.
     pub addresses: Items<HostAddress>,

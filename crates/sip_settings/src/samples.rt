@@ -94,6 +94,7 @@ fn own_bindings_rule(id: u32, operation: OperationPattern) -> Rule
         who: Who::Proven,
         operation,
         target: TargetPattern::SelfTarget,
+        window: None,
         verdict: RuleVerdict::Allow,
     }
 }
@@ -114,6 +115,7 @@ fn anyone_rule(
         who: Who::Anyone,
         operation: OperationPattern::SendAny,
         target: TargetPattern::Exact { user, domain },
+        window: None,
         verdict,
     })
 }
@@ -133,13 +135,13 @@ fn gateway_rule(alloc: Global) -> Result<Rule, AllocError>
     let group = Bytes::copy(alloc, b"staff")?;
     let method = Bytes::copy(alloc, b"INVITE")?;
     let target = users_from(alloc, b"9")?;
-    let hop = Bytes::copy(alloc, b"gw")?;
     Ok(Rule {
         id: 5,
         who: Who::Group(group),
         operation: OperationPattern::Send(method),
         target,
-        verdict: RuleVerdict::Via(hop),
+        window: None,
+        verdict: RuleVerdict::Via(0),
     })
 }
 
@@ -152,6 +154,7 @@ fn proven_rule(alloc: Global) -> Result<Rule, AllocError>
         who: Who::Proven,
         operation: OperationPattern::SendAny,
         target,
+        window: None,
         verdict: RuleVerdict::Allow,
     })
 }
@@ -228,6 +231,7 @@ pub fn sample(alloc: Global) -> Result<Config, AllocError>
         realm,
         users,
         rules,
+        offset: 0,
         hops,
         addresses,
     })

@@ -2,7 +2,7 @@ use sip_text::Addr;
 use sip_uri::Uri;
 
 /// A place that a request is sent to (RFC 3261 16.5).
-#[derive(Debug, Drop)]
+#[derive(Drop)]
 pub struct Target {
     /// The Request-URI that goes there.
     pub uri: Uri,

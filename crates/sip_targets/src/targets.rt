@@ -3,7 +3,7 @@ use sip_text::{Addr, Items};
 use sip_uri::Uri;
 
 /// Where a request goes that policy lets through.
-#[derive(Debug, Drop)]
+#[derive(Drop)]
 pub enum Targets {
     /// One target for each live binding of the address of record, in their order.
     Bindings(Items<Target>),

@@ -1,18 +1,16 @@
 -- Dotted text, and the address that it writes.
-use Rattle.std.proofs.Common.{◌≡◌, ℕ, zero, suc, ◌<◌, ◌≤◌, ◌^◌, Bool, true, false, ◌&&◌, ◌==◌, not, nat_le, nat_lt, List, [], ◌∷◌, ◌++◌, length, get_or, map, decimal, Option, Some, None, option_map, option_and_then, refl, sym, inl, inr, ap, subst, ◌∙◌, arith, if◌then◌else◌}
+use Rattle.std.proofs.Common.{◌≡◌, ℕ, zero, suc, ◌<◌, ◌≤◌, ◌^◌, Bool, true, false, ◌&&◌, ◌==◌, not, nat_le, nat_lt, List, [], ◌∷◌, ◌++◌, length, map, decimal, Option, Some, None, option_map, option_and_then, refl, sym, inl, inr, ap, ◌∙◌, arith, if◌then◌else◌}
 use Rattle.std.specs.List.{list_all, join_with_byte}
 use Rattle.std.specs.Str.{byte}
 use Rattle.std.specs.Str.Parse.{digits_value}
 use Rattle.std.specs.Char.{is_ascii_digit}
-use Rattle.std.specs.Str.{all_ascii_digits}
-use Rattle.std.proofs.lemmas.Str.Parse.{numerals_by_value, tells_all_ascii_digits}
 use Rattle.std.specs.Fmt.{digits}
 use Rattle.std.proofs.lemmas.List.{append_assoc}
-use Rattle.std.proofs.lemmas.Fmt.{decimal-digits_value}
 use Rattle.std.proofs.lemmas.Bool.{eqb-true, eq-eqb, leb-true, cases_lt}
 use Rattle.sip_text.specs.Words.{decimal_of}
 use Rattle.sip_text.specs.Lists.{onto}
 use Rattle.sip_text.specs.Numbers.{has_leading_zero}
+use Rattle.sip_text.proofs.PlainDecimals.{written_digits}
 use Rattle.sip_text.specs.Addresses.{ip_text, ip_of, ip_number, ip_numbers, between_dots}
 
 and_then_some : {A B : Type 0} (f : A → Option B) (o : Option A) (y : B) → option_and_then f o ≡ Some y → (x : A) × (o ≡ Some x) × (f x ≡ Some y)
@@ -37,22 +35,6 @@ not_is false e = refl
 
 -- ---- one number
 
-same_test : (ds : List ℕ) → list_all is_ascii_digit ds ≡ all_ascii_digits ds
-same_test [] = refl
-same_test (d ∷ ds) = ap (λ t. is_ascii_digit d && t) (same_test ds)
-
-one_or_no_zero : (ds : List ℕ) → 0 < length ds → has_leading_zero ds ≡ false → get_or ds 0 0 ≡ 48 → length ds ≡ 1
-one_or_no_zero [] some e is = absurd (omega arith)
-one_or_no_zero (d ∷ []) some e is = refl
-one_or_no_zero (d ∷ f ∷ ds) some e is =
-    let never : (48 == 48) ≡ false = subst (λ (k : ℕ). (k == 48) ≡ false) is e in
-    absurd cc
-
-written_digits : (ds : List ℕ) → 0 < length ds → list_all is_ascii_digit ds ≡ true → has_leading_zero ds ≡ false → nat_le (digits_value 10 ds) 255 ≡ true → ds ≡ decimal (digits_value 10 ds)
-written_digits ds some digits front small =
-    let at_most : digits_value 10 ds ≤ 255 = leb-true (digits_value 10 ds) 255 small in
-    sym (decimal-digits_value (numerals_by_value (λ ds. all_ascii_digits ds ≡ true) tells_all_ascii_digits) ds (sym (same_test ds) ∙ digits) some (one_or_no_zero ds some front) (omega (arith, at_most)))
-
 pub number_written : (digits : List ℕ) (n : ℕ) → ip_number digits ≡ Some n → digits ≡ decimal n
 number_written [] n e = absurd cc
 number_written (d ∷ ds) n e =
@@ -62,7 +44,7 @@ number_written (d ∷ ds) n e =
     let digits = and_both (list_all is_ascii_digit (d ∷ ds)) (nat_lt (digits_value 10 (d ∷ ds)) (2 ^ 64)) value.0 in
     let both = and_both (nat_le got.0 255) (not (has_leading_zero (d ∷ ds))) limit.0 in
     let small : nat_le (digits_value 10 (d ∷ ds)) 255 ≡ true = ap (λ k. nat_le k 255) value.1 ∙ both.0 in
-    written_digits (d ∷ ds) (omega arith) digits.0 (not_is (has_leading_zero (d ∷ ds)) both.1) small ∙ ap decimal (value.1 ∙ limit.1)
+    written_digits (d ∷ ds) (omega arith) digits.0 (not_is (has_leading_zero (d ∷ ds)) both.1) (omega (arith, leb-true (digits_value 10 (d ∷ ds)) 255 small)) ∙ ap decimal (value.1 ∙ limit.1)
 
 -- ---- the pieces
 

@@ -11,5 +11,6 @@ pub mod NoneLaws
 pub mod Splitting
 pub mod CutsOutside
 pub mod PartLaws
+pub mod PlainDecimals
 pub mod Dotted
 pub mod Dots

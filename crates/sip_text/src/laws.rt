@@ -1,4 +1,4 @@
-ghost use Rattle.std.specs.Prelude.{◌≡◌, ◌↔◌, ℕ, true, nat_le, List, length, Some, None};
+ghost use Rattle.std.specs.Prelude.{◌≡◌, ◌<◌, ◌^◌, ◌↔◌, ℕ, true, nat_le, List, length, decimal, Some, None};
 ghost use Rattle.std.specs.List.{list_all};
 ghost use Rattle.sip_text.specs.Addresses;
 ghost use Rattle.sip_text.specs.Escapes.{unescaped, unquoted};
@@ -7,6 +7,7 @@ ghost use Rattle.sip_text.specs.EscapedText.{IsEscaped};
 ghost use Rattle.sip_text.specs.ListText.{IsList};
 ghost use Rattle.sip_text.specs.QuotedText.{IsQuoted};
 ghost use Rattle.sip_text.specs.Cuts.{IsParted, parts_at};
+ghost use Rattle.sip_text.specs.Numbers.{plain_decimal_of};
 
 /// The items that `cut_list` gives are what stands between the commas of the list, and it refuses
 /// what is no list (RFC 3261 7.3.1).
@@ -42,4 +43,11 @@ pub fn ip_text_is_read()
     ensures read { (ip : List ℕ) → length ip ≡ 4 → list_all (λ n. nat_le n 255) ip ≡ true
         → Addresses.ip_of (Addresses.ip_text ip) ≡ Some ip }
     ensures written { (text : List ℕ) (ip : List ℕ) → Addresses.ip_of text ≡ Some ip → text ≡ Addresses.ip_text ip }
+{}
+
+/// The decimal text of each number below 2^64 is read as that number, and no other text without leading
+/// zeros is (RFC 3261 25.1, `1*DIGIT`).
+pub fn numbers_are_read()
+    ensures read { (number : ℕ) → number < 2 ^ 64 → plain_decimal_of (decimal number) ≡ Some number }
+    ensures written { (text : List ℕ) (number : ℕ) → plain_decimal_of text ≡ Some number → text ≡ decimal number }
 {}

@@ -1,5 +1,5 @@
 /// A part of a source: the bytes from index `start` up to index `end`, which is not in it.
-#[derive(Clone, Copy, Debug, PartialEq, Eq)]
+#[derive(Clone, Copy, PartialEq, Eq)]
 pub struct Span {
     pub start: usize,
     pub end: usize,

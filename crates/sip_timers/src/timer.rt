@@ -1,7 +1,7 @@
 use sip_transaction::Letter;
 
 /// Which part of an open request a timer belongs to.
-#[derive(Clone, Copy, Debug, PartialEq, Eq)]
+#[derive(Clone, Copy, PartialEq, Eq)]
 pub enum Owner {
     /// Its server transaction.
     Server,
@@ -12,7 +12,7 @@ pub enum Owner {
 }
 
 /// What a timer is for: the number of an open request, a part of it, and one of that part's timers.
-#[derive(Clone, Copy, Debug, PartialEq, Eq)]
+#[derive(Clone, Copy, PartialEq, Eq)]
 pub struct Name {
     pub request: u64,
     pub owner: Owner,
@@ -21,7 +21,7 @@ pub struct Name {
 
 /// A timer that stands: the key by which it is cancelled, the moment at which it is due, in
 /// milliseconds, and its name.
-#[derive(Clone, Copy, Debug, PartialEq, Eq)]
+#[derive(Clone, Copy, PartialEq, Eq)]
 pub struct Timer {
     pub key: usize,
     pub due: u64,

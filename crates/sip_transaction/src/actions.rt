@@ -4,7 +4,7 @@ use arrayvec::ArrayVec;
 use std::marker::Model;
 
 /// What is to be done, in order: at most three actions, which lie in the value itself.
-#[derive(Debug, Drop)]
+#[derive(Drop)]
 pub struct Actions<A: Copy + Default> {
     list: ArrayVec<A, 3>,
 }

@@ -1,5 +1,5 @@
 /// Which timer one is (RFC 3261 A; RFC 6026 7.1 and 7.2 for L and M).
-#[derive(Clone, Copy, Debug, PartialEq, Eq)]
+#[derive(Clone, Copy, PartialEq, Eq)]
 pub enum Letter {
     /// When an INVITE is sent again.
     A,

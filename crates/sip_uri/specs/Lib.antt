@@ -6,3 +6,4 @@ pub mod Aor
 pub mod Equality
 pub mod Examples
 pub mod UriError
+pub mod EqualityExamples

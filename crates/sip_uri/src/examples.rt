@@ -6,6 +6,8 @@ ghost use Rattle.sip_uri.specs.Aor.{aor_of};
 ghost use Rattle.sip_uri.specs.Equality.{same};
 ghost use Rattle.sip_uri.specs.Examples.{bob, bob_at_5060, bob_by_udp, escaped_alice, alice, carol, carol_secured, carol_unsecured, bob_x, bob_x_with_lr, each_part, empty_password, escaped_name};
 
+pub mod equality;
+
 /// `SIP:Bob%20X@Host.com` is read, is written `sip:Bob%20X@Host.com`, and names the user `Bob X` of
 /// `host.com`. `tel:+1` has another scheme, and `sip:@host` has an empty user.
 #[tactic(auto, unfolding(crate::specs::Reading::reading_of, crate::specs::Reading::rest_of))]

@@ -9,7 +9,7 @@ use sip_text::{Bytes, Items, split_once};
 use std::alloc::Global;
 
 /// A header of a URI, as written (RFC 3261 19.1.1).
-#[derive(Clone, Debug, Drop)]
+#[derive(Clone, Drop)]
 pub struct UriHeader {
     /// The name, with its escapes.
     pub name: Bytes,

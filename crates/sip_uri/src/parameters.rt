@@ -13,7 +13,7 @@ use sip_text::{Bytes, Items, same_no_case, split_once};
 use std::alloc::Global;
 
 /// A URI parameter, as written (RFC 3261 19.1.1).
-#[derive(Clone, Debug, Drop)]
+#[derive(Clone, Drop)]
 pub struct Parameter {
     /// The name, with its escapes.
     pub name: Bytes,

@@ -6,7 +6,7 @@ use crate::error::UriError;
 use sip_text::same_no_case;
 
 /// The scheme of a URI (RFC 3261 19.1).
-#[derive(Clone, Copy, Debug, PartialEq, Eq)]
+#[derive(Clone, Copy, PartialEq, Eq)]
 pub enum Scheme {
     Sip,
     Sips,

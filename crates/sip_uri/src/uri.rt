@@ -8,7 +8,7 @@ use crate::user::UserInfo;
 use sip_text::{Bytes, Items};
 
 /// A SIP or SIPS URI (RFC 3261 19.1.1). Each text is kept as it was written, with its escapes.
-#[derive(Clone, Debug, Drop)]
+#[derive(Clone)]
 pub struct Uri {
     pub scheme: Scheme,
     /// What stands before the `@`, where one stands.
@@ -19,6 +19,20 @@ pub struct Uri {
     pub port: Option<Bytes>,
     pub parameters: Items<Parameter>,
     pub headers: Items<UriHeader>,
+}
+
+/// Written out, so that it is proved once and not wherever a URI is dropped.
+impl Drop for Uri {
+    fn drop(self) {
+        let Uri {
+            scheme: _,
+            userinfo: _,
+            host: _,
+            port: _,
+            parameters: _,
+            headers: _,
+        } = self;
+    }
 }
 
 impl Uri {

@@ -11,12 +11,22 @@ use sip_text::{Bytes, split_once};
 use std::alloc::Global;
 
 /// What stands before the `@` of a URI, as written (RFC 3261 19.1.1).
-#[derive(Clone, Debug, Drop)]
+#[derive(Clone)]
 pub struct UserInfo {
     /// The user, with its escapes.
     pub user: Bytes,
     /// The password, with its escapes, where a `:` stands.
     pub password: Option<Bytes>,
+}
+
+/// Written out, so that it is proved once and not wherever a user is dropped.
+impl Drop for UserInfo {
+    fn drop(self) {
+        let UserInfo {
+            user: _,
+            password: _,
+        } = self;
+    }
 }
 
 /// Whether a text is a password, which may be empty, or there is none.

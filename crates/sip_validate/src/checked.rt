@@ -1,7 +1,7 @@
 use sip_header::{CoreFields, Way};
 
 /// What was read of a request that passed every check.
-#[derive(Debug, Drop)]
+#[derive(Drop)]
 pub struct Checked {
     pub core: CoreFields,
     /// Where it goes, without this server's own part of the way.

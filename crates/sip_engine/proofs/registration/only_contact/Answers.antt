@@ -8,5 +8,5 @@ returns-in-Some c =
     let values = only_value Contact c.args.fields.now c.in-Some.value.now (sym c.count.ensures ∙ c.if-count-ne1.false) c.in-Some.ensures in
     rw values c.contact_of.ensures
 
-pub returns-in-None : goal.returns-in-None
-returns-in-None c = absurd (no_value Contact c.args.fields.now (sym c.count.ensures ∙ c.if-count-ne1.false) c.in-None.ensures)
+pub returns : goal.returns
+returns c = absurd (no_value Contact c.args.fields.now (sym c.count.ensures ∙ c.if-count-ne1.false) c.in-None.ensures)

@@ -1,0 +1,57 @@
+use crate::branch::Branch;
+use crate::resend::Resend;
+use sip_best::Final;
+use sip_header::Key;
+use sip_message::Message;
+use sip_text::{Addr, Bytes, Items};
+
+/// How far the answering side of a request is, with its deadline in milliseconds.
+#[derive(Clone, Copy)]
+pub enum Side {
+    /// It has no final answer yet.
+    Answering,
+    /// A final answer was sent.
+    Closing { until: u64 },
+    /// An ACK of it came.
+    Acknowledged { until: u64 },
+    /// Its transaction ended.
+    Closed,
+}
+
+/// The answer that was sent last: its status and its bytes.
+#[derive(Drop)]
+pub struct LastAnswer {
+    pub status: u16,
+    pub text: Bytes,
+}
+
+/// An open request.
+#[derive(Drop)]
+pub struct OpenRequest {
+    pub key: Key,
+    /// The request as it came.
+    pub request: Message,
+    /// Where it came from.
+    pub source: Addr,
+    /// The number of the datagram that brought it.
+    pub number: u64,
+    /// When it came, in milliseconds.
+    pub arrived_at: u64,
+    /// The answer that was sent last.
+    pub answer: Option<LastAnswer>,
+    pub side: Side,
+    /// When the last answer goes again, while it does.
+    pub again: Resend,
+    /// The final answers of its branches, in order of arrival (RFC 3261 16: response context).
+    pub finals: Items<Final>,
+    pub branches: Items<Branch>,
+}
+
+/// An answer that goes to the caller: its status, the message, and the address of the branch that it came
+/// from, if it came from one.
+#[derive(Drop)]
+pub struct Upward {
+    pub status: u16,
+    pub message: Message,
+    pub target: Option<Addr>,
+}

@@ -1,0 +1,4 @@
+pub mod Verdict
+pub mod Examples
+pub mod BranchById
+pub mod Sameness

@@ -1,0 +1,34 @@
+#!/bin/sh
+# Whether each must-fail edit can be made: each of its old texts stands exactly once in its file. Proves
+# nothing and takes a second; run it at the top of the repository after `rt fmt`, or from anywhere.
+cd "$(dirname "$0")/.." || exit 2
+exec python3 - <<'PY'
+import glob
+import sys
+
+faults = 0
+edits = sorted(glob.glob("crates/*/must-fail/*.edit"))
+for edit in edits:
+    crate = edit.split("/must-fail/")[0]
+    text, olds, news = None, 0, 0
+    for line in open(edit, encoding="utf-8").read().splitlines():
+        word, _, rest = line.partition(": ")
+        if word == "file":
+            try:
+                text = open(f"{crate}/{rest}", encoding="utf-8").read()
+            except OSError:
+                text = ""
+        elif word == "old":
+            olds += 1
+            count = (text or "").count(rest)
+            if count != 1:
+                faults += 1
+                print(f"{edit}: this stands {count} times: {rest.strip()}")
+        elif word == "new":
+            news += 1
+    if text is None or olds == 0 or olds != news:
+        faults += 1
+        print(f"{edit}: no file, or not as many new texts as old ones")
+print(f"{len(edits)} edits, {faults} faults")
+sys.exit(1 if faults else 0)
+PY
