@@ -10,8 +10,8 @@ use Rattle.sip_state.specs.declared.open_request.OpenRequest.{OpenRequest}
 use Rattle.sip_state.specs.declared.proxy_state.ProxyState.{ProxyState}
 use Rattle.sip_state.specs.State.{first_state, is_invite}
 use Rattle.sip_state.specs.SameState.{SameState}
-use Rattle.sip_state.specs.Branches.{acknowledged}
-use Rattle.sip_state.specs.Retransmission.{answer_due, resends_of, resends}
+use Rattle.sip_context.specs.Branches.{acknowledged}
+use Rattle.sip_context.specs.Retransmission.{answer_due, resends_of, resends}
 use Rattle.sip_model.specs.Step.{Act, Given, Passing, IsStep, NoneAgainBy, NoneAgainBefore, moment_of}
 use Rattle.sip_model.specs.Run.{Link, IsChain}
 use Rattle.sip_model.specs.Order.{HasFired, FinalAnswer}

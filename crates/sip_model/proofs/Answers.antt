@@ -4,16 +4,14 @@ use Rattle.std.specs.List.{AllByRecursion}
 use Rattle.std.proofs.lemmas.Bool.Decides.{nat_tests}
 use Rattle.std.proofs.lemmas.List.Sums.{sum_by-append}
 use Rattle.sip_best.specs.Best.{best_of}
-use Rattle.sip_message.specs.Text.{text_of}
 use Rattle.sip_event.specs.declared.packet.Packet.{Packet}
 use Rattle.sip_state.specs.Server.{Server}
 use Rattle.sip_state.specs.declared.open_request.Side.{Side}
 use Rattle.sip_state.specs.declared.open_request.OpenRequest.{OpenRequest}
 use Rattle.sip_state.specs.declared.open_request.Side.TheVariants.{Closing}
-use Rattle.sip_state.specs.State.{is_invite, is_answering}
-use Rattle.sip_state.specs.Sending.{is_success, is_provisional}
+use Rattle.sip_state.specs.State.{is_invite, is_answering, is_success, is_provisional}
 use Rattle.sip_state.specs.declared.open_request.Upward.{Upward}
-use Rattle.sip_state.specs.Branches.{Change, upward_of, all_final, best_upward, with_cancels, after_upward, upward_list, settled, has_success}
+use Rattle.sip_context.specs.Branches.{Change, upward_of, all_final, best_upward, with_cancels, after_upward, upward_list, settled, has_success}
 use Rattle.sip_model.specs.Order.{is_final_answer, AddsSuccessesAlone, AnswersOnce}
 use Rattle.sip_model.proofs.Places.{count_cons, one_at, none_at}
 use Rattle.sip_model.proofs.Settling.{all_append}
@@ -104,7 +102,7 @@ adds_successes server now r change event e = subst (AddsSuccessesAlone r) (sym e
 -- what one answer that goes up, or none, makes of a request that owes one
 pub data Tells (o : Option Upward) (r : OpenRequest) (after : OpenRequest) : Type 0 where
   NoneFinal : count_by is_final_answer (upward_list o) ≡ 0 → is_answering after.side ≡ true → Tells o r after
-  OneFinal : (u : Upward) → o ≡ Some u → is_final_answer u ≡ true → is_answering after.side ≡ false → after.answer ≡ Some (record { status = u.status; text = text_of u.message }) → Tells o r after
+  OneFinal : (u : Upward) → o ≡ Some u → is_final_answer u ≡ true → is_answering after.side ≡ false → has_success after.answer ≡ is_success u.status → Tells o r after
 
 -- a final answer closes a side that owes one
 closes_side : (t : Bool) (side : Side) (due : ℕ) → t ≡ true → is_answering (cond (t && true) (Closing due) side) ≡ false
@@ -141,8 +139,8 @@ none_final r (u ∷ us) e =
     (λ final. absurd (omega (arith, e, count_cons is_final_answer u us, one_at (is_final_answer u) final)), none_final r us (omega (arith, e, count_cons is_final_answer u us)))
 
 -- the one that goes up is kept
-one_final : (r : OpenRequest) (o : Option Upward) (u : Upward) → o ≡ Some u → r.answer ≡ Some (record { status = u.status; text = text_of u.message }) → AllByRecursion (IsLast r) (upward_list o)
-one_final r o u is answer = subst (λ v. AllByRecursion (IsLast r) (upward_list v)) (sym is) (λ final. ap has_success answer, tt)
+one_final : (r : OpenRequest) (o : Option Upward) (u : Upward) → o ≡ Some u → has_success r.answer ≡ is_success u.status → AllByRecursion (IsLast r) (upward_list o)
+one_final r o u is answer = subst (λ v. AllByRecursion (IsLast r) (upward_list v)) (sym is) (λ final. answer, tt)
 
 -- one final answer counts as one
 one_counted : (o : Option Upward) (u : Upward) → o ≡ Some u → is_final_answer u ≡ true → count_by is_final_answer (upward_list o) ≡ 1
@@ -165,19 +163,19 @@ best_once now relayed best told after change up is none (OneFinal u there final 
   still_owes = λ zero_up. absurd (omega (arith, total));
   is_last = subst (AllByRecursion (IsLast change.request)) (sym up)
       (all_append (IsLast change.request) (upward_list relayed) (upward_list best) (none_final change.request (upward_list relayed) none)
-      (one_final change.request best u there (ap (λ (x : OpenRequest). x.answer) is ∙ answer)));
+      (one_final change.request best u there (ap (λ (x : OpenRequest). has_success x.answer) is ∙ answer)));
 } where
   total : count_by is_final_answer change.upward ≡ 1
   total = omega (arith, ap (count_by is_final_answer) up, sum_by-append (λ (u : Upward). cond (is_final_answer u) 1 0) (upward_list relayed) (upward_list best), none, one_counted best u there final)
 
 -- what went up at once was final
 at_once : (now : ℕ) (relayed : Option Upward) (told : OpenRequest) (change : Change) (u : Upward) → change.upward ≡ upward_list relayed → change.request ≡ with_cancels now told → relayed ≡ Some u
-    → is_final_answer u ≡ true → is_answering told.side ≡ false → told.answer ≡ Some (record { status = u.status; text = text_of u.message }) → AnswersOnce change
+    → is_final_answer u ≡ true → is_answering told.side ≡ false → has_success told.answer ≡ is_success u.status → AnswersOnce change
 at_once now relayed told change u up is there final closes answer = record {
   is_one = omega (arith, total);
   is_answered = λ some. ap (λ (x : OpenRequest). is_answering x.side) is ∙ closes;
   still_owes = λ zero_up. absurd (omega (arith, total));
-  is_last = subst (AllByRecursion (IsLast change.request)) (sym up) (one_final change.request relayed u there (ap (λ (x : OpenRequest). x.answer) is ∙ answer));
+  is_last = subst (AllByRecursion (IsLast change.request)) (sym up) (one_final change.request relayed u there (ap (λ (x : OpenRequest). has_success x.answer) is ∙ answer));
 } where
   total : count_by is_final_answer change.upward ≡ 1
   total = omega (arith, ap (count_by is_final_answer) up, one_counted relayed u there final)

@@ -12,7 +12,7 @@ use Rattle.sip_state.specs.declared.proxy_state.ProxyState.{ProxyState}
 use Rattle.sip_state.specs.declared.open_request.Side.TheVariants.{Answering, Closing, Acknowledged, Closed}
 use Rattle.sip_state.specs.State.{first_state, deadlines, deadlines_of, side_deadline, phase_deadline, is_invite}
 use Rattle.sip_state.specs.SameState.{SameState}
-use Rattle.sip_state.specs.Branches.{acknowledged, acknowledged_side, was_refused}
+use Rattle.sip_context.specs.Branches.{acknowledged, acknowledged_side, was_refused}
 use Rattle.sip_model.specs.Step.{Act, Given, IsStep, NoneBy, NoneBefore, moment_of}
 use Rattle.sip_model.specs.Run.{Link, IsChain}
 use Rattle.sip_model.specs.Order.{FinalAnswer}

@@ -9,10 +9,9 @@ use Rattle.sip_state.specs.declared.branch.Branch.{Branch}
 use Rattle.sip_state.specs.declared.open_request.OpenRequest.{OpenRequest}
 use Rattle.sip_state.specs.declared.branch.Phase.TheVariants.{Unheard, Heard, Cancelled, Done, Ended}
 use Rattle.sip_state.specs.declared.open_request.Side.TheVariants.{Answering, Closing, Acknowledged, Closed}
-use Rattle.sip_state.specs.State.{is_invite, is_answering, phase_deadline, side_deadline}
-use Rattle.sip_state.specs.Sending.{is_provisional}
+use Rattle.sip_state.specs.State.{is_invite, is_answering, phase_deadline, side_deadline, is_provisional}
 use Rattle.sip_state.specs.declared.open_request.Upward.{Upward}
-use Rattle.sip_state.specs.Branches.{Change, is_same_branch, with_phase, given_up, best_upward, is_ready, is_cancellable, cancel_branch, new_cancels, after_upward, settled, target_overdue, side_overdue, turned, held_branch, with_cancel}
+use Rattle.sip_context.specs.Branches.{Change, is_same_branch, with_phase, given_up, best_upward, is_ready, is_cancellable, cancel_branch, new_cancels, after_upward, settled, target_overdue, side_overdue, turned, held_branch, with_cancel}
 use Rattle.sip_model.specs.Step.{IsOverdue, OfSide, OfBranch}
 use Rattle.sip_model.specs.Order.{phase_left, side_left, deadlines_left}
 use Rattle.sip_model.proofs.Places.{IsIn, in_from_contains, count_cons, one_at, none_at}

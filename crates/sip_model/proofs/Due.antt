@@ -21,10 +21,10 @@ use Rattle.sip_state.specs.declared.open_request.OpenRequest.{OpenRequest}
 use Rattle.sip_state.specs.declared.proxy_state.ProxyState.{ProxyState}
 use Rattle.sip_state.specs.declared.branch.Phase.TheVariants.{Unheard, Heard, Cancelled, Done, Ended}
 use Rattle.sip_state.specs.declared.open_request.Side.TheVariants.{Closed}
-use Rattle.sip_state.specs.State.{is_invite, is_final, is_answering, has_left}
-use Rattle.sip_state.specs.Sending.{made_answer, answer_to, to_branch, request_of, branch_packets, ack_packets, is_success, is_failure, is_provisional}
+use Rattle.sip_state.specs.State.{is_invite, is_final, is_answering, has_left, is_success, is_failure, is_provisional}
+use Rattle.sip_context.specs.Sending.{made_answer, answer_to, to_branch, request_of, branch_packets, ack_packets}
 use Rattle.sip_state.specs.declared.open_request.Upward.{Upward}
-use Rattle.sip_state.specs.Branches.{Change, with_phase, upward_of, all_final, best_upward, is_ready, is_cancellable, cancel_branch, new_cancels, with_cancels, after_upward, upward_list, settled, heard, other_heard, relayed_from, relayed_provisional, is_accepted, relayed_success, final_of, with_answer, acks_of, further, target_responded, cancel_responded, responded, branch_overdue, overdue, side_overdue, given_up, send_failed, marked, cancelled}
+use Rattle.sip_context.specs.Branches.{Change, with_phase, upward_of, all_final, best_upward, is_ready, is_cancellable, cancel_branch, new_cancels, with_cancels, after_upward, upward_list, settled, heard, other_heard, relayed_from, relayed_provisional, is_accepted, relayed_success, final_of, with_answer, acks_of, further, target_responded, cancel_responded, responded, branch_overdue, overdue, side_overdue, given_up, send_failed, marked, cancelled}
 use Rattle.sip_model.specs.Effect.{replaced, upward_packets, change_packets}
 use Rattle.sip_model.specs.Step.{Act}
 use Rattle.sip_model.specs.Run.{Link}
@@ -34,7 +34,7 @@ use Rattle.sip_model.proofs.Places.{in_from_contains}
 use Rattle.sip_model.proofs.Apart.{TargetsDiffer, only_target}
 use Rattle.sip_model.proofs.Lists.{all_append, all_map, all_passing, all_flat_map, all_weaker, all_there}
 use Rattle.sip_model.proofs.Finals.{IsHonest, IsMarked, IsHonestRequest, AreHonest, IsTaken, IsTakenAs, GoesUp, best_taken, came_never}
-use Rattle.sip_model.proofs.Later.{bare, IsBranchOf, IsLater, IsHeardIn, later_itself, later_with_phase, later_with_answer, later_after_upward, later_with_cancels, later_overdue, later_with_side, later_given_up, later_marked}
+use Rattle.sip_model.proofs.Later.{bare, IsBranchOf, IsLater, IsHeardIn, later_itself, later_with_phase, later_with_answer, later_after_upward, later_with_cancels, later_overdue, later_with_side, later_given_up, later_marked, all_either}
 
 -- a branch that is sent a CANCEL is none, is to be cancelled, and is ready for it
 cancellable_parts : (b : Branch) → is_cancellable b ≡ true → (b.is_cancel ≡ false) × (b.wants_cancel ≡ true) × (is_ready b.phase ≡ true)
@@ -154,7 +154,7 @@ module _ (server : Server) (history : List Link) (state : ProxyState) (act : Act
 
   -- what follows an event is owed, if its CANCELs are
   pub settled_due : (now : ℕ) (r s : OpenRequest) (acks : List Packet) (relayed : Option Upward) → IsLater server history state act r s → AllByRecursion Owed acks → IfSome relayed (MayGoUp r)
-      → ((told : OpenRequest) → IsLater server history state act r told → told.finals ≡ s.finals → IfSome (best_upward server told) (MayGoUp r))
+      → ((told : OpenRequest) → IsLater server history state act r told → (AllByRecursion (IsHonest server [] r.number) s.finals → AllByRecursion (IsHonest server [] r.number) told.finals) → IfSome (best_upward server told) (MayGoUp r))
       → ((after : OpenRequest) → IsLater server history state act r after → after.branches ≡ s.branches → AllByRecursion Owed (flat_map (branch_packets server false after) (new_cancels now after)))
       → IsDue r (settled server now acks relayed s)
   settled_due now r s acks relayed h owed up goes_up cancels =
@@ -167,7 +167,7 @@ module _ (server : Server) (history : List Link) (state : ProxyState) (act : Act
       record {
         is_same = whole.is_same;
         acks = owed;
-        upward = all_append (MayGoUp r) (upward_list relayed) (upward_list best) (listed r relayed up) (listed r best (goes_up told later (same_finals relayed s)));
+        upward = all_append (MayGoUp r) (upward_list relayed) (upward_list best) (listed r relayed up) (listed r best (goes_up told later (kept_finals relayed s)));
         cancels = cancels after end (same_branches best told ∙ same_branches relayed s);
         finals = whole.finals;
         marks = all_weaker (IsBranchOf server state act r) (IsMarked r) (λ b h. h.is_marked) (settled server now acks relayed s).request.branches whole.branches;
@@ -177,9 +177,9 @@ module _ (server : Server) (history : List Link) (state : ProxyState) (act : Act
         same_branches None q = refl
         same_branches (Some u) q = refl
 
-        same_finals : (o : Option Upward) (q : OpenRequest) → (after_upward now o q).finals ≡ q.finals
-        same_finals None q = refl
-        same_finals (Some u) q = refl
+        kept_finals : (o : Option Upward) (q : OpenRequest) → AllByRecursion (IsHonest server [] r.number) q.finals → AllByRecursion (IsHonest server [] r.number) (after_upward now o q).finals
+        kept_finals None q all = all
+        kept_finals (Some u) q all = all_either (IsHonest server [] r.number) (is_provisional u.status) q.finals [] all tt
 
   -- the same of a request that was open before
   open_due : (now : ℕ) (r s : OpenRequest) (acks : List Packet) (relayed : Option Upward) → Contains state.requests r → IsLater server history state act r s → AllByRecursion Owed acks → IfSome relayed (MayGoUp r)

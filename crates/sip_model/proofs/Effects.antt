@@ -22,9 +22,9 @@ use Rattle.sip_state.specs.declared.branch.Branch.{Branch}
 use Rattle.sip_state.specs.declared.open_request.OpenRequest.{OpenRequest}
 use Rattle.sip_state.specs.declared.proxy_state.ProxyState.{ProxyState}
 use Rattle.sip_state.specs.State.{is_invite}
-use Rattle.sip_state.specs.Sending.{made_answer, branch_packets, request_of, onward_as, begins_dialog}
+use Rattle.sip_context.specs.Sending.{made_answer, branch_packets, request_of, onward_as, begins_dialog}
 use Rattle.sip_state.specs.declared.open_request.Upward.{Upward}
-use Rattle.sip_state.specs.Branches.{Change, settled, answered, responded, cancelled, acknowledged, is_ready, is_cancellable, cancel_branch, new_cancels}
+use Rattle.sip_context.specs.Branches.{Change, settled, answered, responded, cancelled, acknowledged, is_ready, is_cancellable, cancel_branch, new_cancels}
 use Rattle.sip_verdict.specs.Verdict.{Arrival, Question, Registered, Bound, Refused, Verdict, Drop, Respond, Copy, AckOn, Cancel, Answer, InDialog, Challenge, Deny, Send, Register, is_full, question_of, request_targets}
 use Rattle.sip_model.specs.Effect.{Effect, arriving, replaced, upward_packets, change_packets, changed, nothing, opened, replied, is_registration, challenge_status, registering, branches_from, unsent, forking, is_tried, trying, tried, forked, sent_to, sending, dialog_branch, renewing, copied, cancelling, counted, asked, issuing, method_of, effect_of}
 use Rattle.sip_model.specs.Step.{Act}
@@ -59,9 +59,11 @@ tried_branches now [] r = refl
 tried_branches now (u ∷ us) r = tried_branches now us (answered now u r)
 
 -- nor any final answer that is kept
-tried_finals : (now : ℕ) (us : List Upward) (r : OpenRequest) → (tried now us r).finals ≡ r.finals
-tried_finals now [] r = refl
-tried_finals now (u ∷ us) r = tried_finals now us (answered now u r)
+tried_finals : (server : Server) (now : ℕ) (r : OpenRequest) → (tried now (trying server r) r).finals ≡ r.finals
+tried_finals server now r = by_test (is_tried r) where
+  by_test : (t : Bool) → (tried now (cond t (record { status = 100; message = made_answer server r.number r.request r.source 100 []; target = None } ∷ []) []) r).finals ≡ r.finals
+  by_test true = refl
+  by_test false = refl
 
 -- the answers that stand for branches without an address are honest
 unsent_honest : (server : Server) (history : List Link) (number : ℕ) (branches : List Branch) → AllByRecursion (IsHonest server history number) (unsent branches)
@@ -210,7 +212,7 @@ module _ (server : Server) (history : List Link) (state : ProxyState) (act : Act
         settled_due server history state act state.bindings a.now r begun [] None later tt tt
         (λ told end same.
         new_goes_up server history state act state.bindings r told end.is_same
-        (subst (λ (fs : List Final). AllByRecursion (IsHonest server [] a.number) fs) (sym (same ∙ tried_finals a.now (trying server r) r)) (unsent_honest server [] a.number branches)))
+        (same (subst (λ (fs : List Final). AllByRecursion (IsHonest server [] a.number) fs) (sym (tried_finals server a.now r)) (unsent_honest server [] a.number branches))))
         (λ after end same. subst (λ (bs : List Branch). AllByRecursion owed (flat_map (branch_packets server false after) bs)) (sym (no_cancels after same)) tt)
         in
         record {

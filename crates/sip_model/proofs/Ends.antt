@@ -13,11 +13,10 @@ use Rattle.sip_state.specs.declared.open_request.OpenRequest.{OpenRequest}
 use Rattle.sip_state.specs.declared.proxy_state.ProxyState.{ProxyState}
 use Rattle.sip_state.specs.declared.branch.Phase.TheVariants.{Unheard, Heard, Cancelled, Done, Ended}
 use Rattle.sip_state.specs.declared.open_request.Side.TheVariants.{Answering, Closing, Acknowledged, Closed}
-use Rattle.sip_state.specs.State.{first_state, is_invite, is_final, is_ended, is_answering, is_closed, phase_deadline, side_deadline, deadlines_of, has_left}
-use Rattle.sip_state.specs.Sending.{is_provisional}
+use Rattle.sip_state.specs.State.{first_state, is_invite, is_final, is_ended, is_answering, is_closed, phase_deadline, side_deadline, deadlines_of, has_left, is_provisional}
 use Rattle.sip_state.specs.declared.open_request.Upward.{Upward}
-use Rattle.sip_state.specs.Retransmission.{IsResent, OfAnswer, OfRequest, branch_next}
-use Rattle.sip_state.specs.Branches.{is_same_branch, all_final, best_upward, after_upward, settled, acknowledged, acknowledged_side, was_refused}
+use Rattle.sip_context.specs.Retransmission.{IsResent, OfAnswer, OfRequest, branch_next}
+use Rattle.sip_context.specs.Branches.{is_same_branch, all_final, best_upward, after_upward, settled, acknowledged, acknowledged_side, was_refused}
 use Rattle.sip_verdict.specs.Verdict.{Arrival}
 use Rattle.sip_model.specs.Effect.{forking, unsent, tried, trying}
 use Rattle.sip_model.specs.Run.{Link, IsChain}
@@ -65,7 +64,8 @@ unsent_final (b ∷ bs) = (refl, unsent_final bs)
 -- a request that is sent to at least one branch
 forking_counted : (a : Arrival) (m : Message) (first : Branch) (others : List Branch) → AllByRecursion (IsStarted a.now) (first ∷ others) → IsCounted (forking a m (first ∷ others))
 forking_counted a m first others all = record {
-  seen = started_seen a.now (first ∷ others) all;
+  seen = λ owes. started_seen a.now (first ∷ others) all;
+  none_kept = λ had. absurd (cc);
   final = unsent_final (filter (λ (b : Branch). not (is_some b.address)) (first ∷ others));
   has_target = λ answering. ap (λ (t : Bool). not t || list_any is_target others) all.0.is_target;
 }
@@ -89,7 +89,7 @@ settled_stays server now r e =
 -- a request that is answered at once owes nothing, and one that is sent waits for a branch, unless it could be sent to none
 opening_sound : (server : Server) (a : Arrival) (m : Message) (r : OpenRequest) (finals : List FinalAnswer) → IsOpening server a m r finals → IsSound r
 opening_sound server a m r finals (Answered status text e up) =
-    subst IsSound (sym e) (record { counted = record { seen = tt; final = tt; has_target = λ owes. absurd (cc) }; waits = λ owes. absurd (cc); stays = refl })
+    subst IsSound (sym e) (record { counted = record { seen = λ owes. absurd (cc); none_kept = λ had. refl; final = tt; has_target = λ owes. absurd (cc) }; waits = λ owes. absurd (cc); stays = refl })
 opening_sound server a m r finals (Sent first others started e up) =
     let fork : OpenRequest = forking a m (first ∷ others) in
     let tried_request : OpenRequest = tried a.now (trying server fork) fork in
@@ -140,7 +140,7 @@ acknowledged_sound : (now : ℕ) (r : OpenRequest) → IsSound r → has_left (a
 acknowledged_sound now r h stays = by_test (is_invite r && was_refused r.answer) stays where
   by_test : (t : Bool) → has_left (cond t (record r { side = acknowledged_side now r.side }) r) ≡ false → IsSound (cond t (record r { side = acknowledged_side now r.side }) r)
   by_test true e = record {
-    counted = record { seen = h.counted.seen; final = h.counted.final; has_target = λ owes. h.counted.has_target (sym (acknowledged_answering now r.side) ∙ owes) };
+    counted = record { seen = λ owes. h.counted.seen (sym (acknowledged_answering now r.side) ∙ owes); none_kept = λ had. h.counted.none_kept (sym (acknowledged_answering now r.side) ∙ had); final = h.counted.final; has_target = λ owes. h.counted.has_target (sym (acknowledged_answering now r.side) ∙ owes) };
     waits = λ owes. h.waits (sym (acknowledged_answering now r.side) ∙ owes);
     stays = e;
   }
@@ -230,3 +230,9 @@ sound_ends r h =
 -- each open request of a history has a deadline
 pub chain_ends : (server : Server) (first : ℕ) (history : List Link) (last : ProxyState) → IsChain server (first_state first) history last → AllByRecursion CanEnd last.requests
 chain_ends server first history last h = all_weaker IsSound CanEnd last.requests sound_ends (chain_sound server first history last h)
+
+-- once a request had its final answer, no final answers of its branches are kept
+pub chain_keeps : (server : Server) (first : ℕ) (history : List Link) (last : ProxyState) → IsChain server (first_state first) history last
+    → AllByRecursion (λ (r : OpenRequest). is_answering r.side ≡ false → r.finals ≡ []) last.requests
+chain_keeps server first history last h =
+    all_weaker IsSound (λ r. is_answering r.side ≡ false → r.finals ≡ []) last.requests (λ r sound. sound.counted.none_kept) (chain_sound server first history last h)

@@ -1,5 +1,5 @@
 -- What the changes of an open request have in common: an event makes a request in between of it, which then settles.
-use Rattle.std.proofs.Common.{◌≡◌, ◌⊎◌, inl, inr, ℕ, ◌+◌, ◌≤◌, Bool, true, false, not, ◌&&◌, ◌||◌, cond, ◌==◌, List, [], ◌∷◌, ◌++◌, map, Option, Some, None, refl, sym, ap, ◌∙◌, arith}
+use Rattle.std.proofs.Common.{◌≡◌, ◌⊎◌, inl, inr, ℕ, ◌+◌, ◌≤◌, Bool, true, false, not, ◌&&◌, ◌||◌, cond, ◌==◌, List, [], ◌∷◌, ◌++◌, map, Option, Some, None, refl, sym, ap, ◌∙◌, arith, subst}
 use Rattle.std.specs.List.{AllByRecursion, list_any}
 use Rattle.sip_message.specs.declared.message.Message.{Message}
 use Rattle.sip_best.specs.declared.final_answer.Final.{Final}
@@ -12,11 +12,10 @@ use Rattle.sip_state.specs.declared.branch.Branch.{Branch}
 use Rattle.sip_state.specs.declared.open_request.OpenRequest.{OpenRequest}
 use Rattle.sip_state.specs.declared.branch.Phase.TheVariants.{Unheard, Heard, Cancelled, Done, Ended}
 use Rattle.sip_state.specs.declared.open_request.Side.TheVariants.{Answering, Closing, Acknowledged, Closed}
-use Rattle.sip_state.specs.State.{is_invite, is_final, is_answering, phase_deadline, side_deadline}
-use Rattle.sip_state.specs.Sending.{is_success, is_decline, is_provisional}
+use Rattle.sip_state.specs.State.{is_invite, is_final, is_answering, phase_deadline, side_deadline, is_success, is_decline, is_provisional}
 use Rattle.sip_state.specs.declared.open_request.Upward.{Upward}
-use Rattle.sip_state.specs.Retransmission.{IsResent, OfAnswer, OfRequest, branch_next}
-use Rattle.sip_state.specs.Branches.{Change, is_same_branch, with_phase, with_final, marked, given_up, settled, invite_heard, other_heard, heard, relayed_from, relayed_provisional, relayed_success, is_accepted, further, with_answer, acks_of, final_of, linger, target_responded, cancel_responded, responded, target_overdue, side_overdue, turned, told_to}
+use Rattle.sip_context.specs.Retransmission.{IsResent, OfAnswer, OfRequest, branch_next}
+use Rattle.sip_context.specs.Branches.{Change, is_same_branch, with_phase, with_final, marked, given_up, settled, invite_heard, other_heard, heard, relayed_from, relayed_provisional, relayed_success, is_accepted, further, with_answer, acks_of, final_of, linger, target_responded, cancel_responded, responded, target_overdue, side_overdue, turned, told_to}
 use Rattle.sip_model.specs.Step.{IsOverdue, OfSide, OfBranch}
 use Rattle.sip_model.specs.Order.{IsChangeOf, ByResponse, ByDeadline, ByFault, ByCancel}
 use Rattle.sip_model.proofs.Places.{IsIn, all_in, in_from_contains, contains_from_in}
@@ -46,9 +45,10 @@ IsFinalStatus f = is_provisional f.status ≡ false
 abbrev pub is_target : Branch → Bool
 is_target b = not b.is_cancel
 
--- the final answers of a request are final and none of its branches' is missing; while it owes an answer it has a branch to a target
+-- While a request owes an answer none of its branches' final answers is missing, and it has a branch to a target; once it had its answer none is kept. Each that is kept is final.
 pub record IsCounted (r : OpenRequest) : Type 0 where
-  pub seen : AllByRecursion (IsSeen r.finals) r.branches
+  pub seen : is_answering r.side ≡ true → AllByRecursion (IsSeen r.finals) r.branches
+  pub none_kept : is_answering r.side ≡ false → r.finals ≡ []
   pub final : AllByRecursion IsFinalStatus r.finals
   pub has_target : is_answering r.side ≡ true → list_any is_target r.branches ≡ true
 
@@ -119,9 +119,10 @@ seen_in_phase finals b phase x true same later before = λ target final. later (
 seen_in_phase finals b phase x false same later before = before
 
 -- and so are those of the request
-phase_counted : (b : Branch) (phase : Phase) (r : OpenRequest) → (b.is_cancel ≡ false → is_final phase ≡ true → IsSome r.finals) → IsCounted r → IsCounted (with_phase b phase r)
+phase_counted : (b : Branch) (phase : Phase) (r : OpenRequest) → (is_answering r.side ≡ true → b.is_cancel ≡ false → is_final phase ≡ true → IsSome r.finals) → IsCounted r → IsCounted (with_phase b phase r)
 phase_counted b phase r later h = record {
-  seen = all_map (IsSeen r.finals) (IsSeen r.finals) (in_phase b phase) r.branches (λ x before. seen_in_phase r.finals b phase x (is_same_branch x b) refl later before) h.seen;
+  seen = λ owes. all_map (IsSeen r.finals) (IsSeen r.finals) (in_phase b phase) r.branches (λ x before. seen_in_phase r.finals b phase x (is_same_branch x b) refl (later owes) before) (h.seen owes);
+  none_kept = h.none_kept;
   final = h.final;
   has_target = λ answering. any_map (in_phase b phase) r.branches (λ x. same_cancel b x phase (is_same_branch x b)) ∙ h.has_target answering;
 }
@@ -138,6 +139,11 @@ final_behind : (fs : List Final) (f : Final) → IsFinalStatus f → AllByRecurs
 final_behind [] f h all = (h, tt)
 final_behind (g ∷ gs) f h all = (all.0, final_behind gs f h all.1)
 
+-- of two lists, whichever
+pub final_either : (t : Bool) (fs gs : List Final) → AllByRecursion IsFinalStatus fs → AllByRecursion IsFinalStatus gs → AllByRecursion IsFinalStatus (cond t fs gs)
+final_either true fs gs first second = first
+final_either false fs gs first second = second
+
 -- where a request has a final answer, each branch may
 all_seen : (finals : List Final) (xs : List Branch) → IsSome finals → AllByRecursion (IsSeen finals) xs
 all_seen finals [] some = tt
@@ -146,8 +152,9 @@ all_seen finals (x ∷ xs) some = (λ target final. some, all_seen finals xs som
 -- a final answer of a branch, in whichever phase the branch is after it
 final_counted : (f : Final) (b : Branch) (phase : Phase) (r : OpenRequest) → IsFinalStatus f → IsCounted r → IsCounted (with_final f (with_phase b phase r))
 final_counted f b phase r status h = record {
-  seen = all_seen (r.finals ++ f ∷ []) (map (in_phase b phase) r.branches) (some_behind r.finals f);
-  final = final_behind r.finals f status h.final;
+  seen = λ owes. all_seen (cond (is_answering r.side) (r.finals ++ f ∷ []) r.finals) (map (in_phase b phase) r.branches) (subst (λ (t : Bool). IsSome (cond t (r.finals ++ f ∷ []) r.finals)) (sym owes) (some_behind r.finals f));
+  none_kept = λ had. subst (λ (t : Bool). cond t (r.finals ++ f ∷ []) r.finals ≡ []) (sym had) (h.none_kept had);
+  final = final_either (is_answering r.side) (r.finals ++ f ∷ []) r.finals (final_behind r.finals f status h.final) h.final;
   has_target = λ answering. any_map (in_phase b phase) r.branches (λ x. same_cancel b x phase (is_same_branch x b)) ∙ h.has_target answering;
 }
 
@@ -198,8 +205,9 @@ marked_due floor r h = record {
 -- and so do final answers
 marked_counted : (r : OpenRequest) → IsCounted r → IsCounted (marked r)
 marked_counted r h = record {
-  seen = all_map (IsSeen r.finals) (IsSeen r.finals) (λ (x : Branch). cond (x.is_cancel || is_final x.phase) x (record x { wants_cancel = true })) r.branches
-      (λ x before. marked_seen_at r.finals (x.is_cancel || is_final x.phase) x before) h.seen;
+  seen = λ owes. all_map (IsSeen r.finals) (IsSeen r.finals) (λ (x : Branch). cond (x.is_cancel || is_final x.phase) x (record x { wants_cancel = true })) r.branches
+      (λ x before. marked_seen_at r.finals (x.is_cancel || is_final x.phase) x before) (h.seen owes);
+  none_kept = h.none_kept;
   final = h.final;
   has_target = λ answering. any_map (λ (x : Branch). cond (x.is_cancel || is_final x.phase) x (record x { wants_cancel = true })) r.branches (λ x. marked_cancel (x.is_cancel || is_final x.phase) x) ∙ h.has_target answering;
 }
@@ -219,7 +227,8 @@ wanting_due floor b r h = record {
 -- and so do final answers
 wanting_counted : (b : Branch) (r : OpenRequest) → IsCounted r → IsCounted (wanting b r)
 wanting_counted b r h = record {
-  seen = all_map (IsSeen r.finals) (IsSeen r.finals) (λ (x : Branch). wanted (is_same_branch x b) x) r.branches (λ x before. wanted_seen r.finals (is_same_branch x b) x before) h.seen;
+  seen = λ owes. all_map (IsSeen r.finals) (IsSeen r.finals) (λ (x : Branch). wanted (is_same_branch x b) x) r.branches (λ x before. wanted_seen r.finals (is_same_branch x b) x before) (h.seen owes);
+  none_kept = h.none_kept;
   final = h.final;
   has_target = λ answering. any_map (λ (x : Branch). wanted (is_same_branch x b) x) r.branches (λ x. wanted_cancel (is_same_branch x b) x) ∙ h.has_target answering;
 }
@@ -324,8 +333,8 @@ branch_due : (floor : ℕ) (r : OpenRequest) (b : Branch) → IsIn b r.branches 
 branch_due floor r b there h = all_in (λ x. DueFrom floor (phase_deadline x.phase)) r.branches b h.branches_due there
 
 -- the final answer of a branch that is there
-branch_seen : (r : OpenRequest) (b : Branch) → IsIn b r.branches → IsCounted r → IsSeen r.finals b
-branch_seen r b there h = all_in (IsSeen r.finals) r.branches b h.seen there
+branch_seen : (r : OpenRequest) (b : Branch) → IsIn b r.branches → IsCounted r → is_answering r.side ≡ true → IsSeen r.finals b
+branch_seen r b there h owes = all_in (IsSeen r.finals) r.branches b (h.seen owes) there
 
 -- a branch in a phase in which it goes again only if it did
 phase_keeps : (floor : ℕ) (r : OpenRequest) (b : Branch) (phase : Phase) → IsIn b r.branches → (goes b.is_cancel (is_invite r) phase ≡ true → goes b.is_cancel (is_invite r) b.phase ≡ true) → IsAgain floor r
@@ -358,7 +367,7 @@ phase_event server now r b phase relayed there is_relayed later final only = rec
   relayed_is = is_relayed;
   due = λ floor low h. phase_due floor b phase r (later floor low (branch_due floor r b there h)) h;
   again = λ floor h. phase_keeps floor r b phase there only h;
-  counted = λ h. phase_counted b phase r (λ target is. branch_seen r b there h target (final target is)) h;
+  counted = λ h. phase_counted b phase r (λ owes target is. branch_seen r b there h owes target (final target is)) h;
 }
 
 -- nothing of the request changes
@@ -535,7 +544,7 @@ closed_event server now r closes = record {
   relayed_is = tt;
   due = λ floor low h. record { side_due = tt; branches_due = h.branches_due };
   again = λ floor h. closed_again floor r h;
-  counted = λ h. record { seen = h.seen; final = h.final; has_target = λ answering. absurd (cc) };
+  counted = λ h. record { seen = λ owes. absurd (cc); none_kept = λ had. h.none_kept closes; final = h.final; has_target = λ answering. absurd (cc) };
 }
 
 -- a deadline
@@ -585,11 +594,12 @@ resent_due server floor now r _ _ (OfRequest b there is) h = record {
 
 -- so do its final answers
 pub resent_counted : (server : Server) (now : ℕ) (r : OpenRequest) (packets : List Packet) (next : OpenRequest) → IsResent server now r packets next → IsCounted r → IsCounted next
-resent_counted server now r _ _ (OfAnswer is) h = record { seen = h.seen; final = h.final; has_target = h.has_target }
+resent_counted server now r _ _ (OfAnswer is) h = record { seen = h.seen; none_kept = h.none_kept; final = h.final; has_target = h.has_target }
 resent_counted server now r _ _ (OfRequest b there is) h =
     let edit : Branch → Branch = λ x. cond (is_same_branch x b) (record x { again = branch_next r b }) x in
     record {
-      seen = all_map (IsSeen r.finals) (IsSeen r.finals) edit r.branches (λ x. again_seen_at r.finals x (is_same_branch x b) (branch_next r b)) h.seen;
+      seen = λ owes. all_map (IsSeen r.finals) (IsSeen r.finals) edit r.branches (λ x. again_seen_at r.finals x (is_same_branch x b) (branch_next r b)) (h.seen owes);
+      none_kept = h.none_kept;
       final = h.final;
       has_target = λ answering. any_map edit r.branches (λ x. again_cancel x (is_same_branch x b) (branch_next r b)) ∙ h.has_target answering;
     }

@@ -38,8 +38,8 @@ use Rattle.sip_state.specs.declared.branch.Branch.{Branch}
 use Rattle.sip_state.specs.declared.open_request.OpenRequest.{OpenRequest}
 use Rattle.sip_state.specs.declared.proxy_state.ProxyState.{ProxyState}
 use Rattle.sip_state.specs.State.{has_key}
-use Rattle.sip_state.specs.Sending.{dialog_of}
-use Rattle.sip_state.specs.Branches.{is_accepted}
+use Rattle.sip_state.specs.Dialogs.{dialog_of}
+use Rattle.sip_context.specs.Branches.{is_accepted}
 use Rattle.sip_verdict.specs.Verdict.{Arrival, Question, Registered, Bound, Refused, Verdict, Drop, Respond, Copy, AckOn, Cancel, Answer, InDialog, Challenge, Deny, Send, Register, is_branch, branch_in, found_branch, is_many, response_verdict, top_branch, responding, next_address, within_at, within, ack_verdict, is_full, is_cancelled_by, found_for_cancel, cancel_verdict, is_register, question_of, registered_by, registration_by, is_own_uri, request_targets, decided, policy_verdict, is_outside, core_verdict, checked_verdict, new_verdict, by_open, by_key, by_start, message_verdict, message_in}
 use Rattle.sip_model.specs.Effect.{method_of}
 use Rattle.sip_model.specs.Access.{IsNewRequest, decision_on, rule_of}

@@ -20,7 +20,7 @@ use Rattle.sip_state.specs.State.{first_state}
 use Rattle.sip_state.proofs.Sameness.{after_request_same}
 use Rattle.sip_verdict.specs.Verdict.{Arrival, Bound, Refused, Verdict, Drop, Respond, Copy, AckOn, Cancel, Answer, InDialog, Challenge, Deny, Send, Register, verdict_of}
 use Rattle.sip_state.specs.Dialogs.{after_request}
-use Rattle.sip_state.specs.Branches.{settled, responded, send_failed, cancelled}
+use Rattle.sip_context.specs.Branches.{settled, responded, send_failed, cancelled}
 use Rattle.sip_targets.specs.Targets.{target_list}
 use Rattle.sip_model.specs.Effect.{Effect, counted, effect_of, nothing, forking, branches_from, dialog_branch, tried, trying}
 use Rattle.sip_model.specs.Step.{Act, Given, Passing, IsStep, arrival_of, is_failed, failed_branch, failed_request, moment_of}

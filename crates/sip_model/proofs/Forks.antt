@@ -12,9 +12,9 @@ use Rattle.sip_event.specs.declared.packet.Packet.{Packet}
 use Rattle.sip_state.specs.Server.{Server}
 use Rattle.sip_state.specs.declared.proxy_state.ProxyState.{ProxyState}
 use Rattle.sip_state.specs.declared.open_request.OpenRequest.{OpenRequest}
-use Rattle.sip_state.specs.Sending.{branch_packets, sent_of}
+use Rattle.sip_context.specs.Sending.{branch_packets, sent_of}
 use Rattle.sip_state.specs.declared.open_request.Upward.{Upward}
-use Rattle.sip_state.specs.Branches.{Change, best_upward, is_cancellable, cancel_branch, new_cancels, after_upward, settled}
+use Rattle.sip_context.specs.Branches.{Change, best_upward, is_cancellable, cancel_branch, new_cancels, after_upward, settled}
 use Rattle.sip_model.specs.Effect.{upward_packets, change_packets, branch_to, branches_from, trying, tried, forked}
 
 -- whether a packet is a branch's request

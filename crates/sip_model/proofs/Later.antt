@@ -1,5 +1,5 @@
 -- What stays of an open request through what happens to it.
-use Rattle.std.proofs.Common.{◌≡◌, ◌∙◌, inl, ℕ, ◌+◌, ◌==◌, not, ◌&&◌, ◌||◌, List, [], ◌∷◌, map, filter, cond, Bool, true, false, refl, sym, ap, subst, Contains, Option, Some, None, true≢false, arith}
+use Rattle.std.proofs.Common.{◌≡◌, ◌∙◌, inl, ℕ, ◌+◌, ◌==◌, not, ◌&&◌, ◌||◌, List, [], ◌∷◌, map, filter, cond, Bool, true, false, refl, sym, ap, subst, Contains, Option, Some, None, true≢false, arith, ◌++◌}
 use Rattle.std.proofs.lemmas.Bool.Decides.{nat_tests}
 use Rattle.std.specs.List.{AllByRecursion}
 use Rattle.sip_message.specs.declared.message.Message.{Message}
@@ -14,11 +14,10 @@ use Rattle.sip_state.specs.declared.open_request.OpenRequest.{OpenRequest}
 use Rattle.sip_state.specs.declared.proxy_state.ProxyState.{ProxyState}
 use Rattle.sip_state.specs.declared.branch.Phase.TheVariants.{Unheard, Heard, Cancelled, Done, Ended}
 use Rattle.sip_state.specs.declared.open_request.Side.TheVariants.{Closed}
-use Rattle.sip_state.specs.State.{first_resend, is_invite, is_final}
-use Rattle.sip_state.specs.Sending.{is_success, is_decline}
+use Rattle.sip_state.specs.State.{first_resend, is_invite, is_final, is_answering, is_success, is_decline, is_provisional}
 use Rattle.sip_state.specs.declared.open_request.Upward.{Upward}
-use Rattle.sip_state.specs.Retransmission.{IsResent, OfAnswer, OfRequest, branch_next}
-use Rattle.sip_state.specs.Branches.{is_same_branch, with_phase, with_final, marked, given_up, answered, after_upward, is_ready, is_cancellable, cancel_branch, new_cancels, with_cancels, search_ended, with_answer, final_of, linger, target_overdue, branch_overdue, acknowledged_side, was_refused, acknowledged, turned, told_to}
+use Rattle.sip_context.specs.Retransmission.{IsResent, OfAnswer, OfRequest, branch_next}
+use Rattle.sip_context.specs.Branches.{is_same_branch, with_phase, with_final, marked, given_up, answered, after_upward, is_ready, is_cancellable, cancel_branch, new_cancels, with_cancels, search_ended, with_answer, final_of, linger, target_overdue, branch_overdue, acknowledged_side, was_refused, acknowledged, turned, told_to}
 use Rattle.sip_model.specs.Run.{Link}
 use Rattle.sip_model.specs.Step.{Act}
 use Rattle.sip_model.specs.Effect.{tried}
@@ -57,6 +56,11 @@ pub record IsLater (server : Server) (history : List Link) (state : ProxyState) 
 abbrev pub IsHeardIn : Server → ProxyState → Act → OpenRequest → Branch → Phase → Type 0
 IsHeardIn server state act r b phase =
     (branch : Branch) → Contains r.branches branch → branch.is_cancel ≡ false → b.is_cancel ≡ false → branch.number ≡ b.number → is_ready phase ≡ true → WasHeard server state act r branch
+
+-- of two lists, whichever
+pub all_either : {X : Type 0} (P : X → Type 0) (t : Bool) (xs ys : List X) → AllByRecursion P xs → AllByRecursion P ys → AllByRecursion P (cond t xs ys)
+all_either P true xs ys first second = first
+all_either P false xs ys first second = second
 
 -- two branches are one: their parts
 same_parts : (s x b : Bool) → (s && cond x b (not b)) ≡ true → (s ≡ true) × (x ≡ b)
@@ -160,7 +164,13 @@ module _ (server : Server) (history : List Link) (state : ProxyState) (act : Act
   -- with one more honest answer
   later_with_final : (f : Final) (s : OpenRequest) → IsHonest server history r.number f → IsLater server history state act r s → IsLater server history state act r (with_final f s)
   later_with_final f s honest h =
-      record { is_same = h.is_same; branches = h.branches; differ = h.differ; finals = all_append (IsHonest server history r.number) s.finals (f ∷ []) h.finals (honest, tt) }
+      record {
+        is_same = h.is_same;
+        branches = h.branches;
+        differ = h.differ;
+        finals =
+            all_either (IsHonest server history r.number) (is_answering s.side) (s.finals ++ f ∷ []) s.finals (all_append (IsHonest server history r.number) s.finals (f ∷ []) h.finals (honest, tt)) h.finals;
+      }
 
   -- with some branches that are to be cancelled
   later_wanting : (test : Branch → Bool) (s : OpenRequest) → is_invite r ≡ true → IsLater server history state act r s
@@ -211,7 +221,8 @@ module _ (server : Server) (history : List Link) (state : ProxyState) (act : Act
 
   -- once an answer went to the caller
   later_answered : (now : ℕ) (u : Upward) (s : OpenRequest) → IsLater server history state act r s → IsLater server history state act r (answered now u s)
-  later_answered now u s h = record { is_same = h.is_same; branches = h.branches; differ = h.differ; finals = h.finals }
+  later_answered now u s h =
+      record { is_same = h.is_same; branches = h.branches; differ = h.differ; finals = all_either (IsHonest server history r.number) (is_provisional u.status) s.finals [] h.finals tt }
 
   -- once one went, if one did
   pub later_after_upward : (now : ℕ) (o : Option Upward) (s : OpenRequest) → IsLater server history state act r s → IsLater server history state act r (after_upward now o s)

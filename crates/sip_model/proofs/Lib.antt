@@ -38,3 +38,4 @@ pub mod Moments
 pub mod Followed
 pub mod NonceUses
 pub mod CountsRise
+pub mod Rising

@@ -9,10 +9,10 @@ use Rattle.sip_state.specs.Server.{Server}
 use Rattle.sip_state.specs.declared.branch.Branch.{Branch}
 use Rattle.sip_state.specs.declared.open_request.OpenRequest.{OpenRequest}
 use Rattle.sip_state.specs.declared.proxy_state.ProxyState.{ProxyState}
-use Rattle.sip_state.specs.State.{first_state, is_invite, is_answering, has_left}
-use Rattle.sip_state.specs.Retransmission.{IsResent, OfAnswer, OfRequest}
-use Rattle.sip_state.specs.Sending.{is_provisional, made_answer}
-use Rattle.sip_state.specs.Branches.{Change, settled, acknowledged, acknowledged_side, was_refused}
+use Rattle.sip_state.specs.State.{first_state, is_invite, is_answering, has_left, is_provisional}
+use Rattle.sip_context.specs.Retransmission.{IsResent, OfAnswer, OfRequest}
+use Rattle.sip_context.specs.Sending.{made_answer}
+use Rattle.sip_context.specs.Branches.{Change, settled, acknowledged, acknowledged_side, was_refused}
 use Rattle.sip_verdict.specs.Verdict.{Arrival}
 use Rattle.sip_model.specs.Effect.{replaced, arriving, closing, forking, is_tried, tried, trying}
 use Rattle.sip_model.specs.Run.{Link, IsChain}

@@ -8,7 +8,7 @@ use Rattle.sip_state.specs.Server.{Server}
 use Rattle.sip_state.specs.declared.open_request.OpenRequest.{OpenRequest}
 use Rattle.sip_state.specs.declared.proxy_state.ProxyState.{ProxyState}
 use Rattle.sip_state.specs.State.{first_state, has_key, is_invite}
-use Rattle.sip_state.specs.Branches.{acknowledged, acknowledged_side, was_refused}
+use Rattle.sip_context.specs.Branches.{acknowledged, acknowledged_side, was_refused}
 use Rattle.sip_model.specs.Effect.{replaced}
 use Rattle.sip_model.specs.Run.{Link, IsChain}
 use Rattle.sip_model.specs.Order.{KeysDiffer, is_numbered, AreNumbered, FinalAnswer}

@@ -14,8 +14,8 @@ use Rattle.sip_state.specs.declared.branch.Phase.TheVariants.{Unheard, Heard, Ca
 use Rattle.sip_state.specs.declared.open_request.Side.{Side}
 use Rattle.sip_state.specs.declared.open_request.Side.TheVariants.{Answering, Closing, Acknowledged, Closed}
 use Rattle.sip_state.specs.State.{is_invite, is_final}
-use Rattle.sip_state.specs.Branches.{is_same_branch, turned, with_phase, with_final, marked, answered, after_upward, best_upward, is_cancellable, cancel_branch, new_cancels, with_cancels, settled, invite_heard, other_heard, is_closing, was_refused, is_unheard, acknowledged, acknowledged_side, held_branch, with_cancel}
-use Rattle.sip_state.specs.Retransmission.{is_sent_again, is_cancelled_again, resend_after, branch_next, insists, answer_due, branch_due, IsResent, OfAnswer, OfRequest}
+use Rattle.sip_context.specs.Branches.{is_same_branch, turned, with_phase, with_final, marked, answered, after_upward, best_upward, is_cancellable, cancel_branch, new_cancels, with_cancels, settled, invite_heard, other_heard, is_closing, was_refused, is_unheard, acknowledged, acknowledged_side, held_branch, with_cancel}
+use Rattle.sip_context.specs.Retransmission.{is_sent_again, is_cancelled_again, resend_after, branch_next, insists, answer_due, branch_due, IsResent, OfAnswer, OfRequest}
 use Rattle.sip_model.proofs.Cancels.{all_with_cancels}
 use Rattle.sip_model.proofs.Lists.{all_append, all_map, all_weaker, all_contains}
 

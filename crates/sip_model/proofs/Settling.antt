@@ -8,10 +8,9 @@ use Rattle.sip_state.specs.declared.branch.Branch.{Branch}
 use Rattle.sip_state.specs.declared.open_request.OpenRequest.{OpenRequest}
 use Rattle.sip_state.specs.declared.branch.Phase.TheVariants.{Cancelled}
 use Rattle.sip_state.specs.declared.open_request.Side.TheVariants.{Closing}
-use Rattle.sip_state.specs.State.{is_answering, phase_deadline, side_deadline}
-use Rattle.sip_state.specs.Sending.{is_provisional}
+use Rattle.sip_state.specs.State.{is_answering, phase_deadline, side_deadline, is_provisional}
 use Rattle.sip_state.specs.declared.open_request.Upward.{Upward}
-use Rattle.sip_state.specs.Branches.{Change, best_upward, is_cancellable, cancel_branch, new_cancels, with_cancels, after_upward, settled, held_branch, with_cancel}
+use Rattle.sip_context.specs.Branches.{Change, best_upward, is_cancellable, cancel_branch, new_cancels, with_cancels, after_upward, settled, held_branch, with_cancel}
 use Rattle.sip_model.proofs.Cancels.{all_with_cancels}
 use Rattle.sip_model.proofs.Resending.{DueFrom, IsAgain, settled_again}
 use Rattle.sip_model.proofs.Events.{IsDue, IsEvent, all_map}

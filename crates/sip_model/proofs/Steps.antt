@@ -16,7 +16,7 @@ use Rattle.sip_state.specs.declared.open_request.OpenRequest.{OpenRequest}
 use Rattle.sip_state.specs.declared.proxy_state.ProxyState.{ProxyState}
 use Rattle.sip_state.specs.SameState.{SameState}
 use Rattle.sip_state.specs.State.{has_key}
-use Rattle.sip_state.specs.Branches.{responded, cancelled, acknowledged, send_failed}
+use Rattle.sip_context.specs.Branches.{responded, cancelled, acknowledged, send_failed}
 use Rattle.sip_verdict.specs.Verdict.{Arrival, Question, Registered, Bound, Refused, Verdict, Drop, Respond, Copy, AckOn, Cancel, Answer, InDialog, Challenge, Deny, Send, Register, is_full, message_verdict, message_in, verdict_in, verdict_of}
 use Rattle.sip_model.specs.Effect.{Effect, replaced, opened, closing, forking, branch_to, branches_from, dialog_branch, counted, asked, issuing, renewing, registering, sending, method_of, nothing, changed, effect_of, datagram_effect}
 use Rattle.sip_model.specs.Step.{Act, Given, Passing, IsStep, IsQuiet, IsDeadline, IsResend, resent, NoneBefore, NoneAgainBefore, moment_of, arrival_of, is_failed, failed_branch, failed_request, fault_effect}

@@ -32,8 +32,8 @@ use Rattle.sip_state.specs.declared.proxy_state.ProxyState.{ProxyState}
 use Rattle.sip_state.specs.declared.open_request.OpenRequest.{OpenRequest}
 use Rattle.sip_state.specs.declared.branch.Branch.{Branch}
 use Rattle.sip_state.specs.State.{has_key}
-use Rattle.sip_state.specs.Sending.{dialog_of}
-use Rattle.sip_state.specs.Branches.{is_accepted}
+use Rattle.sip_state.specs.Dialogs.{dialog_of}
+use Rattle.sip_context.specs.Branches.{is_accepted}
 use Rattle.sip_verdict.specs.Verdict.{Arrival, Question, Verdict, Drop, Respond, Copy, AckOn, Cancel, Answer, InDialog, Challenge, Deny, Send, Register, is_branch, branch_in, found_branch, response_verdict, responding, within_at, within, ack_verdict, is_full, is_cancelled_by, found_for_cancel, cancel_verdict, targets_by, request_targets, let_through, decided, policy_verdict, question_of, answer_of, is_register, is_outside, registration_by, core_verdict, checked_verdict, new_verdict, by_open, by_key, by_start, message_verdict, top_branch, next_address}
 use Rattle.sip_model.specs.Effect.{request_key}
 use Rattle.sip_model.proofs.Places.{IsIn, found_in, none_found}

@@ -10,15 +10,15 @@ use Rattle.sip_state.specs.declared.branch.Phase.{Phase}
 use Rattle.sip_state.specs.declared.branch.Branch.{Branch}
 use Rattle.sip_state.specs.declared.open_request.OpenRequest.{OpenRequest}
 use Rattle.sip_state.specs.declared.branch.Phase.TheVariants.{Unheard, Heard, Cancelled, Done, Ended}
+use Rattle.sip_state.specs.declared.open_request.Side.{Side}
 use Rattle.sip_state.specs.declared.open_request.Side.TheVariants.{Closing}
-use Rattle.sip_state.specs.State.{is_final, is_answering, has_left}
-use Rattle.sip_state.specs.Sending.{is_provisional}
+use Rattle.sip_state.specs.State.{is_final, is_answering, has_left, is_provisional}
 use Rattle.sip_state.specs.declared.open_request.Upward.{Upward}
-use Rattle.sip_state.specs.Branches.{Change, upward_of, all_final, best_upward, is_ready, is_cancellable, cancel_branch, new_cancels, with_cancels, after_upward, upward_list, settled, held_branch, with_cancel}
+use Rattle.sip_context.specs.Branches.{Change, upward_of, all_final, best_upward, is_ready, is_cancellable, cancel_branch, new_cancels, with_cancels, after_upward, upward_list, settled, held_branch, with_cancel}
 use Rattle.sip_model.specs.Order.{is_final_answer}
 use Rattle.sip_model.proofs.Cancels.{all_with_cancels}
 use Rattle.sip_model.proofs.Places.{count_cons, one_at}
-use Rattle.sip_model.proofs.Events.{IsSome, IsSeen, IsFinalStatus, is_target, IsCounted, IsEvent, all_map, any_map}
+use Rattle.sip_model.proofs.Events.{IsSome, IsSeen, IsFinalStatus, is_target, IsCounted, IsEvent, all_map, any_map, final_either}
 use Rattle.sip_model.proofs.Settling.{all_append}
 use Rattle.sip_model.proofs.Answers.{Tells, NoneFinal, OneFinal, tells, upward_side}
 
@@ -56,13 +56,31 @@ best_final fs f all e = by_choice (chosen_of fs) refl e where
 
 -- ---- what settling keeps
 
+-- an answer is owed after one that goes up only if it was, and that isn't final
+still_owed : (owes early : Bool) (side : Side) (due : ℕ) → is_answering side ≡ owes → is_answering (cond (owes && not early) (Closing due) side) ≡ true → (owes ≡ true) × (early ≡ true)
+still_owed true true side due is e = (refl, refl)
+still_owed true false side due is e = absurd (cc)
+still_owed false early side due is e = absurd (cc)
+
+-- a side that no final answer closes
+unless_final : (t : Bool) (side : Side) (due : ℕ) → is_answering (cond (t && false) (Closing due) side) ≡ is_answering side
+unless_final true side due = refl
+unless_final false side due = refl
+
 -- an answer that goes up leaves them all there
 pub upward_counted : (now : ℕ) (o : Option Upward) (r : OpenRequest) → IsCounted r → IsCounted (after_upward now o r)
 upward_counted now None r h = h
-upward_counted now (Some u) r h = record { seen = h.seen; final = h.final; has_target = λ answering. h.has_target (by_side (is_answering r.side) refl answering) } where
-  by_side : (t : Bool) → is_answering r.side ≡ t → is_answering (cond (is_answering r.side && not (is_provisional u.status)) (Closing (now + 32000)) r.side) ≡ true → is_answering r.side ≡ true
-  by_side true is e = is
-  by_side false is e = absurd (cc (sym e ∙ ap (λ (t : Bool). is_answering (cond (t && not (is_provisional u.status)) (Closing (now + 32000)) r.side)) is ∙ is))
+upward_counted now (Some u) r h = record {
+  seen = λ owes. let both = still_owed (is_answering r.side) (is_provisional u.status) r.side (now + 32000) refl owes in
+      subst (λ (t : Bool). AllByRecursion (IsSeen (cond t r.finals [])) r.branches) (sym both.1) (h.seen both.0);
+  none_kept = λ had. by_status (is_provisional u.status) refl had;
+  final = final_either (is_provisional u.status) r.finals [] h.final tt;
+  has_target = λ owes. h.has_target (still_owed (is_answering r.side) (is_provisional u.status) r.side (now + 32000) refl owes).0;
+} where
+  by_status : (t : Bool) → is_provisional u.status ≡ t → is_answering (cond (is_answering r.side && not (is_provisional u.status)) (Closing (now + 32000)) r.side) ≡ false → cond t r.finals [] ≡ []
+  by_status true is had =
+      h.none_kept (sym (ap (λ (t : Bool). is_answering (cond (is_answering r.side && not t) (Closing (now + 32000)) r.side)) is ∙ unless_final (is_answering r.side) r.side (now + 32000)) ∙ had)
+  by_status false is had = refl
 
 -- a branch that is ready for a CANCEL has no final answer
 ready_open : (phase : Phase) → is_ready phase ≡ true → is_final phase ≡ false
@@ -84,7 +102,8 @@ any_with_cancels now (b ∷ bs) = by_test (is_cancellable b) (any_with_cancels n
 -- CANCELs leave final answers all there
 cancels_counted : (now : ℕ) (r : OpenRequest) → IsCounted r → IsCounted (with_cancels now r)
 cancels_counted now r h = record {
-  seen = all_with_cancels (IsSeen r.finals) (IsSeen r.finals) now r.branches (λ x before. before) (λ x before target final. absurd (cc)) (λ x before target final. absurd (cc)) h.seen;
+  seen = λ owes. all_with_cancels (IsSeen r.finals) (IsSeen r.finals) now r.branches (λ x before. before) (λ x before target final. absurd (cc)) (λ x before target final. absurd (cc)) (h.seen owes);
+  none_kept = h.none_kept;
   final = h.final;
   has_target = λ answering. any_with_cancels now r.branches ∙ h.has_target answering;
 }
@@ -184,7 +203,7 @@ waits_after server now told h owes = by_final (all_final told) refl where
   by_final : (t : Bool) → all_final told ≡ t → all_final told ≡ false
   by_final false e = e
   by_final true e =
-      let best = some_best told.finals (one_seen told.finals told.branches h.seen (h.has_target owed) e) in
+      let best = some_best told.finals (one_seen told.finals told.branches (h.seen owed) (h.has_target owed) e) in
       let final : IsFinalStatus best.0 = best_final told.finals best.0 h.final best.1 in
       absurd (cc (owes, best_closes server now told best.0 (best_goes server told best.0 owed e best.1) final owed))
 

@@ -37,9 +37,10 @@ use Rattle.sip_location.specs.Registering.{to_aor}
 use Rattle.sip_state.specs.declared.proxy_state.ProxyState.{ProxyState}
 use Rattle.sip_state.specs.declared.open_request.OpenRequest.{OpenRequest}
 use Rattle.sip_state.specs.declared.branch.Branch.{Branch}
-use Rattle.sip_state.specs.State.{is_invite, has_key}
-use Rattle.sip_state.specs.Sending.{made_answer, answer_packet, answer_to, to_branch, ack_packets, branch_packets, onward_as, request_of, dialog_of, is_failure, is_provisional}
-use Rattle.sip_state.specs.Branches.{is_ready}
+use Rattle.sip_state.specs.State.{is_invite, has_key, is_failure, is_provisional}
+use Rattle.sip_state.specs.Dialogs.{dialog_of}
+use Rattle.sip_context.specs.Sending.{made_answer, answer_packet, answer_to, to_branch, ack_packets, branch_packets, onward_as, request_of}
+use Rattle.sip_context.specs.Branches.{is_ready}
 use Rattle.sip_verdict.specs.Verdict.{Arrival, Bound, Refused, has_contact, is_full, is_register, is_outside, question_of, answer_of, request_targets, registration_by, next_address, responding, message_in}
 use Rattle.sip_model.specs.Effect.{arriving, branches_from, contact_fields, challenge_status, challenges_to, method_of}
 use Rattle.sip_model.specs.Step.{Act, Given, Passing, originals, arrival_of}

@@ -44,11 +44,11 @@ use Rattle.sip_state.specs.declared.proxy_state.ProxyState.{ProxyState}
 use Rattle.sip_state.specs.declared.branch.Phase.TheVariants.{Unheard, Ended}
 use Rattle.sip_state.specs.declared.open_request.Side.TheVariants.{Answering, Closing}
 use Rattle.sip_state.specs.State.{first_resend, is_invite, has_left}
-use Rattle.sip_state.specs.Sending.{made_answer, answer_packet, answer_to, onward_as, branch_packets}
+use Rattle.sip_context.specs.Sending.{made_answer, answer_packet, answer_to, onward_as, branch_packets}
 use Rattle.sip_state.specs.declared.open_request.Upward.{Upward}
 use Rattle.sip_state.specs.Dialogs.{after_request, after_answers, after_leaving}
-use Rattle.sip_state.specs.Branches.{Change, settled, responded, cancelled, acknowledged, answered}
-use Rattle.sip_state.specs.Retransmission.{answers_again, acked_again}
+use Rattle.sip_context.specs.Branches.{Change, settled, responded, cancelled, acknowledged, answered}
+use Rattle.sip_context.specs.Retransmission.{answers_again, acked_again}
 use Rattle.sip_verdict.specs.Verdict.{Arrival, Question, Registered, Bound, Refused, Verdict, Drop, Respond, Copy, AckOn, Cancel, Answer, InDialog, Challenge, Deny, Send, Register, is_full, minute_on, verdict_of}
 
 -- what is sent for the first time, in its order; what goes again; what is recorded; and the state after it

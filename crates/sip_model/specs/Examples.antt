@@ -25,7 +25,7 @@ use Rattle.sip_state.specs.declared.proxy_state.ProxyState.{ProxyState}
 use Rattle.sip_state.specs.declared.open_request.OpenRequest.{OpenRequest}
 use Rattle.sip_state.specs.declared.branch.Branch.{Branch}
 use Rattle.sip_state.specs.State.{first_state, phase_deadline}
-use Rattle.sip_state.specs.Branches.{overdue, side_overdue}
+use Rattle.sip_context.specs.Branches.{overdue, side_overdue}
 use Rattle.sip_verdict.specs.Verdict.{Arrival, message_verdict}
 use Rattle.sip_model.specs.Effect.{Effect, counted, effect_of, changed, nothing}
 use Rattle.sip_model.specs.Step.{fault_effect}

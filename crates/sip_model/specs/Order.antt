@@ -1,6 +1,6 @@
 -- What holds of every run of a proxy: its open requests are told apart by their keys and numbers, no deadline is passed over, of each request at most one final answer
 -- goes up or several 2xx to an INVITE, and each open request can end.
-use Rattle.std.specs.Prelude.{◌≡◌, ◌≤◌, ◌+◌, ◌⊎◌, ℕ, ◌==◌, Bool, true, false, not, if◌then◌else◌, List, [], ◌∷◌, ◌++◌, length, map, filter, find, sum_by, count_by, Contains, Option, Some, None}
+use Rattle.std.specs.Prelude.{◌≡◌, ◌≤◌, ◌<◌, ◌+◌, ◌⊎◌, ℕ, ◌==◌, Bool, true, false, not, if◌then◌else◌, List, [], ◌∷◌, ◌++◌, length, map, filter, find, sum_by, count_by, Contains, Option, Some, None}
 use mathlib.Core.Logic.{inl, inr}
 use Rattle.std.specs.List.{AllByRecursion}
 use Rattle.sip_message.specs.declared.message.Message.{Message}
@@ -18,10 +18,9 @@ use Rattle.sip_state.specs.declared.open_request.OpenRequest.{OpenRequest}
 use Rattle.sip_state.specs.declared.proxy_state.ProxyState.{ProxyState}
 use Rattle.sip_state.specs.declared.branch.Phase.TheVariants.{Unheard, Heard, Cancelled, Done, Ended}
 use Rattle.sip_state.specs.declared.open_request.Side.TheVariants.{Answering, Closing, Acknowledged, Closed}
-use Rattle.sip_state.specs.State.{is_invite, is_answering, deadlines_of, has_left, has_key}
-use Rattle.sip_state.specs.Sending.{is_success, is_provisional}
+use Rattle.sip_state.specs.State.{is_invite, is_answering, deadlines_of, has_left, has_key, is_success, is_provisional}
 use Rattle.sip_state.specs.declared.open_request.Upward.{Upward}
-use Rattle.sip_state.specs.Branches.{Change, settled, responded, send_failed, cancelled, has_success}
+use Rattle.sip_context.specs.Branches.{Change, settled, responded, send_failed, cancelled, has_success}
 use Rattle.sip_verdict.specs.Verdict.{Arrival, Registered, Bound, Refused, Verdict, Drop, Respond, Copy, AckOn, Cancel, Answer, InDialog, Challenge, Deny, Send, Register, verdict_of}
 use Rattle.sip_model.specs.Effect.{arriving, forking, branches_from, dialog_branch, tried, trying, challenge_status}
 use Rattle.sip_model.specs.Step.{Act, Given, Passing, IsStep, IsOverdue, NoneBy, NoneAgainBy, is_failed, moment_of, arrival_of}
@@ -41,6 +40,11 @@ is_numbered number r = r.number == number
 pub record AreNumbered (next : ℕ) (requests : List OpenRequest) : Type 0 where
   pub differ : (number : ℕ) → count_by (is_numbered number) requests ≤ 1
   pub are_below : (number : ℕ) → next ≤ number → count_by (is_numbered number) requests ≡ 0
+
+-- open requests stand in rising order of their numbers
+abbrev pub AreRising : List OpenRequest → Type 0
+AreRising [] = Unit {0}
+AreRising (r ∷ rs) = AllByRecursion (λ (later : OpenRequest). r.number < later.number) rs × AreRising rs
 
 -- ---- deadlines
 

@@ -13,10 +13,10 @@ use Rattle.sip_state.specs.declared.open_request.OpenRequest.{OpenRequest}
 use Rattle.sip_state.specs.declared.proxy_state.ProxyState.{ProxyState}
 use Rattle.sip_state.specs.SameState.{SameState}
 use Rattle.sip_state.specs.State.{deadlines, phase_deadline, side_deadline}
-use Rattle.sip_state.specs.Branches.{Change, overdue, side_overdue, send_failed, is_unheard}
+use Rattle.sip_context.specs.Branches.{Change, overdue, side_overdue, send_failed, is_unheard}
 use Rattle.sip_model.specs.Effect.{Effect, replaced, changed, nothing, datagram_effect}
 use Rattle.sip_verdict.specs.Verdict.{Arrival}
-use Rattle.sip_state.specs.Retransmission.{resends, IsResent}
+use Rattle.sip_context.specs.Retransmission.{resends, IsResent}
 
 -- ---- what is sent
 

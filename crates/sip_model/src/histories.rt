@@ -8,7 +8,7 @@ ghost use Rattle.sip_dialog.specs.Sameness.{SameDialogs};
 ghost use Rattle.sip_state.specs.Server.{Server};
 ghost use Rattle.sip_state.specs.declared.proxy_state.ProxyState.{ProxyState};
 ghost use Rattle.sip_state.specs.State.{first_state};
-ghost use Rattle.sip_state.specs.Branches.{Change};
+ghost use Rattle.sip_context.specs.Branches.{Change};
 ghost use Rattle.sip_model.specs.Effect.{contact_fields, dialogs_after};
 ghost use Rattle.sip_model.specs.Run.{Link, IsChain};
 ghost use Rattle.sip_model.specs.Histories.{nonces_after, records_at, history_dialogs, issues_of, right_counts, AreFalling};

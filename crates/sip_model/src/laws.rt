@@ -16,7 +16,14 @@ ghost use Rattle.sip_event.specs.declared.event.Event.{Event};
 ghost use Rattle.sip_event.specs.declared.event.StepOut.{StepOut};
 ghost use Rattle.sip_state.specs.declared.proxy_state.ProxyState.{ProxyState};
 ghost use Rattle.sip_state.specs.State.{first_state};
-ghost use Rattle.sip_verdict.specs.Verdict.{Arrival, is_register};
+ghost use Rattle.sip_verdict.specs.Verdict.{Arrival, Question, is_register};
+ghost use Rattle.std.specs.List.{AllByRecursion};
+ghost use Rattle.sip_digest.specs.declared.algorithm.Algorithm.TheVariants.{Md5};
+ghost use Rattle.sip_digest.specs.NonceText.{nonce_text};
+ghost use Rattle.sip_auth.specs.Proof.{is_stale};
+ghost use Rattle.sip_auth.specs.Offer.{HasMd5Alone};
+ghost use Rattle.sip_edit.specs.Challenges.{challenge};
+ghost use Rattle.sip_model.specs.Effect.{challenge_name, challenges_to};
 ghost use Rattle.sip_model.specs.Run.{Link, IsRun};
 ghost use Rattle.sip_model.specs.Bindings.{Arrived, allowed_in};
 ghost use Rattle.sip_model.specs.Access.{IsAllowedRegister, decision_on, targets_on, Access};
@@ -53,4 +60,10 @@ pub fn targets_are_bindings_or_hop()
         → targets_on server rows state now m method core ≡ record { uri = uri; address = Some address } ∷ [] }
     ensures none_of_register { (server : Server) (rows : List Binding) (state : ProxyState) (now : ℕ) (m : Message) (method : List ℕ) (core : CoreFields)
         → is_register method ≡ true → targets_on server rows state now m method core ≡ [] }
+{}
+
+/// Where no user has a key by SHA-256 a challenge is one field, by MD5, as before there was another algorithm.
+pub fn md5_alone_is_unchanged()
+    ensures { (server : Server) (a : Arrival) (q : Question) → AllByRecursion HasMd5Alone server.config.users
+        → challenges_to server a q ≡ record { name = challenge_name q.operation; value = challenge Md5 server.config.realm (nonce_text a.word) (is_stale q.proof) } ∷ [] }
 {}

@@ -1,15 +1,15 @@
-ghost use Rattle.std.specs.Prelude.{◌≡◌, ◌≤◌, ◌+◌, ℕ, true, false, List};
+ghost use Rattle.std.specs.Prelude.{◌≡◌, ◌≤◌, ◌+◌, ℕ, true, false, List, []};
 ghost use Rattle.std.specs.List.{AllByRecursion};
 ghost use Rattle.sip_state.specs.Server.{Server};
 ghost use Rattle.sip_state.specs.declared.open_request.OpenRequest.{OpenRequest};
 ghost use Rattle.sip_state.specs.declared.proxy_state.ProxyState.{ProxyState};
 ghost use Rattle.sip_state.specs.State.{first_state, is_answering};
-ghost use Rattle.sip_state.specs.Branches.{Change};
-ghost use Rattle.sip_state.specs.Retransmission.{IsRetransmission};
+ghost use Rattle.sip_context.specs.Branches.{Change};
+ghost use Rattle.sip_context.specs.Retransmission.{IsRetransmission};
 ghost use Rattle.sip_event.specs.declared.event.StepOut.{StepOut};
 ghost use Rattle.sip_model.specs.Step.{Act, IsStep, NoneBefore, NoneAgainBefore, IsOverdue, retransmissions};
 ghost use Rattle.sip_model.specs.Run.{Link, IsChain};
-ghost use Rattle.sip_model.specs.Order.{KeysDiffer, AreNumbered, HasFired, IsChangeOf, AddsSuccessesAlone, AnswersOnce, AreOneAnswer, CanEnd, deadlines_left, finals_to, history_finals};
+ghost use Rattle.sip_model.specs.Order.{KeysDiffer, AreNumbered, AreRising, HasFired, IsChangeOf, AddsSuccessesAlone, AnswersOnce, AreOneAnswer, CanEnd, deadlines_left, finals_to, history_finals};
 
 /// No key is that of two open requests, whatever happened before: a copy of a request is taken for the
 /// one that it copies.
@@ -22,6 +22,13 @@ pub fn keys_are_open_once()
 pub fn numbers_differ()
     ensures { (server : Server) (first : ℕ) (history : List Link) (last : ProxyState)
         → IsChain server (first_state first) history last → AreNumbered last.next last.requests }
+{}
+
+/// Open requests stand in rising order of their numbers, so that one is found by its number without comparing
+/// them all.
+pub fn numbers_rise()
+    ensures { (server : Server) (first : ℕ) (history : List Link) (last : ProxyState)
+        → IsChain server (first_state first) history last → AreRising last.requests }
 {}
 
 /// No deadline of an open request stands before the moment of its state, and nothing of one is to go again
@@ -66,4 +73,12 @@ pub fn requests_can_end()
         → IsChain server (first_state first) history last → AllByRecursion CanEnd last.requests }
     ensures fewer_left { (server : Server) (due : ℕ) (r : OpenRequest) (change : Change)
         → IsOverdue server due r change → deadlines_left change.request + 1 ≤ deadlines_left r }
+{}
+
+/// Once a request had its final answer, the final answers of its branches are kept no longer: nothing that
+/// could still be sent or asked is made of them.
+pub fn answered_keeps_no_finals()
+    ensures { (server : Server) (first : ℕ) (history : List Link) (last : ProxyState)
+        → IsChain server (first_state first) history last
+        → AllByRecursion (λ (r : OpenRequest). is_answering r.side ≡ false → r.finals ≡ []) last.requests }
 {}

@@ -22,10 +22,9 @@ use Rattle.sip_state.specs.Server.{Server}
 use Rattle.sip_state.specs.declared.open_request.OpenRequest.{OpenRequest}
 use Rattle.sip_state.specs.declared.open_request.Upward.{Upward}
 use Rattle.sip_state.specs.declared.proxy_state.ProxyState.{ProxyState}
-use Rattle.sip_state.specs.State.{is_invite, has_left, has_key}
+use Rattle.sip_state.specs.State.{is_invite, has_left, has_key, is_success}
 use Rattle.sip_state.specs.SameState.{SameState}
-use Rattle.sip_state.specs.Sending.{dialog_of, is_success}
-use Rattle.sip_state.specs.Dialogs.{addresses_of, after_request, invite_answer, after_invite_answer, answered_dialog, after_answer_of, after_answer, after_answers, after_leaving}
+use Rattle.sip_state.specs.Dialogs.{dialog_of, addresses_of, after_request, invite_answer, after_invite_answer, answered_dialog, after_answer_of, after_answer, after_answers, after_leaving}
 
 -- ---- dialogs
 

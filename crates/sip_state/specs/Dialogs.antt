@@ -10,14 +10,17 @@ use Rattle.sip_hops.specs.HostAddress.{address_of}
 use Rattle.sip_dialog.specs.declared.dialog.DialogId.{DialogId}
 use Rattle.sip_dialog.specs.declared.dialog.Dialog.{Dialog}
 use Rattle.sip_dialog.specs.declared.dialog.InviteAnswer.{InviteAnswer}
-use Rattle.sip_dialog.specs.DialogId.{answer_id}
+use Rattle.sip_dialog.specs.DialogId.{id_of, answer_id}
 use Rattle.sip_dialog.specs.Addresses.{addresses_in}
 use Rattle.sip_dialog.specs.Dialogs.{learnt, taught, renewed, without_dialog, after_invite}
 use Rattle.sip_state.specs.Server.{Server}
 use Rattle.sip_state.specs.declared.open_request.OpenRequest.{OpenRequest}
 use Rattle.sip_state.specs.declared.open_request.Upward.{Upward}
-use Rattle.sip_state.specs.State.{is_invite, has_left}
-use Rattle.sip_state.specs.Sending.{dialog_of, is_success}
+use Rattle.sip_state.specs.State.{is_invite, has_left, is_success}
+
+-- the dialog that a request names, if its To has a tag
+abbrev pub dialog_of : Message → Option DialogId
+dialog_of m = option_and_then (λ core. id_of core) (result_ok (core_of m))
 
 -- the addresses that a message gives
 abbrev pub addresses_of : Server → Message → List Addr

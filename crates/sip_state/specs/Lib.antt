@@ -1,10 +1,5 @@
 pub mod Server
 pub mod State
-pub mod Sending
 pub mod Dialogs
-pub mod Branches
-pub mod Retransmission
 pub mod DialogExamples
-pub mod Calls
-pub mod Examples
 pub mod SameState

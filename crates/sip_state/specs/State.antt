@@ -1,5 +1,5 @@
 -- What a proxy knows: its open requests, each with its branches, its bindings, nonces and dialogs (RFC 3261 16).
-use Rattle.std.specs.Prelude.{ℕ, ◌+◌, Bool, true, false, not, ◌&&◌, List, [], ◌++◌, filter, codes, Option, Some, None}
+use Rattle.std.specs.Prelude.{ℕ, ◌+◌, Bool, true, false, not, ◌&&◌, List, [], ◌++◌, filter, codes, Option, Some, None, nat_le}
 use Rattle.std.specs.Option.{option_to_list}
 use Rattle.std.specs.List.{flat_map, filter_map, list_all}
 use Rattle.std.specs.Str.{bytes_eq}
@@ -94,3 +94,21 @@ has_left r = is_closed r.side && list_all (λ (b : Branch). is_ended b.phase) r.
 -- whether a request has this key (RFC 3261 17.2.3)
 abbrev pub has_key : Key → OpenRequest → Bool
 has_key key r = same_key r.key key
+
+-- ---- statuses (RFC 3261 7.2)
+
+-- 2xx
+abbrev pub is_success : ℕ → Bool
+is_success status = nat_le 200 status && nat_le status 299
+
+-- 3xx and above
+abbrev pub is_failure : ℕ → Bool
+is_failure status = nat_le 300 status
+
+-- 6xx
+abbrev pub is_decline : ℕ → Bool
+is_decline status = nat_le 600 status
+
+-- 1xx
+abbrev pub is_provisional : ℕ → Bool
+is_provisional status = nat_le status 199

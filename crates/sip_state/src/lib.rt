@@ -1,12 +1,10 @@
-//! What a proxy knows, and what an event makes of one open request: its answering side, its branches with
-//! their phases, the answers that go to the caller, the CANCELs and ACKs that go to the branches, and what
-//! goes again (RFC 3261 16.6 to 16.10, 17). Nothing runs here; bodies are proved equal to these definitions.
+//! What a proxy knows: its open requests with their branches, bindings, nonces and dialogs; what dialogs learn
+//! from what is sent; and when two states are the same (RFC 3261 12, 16). Nothing runs here; what the code
+//! holds is of these types.
 #![tactic(auto)]
 
 mod branch;
-pub mod calls;
 pub mod dialogs;
-pub mod examples;
 pub mod laws;
 mod open_request;
 mod proxy_state;

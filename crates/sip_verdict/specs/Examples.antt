@@ -26,7 +26,7 @@ use Rattle.sip_state.specs.declared.open_request.Side.TheVariants.{Closing}
 use Rattle.sip_state.specs.declared.open_request.OpenRequest.{OpenRequest}
 use Rattle.sip_state.specs.declared.proxy_state.ProxyState.{ProxyState}
 use Rattle.sip_state.specs.State.{first_state}
-use Rattle.sip_state.specs.Calls as Calls
+use Rattle.sip_context.specs.Calls as Calls
 use Rattle.sip_verdict.specs.Verdict.{Arrival, Question, Registered, Bound, Refused, Verdict, Register, message_verdict}
 
 -- ---- what the server knows

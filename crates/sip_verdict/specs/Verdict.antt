@@ -52,8 +52,8 @@ use Rattle.sip_state.specs.declared.proxy_state.ProxyState.{ProxyState}
 use Rattle.sip_state.specs.declared.open_request.OpenRequest.{OpenRequest}
 use Rattle.sip_state.specs.declared.branch.Branch.{Branch}
 use Rattle.sip_state.specs.State.{has_key}
-use Rattle.sip_state.specs.Branches.{is_accepted}
-use Rattle.sip_state.specs.Sending.{dialog_of}
+use Rattle.sip_context.specs.Branches.{is_accepted}
+use Rattle.sip_state.specs.Dialogs.{dialog_of}
 
 -- A datagram that comes: its number, the moment, the word that makes the nonce of a challenge, and its source.
 pub record Arrival : Type 0 where

@@ -4,7 +4,7 @@ ghost use Rattle.sip_edit.specs.Examples.{register};
 ghost use Rattle.sip_edit.specs.OnwardExamples as Onward;
 ghost use Rattle.sip_dialog.specs.Examples as Dialogs;
 ghost use Rattle.sip_targets.specs.declared.targets.Targets.{Targets};
-ghost use Rattle.sip_state.specs.Calls;
+ghost use Rattle.sip_context.specs.Calls;
 ghost use Rattle.sip_verdict.specs.Verdict.{Drop, Respond, Copy, AckOn, Cancel, Answer, InDialog, Challenge, Send, message_verdict};
 ghost use Rattle.sip_verdict.specs.Examples;
 

@@ -12,9 +12,9 @@ use Rattle.sip_state.specs.declared.resend.Resend.{Resend}
 use Rattle.sip_state.specs.declared.open_request.OpenRequest.{OpenRequest}
 use Rattle.sip_state.specs.declared.branch.Phase.TheVariants.{Unheard, Heard, Cancelled, Done, Ended}
 use Rattle.sip_state.specs.declared.open_request.Side.TheVariants.{Answering, Closing, Acknowledged, Closed}
-use Rattle.sip_state.specs.State.{is_invite}
-use Rattle.sip_state.specs.Branches.{is_same_branch, is_unheard, is_closing, was_refused}
-use Rattle.sip_state.specs.Sending.{answer_to, branch_packets, ack_packets, is_success, is_failure}
+use Rattle.sip_state.specs.State.{is_invite, is_success, is_failure}
+use Rattle.sip_context.specs.Branches.{is_same_branch, is_unheard, is_closing, was_refused}
+use Rattle.sip_context.specs.Sending.{answer_to, branch_packets, ack_packets}
 
 -- ---- answers
 

@@ -1,6 +1,6 @@
 ghost use Rattle.std.specs.Prelude.{◌≡◌, ◌∷◌, [], length};
-ghost use Rattle.sip_state.specs.Branches.{acknowledged};
-ghost use Rattle.sip_state.specs.Examples;
+ghost use Rattle.sip_context.specs.Branches.{acknowledged};
+ghost use Rattle.sip_context.specs.Examples;
 
 /// An INVITE goes again after twice the wait each time, until it is heard, also while it is to be cancelled;
 /// a MESSAGE after at most 4,000 ms, and after 4,000 once it was heard, which moves nothing forward; so does

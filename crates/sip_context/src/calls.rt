@@ -1,9 +1,9 @@
-ghost use Rattle.std.specs.Prelude.{◌≡◌, [], ◌∷◌, map, true, false};
+ghost use Rattle.std.specs.Prelude.{◌≡◌, [], ◌∷◌, map, nat_lt, true, false};
 ghost use Rattle.sip_state.specs.declared.branch.Phase.TheVariants.{Unheard, Heard, Cancelled, Done, Ended};
 ghost use Rattle.sip_state.specs.declared.open_request.Side.TheVariants.{Answering, Closing, Acknowledged, Closed};
 ghost use Rattle.sip_state.specs.State.{has_left};
-ghost use Rattle.sip_state.specs.Branches.{acknowledged, cancelled, side_overdue};
-ghost use Rattle.sip_state.specs.Calls;
+ghost use Rattle.sip_context.specs.Branches.{acknowledged, cancelled, side_overdue};
+ghost use Rattle.sip_context.specs.Calls;
 
 /// A 100 from a branch goes nowhere. It ends the wait for a first response, of 32,000 ms, and not Timer C,
 /// of 185,000 ms, which runs since the INVITE was sent at 62,000, or since a ringing that came before. The
@@ -148,4 +148,22 @@ pub fn call_leaves()
     ensures branch_stands { has_left (side_overdue Calls.sample 95000 (Calls.replied_with 200 (Closing 95000) (Calls.call_to (Calls.branch_at 1 5082 Ended ∷ Calls.branch_at 2 5083 (Cancelled 95200) ∷ [])))).request ≡ false }
     ensures cancel_stands { has_left (side_overdue Calls.sample 95000 (Calls.replied_with 200 (Closing 95000) (Calls.call_to (Calls.branch_at 1 5082 Ended ∷ Calls.cancel_at 1 5082 (Done 95200 200) ∷ [])))).request ≡ false }
     ensures last_branch { has_left (Calls.passing 95200 (Calls.replied_with 200 Closed (Calls.call_to (Calls.branch_at 1 5082 Ended ∷ Calls.branch_at 2 5083 (Cancelled 95200) ∷ []))) (Calls.branch_at 2 5083 (Cancelled 95200))).request ≡ true }
+{}
+
+/// A final answer is kept while others are waited for. Once one went to the caller none is, and no bytes of a
+/// 200 to an INVITE: its callee sends that again. Those of a 486 are kept, and of a 200 to a MESSAGE.
+pub fn what_is_kept()
+    ensures waiting { Calls.finals_kept (Calls.hearing 63000 Calls.two_targets Calls.first_branch 486).request ≡ 1 }
+    ensures answered { Calls.finals_kept (Calls.hearing 63000 Calls.one_target Calls.first_branch 486).request ≡ 0 }
+    ensures later { Calls.finals_kept (Calls.hearing 64000 (Calls.replied_with 200 (Closing 95000) (Calls.call_to (Calls.branch_at 1 5082 (Done 95000 200) ∷ Calls.second_ringing ∷ []))) Calls.second_ringing 486).request ≡ 0 }
+    ensures accepted { Calls.bytes_kept (Calls.hearing 63000 Calls.one_target Calls.first_branch 200).request ≡ 0 }
+    ensures refused { nat_lt 0 (Calls.bytes_kept (Calls.hearing 63000 Calls.one_target Calls.first_branch 486).request) ≡ true }
+    ensures other { nat_lt 0 (Calls.bytes_kept (Calls.hearing 6000 Calls.one_message Calls.message_branch 200).request) ≡ true }
+{}
+
+/// A CANCEL stands right behind the branch that it cancels, so that branches stay in the order of their
+/// targets.
+pub fn cancel_behind_its_branch()
+    ensures both { Calls.places (cancelled Calls.sample 64000 (Calls.call_to (Calls.first_ringing ∷ Calls.second_ringing ∷ []))).request ≡ (1, false) ∷ (1, true) ∷ (2, false) ∷ (2, true) ∷ [] }
+    ensures second { Calls.places (cancelled Calls.sample 64000 Calls.second_rings).request ≡ (1, false) ∷ (2, false) ∷ (2, true) ∷ [] }
 {}

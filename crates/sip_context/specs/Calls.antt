@@ -1,5 +1,6 @@
 -- Small open requests of a server of the sample configuration, and what comes to them, for the worked examples. Moments are in milliseconds.
-use Rattle.std.specs.Prelude.{ℕ, false, true, List, [], ◌∷◌, ◌++◌, map, codes, None, Some}
+use Rattle.std.specs.Prelude.{ℕ, Bool, false, true, List, [], ◌∷◌, ◌++◌, length, map, codes, None, Some}
+use Rattle.std.specs.Option.{option_map_or}
 use Rattle.sip_message.specs.declared.field_name.FieldName.TheVariants as Name
 use Rattle.sip_message.specs.declared.message.Start.TheVariants.{Status}
 use Rattle.sip_message.specs.declared.message.Message.{Message}
@@ -16,7 +17,7 @@ use Rattle.sip_state.specs.declared.branch.Branch.{Branch}
 use Rattle.sip_state.specs.declared.open_request.Side.{Side}
 use Rattle.sip_state.specs.declared.open_request.Side.TheVariants.{Answering}
 use Rattle.sip_state.specs.declared.open_request.OpenRequest.{OpenRequest}
-use Rattle.sip_state.specs.Branches.{Change, responded, overdue, send_failed}
+use Rattle.sip_context.specs.Branches.{Change, responded, overdue, send_failed}
 
 -- a server of the sample configuration, started with the word 0
 abbrev pub sample : Server
@@ -155,7 +156,7 @@ failing now r b = send_failed sample now r b
 
 -- ---- what is seen of a change
 
--- the phases of its branches, the CANCELs behind
+-- the phases of its branches, a CANCEL behind the branch that it cancels
 abbrev pub phases : OpenRequest → List Phase
 phases r = map (λ (b : Branch). b.phase) r.branches
 
@@ -166,3 +167,17 @@ statuses change = map (λ u. u.status) change.upward
 -- the ports that packets go to
 abbrev pub ports : List Packet → List ℕ
 ports packets = map (λ p. p.to.port) packets
+
+-- ---- what is kept
+
+-- how many final answers of its branches a request keeps
+abbrev pub finals_kept : OpenRequest → ℕ
+finals_kept r = length r.finals
+
+-- how many bytes of its last answer it keeps
+abbrev pub bytes_kept : OpenRequest → ℕ
+bytes_kept r = option_map_or (λ a. length a.text) r.answer 0
+
+-- the branches in their order: the number of each, and whether it is a CANCEL
+abbrev pub places : OpenRequest → List (ℕ × Bool)
+places r = map (λ b. (b.number, b.is_cancel)) r.branches

@@ -14,9 +14,9 @@ use Rattle.sip_state.specs.declared.open_request.OpenRequest.{OpenRequest}
 use Rattle.sip_state.specs.declared.branch.Phase.TheVariants.{Unheard}
 use Rattle.sip_state.specs.declared.open_request.Side.TheVariants.{Answering}
 use Rattle.sip_state.specs.State.{first_resend}
-use Rattle.sip_state.specs.Sending.{made_answer}
-use Rattle.sip_state.specs.Branches.{responded, overdue, cancelled, answered}
-use Rattle.sip_state.specs.Retransmission.{answers_again, acked_again, branch_due, answer_due, answer_next, with_resend}
+use Rattle.sip_context.specs.Sending.{made_answer}
+use Rattle.sip_context.specs.Branches.{responded, overdue, cancelled, answered}
+use Rattle.sip_context.specs.Retransmission.{answers_again, acked_again, branch_due, answer_due, answer_next, with_resend}
 
 -- ---- open requests
 

@@ -19,8 +19,8 @@ use Rattle.sip_state.specs.declared.branch.Branch.{Branch}
 use Rattle.sip_state.specs.declared.open_request.OpenRequest.{OpenRequest}
 use Rattle.sip_state.specs.declared.branch.Phase.TheVariants.{Unheard, Heard, Cancelled, Done, Ended}
 use Rattle.sip_state.specs.declared.open_request.Side.TheVariants.{Answering, Closing, Acknowledged, Closed}
-use Rattle.sip_state.specs.State.{first_resend, is_invite, is_final, is_answering, target_branches}
-use Rattle.sip_state.specs.Sending.{made_answer, branch_packets, ack_packets, is_success, is_failure, is_decline, is_provisional}
+use Rattle.sip_state.specs.State.{first_resend, is_invite, is_final, is_answering, target_branches, is_success, is_failure, is_decline, is_provisional}
+use Rattle.sip_context.specs.Sending.{made_answer, branch_packets, ack_packets}
 use Rattle.sip_state.specs.declared.open_request.Upward.{Upward}
 
 -- What an event makes of an open request: the request after it, and what is sent: ACKs, then what goes to the caller, then CANCELs.
@@ -48,9 +48,9 @@ phased b phase x = if is_same_branch x b then turned b phase x else x
 abbrev pub with_phase : Branch → Phase → OpenRequest → OpenRequest
 with_phase b phase r = record r { branches = map (phased b phase) r.branches }
 
--- one more final answer of its branches
+-- one more final answer of its branches, which is kept while none went to the caller
 abbrev pub with_final : Final → OpenRequest → OpenRequest
-with_final f r = record r { finals = r.finals ++ f ∷ [] }
+with_final f r = record r { finals = if is_answering r.side then r.finals ++ f ∷ [] else r.finals }
 
 -- a branch to a target that has no final answer is to be cancelled
 abbrev pub marked_branch : Branch → Branch
@@ -66,12 +66,17 @@ given_up b status r = with_final (record { status = status; message = None }) (w
 
 -- ---- what goes to the caller
 
--- the request after an answer of its went to the caller: the first final one begins to close it (RFC 3261 17.2: Timers H, J and L)
+-- The answer that was sent last. Of a 2xx to an INVITE its bytes aren't kept: its core sends it again, and no transaction (RFC 3261 13.3.1.4, RFC 6026 7.1).
+abbrev pub last_answer : OpenRequest → ℕ → List ℕ → LastAnswer
+last_answer r status text = record { status = status; text = if is_invite r && is_success status then [] else text }
+
+-- the request after an answer of its went to the caller: the first final one begins to close it (RFC 3261 17.2: Timers H, J and L), and final answers are kept no longer
 abbrev pub answered : ℕ → Upward → OpenRequest → OpenRequest
 answered now u r =
     record r {
-      answer = Some (record { status = u.status; text = text_of u.message });
+      answer = Some (last_answer r u.status (text_of u.message));
       side = if is_answering r.side && not (is_provisional u.status) then Closing (now + 32000) else r.side;
+      finals = if is_provisional u.status then r.finals else [];
       again = first_resend now;
     }
 

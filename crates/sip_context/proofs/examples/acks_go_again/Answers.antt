@@ -1,5 +1,5 @@
 use Rattle.std.proofs.Common.{refl}
-use Rattle.sip_state.proofs.examples.acks_go_again.Goals as goal
+use Rattle.sip_context.proofs.examples.acks_go_again.Goals as goal
 
 pub returns-clause-same : goal.returns-clause-same
 returns-clause-same c = refl

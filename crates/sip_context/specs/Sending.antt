@@ -1,11 +1,9 @@
 -- What is sent of an open request: its answers, its requests to targets, their CANCELs and ACKs.
-use Rattle.std.specs.Prelude.{ℕ, Bool, not, ◌&&◌, nat_le, is_some, if◌then◌else◌, List, [], ◌∷◌, Option}
-use Rattle.std.specs.Option.{option_and_then, option_map_or}
-use Rattle.std.specs.Result.{result_ok}
+use Rattle.std.specs.Prelude.{ℕ, Bool, not, ◌&&◌, is_some, if◌then◌else◌, List, [], ◌∷◌, Option}
+use Rattle.std.specs.Option.{option_map_or}
 use Rattle.sip_message.specs.declared.field.Field.{Field}
 use Rattle.sip_message.specs.declared.message.Message.{Message}
 use Rattle.sip_message.specs.Text.{text_of}
-use Rattle.sip_header.specs.CoreFields.{core_of}
 use Rattle.sip_text.specs.declared.addr.Addr.{Addr}
 use Rattle.sip_edit.specs.OwnVia.{branch_text}
 use Rattle.sip_edit.specs.Onward.{onward_of, with_record_route}
@@ -13,13 +11,12 @@ use Rattle.sip_edit.specs.OwnRequests.{ack_with, cancel_of}
 use Rattle.sip_edit.specs.ReceivedRequest.{received, response_address}
 use Rattle.sip_edit.specs.Reply.{reply_of}
 use Rattle.sip_edit.specs.Tags.{to_tag}
-use Rattle.sip_dialog.specs.declared.dialog.DialogId.{DialogId}
-use Rattle.sip_dialog.specs.DialogId.{id_of}
 use Rattle.sip_event.specs.declared.packet.Packet.{Packet}
 use Rattle.sip_state.specs.Server.{Server}
 use Rattle.sip_state.specs.declared.branch.Branch.{Branch}
 use Rattle.sip_state.specs.declared.open_request.OpenRequest.{OpenRequest}
 use Rattle.sip_state.specs.State.{is_invite}
+use Rattle.sip_state.specs.Dialogs.{dialog_of}
 
 -- ---- answers
 
@@ -37,10 +34,6 @@ abbrev pub answer_to : Bool → OpenRequest → List ℕ → Packet
 answer_to again r text = answer_packet again r.number r.request r.source text
 
 -- ---- requests to targets
-
--- the dialog that a request names, if its To has a tag
-abbrev pub dialog_of : Message → Option DialogId
-dialog_of m = option_and_then (λ core. id_of core) (result_ok (core_of m))
 
 -- an INVITE that begins a dialog
 abbrev pub begins_dialog : OpenRequest → Bool
@@ -76,21 +69,3 @@ branch_packets server again r b = to_branch r b (ticket_branch b) again (sent_of
 -- the ACK of a final answer of an INVITE that is no 2xx, with this To if that had one (RFC 3261 17.1.1.3)
 abbrev pub ack_packets : Server → Bool → OpenRequest → Branch → Option (List ℕ) → List Packet
 ack_packets server again r b to = to_branch r b 0 again (ack_with to (request_of server r b))
-
--- ---- statuses (RFC 3261 7.2)
-
--- 2xx
-abbrev pub is_success : ℕ → Bool
-is_success status = nat_le 200 status && nat_le status 299
-
--- 3xx and above
-abbrev pub is_failure : ℕ → Bool
-is_failure status = nat_le 300 status
-
--- 6xx
-abbrev pub is_decline : ℕ → Bool
-is_decline status = nat_le 600 status
-
--- 1xx
-abbrev pub is_provisional : ℕ → Bool
-is_provisional status = nat_le status 199
