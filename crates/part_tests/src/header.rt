@@ -1,7 +1,8 @@
 use crate::checks::{gives, refuses};
+use sip_credentials::{Credentials, credentials_of};
 use sip_header::{
-    AnyUri, CoreFields, Credentials, HeaderError, Key, NameAddr, Via, core_of, credentials_of,
-    cseq_of, key_of, name_addr_of, via_of,
+    AnyUri, CoreFields, HeaderError, Key, NameAddr, Via, core_of, cseq_of, key_of, name_addr_of,
+    via_of,
 };
 use sip_message::{FieldName, Message, read};
 use std::alloc::Global;

@@ -15,8 +15,14 @@ mod header;
 #[cfg(test)]
 mod message;
 #[cfg(test)]
+mod nonces;
+#[cfg(test)]
 mod places;
+#[cfg(test)]
+mod reply;
 #[cfg(test)]
 mod text;
 #[cfg(test)]
 mod uri;
+#[cfg(test)]
+mod views;

@@ -1,7 +1,7 @@
 use crate::checks::{gives, gives_bytes};
+use sip_host::{Addr, addr_of, addr_text, ip_of, ip_text};
 use sip_text::{
-    Addr, Bytes, Items, addr_of, addr_text, hex_bytes, hex_text, ip_of, ip_text, lower_case,
-    plain_decimal, plain_port, same_bytes,
+    Bytes, Items, hex_bytes, hex_text, lower_case, plain_decimal, plain_port, same_bytes,
 };
 use std::alloc::{AllocError, Global};
 

@@ -5,10 +5,10 @@ use Rattle.std.specs.List.{AllByRecursion, list_any}
 use Rattle.std.specs.Option.{option_and_then}
 use Rattle.sip_digest.specs.declared.algorithm.Algorithm.{Algorithm}
 use Rattle.sip_digest.specs.declared.algorithm.Algorithm.TheVariants.{Md5, Sha256}
-use Rattle.sip_digest.specs.declared.nonces.Nonce.{Nonce}
+use Rattle.sip_nonces.specs.declared.nonces.Nonce.{Nonce}
 use Rattle.sip_digest.specs.Protection.{Protection}
 use Rattle.sip_digest.specs.Credential.{count_of}
-use Rattle.sip_header.specs.declared.credentials.Credentials.{Credentials}
+use Rattle.sip_credentials.specs.declared.credentials.Credentials.{Credentials}
 use Rattle.sip_policy.specs.declared.user.User.{User}
 use Rattle.sip_policy.specs.User.{is_named}
 use Rattle.sip_auth.specs.Offer.{offers_sha256, HasMd5Alone, with_md5_alone}

@@ -1,6 +1,6 @@
 -- Requests with credentials, and what they prove to the sample's users.
 use Rattle.std.specs.Prelude.{ℕ, List, [], ◌∷◌, ◌++◌, codes, Some}
-use Rattle.sip_message.specs.declared.field_name.FieldName.{FieldName}
+use Rattle.sip_field.specs.declared.field_name.FieldName.{FieldName}
 use Rattle.sip_message.specs.declared.message.Start.TheVariants.{Request}
 use Rattle.sip_message.specs.declared.message.Message.{Message}
 use Rattle.sip_header.specs.RoutingExamples.{sample_realm}
@@ -8,7 +8,7 @@ use Rattle.sip_digest.specs.declared.algorithm.Algorithm.TheVariants.{Md5}
 use Rattle.sip_digest.specs.Answers.{answer_of}
 use Rattle.sip_digest.specs.Credential.{Credential}
 use Rattle.sip_digest.specs.Protection.{Protection}
-use Rattle.sip_digest.specs.declared.nonces.Nonce.{Nonce}
+use Rattle.sip_nonces.specs.declared.nonces.Nonce.{Nonce}
 use Rattle.sip_policy.specs.Examples.{sample_users}
 use Rattle.sip_auth.specs.Proof.{Proof, proof_of}
 

@@ -3,3 +3,4 @@ pub mod Offer
 pub mod Examples
 pub mod Sha256Examples
 pub mod RealmExamples
+pub mod RightAnswer

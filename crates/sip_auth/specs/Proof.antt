@@ -12,18 +12,18 @@ use Rattle.sip_digest.specs.declared.algorithm.Algorithm.TheVariants.{Md5, Sha25
 use Rattle.sip_digest.specs.Algorithm.{name_of}
 use Rattle.sip_digest.specs.Protection.{Protection}
 use Rattle.sip_digest.specs.Credential.{Credential, count_of}
-use Rattle.sip_digest.specs.Nonces.{worth_of, spent_by}
-use Rattle.sip_digest.specs.declared.nonces.Nonce.{Nonce}
-use Rattle.sip_digest.specs.declared.nonces.Worth.{Worth}
-use Rattle.sip_message.specs.declared.field_name.FieldName.{FieldName}
-use Rattle.sip_message.specs.declared.field_name.FieldName.TheVariants as Name
-use Rattle.sip_message.specs.declared.field.Field.{Field}
+use Rattle.sip_nonces.specs.Nonces.{worth_of, spent_by}
+use Rattle.sip_nonces.specs.declared.nonces.Nonce.{Nonce}
+use Rattle.sip_nonces.specs.declared.nonces.Worth.{Worth}
+use Rattle.sip_field.specs.declared.field_name.FieldName.{FieldName}
+use Rattle.sip_field.specs.declared.field_name.FieldName.TheVariants as Name
+use Rattle.sip_field.specs.declared.field.Field.{Field}
 use Rattle.sip_message.specs.declared.message.Start.{Start}
 use Rattle.sip_message.specs.declared.message.Start.TheVariants.{Request, Status}
 use Rattle.sip_message.specs.declared.message.Message.{Message}
-use Rattle.sip_header.specs.declared.credentials.Credentials.{Credentials}
-use Rattle.sip_message.specs.Values.{values_of}
-use Rattle.sip_header.specs.Credentials.{credentials_of, is_realm}
+use Rattle.sip_credentials.specs.declared.credentials.Credentials.{Credentials}
+use Rattle.sip_field.specs.Values.{values_of}
+use Rattle.sip_credentials.specs.Credentials.{credentials_of, is_realm}
 use Rattle.sip_policy.specs.declared.user.User.{User}
 use Rattle.sip_policy.specs.User.{is_named}
 

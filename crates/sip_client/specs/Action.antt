@@ -2,7 +2,7 @@
 use Rattle.std.specs.Prelude.{ℕ, Bool, true, false, Option, Some, None}
 use Rattle.sip_transaction.specs.declared.letter.Letter.{Letter}
 use Rattle.sip_client.specs.declared.actions.Action.{Action}
-use Rattle.sip_client.specs.declared.actions.Action.TheVariants.{Send, SendAgain, Start}
+use Rattle.sip_client.specs.declared.actions.Action.TheVariants.{Send, SendAgain, AckAgain, Start}
 
 -- the timer that an action starts, and after how many milliseconds it fires
 abbrev pub start_of : Action → Option (Letter × ℕ)
@@ -14,3 +14,8 @@ abbrev pub sends_request : Action → Bool
 sends_request Send = true
 sends_request SendAgain = true
 sends_request _ = false
+
+-- an action that sends the ACK again (RFC 3261 17.1.1.2)
+abbrev pub acks_again : Action → Bool
+acks_again AckAgain = true
+acks_again _ = false

@@ -1,6 +1,6 @@
 -- The client transaction of an INVITE: RFC 3261 17.1.1 and figure 5, with the Accepted state of RFC 6026
 -- 7.2. Times are in milliseconds.
-use Rattle.std.specs.Prelude.{◌*◌, min, Bool, true, false, ◌&&◌, nat_le, if◌then◌else◌, List, [], ◌∷◌}
+use Rattle.std.specs.Prelude.{ℕ, ◌≤◌, ◌*◌, min, Bool, true, false, ◌&&◌, nat_le, if◌then◌else◌, List, [], ◌∷◌, Option, Some, None}
 use Rattle.sip_transaction.specs.Machine.{Machine}
 use Rattle.sip_transaction.specs.declared.letter.Letter.{Letter}
 use Rattle.sip_client.specs.Action.{start_of, sends_request}
@@ -74,3 +74,13 @@ runs _ _ = false
 -- the machine of these
 abbrev pub invite_machine : Machine ClientInvite ClientInviteInput Action
 invite_machine = record { on = client_invite; fired = Fired; runs = runs; start_of = start_of; sends = sends_request }
+
+-- what Timer A was last set to, which a state without a response holds (RFC 3261 17.1.1.2)
+abbrev pub wait_a : ClientInvite → Option ℕ
+wait_a (Calling a) = Some a
+wait_a _ = None
+
+-- a response of 300 to 699 (RFC 3261 7.2)
+abbrev pub IsFailure : ClientInviteInput → Type 0
+IsFailure (Received status) = (300 ≤ status) × (status ≤ 699)
+IsFailure _ = ⊥

@@ -1,6 +1,6 @@
 -- The client transaction of a request that isn't an INVITE: RFC 3261 17.1.2 and figure 6. Times are in
 -- milliseconds.
-use Rattle.std.specs.Prelude.{◌*◌, min, Bool, true, false, ◌&&◌, nat_le, if◌then◌else◌, List, [], ◌∷◌}
+use Rattle.std.specs.Prelude.{ℕ, ◌*◌, min, Bool, true, false, ◌&&◌, nat_le, if◌then◌else◌, List, [], ◌∷◌, Option, Some, None}
 use Rattle.sip_transaction.specs.Machine.{Machine}
 use Rattle.sip_transaction.specs.declared.letter.Letter.{Letter}
 use Rattle.sip_client.specs.Action.{start_of, sends_request}
@@ -66,3 +66,9 @@ runs _ _ = false
 -- the machine of these
 abbrev pub other_machine : Machine ClientOther ClientOtherInput Action
 other_machine = record { on = client_other; fired = Fired; runs = runs; start_of = start_of; sends = sends_request }
+
+-- what Timer E was last set to, which a state without a response holds; once one came, the wait is the
+-- longest (RFC 3261 17.1.2.2)
+abbrev pub wait_e : ClientOther → Option ℕ
+wait_e (Trying e) = Some e
+wait_e _ = None

@@ -1,10 +1,16 @@
-ghost use Rattle.std.specs.Prelude.{◌≡◌, [], ◌∷◌, true};
+ghost use Rattle.std.specs.Prelude.{◌≡◌, [], ◌∷◌, true, false, None};
+ghost use Rattle.std.specs.List.{list_any};
 ghost use Rattle.sip_transaction.specs.declared.letter.Letter.TheVariants.{A, B, D, E, F, K, M};
 ghost use Rattle.sip_transaction.specs.Machine.{IsOneOf, KeepsTimers};
-ghost use Rattle.sip_client.specs.ClientInvite.{invite_machine};
-ghost use Rattle.sip_client.specs.ClientOther.{other_machine};
+ghost use Rattle.sip_transaction.specs.Resends.{Begins, SendsAgainBy, SendsOnlyBy};
+ghost use Rattle.sip_client.specs.Action.{acks_again};
+ghost use Rattle.sip_client.specs.ClientInvite.{start, invite_machine, wait_a, IsFailure};
+ghost use Rattle.sip_client.specs.ClientOther.{start as start_other, other_machine, wait_e};
+ghost use Rattle.sip_client.specs.declared.actions.Action.TheVariants.{AckAgain};
+ghost use Rattle.sip_client.specs.declared.client_invite.ClientInvite.TheVariants.{Completed};
+ghost use Rattle.sip_client.specs.declared.client_other.ClientOther.TheVariants.{Proceeding, Completed as Answered, Terminated};
 
-use crate::client_invite::ClientInvite;
+use crate::client_invite::{ClientInvite, ClientInviteInput};
 use crate::client_other::ClientOther;
 use sip_transaction::Letter;
 
@@ -18,4 +24,31 @@ pub fn invite_timers(state: ClientInvite, letter: Letter)
 pub fn other_timers(state: ClientOther, letter: Letter)
     ensures keeps { KeepsTimers other_machine }
     ensures own { other_machine.runs state letter ≡ true → IsOneOf (E ∷ F ∷ K ∷ []) letter }
+{}
+
+/// An INVITE goes again by Timer A alone, first after 500 ms and then after twice the wait, at most 32,000,
+/// until a response comes (RFC 3261 17.1.1.2).
+pub fn invite_goes_again(state: ClientInvite)
+    ensures first { Begins invite_machine A wait_a start }
+    ensures again { SendsAgainBy invite_machine A wait_a 32000 }
+    ensures alone { SendsOnlyBy invite_machine A }
+    ensures until_heard { wait_a state ≡ None → invite_machine.runs state A ≡ false }
+{}
+
+/// Another request goes again by Timer E alone, first after 500 ms and then after twice the wait, at most
+/// 4,000, and after so much once a response came, which moves no moment, until a final one does (RFC 3261
+/// 17.1.2.2).
+pub fn other_goes_again()
+    ensures first { Begins other_machine E wait_e start_other }
+    ensures again { SendsAgainBy other_machine E wait_e 4000 }
+    ensures alone { SendsOnlyBy other_machine E }
+    ensures once_heard { other_machine.runs Proceeding E ≡ true }
+    ensures until_answered { (other_machine.runs Answered E ≡ false) × (other_machine.runs Terminated E ≡ false) }
+{}
+
+/// A further 300 to 699 gets the ACK again and changes nothing else, and nothing else sends it again (RFC 3261
+/// 17.1.1.2).
+pub fn failure_acknowledged_again(state: ClientInvite, input: ClientInviteInput)
+    ensures again { IsFailure input → invite_machine.on Completed input ≡ (Completed, AckAgain ∷ []) }
+    ensures alone { list_any acks_again (invite_machine.on state input).1 ≡ true → (state ≡ Completed) × IsFailure input }
 {}

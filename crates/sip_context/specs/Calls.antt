@@ -1,7 +1,7 @@
 -- Small open requests of a server of the sample configuration, and what comes to them, for the worked examples. Moments are in milliseconds.
 use Rattle.std.specs.Prelude.{ℕ, Bool, false, true, List, [], ◌∷◌, ◌++◌, length, map, codes, None, Some}
 use Rattle.std.specs.Option.{option_map_or}
-use Rattle.sip_message.specs.declared.field_name.FieldName.TheVariants as Name
+use Rattle.sip_field.specs.declared.field_name.FieldName.TheVariants as Name
 use Rattle.sip_message.specs.declared.message.Start.TheVariants.{Status}
 use Rattle.sip_message.specs.declared.message.Message.{Message}
 use Rattle.sip_hops.specs.Examples.{local}
@@ -167,6 +167,10 @@ statuses change = map (λ u. u.status) change.upward
 -- the ports that packets go to
 abbrev pub ports : List Packet → List ℕ
 ports packets = map (λ p. p.to.port) packets
+
+-- the moments at which its branches go again, if they do
+abbrev pub next_moments : OpenRequest → List ℕ
+next_moments r = map (λ (b : Branch). b.again.due) r.branches
 
 -- ---- what is kept
 

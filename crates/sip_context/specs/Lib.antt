@@ -1,5 +1,5 @@
 pub mod Sending
 pub mod Branches
-pub mod Retransmission
+pub mod FoundBranch
+pub mod BranchById
 pub mod Calls
-pub mod Examples

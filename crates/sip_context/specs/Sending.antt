@@ -1,16 +1,16 @@
 -- What is sent of an open request: its answers, its requests to targets, their CANCELs and ACKs.
 use Rattle.std.specs.Prelude.{ℕ, Bool, not, ◌&&◌, is_some, if◌then◌else◌, List, [], ◌∷◌, Option}
 use Rattle.std.specs.Option.{option_map_or}
-use Rattle.sip_message.specs.declared.field.Field.{Field}
+use Rattle.sip_field.specs.declared.field.Field.{Field}
 use Rattle.sip_message.specs.declared.message.Message.{Message}
 use Rattle.sip_message.specs.Text.{text_of}
-use Rattle.sip_text.specs.declared.addr.Addr.{Addr}
+use Rattle.sip_host.specs.declared.addr.Addr.{Addr}
 use Rattle.sip_edit.specs.OwnVia.{branch_text}
 use Rattle.sip_edit.specs.Onward.{onward_of, with_record_route}
 use Rattle.sip_edit.specs.OwnRequests.{ack_with, cancel_of}
 use Rattle.sip_edit.specs.ReceivedRequest.{received, response_address}
-use Rattle.sip_edit.specs.Reply.{reply_of}
-use Rattle.sip_edit.specs.Tags.{to_tag}
+use Rattle.sip_reply.specs.Reply.{reply_of}
+use Rattle.sip_reply.specs.Tags.{to_tag}
 use Rattle.sip_event.specs.declared.packet.Packet.{Packet}
 use Rattle.sip_state.specs.Server.{Server}
 use Rattle.sip_state.specs.declared.branch.Branch.{Branch}

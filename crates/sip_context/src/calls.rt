@@ -167,3 +167,11 @@ pub fn cancel_behind_its_branch()
     ensures both { Calls.places (cancelled Calls.sample 64000 (Calls.call_to (Calls.first_ringing ∷ Calls.second_ringing ∷ []))).request ≡ (1, false) ∷ (1, true) ∷ (2, false) ∷ (2, true) ∷ [] }
     ensures second { Calls.places (cancelled Calls.sample 64000 Calls.second_rings).request ≡ (1, false) ∷ (2, false) ∷ (2, true) ∷ [] }
 {}
+
+/// What is heard of a branch leaves the moment at which it goes again; a CANCEL goes again 500 ms after it was
+/// sent, and an answer 500 ms after it went to the caller.
+pub fn next_moments()
+    ensures heard { Calls.next_moments (Calls.hearing 6000 Calls.one_message Calls.message_branch 100).request ≡ 62500 ∷ [] }
+    ensures cancelled { Calls.next_moments (cancelled Calls.sample 63500 Calls.one_rings).request ≡ 62500 ∷ 64000 ∷ [] }
+    ensures answered { (Calls.hearing 63000 Calls.one_target Calls.first_branch 486).request.again.due ≡ 63500 }
+{}

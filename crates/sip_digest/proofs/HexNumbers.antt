@@ -5,7 +5,7 @@ use Rattle.std.specs.Prelude.{◌&&◌}
 use Rattle.std.specs.List.{list_all}
 use Rattle.std.specs.Char.{digit_value}
 use Rattle.std.specs.Str.Parse.{digits_value_after}
-use Rattle.sip_digest.specs.NonceText.{is_hex_digit, hex_number_of}
+use Rattle.sip_digest.specs.HexNumber.{is_hex_digit, hex_number_of}
 
 -- what is read after a number, of hexadecimal digits alone
 abbrev pub hex_on : ℕ → List ℕ → Option ℕ

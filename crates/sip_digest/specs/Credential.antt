@@ -3,7 +3,7 @@ use Rattle.std.specs.Prelude.{ℕ, Bool, ◌==◌, if◌then◌else◌, List, le
 use Rattle.std.specs.Str.{bytes_eq}
 use Rattle.sip_digest.specs.Protection.{Protection, seen}
 use Rattle.sip_digest.specs.Answers.{answer_of}
-use Rattle.sip_digest.specs.NonceText.{hex_number_of}
+use Rattle.sip_digest.specs.HexNumber.{hex_number_of}
 use Rattle.sip_digest.specs.declared.algorithm.Algorithm.{Algorithm}
 use Rattle.sip_digest.specs.declared.credential.Credential.{Credential as Given}
 

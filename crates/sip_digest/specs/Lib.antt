@@ -1,6 +1,5 @@
 pub mod Algorithm
 pub mod Protection
 pub mod Answers
-pub mod NonceText
+pub mod HexNumber
 pub mod Credential
-pub mod Nonces

@@ -4,7 +4,7 @@ ghost use Rattle.sip_digest.specs.Credential.{shown, is_answer, count_of, count_
 
 use crate::algorithm::Algorithm;
 use crate::answers::{answer, answer_sha256};
-use crate::nonce_texts::hex_number;
+use crate::hex_numbers::hex_number;
 use crate::protection::Protection;
 
 /// What a request says to prove its user: its method, the algorithm, `uri`, `nonce` and `response` of its

@@ -1,7 +1,6 @@
 ghost use Rattle.std.specs.Prelude.{◌≡◌, Some, None, codes};
 ghost use Rattle.sip_digest.specs.Answers.{a1_of, a2_of, answer_of};
 ghost use Rattle.sip_digest.specs.Credential.{count_in};
-ghost use Rattle.sip_digest.specs.NonceText.{nonce_text};
 ghost use Rattle.sip_digest.specs.declared.algorithm.Algorithm.TheVariants as By;
 
 /// The worked example of RFC 2617 3.5, from its user to its response.
@@ -14,11 +13,6 @@ pub fn digest_vector()
 /// The example of RFC 7616 3.9.1 by SHA-256.
 pub fn sha256_vector()
     ensures { answer_of By.Sha256 (a1_of By.Sha256 (codes "Mufasa") (codes "http-auth@example.org") (codes "Circle of Life")) (codes "GET") (codes "/dir/index.html") (codes "7ypf/xlj9XXwfDPEoM4URrv/xwf94BcCAzFZH4GiTo0v") (Some (record { nc = codes "00000001"; cnonce = codes "f2/wE4q74E6zIJEtWaHKaf5wv/H5QzzpXusqGemxURZJ" })) ≡ codes "753927fa0e85d155564e2e272a28d1802ca10daf4496794697cf8db5856cb6c1" }
-{}
-
-/// The nonce of the word 1 reads `00000000000000000000000000000001`.
-pub fn nonce_text_example()
-    ensures { nonce_text 1 ≡ codes "00000000000000000000000000000001" }
 {}
 
 /// A count is eight hexadecimal digits, in either case.

@@ -1,5 +1,4 @@
-//! Digest access authentication: the answers that prove a password, the nonces that were issued in
-//! challenges, and what a credential is worth against them.
+//! Digest access authentication: the answers that prove a password, and what credentials say.
 #![tactic(auto)]
 
 mod algorithm;
@@ -7,14 +6,11 @@ mod answers;
 mod credential;
 pub mod examples;
 mod hashing;
-pub mod laws;
-mod nonce_texts;
-mod nonces;
+mod hex_numbers;
 mod protection;
 
 pub use algorithm::Algorithm;
 pub use answers::{a1, a1_sha256, answer, answer_sha256};
 pub use credential::Credential;
-pub use nonce_texts::{nonce_text, word_of};
-pub use nonces::{Nonce, Nonces, Worth};
+pub use hex_numbers::hex_number;
 pub use protection::Protection;

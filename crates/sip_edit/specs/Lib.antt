@@ -1,9 +1,5 @@
-pub mod Challenges
-pub mod Contacts
-pub mod Reasons
-pub mod Tags
+pub mod FirstField
 pub mod TopVia
-pub mod Reply
 pub mod ReceivedRequest
 pub mod Examples
 pub mod OwnVia
@@ -11,5 +7,3 @@ pub mod BranchId
 pub mod Onward
 pub mod OwnRequests
 pub mod OnwardExamples
-pub mod Extras
-pub mod ExtrasExamples

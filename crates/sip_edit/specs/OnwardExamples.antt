@@ -1,7 +1,7 @@
 -- Requests that go on, for the worked examples.
 use Rattle.std.specs.Prelude.{ℕ, List, [], ◌∷◌, ◌++◌, codes}
-use Rattle.sip_message.specs.declared.field_name.FieldName.TheVariants as Name
-use Rattle.sip_message.specs.declared.field.Field.{Field}
+use Rattle.sip_field.specs.declared.field_name.FieldName.TheVariants as Name
+use Rattle.sip_field.specs.declared.field.Field.{Field}
 use Rattle.sip_message.specs.declared.message.Start.TheVariants.{Request, Status}
 use Rattle.sip_message.specs.declared.message.Message.{Message}
 use Rattle.sip_header.specs.RoutingExamples.{own, sample_realm}

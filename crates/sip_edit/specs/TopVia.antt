@@ -7,8 +7,8 @@ use Rattle.sip_text.specs.Lists.{trimmed}
 use Rattle.sip_header.specs.declared.via.Via.{Via}
 use Rattle.sip_text.specs.Cuts.{parts_at}
 use Rattle.sip_header.specs.Via.{via_of}
-use Rattle.sip_text.specs.declared.addr.Addr.{Addr}
-use Rattle.sip_text.specs.Addresses.{ip_text}
+use Rattle.sip_host.specs.declared.addr.Addr.{Addr}
+use Rattle.sip_host.specs.Addresses.{ip_text}
 
 -- what stands before the first `=`, everything where there is none
 abbrev pub before_equals : List ℕ → List ℕ

@@ -1,17 +1,7 @@
-ghost use Rattle.std.specs.Prelude.{◌≡◌, ◌<◌, ◌^◌, ◌∷◌, [], ◌++◌, ℕ, List, Some, codes, true, false};
-ghost use Rattle.sip_message.specs.declared.field_name.FieldName.{FieldName};
-ghost use Rattle.sip_edit.specs.Challenges.{challenge_fields};
+ghost use Rattle.std.specs.Prelude.{◌≡◌, ◌<◌, ◌^◌, ℕ, List, Some};
 ghost use Rattle.sip_edit.specs.declared.branch_id.BranchId.{BranchId};
 ghost use Rattle.sip_edit.specs.BranchId.{branch_id_of};
 ghost use Rattle.sip_edit.specs.OwnVia.{branch_text};
-
-/// Where SHA-256 isn't offered a challenge is one field, as RFC 2617 3.2.1 has it.
-pub fn md5_alone_is_unchanged()
-    ensures first { (name : FieldName) (realm nonce : List ℕ) → challenge_fields name false realm nonce false
-        ≡ record { name = name; value = codes "Digest realm=\"" ++ realm ++ codes "\", nonce=\"" ++ nonce ++ codes "\", algorithm=MD5, qop=\"auth\"" } ∷ [] }
-    ensures stale { (name : FieldName) (realm nonce : List ℕ) → challenge_fields name false realm nonce true
-        ≡ record { name = name; value = codes "Digest realm=\"" ++ realm ++ codes "\", nonce=\"" ++ nonce ++ codes "\", algorithm=MD5, qop=\"auth\", stale=true" } ∷ [] }
-{}
 
 /// A branch of this server is read back as the numbers of which it was made, and no other text names them.
 pub fn branches_are_read_back()

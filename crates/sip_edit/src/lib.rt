@@ -1,24 +1,14 @@
-//! What a server writes of its own into messages: the source of a request in its top Via, tags, challenges
-//! and the values of Contact in a list of bindings, and whole responses (RFC 3261 8.2.6, 18.2.1 and
-//! 18.2.2; RFC 3581 4; RFC 2617 3.2.1; RFC 8760 2.3).
+//! What a server changes of a message that goes on: the source of a request in its top Via, and where its
+//! responses go; and, as definitions, the request as it goes to a target, the own Via and its branch, and the
+//! ACK and the CANCEL of a request that was sent (RFC 3261 9.1, 16.6, 17.1.1.3, 18.2.1 and 18.2.2; RFC 3581 4).
 #![tactic(auto)]
 
 mod branch_id;
-mod challenges;
-mod contacts;
 pub mod examples;
 pub mod laws;
-mod reasons;
 mod received_request;
-mod reply;
-mod tags;
 mod top_via;
 
 pub use branch_id::BranchId;
-pub use challenges::{challenge, challenge_fields};
-pub use contacts::contact_value;
-pub use reasons::reason_of;
 pub use received_request::{received, response_address};
-pub use reply::respond;
-pub use tags::to_tag;
 pub use top_via::received_via;

@@ -3,8 +3,8 @@ ghost use Rattle.sip_edit.specs.ReceivedRequest;
 
 use crate::top_via::received_via;
 use sip_header::{HeaderError, Via, parameter_of, via_of};
+use sip_host::Addr;
 use sip_message::{FieldName, Fields, Message};
-use sip_text::Addr;
 use std::alloc::{AllocError, Global};
 
 /// Copies of fields, the first Via among them edited.

@@ -3,7 +3,8 @@ ghost use Rattle.sip_text.specs.Cuts.{parts_at};
 ghost use Rattle.sip_edit.specs.TopVia;
 
 use sip_header::{HeaderError, via_of};
-use sip_text::{Addr, Bytes, first_part, ip_text, same_no_case, without_blanks};
+use sip_host::{Addr, ip_text};
+use sip_text::{Bytes, first_part, same_no_case, without_blanks};
 use std::alloc::{AllocError, Global};
 
 /// How many bytes stand before the first `=`.

@@ -3,7 +3,7 @@ use Rattle.std.proofs.Common.{◌≡◌, ℕ, ◌+◌, List, [], ◌∷◌, ◌+
 use Rattle.std.specs.Prelude.{find, codes}
 use Rattle.std.proofs.lemmas.Bool.Decides.{nat_tests}
 use Rattle.std.proofs.lemmas.List.Sums.{sum_by_push}
-use Rattle.sip_message.specs.declared.field.Field.{Field}
+use Rattle.sip_field.specs.declared.field.Field.{Field}
 use Rattle.sip_message.specs.declared.message.Message.{Message}
 use Rattle.sip_header.specs.declared.key.Key.{Key}
 use Rattle.sip_settings.specs.declared.config.Config.{Config}
@@ -19,7 +19,7 @@ use Rattle.sip_engine.specs.Requests.{opened, closing_by, has_key}
 use Rattle.sip_engine.specs.Registration.{registration_of}
 use Rattle.sip_engine.specs.Proof.{proof_of, credential_of}
 use Rattle.sip_engine.specs.Serving.{heard, by_key, asked, judged_by, may_register, registered, replied, answered, challenge_field, binding_for, contact_fields}
-use Rattle.sip_digest.specs.Nonces.{issued, spent_by}
+use Rattle.sip_nonces.specs.Nonces.{issued, spent_by}
 use Rattle.sip_engine.specs.Bindings.{live, bound}
 
 -- nothing closes by the moment afterwards

@@ -1,11 +1,11 @@
 -- The one value of a field.
 use Rattle.std.proofs.Common.{◌≡◌, ℕ, List, [], ◌∷◌, length, map, cond, true, false, Option, Some, None, refl, sym, ◌∙◌, ap, arith}
 use Rattle.std.specs.Prelude.{option_map}
-use Rattle.sip_message.specs.declared.field_name.FieldName.{FieldName}
-use Rattle.sip_message.specs.declared.field.Field.{Field}
-use Rattle.sip_message.specs.Field.{first_named, all_named}
-use Rattle.sip_message.specs.FieldName.{is_same_name}
-use Rattle.sip_message.specs.Values.{values_of, first_value}
+use Rattle.sip_field.specs.declared.field_name.FieldName.{FieldName}
+use Rattle.sip_field.specs.declared.field.Field.{Field}
+use Rattle.sip_field.specs.Named.{first_named, all_named}
+use Rattle.sip_field.specs.FieldName.{is_same_name}
+use Rattle.sip_field.specs.Values.{values_of, first_value}
 
 abbrev pub head_of : List (List ℕ) → Option (List ℕ)
 head_of [] = None

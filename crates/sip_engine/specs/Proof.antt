@@ -8,17 +8,17 @@ use Rattle.sip_uri.specs.Uri.{text_of}
 use Rattle.sip_uri.specs.Reading.{reading_of}
 use Rattle.sip_digest.specs.declared.algorithm.Algorithm.TheVariants.{Md5}
 use Rattle.sip_digest.specs.Credential.{Credential, count_of}
-use Rattle.sip_digest.specs.Nonces.{worth_of}
-use Rattle.sip_digest.specs.declared.nonces.Nonce.{Nonce}
-use Rattle.sip_digest.specs.declared.nonces.Worth.{Worth}
-use Rattle.sip_message.specs.declared.field_name.FieldName.TheVariants as Name
-use Rattle.sip_message.specs.declared.field.Field.{Field}
+use Rattle.sip_nonces.specs.Nonces.{worth_of}
+use Rattle.sip_nonces.specs.declared.nonces.Nonce.{Nonce}
+use Rattle.sip_nonces.specs.declared.nonces.Worth.{Worth}
+use Rattle.sip_field.specs.declared.field_name.FieldName.TheVariants as Name
+use Rattle.sip_field.specs.declared.field.Field.{Field}
 use Rattle.sip_message.specs.declared.message.Start.{Start}
 use Rattle.sip_message.specs.declared.message.Start.TheVariants.{Request, Status}
 use Rattle.sip_message.specs.declared.message.Message.{Message}
-use Rattle.sip_header.specs.declared.credentials.Credentials.{Credentials}
-use Rattle.sip_message.specs.Values.{values_of}
-use Rattle.sip_header.specs.Credentials.{credentials_of}
+use Rattle.sip_credentials.specs.declared.credentials.Credentials.{Credentials}
+use Rattle.sip_field.specs.Values.{values_of}
+use Rattle.sip_credentials.specs.Credentials.{credentials_of}
 use Rattle.sip_policy.specs.declared.user.User.{User}
 use Rattle.sip_settings.specs.declared.config.Config.{Config}
 use Rattle.sip_engine.specs.declared.proof.Quality.{Quality}

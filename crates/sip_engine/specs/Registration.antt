@@ -10,15 +10,15 @@ use Rattle.sip_uri.specs.declared.aor.Aor.{Aor}
 use Rattle.sip_uri.specs.Aor.{aor_of}
 use Rattle.sip_uri.specs.Uri.{text_of}
 use Rattle.sip_uri.specs.Reading.{reading_of}
-use Rattle.sip_message.specs.declared.field_name.FieldName.TheVariants as Name
-use Rattle.sip_message.specs.declared.field.Field.{Field}
+use Rattle.sip_field.specs.declared.field_name.FieldName.TheVariants as Name
+use Rattle.sip_field.specs.declared.field.Field.{Field}
 use Rattle.sip_message.specs.declared.message.Start.{Start}
 use Rattle.sip_message.specs.declared.message.Start.TheVariants.{Request, Status}
 use Rattle.sip_message.specs.declared.message.Message.{Message}
 use Rattle.sip_header.specs.declared.name_addr.AnyUri.{AnyUri}
 use Rattle.sip_header.specs.declared.name_addr.AnyUri.TheVariants.{Sip, Other}
 use Rattle.sip_header.specs.declared.core_fields.CoreFields.{CoreFields}
-use Rattle.sip_message.specs.Values.{values_of}
+use Rattle.sip_field.specs.Values.{values_of}
 use Rattle.sip_header.specs.CoreFields.{core_in}
 use Rattle.sip_policy.specs.User.{is_named}
 use Rattle.sip_settings.specs.declared.config.Config.{Config}

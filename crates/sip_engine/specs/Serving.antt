@@ -2,21 +2,21 @@
 use Rattle.std.specs.Prelude.{ℕ, ◌+◌, ◌-◌, ◌/◌, ◌&&◌, Bool, true, false, not, nat_le, if◌then◌else◌, List, [], ◌∷◌, ◌++◌, map, length, find, codes, Option, Some, None, Result, Ok, Err}
 use Rattle.std.specs.Str.{bytes_eq}
 use Rattle.sip_digest.specs.declared.algorithm.Algorithm.TheVariants.{Md5}
-use Rattle.sip_digest.specs.NonceText.{nonce_text}
-use Rattle.sip_digest.specs.Nonces.{issued, spent_by}
-use Rattle.sip_message.specs.declared.field_name.FieldName.TheVariants as Name
-use Rattle.sip_message.specs.declared.field.Field.{Field}
+use Rattle.sip_nonces.specs.NonceText.{nonce_text}
+use Rattle.sip_nonces.specs.Nonces.{issued, spent_by}
+use Rattle.sip_field.specs.declared.field_name.FieldName.TheVariants as Name
+use Rattle.sip_field.specs.declared.field.Field.{Field}
 use Rattle.sip_message.specs.declared.message.Message.{Message}
 use Rattle.sip_message.specs.declared.error.ReadError.{ReadError}
 use Rattle.sip_message.specs.Text.{text_of}
 use Rattle.sip_message.specs.Reading.{reading_of}
 use Rattle.sip_header.specs.declared.key.Key.{Key}
 use Rattle.sip_header.specs.Key.{key_of}
-use Rattle.sip_edit.specs.Challenges.{challenge}
-use Rattle.sip_edit.specs.Contacts.{contact_value}
+use Rattle.sip_reply.specs.Challenges.{challenge}
+use Rattle.sip_reply.specs.Contacts.{contact_value}
 use Rattle.sip_edit.specs.ReceivedRequest.{received, response_address}
-use Rattle.sip_edit.specs.Reply.{reply_of}
-use Rattle.sip_edit.specs.Tags.{to_tag}
+use Rattle.sip_reply.specs.Reply.{reply_of}
+use Rattle.sip_reply.specs.Tags.{to_tag}
 use Rattle.sip_settings.specs.declared.config.Config.{Config}
 use Rattle.sip_engine.specs.declared.bindings.Binding.{Binding}
 use Rattle.sip_event.specs.declared.packet.Packet.{Packet}

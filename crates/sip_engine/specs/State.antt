@@ -1,6 +1,6 @@
 -- What a server knows, and its steps.
 use Rattle.std.specs.Prelude.{ℕ, ◌≡◌, ◌+◌, ◌^◌, ◌≤◌, nat_le, max, Bool, false, List, [], Option, Some, None, if◌then◌else◌}
-use Rattle.sip_text.specs.declared.addr.Addr.{Addr}
+use Rattle.sip_host.specs.declared.addr.Addr.{Addr}
 use Rattle.sip_settings.specs.declared.config.Config.{Config}
 use Rattle.sip_event.specs.declared.event.StepOut.{StepOut}
 use Rattle.sip_engine.specs.declared.error.StepError.{StepError}

@@ -1,14 +1,16 @@
 ghost use Rattle.std.specs.Prelude.{◌≡◌, IfOk, Some, find, map, option_map};
 ghost use Rattle.std.specs.Option.{option_copied};
 ghost use Rattle.sip_digest.specs.Credential.{shown};
-ghost use Rattle.sip_message.specs.Values.{values_of};
-ghost use Rattle.sip_header.specs.Credentials as Said;
+ghost use Rattle.sip_field.specs.Values.{values_of};
+ghost use Rattle.sip_credentials.specs.Credentials as Said;
 ghost use Rattle.sip_policy.specs.User.{is_named};
 ghost use Rattle.sip_engine.specs.Proof.{is_realm, matching, first_for_realm, is_md5, quality_of, claim_from, claim_of, credential_of, written, is_same_uri, judged, proof_by, proof_from, proof_in, proof_of};
 
-use sip_digest::{Algorithm, Nonces, Worth};
-use sip_header::{Credentials, HeaderError, credentials_of};
+use sip_credentials::{Credentials, credentials_of};
+use sip_digest::Algorithm;
+use sip_header::HeaderError;
 use sip_message::{FieldName, Fields, Message, Start};
+use sip_nonces::{Nonces, Worth};
 use sip_policy::User;
 use sip_settings::Config;
 use sip_text::{Bytes, same_bytes, same_no_case};

@@ -1,7 +1,7 @@
 ghost use Rattle.std.specs.Prelude.{◌≡◌, IfOk, option_map};
 ghost use Rattle.std.specs.List.{list_any};
 ghost use Rattle.sip_text.specs.Words.{is_same_text};
-ghost use Rattle.sip_message.specs.Values.{values_of};
+ghost use Rattle.sip_field.specs.Values.{values_of};
 ghost use Rattle.sip_policy.specs.User.{is_named};
 ghost use Rattle.sip_engine.specs.Registration.{serves, inside_brackets, contact_of, only_contact, sip_uri, registration_for, registration_with, registration_in, has_none, is_register, registration_of};
 

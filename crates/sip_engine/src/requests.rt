@@ -7,8 +7,9 @@ ghost use Rattle.sip_transaction.specs.declared.letter.Letter.TheVariants.{J};
 
 use sip_event::{Packet, Ticket};
 use sip_header::{Key, same_key};
+use sip_host::Addr;
 use sip_server::{Action, ServerOther, ServerOtherInput};
-use sip_text::{Addr, Bytes, Items};
+use sip_text::{Bytes, Items};
 use sip_timers::{ListTimers, Name, Owner, Timer, TimerError, Timers};
 use sip_transaction::Letter;
 use std::alloc::{AllocError, Global};

@@ -1,7 +1,7 @@
 use crate::bindings::Bindings;
 use crate::requests::Requests;
-use sip_digest::Nonces;
-use sip_text::Addr;
+use sip_host::Addr;
+use sip_nonces::Nonces;
 
 /// What a server keeps between its steps.
 #[derive(Drop)]

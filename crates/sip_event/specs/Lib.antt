@@ -1,2 +1,2 @@
 pub use Rattle.sip_audit.specs.declared.record
-pub use Rattle.sip_text.specs.declared.addr
+pub use Rattle.sip_host.specs.declared.addr

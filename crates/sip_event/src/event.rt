@@ -1,6 +1,7 @@
 use crate::packet::{Packet, Ticket};
 use sip_audit::Record;
-use sip_text::{Addr, Bytes, Items};
+use sip_host::Addr;
+use sip_text::{Bytes, Items};
 
 /// What a server starts with: the word that its branches and To tags begin with, and the number of its
 /// first datagram.

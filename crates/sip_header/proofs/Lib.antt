@@ -3,5 +3,4 @@ pub mod OneValue
 pub mod Words
 pub mod NumberLaws
 pub mod ParameterLaws
-pub mod CredentialLaws
 pub mod NameAddrLaws

@@ -4,12 +4,12 @@ use Rattle.std.specs.Option.{option_and_then, unwrap_or}
 use Rattle.std.specs.List.{starts_with}
 use Rattle.std.specs.Str.{bytes_eq}
 use Rattle.sip_text.specs.Words.{without_case}
-use Rattle.sip_message.specs.declared.field.Field.{Field}
-use Rattle.sip_message.specs.declared.field_name.FieldName.TheVariants as Name
+use Rattle.sip_field.specs.declared.field.Field.{Field}
+use Rattle.sip_field.specs.declared.field_name.FieldName.TheVariants as Name
 use Rattle.sip_message.specs.declared.message.Start.{Start}
 use Rattle.sip_message.specs.declared.message.Start.TheVariants.{Request, Status}
 use Rattle.sip_message.specs.declared.message.Message.{Message}
-use Rattle.sip_message.specs.Values.{first_value}
+use Rattle.sip_field.specs.Values.{first_value}
 use Rattle.sip_header.specs.Parameters.{branch_of}
 use Rattle.sip_header.specs.Via.{via_of}
 use Rattle.sip_header.specs.declared.via.Via.{Via}

@@ -3,7 +3,6 @@ pub mod Parameters
 pub mod Via
 pub mod CSeq
 pub mod Key
-pub mod Credentials
 pub mod NameAddr
 pub mod CoreFields
 pub mod Examples

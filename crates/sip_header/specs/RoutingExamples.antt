@@ -1,8 +1,8 @@
 -- Places, contacts and requests for the worked examples of routing.
 use Rattle.std.specs.Prelude.{ℕ, List, [], ◌∷◌, map, codes, Option, None}
-use Rattle.sip_message.specs.declared.field.Field.{Field}
-use Rattle.sip_message.specs.declared.field_name.FieldName.{FieldName}
-use Rattle.sip_message.specs.declared.field_name.FieldName.TheVariants as Name
+use Rattle.sip_field.specs.declared.field.Field.{Field}
+use Rattle.sip_field.specs.declared.field_name.FieldName.{FieldName}
+use Rattle.sip_field.specs.declared.field_name.FieldName.TheVariants as Name
 use Rattle.sip_message.specs.declared.message.Start.TheVariants.{Request}
 use Rattle.sip_message.specs.declared.message.Message.{Message}
 use Rattle.sip_uri.specs.declared.scheme.Scheme.TheVariants as Scheme

@@ -6,8 +6,8 @@ use Rattle.std.specs.List.{list_any, slice_get}
 use Rattle.sip_uri.specs.declared.uri.Uri.{Uri}
 use Rattle.sip_uri.specs.Equality.{same, says_same_no_case}
 use Rattle.sip_uri.specs.Reading.{reading_of}
-use Rattle.sip_message.specs.declared.field_name.FieldName.TheVariants as Name
-use Rattle.sip_message.specs.declared.field.Field.{Field}
+use Rattle.sip_field.specs.declared.field_name.FieldName.TheVariants as Name
+use Rattle.sip_field.specs.declared.field.Field.{Field}
 use Rattle.sip_message.specs.declared.message.Start.{Start}
 use Rattle.sip_message.specs.declared.message.Start.TheVariants.{Request, Status}
 use Rattle.sip_message.specs.declared.message.Message.{Message}
@@ -19,7 +19,7 @@ use Rattle.sip_header.specs.declared.way.Way.{Way}
 use Rattle.sip_header.specs.NameAddr.{sip_uri}
 use Rattle.sip_header.specs.Own.{is_own_place, record_route_uri}
 use Rattle.sip_header.specs.Route.{route_of, uri_text}
-use Rattle.sip_message.specs.Values.{values_of, without_first, without_last}
+use Rattle.sip_field.specs.Values.{values_of, without_first, without_last}
 
 -- ---- own places
 

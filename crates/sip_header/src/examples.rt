@@ -1,10 +1,9 @@
 ghost use Rattle.std.specs.Prelude.{◌≡◌, [], ◌∷◌, codes, Some, None, Ok, Err};
-ghost use Rattle.sip_message.specs.declared.field_name.FieldName.TheVariants as Name;
+ghost use Rattle.sip_field.specs.declared.field_name.FieldName.TheVariants as Name;
 ghost use Rattle.sip_header.specs.declared.error.HeaderError.TheVariants.{Missing, Malformed};
 ghost use Rattle.sip_header.specs.Parameters.{tag_of};
 ghost use Rattle.sip_header.specs.Via.{via_of};
 ghost use Rattle.sip_header.specs.CSeq.{cseq_of};
-ghost use Rattle.sip_header.specs.Credentials.{credentials_of};
 ghost use Rattle.sip_header.specs.Key.{key_of};
 ghost use Rattle.sip_header.specs.CoreFields.{core_of};
 ghost use Rattle.sip_header.specs.Examples.{address_with, tag_a1, register_with, register_numbered, request_by};
@@ -50,14 +49,4 @@ pub fn key_parts()
     ensures no_port { key_of (request_by (codes "INVITE") (codes "SIP/2.0/UDP pc.host.com;branch=z9hG4bKinv1")) ≡ Some (record { branch = codes "z9hG4bKinv1"; host = codes "pc.host.com"; port = 5060; method = codes "INVITE" }) }
     ensures host_case { key_of (request_by (codes "INVITE") (codes "SIP/2.0/UDP PC.Host.COM;branch=z9hG4bKINV1")) ≡ Some (record { branch = codes "z9hG4bKINV1"; host = codes "pc.host.com"; port = 5060; method = codes "INVITE" }) }
     ensures no_cookie { key_of (request_by (codes "INVITE") (codes "SIP/2.0/UDP pc.host.com;branch=z9hg4bkinv1")) ≡ None }
-{}
-
-/// Names in any case, a comma in quoted text, and an item that is ignored; a lone `Digest`, a comma at the end and
-/// a name that stands twice are malformed.
-pub fn credentials_example()
-    ensures read { credentials_of (codes "digest UserName=\"a,b\" , nc=00000001, opaque=\"x\"") ≡ Some (record { username = Some (codes "a,b"); realm = None; nonce = None; uri = None; response = None; algorithm = None; qop = None; nc = Some (codes "00000001"); cnonce = None }) }
-    ensures lone { credentials_of (codes "Digest") ≡ None }
-    ensures comma { credentials_of (codes "Digest nc=1,") ≡ None }
-    ensures twice { credentials_of (codes "Digest x=1, X=2") ≡ None }
-    ensures scheme { credentials_of (codes "Basic x=1") ≡ None }
 {}

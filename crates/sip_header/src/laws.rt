@@ -4,8 +4,6 @@ ghost use Rattle.sip_header.specs.Parameters.{IsParameter, parameters_in};
 ghost use Rattle.sip_header.specs.Via.{IsVia, via_of};
 ghost use Rattle.sip_header.specs.declared.parameters.Parameter.{Parameter};
 ghost use Rattle.sip_header.specs.declared.via.Via.{Via};
-ghost use Rattle.sip_header.specs.Credentials.{IsCredentials, credentials_of};
-ghost use Rattle.sip_header.specs.declared.credentials.Credentials.{Credentials};
 ghost use Rattle.sip_header.specs.CSeq.{IsCSeq, cseq_of};
 ghost use Rattle.sip_header.specs.declared.cseq.CSeq.{CSeq};
 ghost use Rattle.sip_header.specs.NameAddr.{IsNameAddr, name_addr_of};
@@ -31,12 +29,6 @@ pub fn parameters_law()
 pub fn via_law()
     ensures read { (value : List ℕ) (via : Via) → IsVia value via → via_of value ≡ Some via }
     ensures written { (value : List ℕ) (via : Via) → via_of value ≡ Some via → IsVia value via }
-{}
-
-/// A value is read as credentials exactly where it writes those (RFC 2617 3.2.2).
-pub fn credentials_law()
-    ensures read { (value : List ℕ) (credentials : Credentials) → IsCredentials value credentials → credentials_of value ≡ Some credentials }
-    ensures written { (value : List ℕ) (credentials : Credentials) → credentials_of value ≡ Some credentials → IsCredentials value credentials }
 {}
 
 /// A value is read as an address exactly where it writes that, in brackets or without (RFC 3261 20.10).

@@ -5,7 +5,6 @@
 
 mod contact_item;
 mod core_fields;
-mod credentials;
 mod cseq;
 mod error;
 pub mod examples;
@@ -21,7 +20,6 @@ mod way;
 
 pub use contact_item::ContactItem;
 pub use core_fields::{CoreFields, core_of};
-pub use credentials::{Credentials, credentials_of};
 pub use cseq::{CSeq, cseq_of};
 pub use error::HeaderError;
 pub use expires::Expires;

@@ -4,11 +4,11 @@ ghost use Rattle.sip_header.specs.Reading.{Reads};
 
 use crate::error::HeaderError;
 use crate::parameters::{Parameter, parameters_from};
+use sip_host::host_port;
 use sip_message::FieldName;
 use sip_text::{
     Bytes, Items, first_part, is_token, same_no_case, split_outside, split_word, without_blanks,
 };
-use sip_uri::host_port;
 use std::alloc::{AllocError, Global};
 
 /// What a Via says.

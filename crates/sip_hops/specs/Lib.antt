@@ -1,4 +1,4 @@
-pub use Rattle.sip_text.specs.Addresses
+pub use Rattle.sip_host.specs.Addresses
 pub mod HostAddress
 pub mod Hop
 pub mod Examples

@@ -1,4 +1,5 @@
-use sip_text::{Addr, Bytes};
+use sip_host::Addr;
+use sip_text::Bytes;
 
 /// A hop to which rules send, as a gateway to another network. No two of a list have one name; who reads a
 /// configuration turns the name in a rule into a place of the list.

@@ -1,4 +1,5 @@
-use sip_text::{Addr, Bytes};
+use sip_host::Addr;
+use sip_text::Bytes;
 
 /// A row of the address table: where requests for a host and a port go. No two rows have one host and port.
 #[derive(Debug, Drop)]

@@ -139,6 +139,33 @@ pub few_live : (rows after : List Binding) (r : Registration) (now : ℕ) → re
 few_live rows after r now e few =
     after_either rows after r now (λ v. length (live r.aor now v) ≤ 16) (λ query. few) (λ h. rw (updated_live rows after r now h) h.few) e
 
+-- a filtered list is no longer
+filter-shorter : {X : Type 0} (p : X → Bool) (xs : List X) → length (filter p xs) ≤ length xs
+filter-shorter p [] = omega arith
+filter-shorter p (x ∷ xs) = by_test (p x) (filter-shorter p xs) where
+  by_test : (t : Bool) → length (filter p xs) ≤ length xs → length (cond t (x ∷ filter p xs) (filter p xs)) ≤ length (x ∷ xs)
+  by_test true h = omega (arith, h)
+  by_test false h = omega (arith, h)
+
+-- after an update the address of record has at most 16 at any moment
+updated_few : (rows after : List Binding) (r : Registration) (now moment : ℕ) → IsUpdated rows r now after → length (live r.aor moment after) ≤ 16
+updated_few rows after r now moment h =
+    let p : Binding → Bool = λ b. is_of r.aor b && is_live moment b in
+    let none : filter p (of_others r.aor rows) ≡ [] = filter-none p (of_others r.aor rows) (all_weaker (λ b. not (is_of r.aor b) ≡ true) (λ b. p b ≡ false) (of_others r.aor rows) (λ b e. grind (arith, nat_tests)) (each_passes (λ b. not (is_of r.aor b)) rows)) in
+    let shorter = filter-shorter p (edited rows r now) in
+    rw (← h.parts) (rw (filter-append p (of_others r.aor rows) (edited rows r now), none) (omega (arith, shorter, h.few)))
+
+-- where no address of record has more than 16, none has after a REGISTER
+pub few_ever : (rows after : List Binding) (r : Registration) (now moment : ℕ) → registered rows r now ≡ Ok after → ((aor : Aor) → length (live aor moment rows) ≤ 16) → (aor : Aor) → length (live aor moment after) ≤ 16
+few_ever rows after r now moment e few aor =
+    after_either rows after r now (λ v. length (live aor moment v) ≤ 16) (λ query. few aor) (λ h. by_test h (is_same_aor aor r.aor) refl) e where
+      unlike : is_same_aor aor r.aor ≡ false → aor ≡ r.aor → ⊥
+      unlike other same = let one : is_same_aor aor r.aor ≡ true = subst (λ (other : Aor). is_same_aor aor other ≡ true) same (same_itself aor) in absurd (cc)
+
+      by_test : IsUpdated rows r now after → (t : Bool) → is_same_aor aor r.aor ≡ t → length (live aor moment after) ≤ 16
+      by_test h true same = subst (λ (a : Aor). length (live a moment after) ≤ 16) (sym (same_is aor r.aor same)) (updated_few rows after r now moment h)
+      by_test h false other = subst (λ (lives : List Binding). length lives ≤ 16) (sym (updated_elsewhere rows after r now moment aor h (unlike other))) (few aor)
+
 pub none_expired : (aor : Aor) (now : ℕ) (rows : List Binding) → All (λ b. now < b.expires_at) (live aor now rows)
 none_expired aor now rows =
     let p : Binding → Bool = λ b. is_of aor b && is_live now b in

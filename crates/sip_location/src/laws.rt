@@ -28,6 +28,13 @@ pub fn at_most_sixteen()
     ensures { (rows after : List Binding) (r : Registration) (now : ℕ) → registered rows r now ≡ Ok after → length (live r.aor now rows) ≤ 16 → length (live r.aor now after) ≤ 16 }
 {}
 
+/// Where no address of record has more than 16 bindings that live at a moment, none has after a REGISTER,
+/// whichever moment that is.
+pub fn none_above_sixteen()
+    ensures { (rows after : List Binding) (r : Registration) (now moment : ℕ) → registered rows r now ≡ Ok after
+        → ((aor : Aor) → length (live aor moment rows) ≤ 16) → (aor : Aor) → length (live aor moment after) ≤ 16 }
+{}
+
 /// Rows that say the same do so in either order, through third rows, and from every later moment on.
 pub fn same_bindings()
     ensures itself { (from : ℕ) (rows : List Binding) → SameBindings from rows rows }

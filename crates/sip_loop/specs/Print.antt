@@ -1,7 +1,7 @@
 -- How the packets of a step are printed.
 use Rattle.std.specs.Prelude.{ℕ, Bool, true, false, List, ◌++◌, length, decimal, codes}
 use Rattle.std.specs.List.{flat_map}
-use Rattle.sip_text.specs.Addresses.{addr_text}
+use Rattle.sip_host.specs.Addresses.{addr_text}
 use Rattle.sip_event.specs.declared.packet.Packet.{Packet}
 use Rattle.sip_event.specs.declared.event.StepOut.{StepOut}
 

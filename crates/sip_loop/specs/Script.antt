@@ -7,9 +7,9 @@ use Rattle.sip_event.specs.declared.event.Event.TheVariants.{Datagram, Time, Fau
 use Rattle.sip_loop.specs.declared.script.DatagramHead.{DatagramHead}
 use Rattle.sip_loop.specs.declared.script.Line.{Line}
 use Rattle.sip_loop.specs.declared.script.Line.TheVariants.{Head, Whole}
-use Rattle.sip_text.specs.Addresses.{addr_of}
+use Rattle.sip_host.specs.Addresses.{addr_of}
 use Rattle.sip_text.specs.Numbers.{plain_decimal_of, plain_decimal_below, hex_bytes_of}
-use Rattle.sip_digest.specs.NonceText.{word_of}
+use Rattle.sip_nonces.specs.NonceText.{word_of}
 use Rattle.sip_text.specs.Splits.{split_at_byte}
 
 -- the second step, if the first gave a value

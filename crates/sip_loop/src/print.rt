@@ -5,7 +5,8 @@ ghost use Rattle.sip_loop.specs.declared.stop.Stop.TheVariants.{NoMemory, Write}
 
 use crate::stop::Stop;
 use sip_event::{Packet, StepOut};
-use sip_text::{Bytes, addr_text};
+use sip_host::addr_text;
+use sip_text::Bytes;
 use std::alloc::{AllocError, Global};
 use std::io::Write;
 

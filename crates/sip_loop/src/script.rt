@@ -2,11 +2,10 @@ ghost use Rattle.std.specs.Prelude.{◌≡◌, IfOk, Some, None, MatchOption};
 ghost use Rattle.sip_text.specs.Numbers;
 ghost use Rattle.sip_loop.specs.Script;
 
-use sip_digest::word_of;
 use sip_event::{Event, Ticket};
-use sip_text::{
-    Addr, addr_of, hex_bytes, plain_decimal, plain_decimal_below, same_bytes, split_once,
-};
+use sip_host::{Addr, addr_of};
+use sip_nonces::word_of;
+use sip_text::{hex_bytes, plain_decimal, plain_decimal_below, same_bytes, split_once};
 use std::alloc::{AllocError, Global};
 
 /// The first moment that is too large, in milliseconds.

@@ -9,4 +9,3 @@ pub mod StartAgain
 pub mod StartLaws
 pub mod Again
 pub mod FaultLaws
-pub mod Counting

@@ -1,14 +1,13 @@
 -- The fields that lines write, and those of them that a message keeps (RFC 3261 7.3).
-use Rattle.std.specs.Prelude.{◌≡◌, ℕ, Bool, true, ◌||◌, ◌&&◌, ◌==◌, nat_le, List, [], ◌∷◌, ◌++◌, map, filter, Option, Some, None, option_map, if◌then◌else◌}
+use Rattle.std.specs.Prelude.{◌≡◌, ℕ, Bool, true, ◌||◌, ◌&&◌, ◌==◌, nat_le, List, [], ◌∷◌, ◌++◌, map, Option, Some, None, option_map, if◌then◌else◌}
 use Rattle.std.specs.Option.{option_and_then}
 use Rattle.std.specs.List.{AllByRecursion, list_all}
 use Rattle.std.specs.Str.{byte}
 use Rattle.sip_text.specs.Words.{is_token_text}
 use Rattle.sip_text.specs.Lists.{is_blank, trimmed, end_trimmed, cut}
-use Rattle.sip_message.specs.declared.field_name.FieldName.{FieldName}
-use Rattle.sip_message.specs.declared.field.Field.{Field}
+use Rattle.sip_field.specs.declared.field.Field.{Field}
 use Rattle.sip_text.specs.Splits.{split_at_byte}
-use Rattle.sip_message.specs.FieldName.{name_of, is_length, is_list, is_same_name}
+use Rattle.sip_field.specs.FieldName.{name_of, is_length, is_list}
 
 -- neither a control character other than tab nor DEL (this project's profile of TEXT-UTF8 in RFC 3261 25.1)
 abbrev pub is_text : ℕ → Bool
@@ -54,12 +53,3 @@ pieces field =
 abbrev pub kept : List Field → Option (List Field)
 kept [] = Some []
 kept (field ∷ fields) = option_and_then (λ front. option_map (λ rest. front ++ rest) (kept fields)) (pieces field)
-
--- the first field of a name (RFC 3261 7.3.1)
-abbrev pub first_named : FieldName → List Field → Option Field
-first_named name [] = None
-first_named name (field ∷ fields) = if is_same_name field.name name then Some field else first_named name fields
-
--- the fields of a name, in their order
-abbrev pub all_named : FieldName → List Field → List Field
-all_named name fields = filter (λ field. is_same_name field.name name) fields

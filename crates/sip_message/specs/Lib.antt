@@ -1,10 +1,11 @@
 pub mod Lines
-pub mod FieldName
 pub mod Start
 pub mod Field
-pub mod Values
 pub mod Body
 pub mod Text
 pub mod Says
 pub mod Reading
 pub mod ReadError
+pub mod ViewStart
+pub mod ViewRefusal
+pub mod Seen

@@ -4,21 +4,25 @@ ghost use Rattle.sip_message.specs.Body.{lengths, one_length, body_of, is_short}
 ghost use Rattle.sip_message.specs.Reading.{Gives};
 ghost use Rattle.sip_message.specs.declared.error.ReadError.TheVariants.{BadField};
 
-use crate::error::ReadError;
-use crate::fields::Fields;
+use crate::view_error::ViewError;
+use crate::view_refusal::ViewRefusal;
+use sip_field::ViewFields;
 use sip_text::decimal;
 
 /// The one Content-Length, if there is one (RFC 3261 20.14).
-pub(crate) fn length_of(entries: &Fields) -> Result<Option<u64>, ReadError>
+pub(crate) fn length_of<'a>(entries: &ViewFields<'a>) -> Result<Option<u64>, ViewError<'a>>
     ensures { Gives (λ length. length) result (ok_or (one_length (lengths entries.now)) BadField) }
 {
     let mut length = None;
     for field in entries.as_slice() {
-        if field.name.is_content_length() {
+        if field.name().is_content_length() {
             if length.is_some() {
-                return Err(ReadError::BadField);
+                return Err(ViewError::new(ViewRefusal::BadField));
             }
-            length = Some(decimal(field.value.as_slice()).ok_or(ReadError::BadField)?);
+            let Some(number) = decimal(field.value().as_slice()) else {
+                return Err(ViewError::new(ViewRefusal::BadField));
+            };
+            length = Some(number);
         }
     }
     Ok(length)

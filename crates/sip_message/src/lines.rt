@@ -4,8 +4,9 @@ ghost use Rattle.sip_message.specs.Lines.{after_blanks, is_crlf, line_at, is_fol
 ghost use Rattle.sip_message.specs.Reading.{Gives};
 ghost use Rattle.sip_message.specs.declared.error.ReadError.TheVariants.{NotSip};
 
-use crate::error::ReadError;
 use crate::line::Line;
+use crate::view_error::ViewError;
+use crate::view_refusal::ViewRefusal;
 use memchr::memmem;
 use sip_text::is_space_or_tab;
 use std::alloc::{AllocError, Global};
@@ -76,7 +77,7 @@ fn take_line<'a>(alloc: Global, lines: &mut Vec<Line<'a>>, line: &'a [u8]) -> Re
 pub(crate) fn lines_of_head(
     alloc: Global,
     bytes: &[u8],
-) -> Result<(Vec<Line<'_>>, &[u8]), ReadError>
+) -> Result<(Vec<Line<'_>>, &[u8]), ViewError<'_>>
     ensures { Gives (λ x. (x.0.items, x.1.now)) result (ok_or (head_at bytes.now) NotSip) }
 {
     let mut lines = Vec::new(alloc);
@@ -88,5 +89,5 @@ pub(crate) fn lines_of_head(
         take_line(alloc, &mut lines, line)?;
         rest = after;
     }
-    Err(ReadError::NotSip)
+    Err(ViewError::new(ViewRefusal::NotSip))
 }

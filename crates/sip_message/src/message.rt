@@ -1,4 +1,4 @@
-use crate::fields::Fields;
+use sip_field::Fields;
 use sip_text::Bytes;
 
 /// The first line of a message: a request line (RFC 3261 7.1) or a status line (7.2), of which the version is

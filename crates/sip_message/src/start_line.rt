@@ -1,15 +1,18 @@
 ghost use Rattle.std.specs.Prelude.{◌≡◌, Ok};
 ghost use Rattle.std.specs.List.{list_all};
-ghost use Rattle.std.specs.Option.{ok_or};
+ghost use Rattle.std.specs.Option.{ok_or, option_and_then};
 ghost use Rattle.std.specs.Char.{is_ascii_digit};
 ghost use Rattle.sip_text.specs.Splits.{split_at_byte};
 ghost use Rattle.sip_message.specs.Start.{is_visible, is_uri, is_number, is_pair, is_unbroken, version_of, status_of, request_of, start_from, start_of};
+ghost use Rattle.sip_message.specs.ViewStart.{start_seen};
 ghost use Rattle.sip_message.specs.Reading.{Gives};
 ghost use Rattle.sip_message.specs.declared.error.ReadError.TheVariants.{NotSip};
 
-use crate::error::ReadError;
-use crate::message::Start;
-use sip_text::{Bytes, decimal, is_token, same_no_case, split_once};
+use crate::view_error::ViewError;
+use crate::view_refusal::ViewRefusal;
+use crate::view_start::ViewStart;
+use sip_field::Value;
+use sip_text::{Bytes, decimal, is_token, same_bytes, same_no_case, split_once};
 use std::alloc::Global;
 
 /// Whether each byte is one from `!` to `~`.
@@ -64,77 +67,92 @@ fn are_numbers(bytes: &[u8]) -> bool
 }
 
 /// The version that is written so, in upper case (RFC 3261 7.1).
-fn version_from(alloc: Global, word: &[u8]) -> Result<Bytes, ReadError>
+fn version_from<'a>(alloc: Global, word: &'a [u8]) -> Result<Value<'a>, ViewError<'a>>
     ensures { Gives (λ version. version) result (ok_or (version_of word.now) NotSip) }
 {
     if word.len() < 4 {
-        return Err(ReadError::NotSip);
+        return Err(ViewError::new(ViewRefusal::NotSip));
     }
     let (name, numbers) = word.split_at(4);
     if !same_no_case(name, b"SIP/") {
-        return Err(ReadError::NotSip);
+        return Err(ViewError::new(ViewRefusal::NotSip));
     }
     if !are_numbers(numbers) {
-        return Err(ReadError::NotSip);
+        return Err(ViewError::new(ViewRefusal::NotSip));
     }
-    Ok(Bytes::joined(alloc, b"SIP/", numbers)?)
+    if same_bytes(name, b"SIP/") {
+        return Ok(Value::of_part(word));
+    }
+    Ok(Value::of_bytes(Bytes::joined(alloc, b"SIP/", numbers)?))
 }
 
 /// A status line from its three digits and its reason (RFC 3261 7.2).
-fn status_from(alloc: Global, digits: &[u8], reason: &[u8]) -> Result<Start, ReadError>
-    ensures { Gives (λ start. start) result (ok_or (status_of digits.now reason.now) NotSip) }
+fn status_from<'a>(digits: &[u8], reason: &'a [u8]) -> Result<ViewStart<'a>, ViewError<'a>>
+    ensures { Gives start_seen result (ok_or (status_of digits.now reason.now) NotSip) }
 {
     if digits.len() != 3 {
-        return Err(ReadError::NotSip);
+        return Err(ViewError::new(ViewRefusal::NotSip));
     }
     if !all_unbroken(reason) {
-        return Err(ReadError::NotSip);
+        return Err(ViewError::new(ViewRefusal::NotSip));
     }
-    let code = decimal(digits).ok_or(ReadError::NotSip)?;
+    let Some(code) = decimal(digits) else {
+        return Err(ViewError::new(ViewRefusal::NotSip));
+    };
     if !(100 <= code && code < 700) {
-        return Err(ReadError::NotSip);
+        return Err(ViewError::new(ViewRefusal::NotSip));
     }
-    let reason = Bytes::copy(alloc, reason)?;
-    Ok(Start::Status {
+    Ok(ViewStart::Status {
         code: code as u16,
         reason,
     })
 }
 
 /// A request line from its three parts (RFC 3261 7.1).
-fn request_from(
+fn request_from<'a>(
     alloc: Global,
-    method: &[u8],
-    uri: &[u8],
-    version: &[u8],
-) -> Result<Start, ReadError>
-    ensures { Gives (λ start. start) result (ok_or (request_of method.now uri.now version.now) NotSip) }
+    method: &'a [u8],
+    uri: &'a [u8],
+    version: &'a [u8],
+) -> Result<ViewStart<'a>, ViewError<'a>>
+    ensures { Gives start_seen result (ok_or (request_of method.now uri.now version.now) NotSip) }
 {
     if !is_token(method) {
-        return Err(ReadError::NotSip);
+        return Err(ViewError::new(ViewRefusal::NotSip));
     }
     if !is_request_uri(uri) {
-        return Err(ReadError::NotSip);
+        return Err(ViewError::new(ViewRefusal::NotSip));
     }
     let version = version_from(alloc, version)?;
-    let method = Bytes::copy(alloc, method)?;
-    let uri = Bytes::copy(alloc, uri)?;
-    Ok(Start::Request {
+    Ok(ViewStart::Request {
         method,
         uri,
         version,
     })
 }
 
+/// A line cut at its first two spaces.
+fn three_words(line: &[u8]) -> Option<(&[u8], &[u8], &[u8])>
+    ensures { option_and_then (λ x. start_from x.0.now x.1.now x.2.now) result ≡ start_of line.now }
+{
+    let (first, rest) = split_once(line, b' ')?;
+    let (second, third) = split_once(rest, b' ')?;
+    Some((first, second, third))
+}
+
 /// The start line of a request or a response, cut at its first two spaces. A line whose first word is SIP/2.0 is a
 /// status line or none, since that is no method.
-pub(crate) fn start_of_line(alloc: Global, line: &[u8]) -> Result<Start, ReadError>
-    ensures { Gives (λ start. start) result (ok_or (start_of line.now) NotSip) }
+pub(crate) fn start_of_line<'a>(
+    alloc: Global,
+    line: &'a [u8],
+) -> Result<ViewStart<'a>, ViewError<'a>>
+    ensures { Gives start_seen result (ok_or (start_of line.now) NotSip) }
 {
-    let (first, rest) = split_once(line, b' ').ok_or(ReadError::NotSip)?;
-    let (second, third) = split_once(rest, b' ').ok_or(ReadError::NotSip)?;
+    let Some((first, second, third)) = three_words(line) else {
+        return Err(ViewError::new(ViewRefusal::NotSip));
+    };
     if same_no_case(first, b"SIP/2.0") {
-        status_from(alloc, second, third)
+        status_from(second, third)
     } else {
         request_from(alloc, first, second, third)
     }

@@ -1,10 +1,10 @@
-ghost use Rattle.std.specs.Prelude.{◌≡◌, ◌++◌, length, decimal, min, ◌-◌, ◌^◌, IfOk, OnOk};
+ghost use Rattle.std.specs.Prelude.{◌≡◌, ◌++◌, length, min, ◌-◌, ◌^◌, IfOk, OnOk};
 ghost use Rattle.std.specs.List.{flat_map};
 ghost use Rattle.sip_message.specs.Text.{start_text, field_line, field_text, text_of};
 
-use crate::field::Field;
+use crate::lengths::{line_length, request_length, status_length, whole_length};
 use crate::message::{Message, Start};
-use itoa::Buffer;
+use sip_field::Field;
 use sip_text::Bytes;
 use std::alloc::{AllocError, Global};
 
@@ -62,14 +62,6 @@ pub fn write(alloc: Global, message: &Message) -> Result<Bytes, AllocError>
     Ok(out)
 }
 
-/// The length of a decimal number.
-fn number_length(number: u64) -> usize
-    ensures { result ≡ length (decimal number) }
-{
-    let mut buffer = Buffer::new();
-    buffer.format(number).len()
-}
-
 /// The length of a start line without its CRLF, or the greatest `usize` where it is longer.
 fn start_length(start: &Start) -> usize
     ensures { result ≡ min (length (start_text start.now)) (2 ^ 64 - 1) }
@@ -79,15 +71,8 @@ fn start_length(start: &Start) -> usize
             method,
             uri,
             version,
-        } => method
-            .as_slice()
-            .len()
-            .saturating_add(uri.as_slice().len())
-            .saturating_add(version.as_slice().len())
-            .saturating_add(b"  ".len()),
-        Start::Status { code, reason } => number_length(u64::from(*code))
-            .saturating_add(reason.as_slice().len())
-            .saturating_add(b"SIP/2.0  ".len()),
+        } => request_length(method.as_slice(), uri.as_slice(), version.as_slice()),
+        Start::Status { code, reason } => status_length(*code, reason.as_slice()),
     }
 }
 
@@ -95,12 +80,7 @@ fn start_length(start: &Start) -> usize
 fn field_length(field: &Field) -> usize
     ensures { result ≡ min (length (field_text field.now)) (2 ^ 64 - 1) }
 {
-    field
-        .name
-        .spelling()
-        .len()
-        .saturating_add(field.value.as_slice().len())
-        .saturating_add(b": \r\n".len())
+    line_length(field.name.spelling(), field.value.as_slice())
 }
 
 /// The length of some fields, each with its CRLF, or the greatest `usize` where it is longer.
@@ -119,10 +99,7 @@ fn fields_length(fields: &[Field]) -> usize
 pub fn written_length(message: &Message) -> usize
     ensures { result ≡ min (length (text_of message.now)) (2 ^ 64 - 1) }
 {
-    let body = message.body.as_slice().len();
-    start_length(&message.start)
-        .saturating_add(fields_length(message.fields.as_slice()))
-        .saturating_add(number_length(body as u64))
-        .saturating_add(body)
-        .saturating_add(b"\r\nContent-Length: \r\n\r\n".len())
+    let start = start_length(&message.start);
+    let fields = fields_length(message.fields.as_slice());
+    whole_length(start, fields, message.body.as_slice().len())
 }

@@ -1,7 +1,7 @@
 -- No moment at which something goes again is passed over; with the deadlines, what had to fire has fired.
-use Rattle.std.proofs.Common.{◌≡◌, ℕ, ◌+◌, ◌≤◌, Bool, List, [], ◌∷◌, sym, subst, arith, filter_map, option_to_list}
+use Rattle.std.proofs.Common.{ℕ, ◌+◌, ◌≤◌, Bool, List, [], ◌∷◌, sym, subst, arith, filter_map, option_to_list}
 use Rattle.std.specs.List.{AllByRecursion}
-use Rattle.sip_text.specs.declared.addr.Addr.{Addr}
+use Rattle.sip_host.specs.declared.addr.Addr.{Addr}
 use Rattle.sip_event.specs.declared.event.StepOut.{StepOut}
 use Rattle.sip_event.specs.declared.event.Event.TheVariants.{Datagram, Time, Fault}
 use Rattle.sip_state.specs.Server.{Server}
@@ -11,7 +11,7 @@ use Rattle.sip_state.specs.declared.proxy_state.ProxyState.{ProxyState}
 use Rattle.sip_state.specs.State.{first_state, is_invite}
 use Rattle.sip_state.specs.SameState.{SameState}
 use Rattle.sip_context.specs.Branches.{acknowledged}
-use Rattle.sip_context.specs.Retransmission.{answer_due, resends_of, resends}
+use Rattle.sip_retransmission.specs.Retransmission.{answer_due, resends_of, resends}
 use Rattle.sip_model.specs.Step.{Act, Given, Passing, IsStep, NoneAgainBy, NoneAgainBefore, moment_of}
 use Rattle.sip_model.specs.Run.{Link, IsChain}
 use Rattle.sip_model.specs.Order.{HasFired, FinalAnswer}
@@ -58,7 +58,7 @@ each_again floor (r ∷ rs) waits all =
     (again_from_all floor r waits.0 parts.0, each_again floor rs waits.1 parts.1)
 
 -- and back
-all_again : (floor : ℕ) (requests : List OpenRequest) → AllByRecursion (IsAgain floor) requests → AllByRecursion (IsFrom floor) (resends requests)
+pub all_again : (floor : ℕ) (requests : List OpenRequest) → AllByRecursion (IsAgain floor) requests → AllByRecursion (IsFrom floor) (resends requests)
 all_again floor [] all = tt
 all_again floor (r ∷ rs) all = all_append (IsFrom floor) (resends_of r) (resends rs) (all_from_again floor r all.0) (all_again floor rs all.1)
 

@@ -1,5 +1,5 @@
 -- Branches, and right behind each the CANCEL that it is sent.
-use Rattle.std.proofs.Common.{◌≡◌, ℕ, ◌+◌, Bool, true, false, cond, List, [], ◌∷◌, ◌++◌, refl, arith, flat_map, count_by}
+use Rattle.std.proofs.Common.{ℕ, Bool, true, false, cond, List, [], ◌∷◌, ◌++◌, flat_map}
 use Rattle.std.specs.List.{AllByRecursion}
 use Rattle.sip_state.specs.declared.branch.Branch.{Branch}
 use Rattle.sip_context.specs.Branches.{is_cancellable, cancel_branch, held_branch, with_cancel}

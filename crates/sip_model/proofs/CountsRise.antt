@@ -10,13 +10,13 @@ use Rattle.sip_header.specs.declared.core_fields.CoreFields.{CoreFields}
 use Rattle.sip_policy.specs.declared.decision.Decision.{Decision}
 use Rattle.sip_policy.specs.declared.user.User.{User}
 use Rattle.sip_policy.specs.User.{is_named}
-use Rattle.sip_digest.specs.declared.nonces.Nonce.{Nonce}
-use Rattle.sip_digest.specs.declared.nonces.Worth.{Worth}
-use Rattle.sip_digest.specs.declared.nonces.Worth.TheVariants as Worths
+use Rattle.sip_nonces.specs.declared.nonces.Nonce.{Nonce}
+use Rattle.sip_nonces.specs.declared.nonces.Worth.{Worth}
+use Rattle.sip_nonces.specs.declared.nonces.Worth.TheVariants as Worths
 use Rattle.sip_digest.specs.Credential.{Credential, count_of}
-use Rattle.sip_digest.specs.Nonces.{worth_of}
-use Rattle.sip_message.specs.Values.{values_of}
-use Rattle.sip_message.specs.declared.field.Field.{Field}
+use Rattle.sip_nonces.specs.Nonces.{worth_of}
+use Rattle.sip_field.specs.Values.{values_of}
+use Rattle.sip_field.specs.declared.field.Field.{Field}
 use Rattle.sip_auth.specs.Proof as Proofs
 use Rattle.sip_auth.specs.Proof.{Proof, Claim, proof_of, proof_in, proof_from, proof_by, proof_with_key, key_of, claim_of, first_for_realm, credentials_field, is_equal_uri}
 use Rattle.sip_event.specs.declared.event.Event.TheVariants.{Datagram, Time, Fault}
@@ -121,7 +121,7 @@ said_asked : (server : Server) (state : ProxyState) (a : Arrival) (bytes : List 
 said_asked server state a bytes None h = tt
 said_asked server state a bytes (Some x) h = message_asked server state a bytes x.0 x.1 (is_by_policy (message_verdict server state a x.0 x.1)) h refl
 
-act_asked : (server : Server) (state : ProxyState) (act : Act) → IsAskedBy server state.nonces (judged_at server state act)
+pub act_asked : (server : Server) (state : ProxyState) (act : Act) → IsAskedBy server state.nonces (judged_at server state act)
 act_asked server state (Given (Datagram at word from bytes)) = said_asked server state (arrival_of state at word from) bytes (message_in (reading_of bytes)) refl
 act_asked server state (Given (Time at)) = tt
 act_asked server state (Given (Fault at ticket)) = tt

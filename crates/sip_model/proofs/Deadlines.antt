@@ -1,7 +1,7 @@
 -- No deadline is passed over: what stands after a step isn't before it, and later where all that was due fired.
-use Rattle.std.proofs.Common.{◌≡◌, ℕ, ◌+◌, ◌≤◌, ◌<◌, Bool, true, false, cond, ◌&&◌, List, [], ◌∷◌, ◌++◌, Option, Some, None, sym, subst, arith, filter_map, option_to_list}
+use Rattle.std.proofs.Common.{ℕ, ◌+◌, ◌≤◌, ◌<◌, Bool, true, false, cond, ◌&&◌, List, [], ◌∷◌, ◌++◌, Option, Some, None, sym, subst, arith, filter_map, option_to_list}
 use Rattle.std.specs.List.{AllByRecursion, cons_option}
-use Rattle.sip_text.specs.declared.addr.Addr.{Addr}
+use Rattle.sip_host.specs.declared.addr.Addr.{Addr}
 use Rattle.sip_event.specs.declared.event.StepOut.{StepOut}
 use Rattle.sip_event.specs.declared.event.Event.TheVariants.{Datagram, Time}
 use Rattle.sip_state.specs.Server.{Server}
@@ -87,7 +87,7 @@ each_due floor (r ∷ rs) all =
     (due_from_all floor r parts.0, each_due floor rs parts.1)
 
 -- and back
-all_due : (floor : ℕ) (requests : List OpenRequest) → AllByRecursion (IsDue floor) requests → AllByRecursion (IsFrom floor) (deadlines requests)
+pub all_due : (floor : ℕ) (requests : List OpenRequest) → AllByRecursion (IsDue floor) requests → AllByRecursion (IsFrom floor) (deadlines requests)
 all_due floor [] all = tt
 all_due floor (r ∷ rs) all = all_append (IsFrom floor) (deadlines_of r) (deadlines rs) (all_from_due floor r all.0) (all_due floor rs all.1)
 

@@ -1,7 +1,7 @@
 -- Each deadline of a request that passes leaves fewer that may still pass.
-use Rattle.std.proofs.Common.{◌++◌, ◌≡◌, inl, inr, ℕ, ◌+◌, ◌≤◌, Bool, true, false, not, ◌&&◌, cond, ◌==◌, List, [], ◌∷◌, map, filter, Option, Some, None, refl, sym, ap, subst, ◌∙◌, arith, sum_by, count_by, flat_map}
+use Rattle.std.proofs.Common.{◌++◌, ◌≡◌, inl, inr, ℕ, ◌+◌, ◌≤◌, Bool, true, false, not, ◌&&◌, cond, ◌==◌, List, [], ◌∷◌, map, Option, Some, None, refl, sym, ap, subst, ◌∙◌, arith, sum_by, count_by, flat_map}
 use Rattle.std.proofs.lemmas.Bool.Decides.{nat_tests}
-use Rattle.std.proofs.lemmas.List.Sums.{sum_by-cons, sum_by-append}
+use Rattle.std.proofs.lemmas.List.Sums.{sum_by-cons}
 use Rattle.sip_state.specs.Server.{Server}
 use Rattle.sip_state.specs.declared.branch.Phase.{Phase}
 use Rattle.sip_state.specs.declared.open_request.Side.{Side}
@@ -11,7 +11,10 @@ use Rattle.sip_state.specs.declared.branch.Phase.TheVariants.{Unheard, Heard, Ca
 use Rattle.sip_state.specs.declared.open_request.Side.TheVariants.{Answering, Closing, Acknowledged, Closed}
 use Rattle.sip_state.specs.State.{is_invite, is_answering, phase_deadline, side_deadline, is_provisional}
 use Rattle.sip_state.specs.declared.open_request.Upward.{Upward}
-use Rattle.sip_context.specs.Branches.{Change, is_same_branch, with_phase, given_up, best_upward, is_ready, is_cancellable, cancel_branch, new_cancels, after_upward, settled, target_overdue, side_overdue, turned, held_branch, with_cancel}
+use Rattle.sip_event.specs.declared.packet.Packet.{Packet}
+use Rattle.sip_state.specs.declared.resend.Resend.{Resend}
+use Rattle.sip_retransmission.specs.Retransmission.{resent_branch, branch_next, IsResent, OfAnswer, OfRequest}
+use Rattle.sip_context.specs.Branches.{Change, is_same_branch, with_phase, given_up, best_upward, is_ready, is_cancellable, cancel_branch, after_upward, settled, target_overdue, side_overdue, turned, held_branch, with_cancel}
 use Rattle.sip_model.specs.Step.{IsOverdue, OfSide, OfBranch}
 use Rattle.sip_model.specs.Order.{phase_left, side_left, deadlines_left}
 use Rattle.sip_model.proofs.Places.{IsIn, in_from_contains, count_cons, one_at, none_at}
@@ -130,7 +133,7 @@ both_same true = refl
 both_same false = refl
 
 -- a branch is the same as itself
-same_branch : (b : Branch) → is_same_branch b b ≡ true
+pub same_branch : (b : Branch) → is_same_branch b b ≡ true
 same_branch b = let number : (b.number == b.number) ≡ true = grind (arith, nat_tests) in ap (λ (t : Bool). t && cond b.is_cancel b.is_cancel (not b.is_cancel)) number ∙ both_same b.is_cancel
 
 -- where a branch with a deadline ends, fewer are left
@@ -202,3 +205,17 @@ side_passed server now due r e = omega (arith, settled_left server now (record r
 pub passed_left : (server : Server) (due : ℕ) (r : OpenRequest) (change : Change) → IsOverdue server due r change → deadlines_left change.request + 1 ≤ deadlines_left r
 passed_left server due r change (OfSide e) = side_passed server due due r e
 passed_left server due r change (OfBranch b there e) = branch_passed server due due r b b.is_cancel refl (in_from_contains r.branches b there) e
+
+-- ---- what goes again
+
+-- a branch that went again has as many left
+again_left : (next : Resend) (x : Branch) (t : Bool) → phase_left (cond t (record x { again = next }) x).phase ≤ phase_left x.phase
+again_left next x true = omega arith
+again_left next x false = omega arith
+
+-- so has a request something of which went again
+pub resent_left : (server : Server) (due : ℕ) (r : OpenRequest) (packets : List Packet) (next : OpenRequest) → IsResent server due r packets next → deadlines_left next ≤ deadlines_left r
+resent_left server due r _ _ (OfAnswer is) = omega arith
+resent_left server due r _ _ (OfRequest b there is) =
+    let branches = map_left (resent_branch b (branch_next r b)) r.branches (λ x. again_left (branch_next r b) x (is_same_branch x b)) in
+    omega (arith, branches)

@@ -2,11 +2,11 @@
 use Rattle.std.proofs.Common.{◌≡◌, ◌∙◌, inr, ℕ, ◌+◌, ◌&&◌, ◌||◌, ◌==◌, not, List, [], ◌∷◌, ◌++◌, filter, flat_map, cond, Bool, true, false, refl, sym, ap, ap₂, subst, Contains, Option, Some, None, IfSome, option_map, true≢false, arith}
 use Rattle.std.specs.List.{AllByRecursion}
 use Rattle.std.specs.Option.{option_map_or}
-use Rattle.sip_message.specs.declared.field.Field.{Field}
+use Rattle.sip_field.specs.declared.field.Field.{Field}
 use Rattle.sip_message.specs.declared.message.Start.TheVariants.{Status}
 use Rattle.sip_message.specs.declared.message.Message.{Message}
-use Rattle.sip_message.specs.declared.field_name.FieldName.TheVariants as Name
-use Rattle.sip_message.specs.Values.{first_value}
+use Rattle.sip_field.specs.declared.field_name.FieldName.TheVariants as Name
+use Rattle.sip_field.specs.Values.{first_value}
 use Rattle.sip_message.specs.Text.{text_of}
 use Rattle.sip_edit.specs.OwnVia.{without_top_via}
 use Rattle.sip_edit.specs.OwnRequests.{cancel_of}
@@ -33,7 +33,7 @@ use Rattle.sip_model.specs.Access.{CameFor, IsTakenAlong, IsSaidAt, IsOpen, IsDe
 use Rattle.sip_model.proofs.Places.{in_from_contains}
 use Rattle.sip_model.proofs.Apart.{TargetsDiffer, only_target}
 use Rattle.sip_model.proofs.Lists.{all_append, all_map, all_passing, all_flat_map, all_weaker, all_there}
-use Rattle.sip_model.proofs.Finals.{IsHonest, IsMarked, IsHonestRequest, AreHonest, IsTaken, IsTakenAs, GoesUp, best_taken, came_never}
+use Rattle.sip_model.proofs.Finals.{IsHonest, IsMarked, IsOfSixteen, IsHonestRequest, AreHonest, IsTaken, IsTakenAs, GoesUp, best_taken, came_never}
 use Rattle.sip_model.proofs.Later.{bare, IsBranchOf, IsLater, IsHeardIn, later_itself, later_with_phase, later_with_answer, later_after_upward, later_with_cancels, later_overdue, later_with_side, later_given_up, later_marked, all_either}
 
 -- a branch that is sent a CANCEL is none, is to be cancelled, and is ready for it
@@ -69,6 +69,7 @@ module _ (server : Server) (history : List Link) (state : ProxyState) (act : Act
     pub finals : AllByRecursion (IsHonest server history r.number) c.request.finals
     pub marks : AllByRecursion (IsMarked r) c.request.branches
     pub differ : TargetsDiffer c.request.branches
+    pub numbers : AllByRecursion IsOfSixteen c.request.branches
 
   -- ---- what goes to the caller
 
@@ -172,6 +173,7 @@ module _ (server : Server) (history : List Link) (state : ProxyState) (act : Act
         finals = whole.finals;
         marks = all_weaker (IsBranchOf server state act r) (IsMarked r) (λ b h. h.is_marked) (settled server now acks relayed s).request.branches whole.branches;
         differ = whole.differ;
+        numbers = all_weaker (IsBranchOf server state act r) IsOfSixteen (λ b h. h.is_of_sixteen) (settled server now acks relayed s).request.branches whole.branches;
       } where
         same_branches : (o : Option Upward) (q : OpenRequest) → (after_upward now o q).branches ≡ q.branches
         same_branches None q = refl

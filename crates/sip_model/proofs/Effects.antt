@@ -1,16 +1,18 @@
 -- What a verdict on a datagram does sends what is owed.
-use Rattle.std.proofs.Common.{◌≡◌, ◌∙◌, ℕ, ◌+◌, ◌&&◌, not, is_some, List, [], ◌∷◌, ◌++◌, map, filter, flat_map, cond, codes, bytes_eq, Bool, true, false, refl, sym, ap, ap₂, subst, Contains, Option, Some, None, IfSome, true≢false, arith}
+use Rattle.std.proofs.Common.{◌≡◌, ◌∙◌, ℕ, ◌+◌, ◌≤◌, ◌&&◌, not, is_some, List, [], ◌∷◌, ◌++◌, length, map, filter, flat_map, cond, codes, bytes_eq, Bool, true, false, refl, sym, ap, ap₂, subst, Contains, Option, Some, None, IfSome, true≢false, arith}
 use Rattle.std.specs.List.{AllByRecursion}
-use Rattle.sip_message.specs.declared.field.Field.{Field}
+use Rattle.sip_uri.specs.declared.aor.Aor.{Aor}
+use Rattle.sip_field.specs.declared.field.Field.{Field}
 use Rattle.sip_message.specs.declared.message.Message.{Message}
 use Rattle.sip_message.specs.Text.{text_of}
 use Rattle.sip_header.specs.declared.core_fields.CoreFields.{CoreFields}
-use Rattle.sip_text.specs.declared.addr.Addr.{Addr}
-use Rattle.sip_edit.specs.Extras.{denial_warning}
+use Rattle.sip_host.specs.declared.addr.Addr.{Addr}
+use Rattle.sip_reply.specs.Extras.{denial_warning}
 use Rattle.sip_edit.specs.Onward.{onward_uri, with_record_route}
 use Rattle.sip_policy.specs.declared.decision.Decision.{Decision}
 use Rattle.sip_policy.specs.declared.operation.Operation.{Operation}
 use Rattle.sip_best.specs.declared.final_answer.Final.{Final}
+use Rattle.sip_location.specs.Binding.{live}
 use Rattle.sip_targets.specs.declared.target.Target.{Target}
 use Rattle.sip_targets.specs.declared.targets.Targets.{Targets}
 use Rattle.sip_targets.specs.Targets.{target_list}
@@ -30,9 +32,10 @@ use Rattle.sip_model.specs.Effect.{Effect, arriving, replaced, upward_packets, c
 use Rattle.sip_model.specs.Step.{Act}
 use Rattle.sip_model.specs.Run.{Link}
 use Rattle.sip_model.specs.Access.{CameFor, IsNewRequest, IsSaidAt, IsOpen, IsDenied, IsWithin, Brought, Before, ToTarget, Answers, InKnownDialog, decision_on, targets_on, requests_to}
+use Rattle.sip_model.proofs.Sixteen.{few_targets, numbered_to_sixteen}
 use Rattle.sip_model.proofs.Apart.{TargetsDiffer, one_differs, from_differ}
 use Rattle.sip_model.proofs.Lists.{all_append, all_map, all_weaker, all_every, all_contains, all_there}
-use Rattle.sip_model.proofs.Finals.{IsHonest, IsMarked, IsHonestRequest, AreHonest, honest_anyway}
+use Rattle.sip_model.proofs.Finals.{IsHonest, IsMarked, IsOfSixteen, IsHonestRequest, AreHonest, honest_anyway}
 use Rattle.sip_model.proofs.Later.{IsLater, later_itself, later_tried, later_acknowledged, later_honest}
 use Rattle.sip_model.proofs.Due.{Owed, MayGoUp, Made, IsDue, IsAcknowledgeable, new_goes_up, settled_due, responded_due, cancelled_due, upward_owed, change_owed, replaced_honest}
 use Rattle.sip_model.proofs.Fitting.{Fits, IsResponding, IsBrought, IsPassing, IsInside, IsAsked, IsSending, RefusesOtherwise, brought, registration_other}
@@ -90,6 +93,7 @@ module _ (server : Server) (history : List Link) (state : ProxyState) (act : Act
         finals = subst (λ (q : OpenRequest). AllByRecursion (IsHonest server history q.number) c.request.finals) (sym due.is_same) due.finals;
         marks = subst (λ (q : OpenRequest). AllByRecursion (IsMarked q) c.request.branches) (sym due.is_same) due.marks;
         differ = due.differ;
+        numbers = due.numbers;
       }
 
   -- the change of an open request
@@ -136,7 +140,7 @@ module _ (server : Server) (history : List Link) (state : ProxyState) (act : Act
     replied_good status extras records s opened denial h =
         record {
           sends = (Answers a.number m a.from status extras opened denial refl, tt);
-          honest = opened_honest _ s (record { finals = tt; marks = tt; differ = λ number. omega arith }) h;
+          honest = opened_honest _ s (record { finals = tt; marks = tt; differ = λ number. omega arith; numbers = tt }) h;
         }
 
     -- by another status than 403
@@ -188,10 +192,10 @@ module _ (server : Server) (history : List Link) (state : ProxyState) (act : Act
           never false = refl
 
     -- a request is sent to its branches, and is open from now on
-    forked_good : (branches : List Branch) (records : List Record) (s : ProxyState) → AllByRecursion (λ (b : Branch). b.wants_cancel ≡ false) branches → TargetsDiffer branches
+    forked_good : (branches : List Branch) (records : List Record) (s : ProxyState) → AllByRecursion (λ (b : Branch). b.wants_cancel ≡ false) branches → TargetsDiffer branches → AllByRecursion IsOfSixteen branches
         → AllByRecursion (Owed server history state act state.bindings) (flat_map (branch_packets server false (forking a m branches)) branches) → IsOpen state act a.number m a.from
         → AreHonest server history s.requests → IsGood (forked server a.now (forking a m branches) records s)
-    forked_good branches records s unwanted differ sent opened h =
+    forked_good branches records s unwanted differ numbers sent opened h =
         let r : OpenRequest = forking a m branches in
         let begun : OpenRequest = tried a.now (trying server r) r in
         let owed : Packet → Type 0 = Owed server history state act state.bindings in
@@ -200,6 +204,7 @@ module _ (server : Server) (history : List Link) (state : ProxyState) (act : Act
           finals = honest_anyway server history a.number (unsent branches) (unsent_honest server [] a.number branches);
           marks = all_weaker (λ (b : Branch). b.wants_cancel ≡ false) (IsMarked r) (λ b unmarked wanted. absurd (true≢false (sym wanted ∙ unmarked))) branches unwanted;
           differ = differ;
+          numbers = numbers;
         }
         in
         let later : IsLater server history state act r begun = later_tried server history state act r a.now (trying server r) r (later_itself server history state act r fresh) in
@@ -229,18 +234,19 @@ module _ (server : Server) (history : List Link) (state : ProxyState) (act : Act
           trying_answers false = tt
 
     -- a request that was let through is sent to its targets
-    targets_good : (targets : List Target) (q : Question) (id : ℕ) (s : ProxyState)
+    targets_good : (targets : List Target) (q : Question) (id : ℕ) (s : ProxyState) → length targets ≤ 16
         → AllByRecursion (Owed server history state act state.bindings) (requests_to server a m targets) → IsOpen state act a.number m a.from → AreHonest server history s.requests
         → IsGood (sent_to server a m q id targets s)
-    targets_good targets q id s sent opened h = forked_good (branches_from a.now 1 targets) _ (asked a q s) (targets_uncancelled a.now 1 targets) (from_differ a.now 1 targets) sent opened h
+    targets_good targets q id s few sent opened h =
+        forked_good (branches_from a.now 1 targets) _ (asked a q s) (targets_uncancelled a.now 1 targets) (from_differ a.now 1 targets) (numbered_to_sixteen a.now 1 targets (omega (arith, few))) sent opened h
 
     -- a request that was let through is sent to its targets, or answered by 404 or 480
-    sending_good : (q : Question) (id : ℕ) (targets : Targets) (s : ProxyState) → AllByRecursion (Owed server history state act state.bindings) (requests_to server a m (target_list targets))
+    sending_good : (q : Question) (id : ℕ) (targets : Targets) (s : ProxyState) → length (target_list targets) ≤ 16 → AllByRecursion (Owed server history state act state.bindings) (requests_to server a m (target_list targets))
         → IsOpen state act a.number m a.from → AreHonest server history s.requests → IsGood (sending server a m q id targets s)
-    sending_good q id Targets.NotFound s sent opened h = answered_good 404 [] _ (asked a q s) opened (λ e. omega arith) h
-    sending_good q id Targets.Unavailable s sent opened h = answered_good 480 [] _ (asked a q s) opened (λ e. omega arith) h
-    sending_good q id (Targets.Bindings targets) s sent opened h = targets_good targets q id s sent opened h
-    sending_good q id (Targets.Hop uri address) s sent opened h = targets_good (record { uri = uri; address = Some address } ∷ []) q id s sent opened h
+    sending_good q id Targets.NotFound s few sent opened h = answered_good 404 [] _ (asked a q s) opened (λ e. omega arith) h
+    sending_good q id Targets.Unavailable s few sent opened h = answered_good 480 [] _ (asked a q s) opened (λ e. omega arith) h
+    sending_good q id (Targets.Bindings targets) s few sent opened h = targets_good targets q id s few sent opened h
+    sending_good q id (Targets.Hop uri address) s few sent opened h = targets_good (record { uri = uri; address = Some address } ∷ []) q id s few sent opened h
 
     -- these targets are those that the rules give
     targets_same : (q : Question) (id : ℕ) (targets : Targets) (h : IsSending server state a bytes m q id targets)
@@ -324,21 +330,22 @@ module _ (server : Server) (history : List Link) (state : ProxyState) (act : Act
     -- what a verdict that fits does is good, where each response came for its branch
     pub effect_good : (v : Verdict) → Fits server state a bytes m short v
         → ((r : OpenRequest) (b : Branch) (status : ℕ) → IsResponding server state m short r b status → b.is_cancel ≡ false → CameFor server history r.number status m)
-        → AreHonest server history state.requests → IsGood (effect_of server a m v (counted a state))
-    effect_good Drop fits came h = nothing_good (counted a state) h
-    effect_good (Respond r b status) fits came h = let good = responded_good r b status fits (came r b status fits) h in record { sends = good.sends; honest = good.honest }
-    effect_good (Copy r) fits came h = copied_good r (counted a state) (kept_honest r fits h) h
-    effect_good (AckOn address id) fits came h = record { sends = (within_owed address id fits _ refl refl refl, tt); honest = h }
-    effect_good (Cancel found) fits came h = cancelling_good found (counted a state) fits.1 (opened_by fits.0) h h
-    effect_good (Answer status extras) fits came h = answered_good status extras [] (counted a state) (opened_by fits.0) fits.1 h
-    effect_good (InDialog address id) fits came h =
-        forked_good (dialog_branch server a.now m address ∷ []) [] (renewing server a m id (counted a state)) (refl, tt) (one_differs (dialog_branch server a.now m address))
+        → ((aor : Aor) → length (live aor a.now state.bindings) ≤ 16) → AreHonest server history state.requests → IsGood (effect_of server a m v (counted a state))
+    effect_good Drop fits came few h = nothing_good (counted a state) h
+    effect_good (Respond r b status) fits came few h = let good = responded_good r b status fits (came r b status fits) h in record { sends = good.sends; honest = good.honest }
+    effect_good (Copy r) fits came few h = copied_good r (counted a state) (kept_honest r fits h) h
+    effect_good (AckOn address id) fits came few h = record { sends = (within_owed address id fits _ refl refl refl, tt); honest = h }
+    effect_good (Cancel found) fits came few h = cancelling_good found (counted a state) fits.1 (opened_by fits.0) h h
+    effect_good (Answer status extras) fits came few h = answered_good status extras [] (counted a state) (opened_by fits.0) fits.1 h
+    effect_good (InDialog address id) fits came few h =
+        forked_good (dialog_branch server a.now m address ∷ []) [] (renewing server a m id (counted a state)) (refl, tt) (one_differs (dialog_branch server a.now m address)) (omega arith, tt)
         (within_owed address id fits.1 _ refl (plain_onward address id fits.1) refl, tt) (opened_by fits.0) h
-    effect_good (Challenge q) fits came h =
+    effect_good (Challenge q) fits came few h =
         answered_good (challenge_status q.operation) _ _ (issuing a (asked a q (counted a state))) (opened_new fits.method fits.core fits.is_new) (challenge_other q.operation) h
-    effect_good (Deny q id) fits came h = denied_good q id _ (asked a q (counted a state)) fits h
-    effect_good (Send q id targets) fits came h =
-        sending_good q id targets (counted a state) (targets_owed q id targets fits) (opened_new fits.asked.method fits.asked.core fits.asked.is_new) h
-    effect_good (Register q id outcome) fits came h =
+    effect_good (Deny q id) fits came few h = denied_good q id _ (asked a q (counted a state)) fits h
+    effect_good (Send q id targets) fits came few h =
+        sending_good q id targets (counted a state)
+        (subst (λ (ts : Targets). length (target_list ts) ≤ 16) (sym fits.targets_are) (few_targets server state.bindings a.now m q fits.decision few)) (targets_owed q id targets fits) (opened_new fits.asked.method fits.asked.core fits.asked.is_new) h
+    effect_good (Register q id outcome) fits came few h =
         registering_good q id outcome (counted a state) (subst RefusesOtherwise (sym fits.outcome_is) (registration_other server state.bindings a.now m fits.asked.core))
         (opened_new fits.asked.method fits.asked.core fits.asked.is_new) h

@@ -15,7 +15,7 @@ use Rattle.sip_state.specs.declared.branch.Phase.TheVariants.{Unheard, Heard, Ca
 use Rattle.sip_state.specs.declared.open_request.Side.TheVariants.{Answering, Closing, Acknowledged, Closed}
 use Rattle.sip_state.specs.State.{first_state, is_invite, is_final, is_ended, is_answering, is_closed, phase_deadline, side_deadline, deadlines_of, has_left, is_provisional}
 use Rattle.sip_state.specs.declared.open_request.Upward.{Upward}
-use Rattle.sip_context.specs.Retransmission.{IsResent, OfAnswer, OfRequest, branch_next}
+use Rattle.sip_retransmission.specs.Retransmission.{IsResent, OfAnswer, OfRequest, branch_next}
 use Rattle.sip_context.specs.Branches.{is_same_branch, all_final, best_upward, after_upward, settled, acknowledged, acknowledged_side, was_refused}
 use Rattle.sip_verdict.specs.Verdict.{Arrival}
 use Rattle.sip_model.specs.Effect.{forking, unsent, tried, trying}

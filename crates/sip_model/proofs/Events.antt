@@ -14,7 +14,7 @@ use Rattle.sip_state.specs.declared.branch.Phase.TheVariants.{Unheard, Heard, Ca
 use Rattle.sip_state.specs.declared.open_request.Side.TheVariants.{Answering, Closing, Acknowledged, Closed}
 use Rattle.sip_state.specs.State.{is_invite, is_final, is_answering, phase_deadline, side_deadline, is_success, is_decline, is_provisional}
 use Rattle.sip_state.specs.declared.open_request.Upward.{Upward}
-use Rattle.sip_context.specs.Retransmission.{IsResent, OfAnswer, OfRequest, branch_next}
+use Rattle.sip_retransmission.specs.Retransmission.{IsResent, OfAnswer, OfRequest, branch_next}
 use Rattle.sip_context.specs.Branches.{Change, is_same_branch, with_phase, with_final, marked, given_up, settled, invite_heard, other_heard, heard, relayed_from, relayed_provisional, relayed_success, is_accepted, further, with_answer, acks_of, final_of, linger, target_responded, cancel_responded, responded, target_overdue, side_overdue, turned, told_to}
 use Rattle.sip_model.specs.Step.{IsOverdue, OfSide, OfBranch}
 use Rattle.sip_model.specs.Order.{IsChangeOf, ByResponse, ByDeadline, ByFault, ByCancel}

@@ -1,12 +1,12 @@
 -- What open requests keep: where their final answers come from, what goes up of these, and which branches are to be cancelled.
-use Rattle.std.proofs.Common.{◌≡◌, ℕ, ◌==◌, List, [], ◌∷◌, cond, Bool, true, false, refl, true≢false, ◌∙◌, ap, subst, sym, Contains, Option, Some, None, IfSome, option_map, arith}
+use Rattle.std.proofs.Common.{◌≡◌, ℕ, ◌≤◌, ◌==◌, List, [], ◌∷◌, cond, Bool, true, false, refl, true≢false, ◌∙◌, ap, subst, sym, Contains, Option, Some, None, IfSome, option_map, arith}
 use Rattle.std.specs.List.{AllByRecursion, flat_map}
-use Rattle.sip_message.specs.declared.field_name.FieldName.{FieldName}
-use Rattle.sip_message.specs.declared.field_name.FieldName.TheVariants as Name
-use Rattle.sip_message.specs.declared.field.Field.{Field}
+use Rattle.sip_field.specs.declared.field_name.FieldName.{FieldName}
+use Rattle.sip_field.specs.declared.field_name.FieldName.TheVariants as Name
+use Rattle.sip_field.specs.declared.field.Field.{Field}
 use Rattle.sip_message.specs.declared.message.Message.{Message}
-use Rattle.sip_message.specs.FieldName.{is_same_name}
-use Rattle.sip_message.specs.Values.{without_first}
+use Rattle.sip_field.specs.FieldName.{is_same_name}
+use Rattle.sip_field.specs.Values.{without_first}
 use Rattle.sip_edit.specs.OwnVia.{without_top_via}
 use Rattle.sip_best.specs.declared.final_answer.Final.{Final}
 use Rattle.sip_best.specs.Best.{picked, chosen_of, is_unbeaten, is_challenge_status, is_challenge_field, challenge_fields, challenges_of, challenging, going_up, best_of, taking_along}
@@ -40,11 +40,16 @@ IsHonest server history number f = IsHonestAs server history number f.status f.m
 abbrev pub IsMarked : OpenRequest → Branch → Type 0
 IsMarked r b = b.wants_cancel ≡ true → is_invite r ≡ true
 
--- an open request keeps honest answers, has branches that are to be cancelled only as an INVITE, and no two branches to one target
+-- the number of a branch is at most 16
+abbrev pub IsOfSixteen : Branch → Type 0
+IsOfSixteen b = b.number ≤ 16
+
+-- an open request keeps honest answers, has branches that are to be cancelled only as an INVITE, no two branches to one target, and none of a number above 16
 pub record IsHonestRequest (server : Server) (history : List Link) (r : OpenRequest) : Type 0 where
   pub finals : AllByRecursion (IsHonest server history r.number) r.finals
   pub marks : AllByRecursion (IsMarked r) r.branches
   pub differ : TargetsDiffer r.branches
+  pub numbers : AllByRecursion IsOfSixteen r.branches
 
 -- all open requests are honest
 abbrev pub AreHonest : Server → List Link → List OpenRequest → Type 0
@@ -88,7 +93,7 @@ finals_before server link history number finals h =
 pub honest_before : (server : Server) (link : Link) (history : List Link) (requests : List OpenRequest) → AreHonest server history requests → AreHonest server (link ∷ history) requests
 honest_before server link history requests h =
     all_weaker (IsHonestRequest server history) (IsHonestRequest server (link ∷ history))
-    (λ r own. record { finals = finals_before server link history r.number r.finals own.finals; marks = own.marks; differ = own.differ }) requests h
+    (λ r own. record { finals = finals_before server link history r.number r.finals own.finals; marks = own.marks; differ = own.differ; numbers = own.numbers }) requests h
 
 -- nothing came in an empty history
 pub came_never : (server : Server) (number status : ℕ) (m : Message) → CameFor server [] number status m → ⊥

@@ -1,15 +1,15 @@
 -- Two runs, one behind the other, are one.
-use Rattle.std.proofs.Common.{◌≡◌, ◌∙◌, ℕ, List, [], ◌∷◌, ◌++◌, reverse, refl, sym, ap, ap₂, subst, Option, Some, None}
+use Rattle.std.proofs.Common.{◌≡◌, ◌∙◌, ℕ, List, [], ◌∷◌, ◌++◌, reverse, refl, sym, ap, ap₂, subst, Option, Some}
 use Rattle.std.proofs.lemmas.List.{reverse-append}
 use Rattle.sip_event.specs.declared.event.StepOut.{StepOut}
 use Rattle.sip_event.specs.declared.event.Event.{Event}
 use Rattle.sip_state.specs.Server.{Server}
 use Rattle.sip_state.specs.declared.proxy_state.ProxyState.{ProxyState}
 use Rattle.sip_model.specs.Step.{Act, Given, Passing}
-use Rattle.sip_model.specs.Run.{Link, IsChain, event_of, events_of, steps_of, event_moment, next_moment, IsPaced, IsUpTo, first_moment, IsRun}
+use Rattle.sip_model.specs.Run.{Link, IsChain, event_of, events_of, steps_of, event_moment, next_moment, IsPaced, first_moment, IsRun}
 
 -- a chain behind another one
-joined_chain : (server : Server) (first middle last : ProxyState) (history later : List Link) → IsChain server first history middle → IsChain server middle later last
+pub joined_chain : (server : Server) (first middle last : ProxyState) (history later : List Link) → IsChain server first history middle → IsChain server middle later last
     → IsChain server first (later ++ history) last
 joined_chain server first middle last history [] before behind = subst (λ state. IsChain server first history state) (sym behind) before
 joined_chain server first middle last history (link ∷ later) before behind =

@@ -1,5 +1,5 @@
 -- What stays of an open request through what happens to it.
-use Rattle.std.proofs.Common.{◌≡◌, ◌∙◌, inl, ℕ, ◌+◌, ◌==◌, not, ◌&&◌, ◌||◌, List, [], ◌∷◌, map, filter, cond, Bool, true, false, refl, sym, ap, subst, Contains, Option, Some, None, true≢false, arith, ◌++◌}
+use Rattle.std.proofs.Common.{◌≡◌, ◌∙◌, inl, ℕ, ◌+◌, ◌==◌, not, ◌&&◌, ◌||◌, List, [], ◌∷◌, map, cond, Bool, true, false, refl, sym, ap, subst, Contains, Option, Some, None, true≢false, arith, ◌++◌}
 use Rattle.std.proofs.lemmas.Bool.Decides.{nat_tests}
 use Rattle.std.specs.List.{AllByRecursion}
 use Rattle.sip_message.specs.declared.message.Message.{Message}
@@ -16,16 +16,16 @@ use Rattle.sip_state.specs.declared.branch.Phase.TheVariants.{Unheard, Heard, Ca
 use Rattle.sip_state.specs.declared.open_request.Side.TheVariants.{Closed}
 use Rattle.sip_state.specs.State.{first_resend, is_invite, is_final, is_answering, is_success, is_decline, is_provisional}
 use Rattle.sip_state.specs.declared.open_request.Upward.{Upward}
-use Rattle.sip_context.specs.Retransmission.{IsResent, OfAnswer, OfRequest, branch_next}
-use Rattle.sip_context.specs.Branches.{is_same_branch, with_phase, with_final, marked, given_up, answered, after_upward, is_ready, is_cancellable, cancel_branch, new_cancels, with_cancels, search_ended, with_answer, final_of, linger, target_overdue, branch_overdue, acknowledged_side, was_refused, acknowledged, turned, told_to}
+use Rattle.sip_retransmission.specs.Retransmission.{IsResent, OfAnswer, OfRequest, branch_next}
+use Rattle.sip_context.specs.Branches.{is_same_branch, with_phase, with_final, marked, given_up, answered, after_upward, is_ready, cancel_branch, with_cancels, search_ended, with_answer, final_of, linger, target_overdue, branch_overdue, acknowledged_side, was_refused, acknowledged, turned, told_to}
 use Rattle.sip_model.specs.Run.{Link}
 use Rattle.sip_model.specs.Step.{Act}
 use Rattle.sip_model.specs.Effect.{tried}
 use Rattle.sip_model.specs.Access.{WasHeard}
-use Rattle.sip_model.proofs.Lists.{all_append, all_filter, all_map, all_weaker, all_contains, all_there}
+use Rattle.sip_model.proofs.Lists.{all_append, all_map, all_weaker, all_contains, all_there}
 use Rattle.sip_model.proofs.Apart.{TargetsDiffer, goes_to, differ_edited, differ_with_cancels}
 use Rattle.sip_model.proofs.Cancels.{all_with_cancels}
-use Rattle.sip_model.proofs.Finals.{IsHonest, IsMarked, IsHonestRequest}
+use Rattle.sip_model.proofs.Finals.{IsHonest, IsMarked, IsOfSixteen, IsHonestRequest}
 
 -- what an open request is from its first moment: its key, the request, its source and its number
 abbrev pub bare : OpenRequest → OpenRequest
@@ -36,13 +36,14 @@ abbrev pub bare_branch : Branch → Branch
 bare_branch b = record b { is_cancel = false; wants_cancel = false; phase = Ended; final_to = None; again = first_resend 0 }
 
 -- A branch was made from one of a request; one that is no CANCEL was made from one that is none, which was heard if this one is ready for a CANCEL. It is to be cancelled only if the
--- request is an INVITE.
+-- request is an INVITE, and has the number of a target.
 pub record IsBranchOf (server : Server) (state : ProxyState) (act : Act) (r : OpenRequest) (x : Branch) : Type 0 where
   pub branch : Branch
   pub there : Contains r.branches branch
   pub is_same : bare_branch x ≡ bare_branch branch
   pub is_target : x.is_cancel ≡ false → branch.is_cancel ≡ false
   pub is_marked : IsMarked r x
+  pub is_of_sixteen : IsOfSixteen x
   pub was_heard : x.is_cancel ≡ false → is_ready x.phase ≡ true → WasHeard server state act r branch
 
 -- a request is another one later on: its branches are those of that, or their CANCELs, no two go to one target, and its final answers are honest
@@ -63,7 +64,7 @@ all_either P true xs ys first second = first
 all_either P false xs ys first second = second
 
 -- two branches are one: their parts
-same_parts : (s x b : Bool) → (s && cond x b (not b)) ≡ true → (s ≡ true) × (x ≡ b)
+pub same_parts : (s x b : Bool) → (s && cond x b (not b)) ≡ true → (s ≡ true) × (x ≡ b)
 same_parts true true true e = (refl, refl)
 same_parts true true false e = absurd (cc)
 same_parts true false true e = absurd (cc)
@@ -71,7 +72,7 @@ same_parts true false false e = (refl, refl)
 same_parts false x b e = absurd (cc)
 
 -- numbers that pass the test are equal
-number_is : (a b : ℕ) → (a == b) ≡ true → a ≡ b
+pub number_is : (a b : ℕ) → (a == b) ≡ true → a ≡ b
 number_is a b e = grind (arith, nat_tests)
 
 -- of two that go where a branch goes, whichever
@@ -81,10 +82,10 @@ goes_either number false x y z a b = b
 
 module _ (server : Server) (state : ProxyState) (act : Act) (r : OpenRequest) where
   -- each branch of a request is one of it
-  own_branches : AllByRecursion (IsMarked r) r.branches → AllByRecursion (IsBranchOf server state act r) r.branches
-  own_branches marks =
+  own_branches : AllByRecursion (IsMarked r) r.branches → AllByRecursion IsOfSixteen r.branches → AllByRecursion (IsBranchOf server state act r) r.branches
+  own_branches marks numbers =
       all_weaker (Contains r.branches) (IsBranchOf server state act r)
-      (λ b h. record { branch = b; there = h; is_same = refl; is_target = λ e. e; is_marked = all_contains (IsMarked r) r.branches b marks h; was_heard = λ target ready. inl ready }) r.branches (all_there r.branches)
+      (λ b h. record { branch = b; there = h; is_same = refl; is_target = λ e. e; is_marked = all_contains (IsMarked r) r.branches b marks h; is_of_sixteen = all_contains IsOfSixteen r.branches b numbers h; was_heard = λ target ready. inl ready }) r.branches (all_there r.branches)
 
   -- a change of each branch
   kept_branches : (edit : Branch → Branch) → ((x : Branch) → IsBranchOf server state act r x → IsBranchOf server state act r (edit x)) → (xs : List Branch) → AllByRecursion (IsBranchOf server state act r) xs
@@ -103,6 +104,7 @@ module _ (server : Server) (state : ProxyState) (act : Act) (r : OpenRequest) wh
         is_same = h.is_same;
         is_target = h.is_target;
         is_marked = h.is_marked;
+        is_of_sixteen = h.is_of_sixteen;
         was_heard = λ target ready. heard h.branch h.there (h.is_target target) (sym parts.1 ∙ target) number ready;
       }
   phased_branch b phase heard x false same h = h
@@ -110,13 +112,13 @@ module _ (server : Server) (state : ProxyState) (act : Act) (r : OpenRequest) wh
   -- a branch that is to be cancelled, if it is one of several
   wanted_branch : is_invite r ≡ true → (x : Branch) (t : Bool) → IsBranchOf server state act r x → IsBranchOf server state act r (cond t (record x { wants_cancel = true }) x)
   wanted_branch invite x true h =
-      record { branch = h.branch; there = h.there; is_same = h.is_same; is_target = h.is_target; is_marked = λ e. invite; was_heard = h.was_heard }
+      record { branch = h.branch; there = h.there; is_same = h.is_same; is_target = h.is_target; is_marked = λ e. invite; is_of_sixteen = h.is_of_sixteen; was_heard = h.was_heard }
   wanted_branch invite x false h = h
 
   -- a branch that was sent a CANCEL, if it is one of several
   cancelled_branch : (due : ℕ) (x : Branch) (t : Bool) → IsBranchOf server state act r x → IsBranchOf server state act r (cond t (record x { phase = Cancelled due }) x)
   cancelled_branch due x true h =
-      record { branch = h.branch; there = h.there; is_same = h.is_same; is_target = h.is_target; is_marked = h.is_marked; was_heard = λ target ready. absurd (true≢false (sym ready)) }
+      record { branch = h.branch; there = h.there; is_same = h.is_same; is_target = h.is_target; is_marked = h.is_marked; is_of_sixteen = h.is_of_sixteen; was_heard = λ target ready. absurd (true≢false (sym ready)) }
   cancelled_branch due x false h = h
 
   -- the CANCEL of a branch
@@ -128,13 +130,14 @@ module _ (server : Server) (state : ProxyState) (act : Act) (r : OpenRequest) wh
         is_same = h.is_same;
         is_target = λ e. absurd (true≢false e);
         is_marked = λ e. absurd (true≢false (sym e));
+        is_of_sixteen = h.is_of_sixteen;
         was_heard = λ e. absurd (true≢false e);
       }
 
 module _ (server : Server) (history : List Link) (state : ProxyState) (act : Act) (r : OpenRequest) where
   -- a request is itself later on
   pub later_itself : IsHonestRequest server history r → IsLater server history state act r r
-  later_itself h = record { is_same = refl; branches = own_branches server state act r h.marks; differ = h.differ; finals = h.finals }
+  later_itself h = record { is_same = refl; branches = own_branches server state act r h.marks h.numbers; differ = h.differ; finals = h.finals }
 
   -- a branch that has a final answer or ended isn't ready for a CANCEL
   pub never : (b : Branch) (phase : Phase) → is_ready phase ≡ false → IsHeardIn server state act r b phase
@@ -148,6 +151,7 @@ module _ (server : Server) (history : List Link) (state : ProxyState) (act : Act
         marks =
             all_weaker (IsBranchOf server state act r) (IsMarked s) (λ b own. subst (λ (q : OpenRequest). IsMarked q b) (sym h.is_same) own.is_marked) s.branches h.branches;
         differ = h.differ;
+        numbers = all_weaker (IsBranchOf server state act r) IsOfSixteen (λ b own. own.is_of_sixteen) s.branches h.branches;
       }
 
   -- with a branch in another phase
@@ -278,7 +282,7 @@ module _ (server : Server) (history : List Link) (state : ProxyState) (act : Act
 
   -- with another moment at which a branch goes again
   resent_branch : (x : Branch) (t : Bool) (again : Resend) → IsBranchOf server state act r x → IsBranchOf server state act r (cond t (record x { again = again }) x)
-  resent_branch x true again h = record { branch = h.branch; there = h.there; is_same = h.is_same; is_target = h.is_target; is_marked = h.is_marked; was_heard = h.was_heard }
+  resent_branch x true again h = record { branch = h.branch; there = h.there; is_same = h.is_same; is_target = h.is_target; is_marked = h.is_marked; is_of_sixteen = h.is_of_sixteen; was_heard = h.was_heard }
   resent_branch x false again h = h
 
   -- once something of it went again

@@ -11,6 +11,7 @@ use Rattle.sip_model.specs.Run.{Link, IsChain, IsRun}
 use Rattle.sip_model.specs.Bindings.{bindings_after}
 use Rattle.sip_model.specs.Access.{IsOwed, IsLawful, Access}
 use Rattle.sip_model.proofs.Registers.{bindings_of_chain}
+use Rattle.sip_model.proofs.Sixteen.{few_of_chain}
 use Rattle.sip_model.proofs.Services.{serves_of_step}
 use Rattle.sip_model.proofs.Owing.{owed_of_step, honest_of_chain}
 use Rattle.sip_model.proofs.Places.{all_weaker}
@@ -28,7 +29,7 @@ lawful_of_chain server first link history last chain =
       owed =
           all_weaker (IsOwed server (link ∷ history) link.before link.act link.before.bindings) (IsOwed server (link ∷ history) link.before link.act (bindings_after server history))
           (originals link.out.packets) (owed_same server (link ∷ history) link.before link.act link.before.bindings (bindings_after server history) before)
-          (owed_of_step server history link chain.1 (honest_of_chain server first history link.before chain.2));
+          (owed_of_step server history link chain.1 (few_of_chain server first history link.before chain.2) (honest_of_chain server first history link.before chain.2));
     }
 
 -- Every step of a chain from a first state is lawful by the history before it

@@ -39,3 +39,13 @@ pub mod Followed
 pub mod NonceUses
 pub mod CountsRise
 pub mod Rising
+pub mod Outcomes
+pub mod FirstDue
+pub mod Passing
+pub mod Sixteen
+pub mod Fit
+pub mod Alike
+pub mod Challenged
+pub mod Listing
+pub mod Went
+pub mod StepsAlike

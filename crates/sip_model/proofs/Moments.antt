@@ -9,7 +9,7 @@ use Rattle.sip_state.specs.declared.branch.Branch.{Branch}
 use Rattle.sip_state.specs.declared.open_request.OpenRequest.{OpenRequest}
 use Rattle.sip_state.specs.declared.proxy_state.ProxyState.{ProxyState}
 use Rattle.sip_state.specs.State.{first_state, phase_deadline, is_invite}
-use Rattle.sip_context.specs.Retransmission.{IsResent, OfAnswer, OfRequest}
+use Rattle.sip_retransmission.specs.Retransmission.{IsResent, OfAnswer, OfRequest}
 use Rattle.sip_context.specs.Branches.{Change}
 use Rattle.sip_model.specs.Step.{Act, Given, Passing, IsStep, IsOverdue, OfSide, OfBranch, NoneBefore}
 use Rattle.sip_model.specs.Run.{Link, IsChain}

@@ -8,7 +8,7 @@ use Rattle.sip_state.specs.declared.branch.Branch.{Branch}
 use Rattle.sip_state.specs.declared.open_request.OpenRequest.{OpenRequest}
 use Rattle.sip_state.specs.declared.branch.Phase.TheVariants.{Unheard, Ended}
 use Rattle.sip_state.specs.State.{first_resend, has_key}
-use Rattle.sip_context.specs.Retransmission.{IsResent}
+use Rattle.sip_retransmission.specs.Retransmission.{IsResent}
 use Rattle.sip_context.specs.Branches.{Change, settled, acknowledged}
 use Rattle.sip_verdict.specs.Verdict.{Arrival}
 use Rattle.sip_model.specs.Effect.{replaced, closing, forking, tried, trying}

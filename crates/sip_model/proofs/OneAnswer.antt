@@ -10,7 +10,7 @@ use Rattle.sip_state.specs.declared.branch.Branch.{Branch}
 use Rattle.sip_state.specs.declared.open_request.OpenRequest.{OpenRequest}
 use Rattle.sip_state.specs.declared.proxy_state.ProxyState.{ProxyState}
 use Rattle.sip_state.specs.State.{first_state, is_invite, is_answering, has_left, is_provisional}
-use Rattle.sip_context.specs.Retransmission.{IsResent, OfAnswer, OfRequest}
+use Rattle.sip_retransmission.specs.Retransmission.{IsResent, OfAnswer, OfRequest}
 use Rattle.sip_context.specs.Sending.{made_answer}
 use Rattle.sip_context.specs.Branches.{Change, settled, acknowledged, acknowledged_side, was_refused}
 use Rattle.sip_verdict.specs.Verdict.{Arrival}

@@ -12,7 +12,7 @@ use Rattle.sip_context.specs.Sending.{made_answer}
 use Rattle.sip_state.specs.declared.open_request.Upward.{Upward}
 use Rattle.sip_state.specs.declared.resend.Resend.{Resend}
 use Rattle.sip_context.specs.Branches.{after_upward}
-use Rattle.sip_context.specs.Retransmission.{insists}
+use Rattle.sip_retransmission.specs.Retransmission.{insists}
 use Rattle.sip_verdict.specs.Verdict.{Arrival}
 use Rattle.sip_model.specs.Effect.{closing, forking, is_tried, tried, trying}
 use Rattle.sip_model.specs.Order.{FinalAnswer}

@@ -1,10 +1,12 @@
 -- All that a step of a run sends for the first time is owed.
-use Rattle.std.proofs.Common.{◌≡◌, ℕ, ◌==◌, List, [], ◌∷◌, find, Bool, false, refl, sym, subst, ⊎_elim, Contains, Option, Some, None, IfSome}
+use Rattle.std.proofs.Common.{◌≡◌, ℕ, ◌≤◌, ◌==◌, List, [], ◌∷◌, length, find, Bool, false, refl, sym, subst, arith, ⊎_elim, Contains, Option, Some, None, IfSome}
 use Rattle.std.specs.List.{AllByRecursion}
 use Rattle.std.specs.Option.{option_map_or}
+use Rattle.sip_uri.specs.declared.aor.Aor.{Aor}
 use Rattle.sip_message.specs.declared.message.Message.{Message}
 use Rattle.sip_message.specs.Reading.{reading_of}
-use Rattle.sip_text.specs.declared.addr.Addr.{Addr}
+use Rattle.sip_host.specs.declared.addr.Addr.{Addr}
+use Rattle.sip_location.specs.Binding.{live}
 use Rattle.sip_event.specs.declared.packet.Packet.{Packet}
 use Rattle.sip_event.specs.declared.packet.Ticket.{Ticket}
 use Rattle.sip_event.specs.declared.event.StepOut.{StepOut}
@@ -20,6 +22,7 @@ use Rattle.sip_model.specs.Effect.{Effect, counted, effect_of, datagram_effect, 
 use Rattle.sip_model.specs.Step.{Act, Given, Passing, Does, IsOverdue, OfSide, OfBranch, IsQuiet, IsDeadline, IsResend, resent, IsStep, originals, moment_of, arrival_of, is_failed, failed_branch, failed_request, fault_effect}
 use Rattle.sip_model.specs.Run.{Link, IsChain}
 use Rattle.sip_model.specs.Access.{CameFor, IsSaidAt, IsOwed}
+use Rattle.sip_model.proofs.Sixteen.{AreFew, few_of_chain}
 use Rattle.sip_model.proofs.Later.{IsLater, later_itself, later_resent, later_honest}
 use Rattle.sip_model.proofs.Lists.{all_find, all_there, head_there}
 use Rattle.sip_model.proofs.Finals.{AreHonest, honest_before}
@@ -37,8 +40,9 @@ said_at state at word from bytes m short says = record { at = at; word = word; f
 -- what a datagram does
 datagram_good : (server : Server) (past : List Link) (old : ProxyState) (at word : ℕ) (from : Addr) (bytes : List ℕ) (out : StepOut) (new : ProxyState)
     → let history : List Link = record { before = old; act = Given (Datagram at word from bytes); out = out; after = new } ∷ past in
-    AreHonest server history old.requests → IsGood server history old (Given (Datagram at word from bytes)) (datagram_effect server old (arrival_of old at word from) bytes)
-datagram_good server past old at word from bytes out new h = by_message (message_in (reading_of bytes)) refl where
+    ((aor : Aor) → length (live aor (moment_of old at) old.bindings) ≤ 16) → AreHonest server history old.requests
+    → IsGood server history old (Given (Datagram at word from bytes)) (datagram_effect server old (arrival_of old at word from) bytes)
+datagram_good server past old at word from bytes out new few h = by_message (message_in (reading_of bytes)) refl where
   act : Act
   act = Given (Datagram at word from bytes)
 
@@ -70,7 +74,7 @@ datagram_good server past old at word from bytes out new h = by_message (message
         is_target = target;
       }
       in
-      effect_good server (link ∷ past) old act a bytes x.0 x.1 said (message_verdict server old a x.0 x.1) (message_fits server old a bytes x.0 x.1 says) came h
+      effect_good server (link ∷ past) old act a bytes x.0 x.1 said (message_verdict server old a x.0 x.1) (message_fits server old a bytes x.0 x.1 says) came few h
 
 module _ (server : Server) (history : List Link) (old : ProxyState) (act : Act) (h : AreHonest server history old.requests) where
   -- what a deadline of an open request changes is owed
@@ -135,32 +139,32 @@ resend_good server history old act at out new d h =
     (record { sends = tt; honest = replaced_honest server history d.next old.requests (later_honest server history old act d.request d.next later) h })
 
 -- every step is good
-step_good : (server : Server) (past : List Link) (old : ProxyState) (act : Act) (out : StepOut) (new : ProxyState) → IsStep server old act out new
+step_good : (server : Server) (past : List Link) (old : ProxyState) (act : Act) (out : StepOut) (new : ProxyState) → IsStep server old act out new → AreFew old
     → AreHonest server (record { before = old; act = act; out = out; after = new } ∷ past) old.requests
     → IsGoodStep server (record { before = old; act = act; out = out; after = new } ∷ past) old act out new
-step_good server past old (Given (Datagram at word from bytes)) out new step h =
-    does_good server _ old (Given (Datagram at word from bytes)) (moment_of old at) _ out new step.does (datagram_good server past old at word from bytes out new h)
-step_good server past old (Given (Time at)) out new step h = quiet_good server _ old (Given (Time at)) at out new step.quiet h
-step_good server past old (Given (Fault at ticket)) out new step h =
+step_good server past old (Given (Datagram at word from bytes)) out new step few h =
+    does_good server _ old (Given (Datagram at word from bytes)) (moment_of old at) _ out new step.does (datagram_good server past old at word from bytes out new (λ aor. few aor (moment_of old at) (omega arith)) h)
+step_good server past old (Given (Time at)) out new step few h = quiet_good server _ old (Given (Time at)) at out new step.quiet h
+step_good server past old (Given (Fault at ticket)) out new step few h =
     does_good server _ old (Given (Fault at ticket)) (moment_of old at) _ out new step.does (failed_good server _ old (Given (Fault at ticket)) h (moment_of old at) ticket)
-step_good server past old (Passing at) out new step h =
+step_good server past old (Passing at) out new step few h =
     ⊎_elim (λ quiet. quiet_good server _ old (Passing at) at out new quiet h) (λ due. ⊎_elim (λ deadline. deadline_good server _ old (Passing at) at out new deadline h) (λ goes. resend_good server _ old (Passing at) at out new goes h) due) step
 
 -- ---- a run
 
 -- all that a step sends for the first time is owed, where what was kept before it is honest
-pub owed_of_step : (server : Server) (history : List Link) (link : Link) → IsStep server link.before link.act link.out link.after → AreHonest server history link.before.requests
+pub owed_of_step : (server : Server) (history : List Link) (link : Link) → IsStep server link.before link.act link.out link.after → AreFew link.before → AreHonest server history link.before.requests
     → AllByRecursion (IsOwed server (link ∷ history) link.before link.act link.before.bindings) (originals link.out.packets)
-owed_of_step server history link step h = (step_good server history link.before link.act link.out link.after step (honest_before server link history link.before.requests h)).sends
+owed_of_step server history link step few h = (step_good server history link.before link.act link.out link.after step few (honest_before server link history link.before.requests h)).sends
 
 -- what is kept after a step is honest, where what was kept before it is
-pub honest_of_step : (server : Server) (history : List Link) (link : Link) → IsStep server link.before link.act link.out link.after → AreHonest server history link.before.requests
+pub honest_of_step : (server : Server) (history : List Link) (link : Link) → IsStep server link.before link.act link.out link.after → AreFew link.before → AreHonest server history link.before.requests
     → AreHonest server (link ∷ history) link.after.requests
-honest_of_step server history link step h = (step_good server history link.before link.act link.out link.after step (honest_before server link history link.before.requests h)).honest
+honest_of_step server history link step few h = (step_good server history link.before link.act link.out link.after step few (honest_before server link history link.before.requests h)).honest
 
 -- what is kept at the end of a run is honest
 pub honest_of_chain : (server : Server) (first : ℕ) (history : List Link) (last : ProxyState) → IsChain server (first_state first) history last → AreHonest server history last.requests
 honest_of_chain server first [] last chain = subst (λ (s : ProxyState). AreHonest server [] s.requests) (sym chain) tt
 honest_of_chain server first (link ∷ history) last chain =
     subst (λ (s : ProxyState). AreHonest server (link ∷ history) s.requests) (sym chain.0)
-    (honest_of_step server history link chain.1 (honest_of_chain server first history link.before chain.2))
+    (honest_of_step server history link chain.1 (few_of_chain server first history link.before chain.2) (honest_of_chain server first history link.before chain.2))

@@ -6,7 +6,7 @@ use Rattle.sip_uri.specs.Aor.{aor_of}
 use Rattle.sip_message.specs.declared.message.Message.{Message}
 use Rattle.sip_header.specs.declared.core_fields.CoreFields.{CoreFields}
 use Rattle.sip_header.specs.Way.{request_uri_of}
-use Rattle.sip_text.specs.declared.addr.Addr.{Addr}
+use Rattle.sip_host.specs.declared.addr.Addr.{Addr}
 use Rattle.sip_hops.specs.Hop.{hop_of}
 use Rattle.sip_policy.specs.declared.decision.Decision.{Decision}
 use Rattle.sip_policy.specs.User.{is_users_address}

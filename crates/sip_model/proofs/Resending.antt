@@ -1,5 +1,5 @@
 -- When what was sent of an open request goes again: not before a moment, and after a wait.
-use Rattle.std.proofs.Common.{◌≡◌, ℕ, ◌+◌, ◌*◌, ◌≤◌, Bool, true, false, not, ◌&&◌, ◌||◌, cond, ◌==◌, min, List, [], ◌∷◌, ◌++◌, map, filter, Contains, Option, Some, None, refl, sym, subst, arith, flat_map}
+use Rattle.std.proofs.Common.{◌≡◌, ℕ, ◌+◌, ◌*◌, ◌≤◌, Bool, true, false, not, ◌&&◌, ◌||◌, cond, ◌==◌, min, List, map, Contains, Option, Some, None, refl, sym, subst, arith}
 use Rattle.std.proofs.Math.Nat.{le-min}
 use Rattle.std.specs.List.{AllByRecursion}
 use Rattle.sip_event.specs.declared.packet.Packet.{Packet}
@@ -14,10 +14,10 @@ use Rattle.sip_state.specs.declared.branch.Phase.TheVariants.{Unheard, Heard, Ca
 use Rattle.sip_state.specs.declared.open_request.Side.{Side}
 use Rattle.sip_state.specs.declared.open_request.Side.TheVariants.{Answering, Closing, Acknowledged, Closed}
 use Rattle.sip_state.specs.State.{is_invite, is_final}
-use Rattle.sip_context.specs.Branches.{is_same_branch, turned, with_phase, with_final, marked, answered, after_upward, best_upward, is_cancellable, cancel_branch, new_cancels, with_cancels, settled, invite_heard, other_heard, is_closing, was_refused, is_unheard, acknowledged, acknowledged_side, held_branch, with_cancel}
-use Rattle.sip_context.specs.Retransmission.{is_sent_again, is_cancelled_again, resend_after, branch_next, insists, answer_due, branch_due, IsResent, OfAnswer, OfRequest}
+use Rattle.sip_context.specs.Branches.{is_same_branch, turned, with_phase, with_final, marked, answered, after_upward, best_upward, cancel_branch, with_cancels, settled, invite_heard, other_heard, is_closing, was_refused, is_unheard, acknowledged, acknowledged_side}
+use Rattle.sip_retransmission.specs.Retransmission.{is_sent_again, is_cancelled_again, resend_after, branch_next, insists, answer_due, IsResent, OfAnswer, OfRequest}
 use Rattle.sip_model.proofs.Cancels.{all_with_cancels}
-use Rattle.sip_model.proofs.Lists.{all_append, all_map, all_weaker, all_contains}
+use Rattle.sip_model.proofs.Lists.{all_map, all_weaker, all_contains}
 
 -- ---- moments
 
@@ -38,7 +38,7 @@ due_only floor due true false only h = let e : false ≡ true = only refl in abs
 due_only floor due false u only h = tt
 
 -- one that counts is the moment
-due_is : (due now : ℕ) (t : Bool) → cond t (Some due) None ≡ Some now → due ≡ now
+pub due_is : (due now : ℕ) (t : Bool) → cond t (Some due) None ≡ Some now → due ≡ now
 due_is due now true e = cc
 due_is due now false e = absurd (cc)
 
@@ -247,14 +247,14 @@ acknowledged_again floor now r h = by_test (is_invite r && was_refused r.answer)
 -- ---- what went again
 
 -- the next moment is later, and has a wait
-after_again : (floor most : ℕ) (x : Resend) → 1 ≤ most → floor ≤ x.due + 1 → 1 ≤ x.wait → (floor ≤ (resend_after most x).due) × (1 ≤ (resend_after most x).wait)
+pub after_again : (floor most : ℕ) (x : Resend) → 1 ≤ most → floor ≤ x.due + 1 → 1 ≤ x.wait → (floor ≤ (resend_after most x).due) × (1 ≤ (resend_after most x).wait)
 after_again floor most x some low waits =
     let twice : 1 ≤ 2 * x.wait = omega arith in
     let wait : 1 ≤ min (2 * x.wait) most = le-min twice some in
     (omega (arith, low, wait), wait)
 
 -- that of a branch
-next_again : (floor : ℕ) (r : OpenRequest) (b : Branch) → floor ≤ b.again.due + 1 → 1 ≤ b.again.wait → (floor ≤ (branch_next r b).due) × (1 ≤ (branch_next r b).wait)
+pub next_again : (floor : ℕ) (r : OpenRequest) (b : Branch) → floor ≤ b.again.due + 1 → 1 ≤ b.again.wait → (floor ≤ (branch_next r b).due) × (1 ≤ (branch_next r b).wait)
 next_again floor r b low waits = by_tests (is_invite r && not b.is_cancel) (is_unheard b.phase) where
   by_tests : (t u : Bool)
       → (floor ≤ (cond t (resend_after 32000 b.again) (cond u (resend_after 4000 b.again) (record { due = b.again.due + 4000; wait = 4000 }))).due)

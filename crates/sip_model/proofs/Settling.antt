@@ -1,19 +1,18 @@
 -- What settling makes of an open request, after every event of it.
-use Rattle.std.proofs.Common.{◌≡◌, ℕ, ◌+◌, ◌≤◌, Bool, true, false, not, ◌&&◌, cond, List, [], ◌∷◌, ◌++◌, map, filter, Option, Some, None, refl, sym, ap, subst, ◌∙◌, arith, flat_map}
+use Rattle.std.proofs.Common.{◌≡◌, ℕ, ◌+◌, ◌≤◌, Bool, true, false, not, ◌&&◌, cond, List, [], ◌∷◌, ◌++◌, map, Option, Some, None, refl, sym, ap, subst, ◌∙◌, arith}
 use Rattle.std.specs.List.{AllByRecursion}
 use Rattle.sip_event.specs.declared.packet.Packet.{Packet}
 use Rattle.sip_state.specs.Server.{Server}
 use Rattle.sip_state.specs.declared.open_request.Side.{Side}
 use Rattle.sip_state.specs.declared.branch.Branch.{Branch}
 use Rattle.sip_state.specs.declared.open_request.OpenRequest.{OpenRequest}
-use Rattle.sip_state.specs.declared.branch.Phase.TheVariants.{Cancelled}
 use Rattle.sip_state.specs.declared.open_request.Side.TheVariants.{Closing}
 use Rattle.sip_state.specs.State.{is_answering, phase_deadline, side_deadline, is_provisional}
 use Rattle.sip_state.specs.declared.open_request.Upward.{Upward}
-use Rattle.sip_context.specs.Branches.{Change, best_upward, is_cancellable, cancel_branch, new_cancels, with_cancels, after_upward, settled, held_branch, with_cancel}
+use Rattle.sip_context.specs.Branches.{Change, best_upward, with_cancels, after_upward, settled}
 use Rattle.sip_model.proofs.Cancels.{all_with_cancels}
 use Rattle.sip_model.proofs.Resending.{DueFrom, IsAgain, settled_again}
-use Rattle.sip_model.proofs.Events.{IsDue, IsEvent, all_map}
+use Rattle.sip_model.proofs.Events.{IsDue, IsEvent}
 
 -- ---- the name of a request
 

@@ -4,7 +4,7 @@ use Rattle.std.specs.Option.{option_map_or, unwrap_or}
 use Rattle.std.specs.Result.{result_ok}
 use Rattle.sip_uri.specs.declared.uri.Uri.{Uri}
 use Rattle.sip_uri.specs.declared.aor.Aor.{Aor}
-use Rattle.sip_message.specs.declared.field.Field.{Field}
+use Rattle.sip_field.specs.declared.field.Field.{Field}
 use Rattle.sip_message.specs.declared.message.Start.{Start}
 use Rattle.sip_message.specs.declared.message.Start.TheVariants.{Request, Status}
 use Rattle.sip_message.specs.declared.message.Message.{Message}
@@ -14,7 +14,7 @@ use Rattle.sip_header.specs.Key.{key_of}
 use Rattle.sip_header.specs.CoreFields.{core_of, cseq_in}
 use Rattle.sip_header.specs.declared.cseq.CSeq.{CSeq}
 use Rattle.sip_header.specs.Way.{request_uri_of}
-use Rattle.sip_text.specs.declared.addr.Addr.{Addr}
+use Rattle.sip_host.specs.declared.addr.Addr.{Addr}
 use Rattle.sip_hops.specs.declared.host_address.HostAddress.{HostAddress}
 use Rattle.sip_hops.specs.Hop.{hop_of}
 use Rattle.sip_policy.specs.declared.decision.Decision.{Decision}
@@ -34,7 +34,8 @@ use Rattle.sip_state.specs.declared.branch.Branch.{Branch}
 use Rattle.sip_state.specs.State.{has_key}
 use Rattle.sip_state.specs.Dialogs.{dialog_of}
 use Rattle.sip_context.specs.Branches.{is_accepted}
-use Rattle.sip_verdict.specs.Verdict.{Arrival, Question, Verdict, Drop, Respond, Copy, AckOn, Cancel, Answer, InDialog, Challenge, Deny, Send, Register, is_branch, branch_in, found_branch, response_verdict, responding, within_at, within, ack_verdict, is_full, is_cancelled_by, found_for_cancel, cancel_verdict, targets_by, request_targets, let_through, decided, policy_verdict, question_of, answer_of, is_register, is_outside, registration_by, core_verdict, checked_verdict, new_verdict, by_open, by_key, by_start, message_verdict, top_branch, next_address}
+use Rattle.sip_context.specs.FoundBranch.{is_branch, branch_in, found_branch}
+use Rattle.sip_verdict.specs.Verdict.{Arrival, Question, Verdict, Drop, Respond, Copy, AckOn, Cancel, Answer, InDialog, Challenge, Deny, Send, Register, response_verdict, responding, within_at, within, ack_verdict, is_full, is_cancelled_by, found_for_cancel, cancel_verdict, targets_by, request_targets, let_through, decided, policy_verdict, question_of, answer_of, is_register, is_outside, registration_by, core_verdict, checked_verdict, new_verdict, by_open, by_key, by_start, message_verdict, top_branch, next_address}
 use Rattle.sip_model.specs.Effect.{request_key}
 use Rattle.sip_model.proofs.Places.{IsIn, found_in, none_found}
 

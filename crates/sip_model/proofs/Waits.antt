@@ -1,5 +1,5 @@
 -- Every open request has a deadline: one that owes an answer waits for a branch, since the best answer goes up with the last branch's.
-use Rattle.std.proofs.Common.{◌≡◌, ℕ, ◌+◌, Bool, true, false, not, ◌&&◌, ◌||◌, cond, ◌==◌, List, [], ◌∷◌, ◌++◌, map, filter, Option, Some, None, refl, sym, ap, subst, ◌∙◌, arith, option_map, count_by, IsSome as IsSomeOption, flat_map}
+use Rattle.std.proofs.Common.{◌≡◌, ℕ, ◌+◌, Bool, true, false, not, ◌&&◌, ◌||◌, cond, ◌==◌, List, [], ◌∷◌, ◌++◌, filter, Option, Some, None, refl, sym, ap, subst, ◌∙◌, arith, option_map, count_by, IsSome as IsSomeOption, flat_map}
 use Rattle.std.specs.List.{AllByRecursion, list_any, list_all}
 use Rattle.sip_best.specs.declared.final_answer.Final.{Final}
 use Rattle.sip_best.specs.Best.{best_of, picked, chosen_of, going_up, is_unbeaten, is_challenge_status, challenging}
@@ -14,12 +14,11 @@ use Rattle.sip_state.specs.declared.open_request.Side.{Side}
 use Rattle.sip_state.specs.declared.open_request.Side.TheVariants.{Closing}
 use Rattle.sip_state.specs.State.{is_final, is_answering, has_left, is_provisional}
 use Rattle.sip_state.specs.declared.open_request.Upward.{Upward}
-use Rattle.sip_context.specs.Branches.{Change, upward_of, all_final, best_upward, is_ready, is_cancellable, cancel_branch, new_cancels, with_cancels, after_upward, upward_list, settled, held_branch, with_cancel}
+use Rattle.sip_context.specs.Branches.{Change, upward_of, all_final, best_upward, is_ready, is_cancellable, cancel_branch, with_cancels, after_upward, upward_list, settled, held_branch, with_cancel}
 use Rattle.sip_model.specs.Order.{is_final_answer}
 use Rattle.sip_model.proofs.Cancels.{all_with_cancels}
 use Rattle.sip_model.proofs.Places.{count_cons, one_at}
-use Rattle.sip_model.proofs.Events.{IsSome, IsSeen, IsFinalStatus, is_target, IsCounted, IsEvent, all_map, any_map, final_either}
-use Rattle.sip_model.proofs.Settling.{all_append}
+use Rattle.sip_model.proofs.Events.{IsSome, IsSeen, IsFinalStatus, is_target, IsCounted, IsEvent, final_either}
 use Rattle.sip_model.proofs.Answers.{Tells, NoneFinal, OneFinal, tells, upward_side}
 
 -- an open request: its final answers are all there, it waits for a branch while it owes an answer, and it hasn't left

@@ -2,19 +2,19 @@
 use Rattle.std.specs.Prelude.{◌≡◌, ◌⊎◌, ℕ, ◌==◌, Bool, true, false, not, if◌then◌else◌, List, [], ◌∷◌, filter, find, codes, Contains, Option, Some, None, Ok}
 use Rattle.std.specs.List.{AllByRecursion, flat_map}
 use Rattle.std.specs.Str.{bytes_eq}
-use Rattle.sip_message.specs.declared.field.Field.{Field}
+use Rattle.sip_field.specs.declared.field.Field.{Field}
 use Rattle.sip_message.specs.declared.message.Start.TheVariants.{Request, Status}
 use Rattle.sip_message.specs.declared.message.Message.{Message}
-use Rattle.sip_message.specs.declared.field_name.FieldName.TheVariants as Name
-use Rattle.sip_message.specs.Values.{first_value}
+use Rattle.sip_field.specs.declared.field_name.FieldName.TheVariants as Name
+use Rattle.sip_field.specs.Values.{first_value}
 use Rattle.sip_message.specs.Reading.{reading_of}
 use Rattle.sip_message.specs.Text.{text_of}
 use Rattle.sip_header.specs.declared.key.Key.{Key}
 use Rattle.sip_header.specs.declared.core_fields.CoreFields.{CoreFields}
 use Rattle.sip_header.specs.Key.{key_of}
 use Rattle.sip_header.specs.CoreFields.{core_of}
-use Rattle.sip_text.specs.declared.addr.Addr.{Addr}
-use Rattle.sip_edit.specs.Extras.{denial_warning}
+use Rattle.sip_host.specs.declared.addr.Addr.{Addr}
+use Rattle.sip_reply.specs.Extras.{denial_warning}
 use Rattle.sip_edit.specs.Onward.{onward_uri}
 use Rattle.sip_edit.specs.OwnRequests.{cancel_of}
 use Rattle.sip_edit.specs.OwnVia.{without_top_via}

@@ -1,9 +1,9 @@
 -- The sample configuration with a window, and with a second key, for the worked examples.
 use Rattle.std.specs.Prelude.{ℕ, false, List, [], ◌∷◌, ◌++◌, codes, pos, Some}
-use Rattle.sip_message.specs.declared.field_name.FieldName.TheVariants as Name
+use Rattle.sip_field.specs.declared.field_name.FieldName.TheVariants as Name
 use Rattle.sip_message.specs.declared.message.Start.TheVariants.{Request}
 use Rattle.sip_message.specs.declared.message.Message.{Message}
-use Rattle.sip_edit.specs.Examples as Edits
+use Rattle.sip_reply.specs.Examples as Replies
 use Rattle.sip_edit.specs.OnwardExamples as Onward
 use Rattle.sip_policy.specs.declared.user.User.{User}
 use Rattle.sip_policy.specs.declared.window.Window.{Window}
@@ -51,7 +51,7 @@ keyed = record { config = record Settings.sample { users = users }; word = 0 }
 
 -- Mufasa's first REGISTER, which has no credential
 abbrev pub challenged_twice : Effect
-challenged_twice = effect_on keyed (first_state 1) 1 1000 5062 Edits.register
+challenged_twice = effect_on keyed (first_state 1) 1 1000 5062 Replies.register
 
 -- the responses to the nonce of that, which another program made: Mufasa's by MD5
 abbrev pub mufasas_by_md5 : List ℕ

@@ -3,24 +3,24 @@ use Rattle.std.specs.Prelude.{ℕ, ◌+◌, Bool, true, false, not, ◌&&◌, �
 use Rattle.std.specs.Option.{option_map_or, unwrap_or}
 use Rattle.std.specs.List.{flat_map, list_any}
 use Rattle.std.specs.Str.{bytes_eq}
-use Rattle.sip_digest.specs.NonceText.{nonce_text}
-use Rattle.sip_digest.specs.Nonces.{issued}
+use Rattle.sip_nonces.specs.NonceText.{nonce_text}
+use Rattle.sip_nonces.specs.Nonces.{issued}
 use Rattle.sip_uri.specs.declared.aor.Aor.{Aor}
 use Rattle.sip_uri.specs.Uri as UriText
-use Rattle.sip_message.specs.declared.field.Field.{Field}
-use Rattle.sip_message.specs.declared.field_name.FieldName.{FieldName}
-use Rattle.sip_message.specs.declared.field_name.FieldName.TheVariants as Name
+use Rattle.sip_field.specs.declared.field.Field.{Field}
+use Rattle.sip_field.specs.declared.field_name.FieldName.{FieldName}
+use Rattle.sip_field.specs.declared.field_name.FieldName.TheVariants as Name
 use Rattle.sip_message.specs.declared.message.Start.{Start}
 use Rattle.sip_message.specs.declared.message.Start.TheVariants.{Request, Status}
 use Rattle.sip_message.specs.declared.message.Message.{Message}
 use Rattle.sip_message.specs.Text.{text_of}
 use Rattle.sip_header.specs.declared.key.Key.{Key}
 use Rattle.sip_header.specs.Key.{key_of}
-use Rattle.sip_text.specs.declared.addr.Addr.{Addr}
-use Rattle.sip_edit.specs.Challenges.{challenge_fields}
+use Rattle.sip_host.specs.declared.addr.Addr.{Addr}
+use Rattle.sip_reply.specs.Challenges.{challenge_fields}
 use Rattle.sip_auth.specs.Offer.{offers_sha256}
-use Rattle.sip_edit.specs.Contacts.{contact_value}
-use Rattle.sip_edit.specs.Extras.{denial_warning}
+use Rattle.sip_reply.specs.Contacts.{contact_value}
+use Rattle.sip_reply.specs.Extras.{denial_warning}
 use Rattle.sip_edit.specs.Onward.{onward_uri}
 use Rattle.sip_policy.specs.declared.operation.Operation.{Operation}
 use Rattle.sip_location.specs.declared.binding.Binding.{Binding}
@@ -43,12 +43,12 @@ use Rattle.sip_state.specs.declared.open_request.OpenRequest.{OpenRequest}
 use Rattle.sip_state.specs.declared.proxy_state.ProxyState.{ProxyState}
 use Rattle.sip_state.specs.declared.branch.Phase.TheVariants.{Unheard, Ended}
 use Rattle.sip_state.specs.declared.open_request.Side.TheVariants.{Answering, Closing}
-use Rattle.sip_state.specs.State.{first_resend, is_invite, has_left}
+use Rattle.sip_state.specs.State.{first_resend, is_invite, has_left, with_one_more}
 use Rattle.sip_context.specs.Sending.{made_answer, answer_packet, answer_to, onward_as, branch_packets}
 use Rattle.sip_state.specs.declared.open_request.Upward.{Upward}
 use Rattle.sip_state.specs.Dialogs.{after_request, after_answers, after_leaving}
 use Rattle.sip_context.specs.Branches.{Change, settled, responded, cancelled, acknowledged, answered}
-use Rattle.sip_context.specs.Retransmission.{answers_again, acked_again}
+use Rattle.sip_retransmission.specs.Retransmission.{answers_again, acked_again}
 use Rattle.sip_verdict.specs.Verdict.{Arrival, Question, Registered, Bound, Refused, Verdict, Drop, Respond, Copy, AckOn, Cancel, Answer, InDialog, Challenge, Deny, Send, Register, is_full, minute_on, verdict_of}
 
 -- what is sent for the first time, in its order; what goes again; what is recorded; and the state after it
@@ -108,7 +108,7 @@ closing a m status text = record (arriving a m) { answer = Some (record { status
 
 -- the open requests with one more, while there is room
 abbrev pub opened : OpenRequest → ProxyState → List OpenRequest
-opened r state = if is_full state then state.requests else state.requests ++ r ∷ []
+opened r state = if is_full state then state.requests else with_one_more r state.requests
 
 -- A request gets its final answer at once, and is open from now on, while there is room (RFC 3261 8.2.6, 17.2)
 abbrev pub replied : Server → Arrival → Message → ℕ → List Field → List Record → ProxyState → Effect

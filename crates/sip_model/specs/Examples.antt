@@ -6,13 +6,13 @@ use Rattle.std.specs.Str.{byte}
 use Rattle.sip_uri.specs.declared.uri.Uri.{Uri}
 use Rattle.sip_uri.specs.declared.aor.Aor.{Aor}
 use Rattle.sip_uri.specs.Examples as Uris
-use Rattle.sip_message.specs.declared.field_name.FieldName.TheVariants as Name
-use Rattle.sip_message.specs.declared.field.Field.{Field}
+use Rattle.sip_field.specs.declared.field_name.FieldName.TheVariants as Name
+use Rattle.sip_field.specs.declared.field.Field.{Field}
 use Rattle.sip_message.specs.declared.message.Start.TheVariants.{Request, Status}
 use Rattle.sip_message.specs.declared.message.Message.{Message}
-use Rattle.sip_text.specs.declared.addr.Addr.{Addr}
+use Rattle.sip_host.specs.declared.addr.Addr.{Addr}
 use Rattle.sip_hops.specs.Examples as Places
-use Rattle.sip_edit.specs.Examples as Edits
+use Rattle.sip_reply.specs.Examples as Replies
 use Rattle.sip_edit.specs.OnwardExamples as Onward
 use Rattle.sip_edit.specs.OwnVia.{branch_text}
 use Rattle.sip_policy.specs.Examples.{mufasas_a1, alices_a1}
@@ -52,7 +52,7 @@ packet_of port number branch text = record { to = Places.local port; bytes = tex
 
 -- the first REGISTER, which has no credential
 abbrev pub challenge_effect : Effect
-challenge_effect = whole_effect (first_state 1) (arriving_at 1 1000 5062) Edits.register
+challenge_effect = whole_effect (first_state 1) (arriving_at 1 1000 5062) Replies.register
 
 -- ---- a MESSAGE to the one binding of help@host.com
 
@@ -204,7 +204,7 @@ alices method uri = credential (codes "alice") alices_a1 method uri (codes "0000
 -- the REGISTER with this credential
 abbrev pub authorized : List ℕ → Message
 authorized value =
-    record Edits.register {
+    record Replies.register {
       fields =
           record { name = Name.Via; value = codes "SIP/2.0/UDP 127.0.0.1:5062;branch=z9hG4bKreg2" }
           ∷ record { name = Name.MaxForwards; value = codes "70" }

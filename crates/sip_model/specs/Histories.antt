@@ -1,13 +1,13 @@
 -- What a history makes of the nonces, of the audit log, and of the known dialogs.
-use Rattle.std.specs.Prelude.{◌<◌, ◌+◌, ℕ, ◌==◌, if◌then◌else◌, List, [], ◌∷◌, ◌++◌, length, find, option_map, Option, Some, None}
+use Rattle.std.specs.Prelude.{◌≡◌, ◌<◌, ◌≤◌, ◌+◌, ℕ, ◌==◌, Contains, if◌then◌else◌, List, [], ◌∷◌, ◌++◌, length, find, option_map, Option, Some, None}
 use mathlib.Core.Logic.{inl, inr}
 use Rattle.std.specs.Option.{option_map_or, option_to_list}
 use Rattle.std.specs.List.{AllByRecursion}
 use Rattle.sip_message.specs.declared.message.Message.{Message}
-use Rattle.sip_digest.specs.declared.nonces.Nonce.{Nonce}
+use Rattle.sip_nonces.specs.declared.nonces.Nonce.{Nonce}
 use Rattle.sip_digest.specs.Credential.{count_of}
-use Rattle.sip_digest.specs.NonceText.{word_of}
-use Rattle.sip_digest.specs.Nonces.{issued}
+use Rattle.sip_nonces.specs.NonceText.{nonce_text, word_of}
+use Rattle.sip_nonces.specs.Nonces.{issued}
 use Rattle.sip_auth.specs.Proof.{Proof, Right, Stale, Wrong, used}
 use Rattle.sip_targets.specs.declared.targets.Targets.{Targets}
 use Rattle.sip_targets.specs.Targets.{target_list}
@@ -80,6 +80,18 @@ nonces_by nonces j = with_issued j.arrival j.verdict (option_map_or (λ q. used 
 abbrev pub nonces_after : Server → List Link → List Nonce
 nonces_after server [] = []
 nonces_after server (link ∷ history) = option_map_or (nonces_by (nonces_after server history)) (judged_at server link.before link.act) (nonces_after server history)
+
+-- a challenge of a history issued the nonce of this text, less than its life of 300,000 ms before a moment (RFC 2617 3.2.1)
+pub record WasChallenged (server : Server) (history : List Link) (now : ℕ) (text : List ℕ) : Type 0 where
+  pub link : Link
+  pub is_there : Contains history link
+  pub challenge : Judged
+  pub is_judged : judged_at server link.before link.act ≡ Some challenge
+  pub question : Question
+  pub is_challenge : challenge.verdict ≡ Challenge question
+  pub is_its_nonce : text ≡ nonce_text challenge.arrival.word
+  pub is_before : challenge.arrival.now ≤ now
+  pub is_recent : now < challenge.arrival.now + 300000
 
 -- ---- the audit log
 

@@ -9,3 +9,5 @@ pub mod Examples
 pub mod RegisterExamples
 pub mod ConfigurationExamples
 pub mod Histories
+pub mod SameEffect
+pub mod Listed

@@ -1,9 +1,10 @@
 -- How often a packet goes out, and when a request stays open no longer.
-use Rattle.std.specs.Prelude.{ℕ, ◌+◌, ◌==◌, ◌&&◌, Bool, not, List, [], ◌∷◌, count_by, Option, Some, None, if◌then◌else◌}
+use Rattle.std.specs.Prelude.{ℕ, ◌+◌, ◌==◌, ◌&&◌, Bool, false, not, List, [], ◌∷◌, ◌++◌, count_by, Option, Some, None, if◌then◌else◌}
 use Rattle.std.specs.List.{list_any}
 use Rattle.std.specs.Str.{bytes_eq}
 use Rattle.sip_event.specs.declared.packet.Packet.{Packet}
 use Rattle.sip_state.specs.declared.open_request.OpenRequest.{OpenRequest}
+use Rattle.sip_model.specs.Step.{originals}
 use Rattle.sip_model.specs.Run.{Link}
 
 -- whether a packet is another one again: the same bytes to the same address for the same ticket
@@ -15,6 +16,15 @@ is_copy_of p q =
 abbrev pub copies_of : Packet → List Link → ℕ
 copies_of p [] = 0
 copies_of p (link ∷ history) = count_by (is_copy_of p) link.out.packets + copies_of p history
+
+-- the first sending of a packet that goes again: the same bytes to the same address for the same ticket, as an original
+abbrev pub first_sending : Packet → Packet
+first_sending p = record p { again = false }
+
+-- all that a history sent for the first time, the newest step's first
+abbrev pub sent_first : List Link → List Packet
+sent_first [] = []
+sent_first (link ∷ history) = originals link.out.packets ++ sent_first history
 
 -- whether a request of this number is open
 abbrev pub has_number : ℕ → List OpenRequest → Bool

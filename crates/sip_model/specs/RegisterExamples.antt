@@ -1,10 +1,12 @@
 -- REGISTERs beside what else is known, for the worked examples.
-use Rattle.std.specs.Prelude.{ℕ, List, [], ◌∷◌, codes}
-use Rattle.sip_policy.specs.Examples.{mufasas_a1, alices_a1}
+use Rattle.std.specs.Prelude.{ℕ, List, [], ◌∷◌, ◌++◌, codes}
+use Rattle.sip_field.specs.declared.field_name.FieldName.TheVariants as Name
+use Rattle.sip_message.specs.declared.message.Message.{Message}
+use Rattle.sip_message.specs.Text.{text_of}
+use Rattle.sip_nonces.specs.declared.nonces.Nonce.{Nonce}
 use Rattle.sip_location.specs.declared.binding.Binding.{Binding}
-use Rattle.sip_state.specs.declared.proxy_state.ProxyState.{ProxyState}
-use Rattle.sip_model.specs.Effect.{Effect}
-use Rattle.sip_model.specs.Examples.{arriving_at, whole_effect, challenge_effect, registering_by, authorized, mufasas, alices, binding_until}
+use Rattle.sip_model.specs.Effect.{Effect, datagram_effect}
+use Rattle.sip_model.specs.Examples.{sample, arriving_at, whole_effect, challenge_effect, registering_by, authorized, mufasas, alices, binding_until}
 
 -- Mufasa's REGISTER with his credential, where these bindings are known
 abbrev pub registered_beside : List Binding → Effect
@@ -20,3 +22,31 @@ abbrev pub denied_again : Effect
 denied_again =
     whole_effect (record (registering_by (alices (codes "REGISTER") (codes "sip:host.com"))).state { requests = [] }) (arriving_at 3 3000 5062)
     (authorized (alices (codes "REGISTER") (codes "sip:host.com")))
+
+-- ---- an interval that is too brief
+
+-- Mufasa's REGISTER with his credential, for a contact that he binds for 59 seconds
+abbrev pub brief_register : Message
+brief_register =
+    let m : Message = authorized (mufasas (codes "REGISTER") (codes "sip:host.com")) in
+    record m { fields = m.fields ++ record { name = Name.Expires; value = codes "59" } ∷ [] }
+
+-- it comes after the first challenge, as a datagram
+abbrev pub brief_effect : Effect
+brief_effect = datagram_effect sample challenge_effect.state (arriving_at 2 2000 5062) (text_of brief_register)
+
+-- the answer: a 423 that says the shortest interval (RFC 3261 8.2.6, 10.3 step 7, 20.23, 21.4.17)
+abbrev pub brief_text : List ℕ
+brief_text =
+    codes "SIP/2.0 423 Interval Too Brief\r\n"
+    ++ codes "Via: SIP/2.0/UDP 127.0.0.1:5062;branch=z9hG4bKreg2\r\n"
+    ++ codes "From: <sip:Mufasa@host.com>;tag=a1\r\n"
+    ++ codes "To: <sip:Mufasa@host.com>;tag=0000000000000000.2\r\n"
+    ++ codes "Call-ID: c1@127.0.0.1\r\n"
+    ++ codes "CSeq: 2 REGISTER\r\n"
+    ++ codes "Min-Expires: 60\r\n"
+    ++ codes "Content-Length: 0\r\n\r\n"
+
+-- the first nonce, issued at 1,000 and used once
+abbrev pub used_nonce : Nonce
+used_nonce = record { word = 1; since = 1000; count = 1 }

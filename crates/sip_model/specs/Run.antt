@@ -69,3 +69,10 @@ pub record IsRun (server : Server) (first : ProxyState) (events : List Event) (u
   pub paced : IsPaced until history
   pub of_events : reverse (events_of history) ≡ events
   pub of_steps : reverse (steps_of history) ≡ steps
+
+-- events have a run that begins in a state
+pub record HasRun (server : Server) (start : ProxyState) (events : List Event) (until : Option ℕ) : Type 0 where
+  pub steps : List StepOut
+  pub history : List Link
+  pub last : ProxyState
+  pub is_run : IsRun server start events until steps history last

@@ -1,7 +1,7 @@
 -- One step of a proxy: a datagram, a deadline, something that goes again, the passing of time, or a send that failed.
 use Rattle.std.specs.Prelude.{◌≡◌, ◌≤◌, ◌<◌, ◌⊎◌, ℕ, ◌==◌, Bool, not, ◌&&◌, max, List, [], filter, find, Contains, Option, Some, None}
 use Rattle.std.specs.List.{AllByRecursion}
-use Rattle.sip_text.specs.declared.addr.Addr.{Addr}
+use Rattle.sip_host.specs.declared.addr.Addr.{Addr}
 use Rattle.sip_event.specs.declared.packet.Packet.{Packet}
 use Rattle.sip_event.specs.declared.packet.Ticket.{Ticket}
 use Rattle.sip_event.specs.declared.event.StepOut.{StepOut}
@@ -16,7 +16,7 @@ use Rattle.sip_state.specs.State.{deadlines, phase_deadline, side_deadline}
 use Rattle.sip_context.specs.Branches.{Change, overdue, side_overdue, send_failed, is_unheard}
 use Rattle.sip_model.specs.Effect.{Effect, replaced, changed, nothing, datagram_effect}
 use Rattle.sip_verdict.specs.Verdict.{Arrival}
-use Rattle.sip_context.specs.Retransmission.{resends, IsResent}
+use Rattle.sip_retransmission.specs.Retransmission.{resends, IsResent}
 
 -- ---- what is sent
 

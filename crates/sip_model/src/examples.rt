@@ -1,8 +1,8 @@
 ghost use Rattle.std.specs.Prelude.{◌≡◌, ◌∷◌, [], codes, length, map, None, Some};
 ghost use Rattle.sip_audit.specs.declared.record.Outcome.TheVariants.{Challenge, Deny, Sent, Answer};
 ghost use Rattle.sip_audit.specs.Lines.{line_of};
-ghost use Rattle.sip_edit.specs.Examples as Edits;
-ghost use Rattle.sip_edit.specs.ExtrasExamples as Extras;
+ghost use Rattle.sip_reply.specs.Examples as Replies;
+ghost use Rattle.sip_reply.specs.ExtrasExamples as Extras;
 ghost use Rattle.sip_edit.specs.OnwardExamples as Onward;
 ghost use Rattle.sip_hops.specs.Examples as Places;
 ghost use Rattle.sip_model.specs.Examples;
@@ -10,8 +10,8 @@ ghost use Rattle.sip_model.specs.Examples;
 /// A REGISTER without credentials gets the 401 of 348 bytes, to the byte, at the port of its Via, and
 /// nothing else.
 pub fn first_challenge()
-    ensures sends { Examples.challenge_effect.originals ≡ Examples.packet_of 5062 1 0 Edits.challenged_text ∷ [] }
-    ensures length { length Edits.challenged_text ≡ 348 }
+    ensures sends { Examples.challenge_effect.originals ≡ Examples.packet_of 5062 1 0 Replies.challenged_text ∷ [] }
+    ensures length { length Replies.challenged_text ≡ 348 }
     ensures audit { map line_of Examples.challenge_effect.records ≡ codes "1000 1 REGISTER - Mufasa@host.com register - challenge 401" ∷ [] }
 {}
 

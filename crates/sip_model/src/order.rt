@@ -1,11 +1,17 @@
-ghost use Rattle.std.specs.Prelude.{◌≡◌, ◌≤◌, ◌+◌, ℕ, true, false, List, []};
+ghost use Rattle.std.specs.Prelude.{◌≡◌, ◌≤◌, ◌+◌, ◌^◌, ℕ, true, false, List, [], ◌∷◌, length, Contains};
+ghost use Rattle.sip_event.specs.declared.packet.Packet.{Packet};
+ghost use Rattle.sip_model.specs.Lives.{first_sending, sent_first};
 ghost use Rattle.std.specs.List.{AllByRecursion};
+ghost use Rattle.sip_uri.specs.declared.aor.Aor.{Aor};
+ghost use Rattle.sip_location.specs.Binding.{live};
+ghost use Rattle.sip_context.specs.FoundBranch.{found_branch};
+ghost use Rattle.sip_context.specs.BranchById.{branch_by_id, HasNumbers};
 ghost use Rattle.sip_state.specs.Server.{Server};
 ghost use Rattle.sip_state.specs.declared.open_request.OpenRequest.{OpenRequest};
 ghost use Rattle.sip_state.specs.declared.proxy_state.ProxyState.{ProxyState};
 ghost use Rattle.sip_state.specs.State.{first_state, is_answering};
 ghost use Rattle.sip_context.specs.Branches.{Change};
-ghost use Rattle.sip_context.specs.Retransmission.{IsRetransmission};
+ghost use Rattle.sip_retransmission.specs.Retransmission.{IsRetransmission};
 ghost use Rattle.sip_event.specs.declared.event.StepOut.{StepOut};
 ghost use Rattle.sip_model.specs.Step.{Act, IsStep, NoneBefore, NoneAgainBefore, IsOverdue, retransmissions};
 ghost use Rattle.sip_model.specs.Run.{Link, IsChain};
@@ -31,6 +37,27 @@ pub fn numbers_rise()
         → IsChain server (first_state first) history last → AreRising last.requests }
 {}
 
+/// No address of record has more than 16 live bindings, in no state of a run.
+pub fn at_most_sixteen_bindings()
+    ensures { (server : Server) (first : ℕ) (history : List Link) (last : ProxyState)
+        → IsChain server (first_state first) history last → (aor : Aor) → length (live aor last.moment last.bindings) ≤ 16 }
+{}
+
+/// The numbers of open requests and of their branches are in the ranges of their types, while the number of
+/// the next datagram is: a request has at most 16 targets, and its branches have their numbers.
+pub fn numbers_fit()
+    ensures { (server : Server) (first : ℕ) (history : List Link) (last : ProxyState)
+        → IsChain server (first_state first) history last → last.next ≤ 2 ^ 64 → AllByRecursion HasNumbers last.requests }
+{}
+
+/// So over every run the branch that a response is to is found by the two numbers in its text: the search
+/// through all open requests finds no other (RFC 3261 17.1.3).
+pub fn branches_are_found_by_numbers()
+    ensures { (server : Server) (first : ℕ) (history : List Link) (last : ProxyState)
+        → IsChain server (first_state first) history last → last.next ≤ 2 ^ 64
+        → (text method : List ℕ) → found_branch server text method last.requests ≡ branch_by_id server text method last.requests }
+{}
+
 /// No deadline of an open request stands before the moment of its state, and nothing of one is to go again
 /// before it; once a datagram was taken, or time passed up to a moment, nothing is due at it either: what
 /// had to fire has fired, what was to go again went, and what was armed since is later.
@@ -51,6 +78,13 @@ pub fn no_deadline_passed()
 pub fn repeats_are_of_open_requests()
     ensures { (server : Server) (old : ProxyState) (act : Act) (out : StepOut) (new : ProxyState)
         → IsStep server old act out new → AllByRecursion (IsRetransmission server old.requests) (retransmissions out.packets) }
+{}
+
+/// Whatever goes again went before: the same bytes to the same address for the same ticket were sent as an
+/// original in the history before the step; an ACK that goes again, too.
+pub fn what_goes_again_went_before()
+    ensures { (server : Server) (first : ℕ) (link : Link) (history : List Link) (last : ProxyState) → IsChain server (first_state first) (link ∷ history) last
+        → AllByRecursion (λ (p : Packet). Contains (sent_first history) (first_sending p)) (retransmissions link.out.packets) }
 {}
 
 /// Of each request at most one final answer goes up in a whole history, or several 2xx to an INVITE. A

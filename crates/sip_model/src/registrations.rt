@@ -18,3 +18,13 @@ pub fn denied_credential_is_used()
     ensures again { Examples.seen Registers.denied_again ≡ (5062, 0, 360) ∷ [] }
     ensures audit { map line_of Registers.denied_again.records ≡ codes "3000 3 REGISTER - Mufasa@host.com register - challenge 401" ∷ [] }
 {}
+
+/// A REGISTER for 59 seconds gets a 423 whose Min-Expires says 60, from the datagram to the byte. Nothing is
+/// bound; its credential counts as used.
+pub fn interval_too_brief()
+    ensures sends { Registers.brief_effect.originals ≡ Examples.packet_of 5062 2 0 Registers.brief_text ∷ [] }
+    ensures length { length Registers.brief_text ≡ 249 }
+    ensures audit { map line_of Registers.brief_effect.records ≡ codes "2000 2 REGISTER Mufasa Mufasa@host.com register 1 answer 423" ∷ [] }
+    ensures unbound { Registers.brief_effect.state.bindings ≡ [] }
+    ensures used { Registers.brief_effect.state.nonces ≡ Registers.used_nonce ∷ [] }
+{}

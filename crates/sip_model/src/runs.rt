@@ -3,7 +3,8 @@ ghost use Rattle.sip_event.specs.declared.event.Event.{Event};
 ghost use Rattle.sip_event.specs.declared.event.StepOut.{StepOut};
 ghost use Rattle.sip_state.specs.Server.{Server};
 ghost use Rattle.sip_state.specs.declared.proxy_state.ProxyState.{ProxyState};
-ghost use Rattle.sip_model.specs.Run.{Link, IsRun, first_moment};
+ghost use Rattle.sip_state.specs.State.{first_state};
+ghost use Rattle.sip_model.specs.Run.{Link, IsChain, IsRun, HasRun, first_moment};
 
 /// Two runs, one behind the other, are one: the first stops where the second goes on, and what had passed
 /// before the first event of the second counts as its.
@@ -11,4 +12,13 @@ pub fn runs_join()
     ensures { (server : Server) (first middle last : ProxyState) (events more : List Event) (until : Option ℕ) (steps further : List StepOut) (history later : List Link)
         → IsRun server first events (first_moment more until) steps history middle → IsRun server middle more until further later last
         → IsRun server first (events ++ more) until (steps ++ further) (later ++ history) last }
+{}
+
+/// Every list of events has a run, and every run goes on: wherever a history from a first state leads to, each
+/// further list of events has a run from there. Time always passes, since what is due by a moment ends: each
+/// deadline leaves fewer that may still pass, and what goes again waits at least a millisecond for the next time.
+pub fn every_list_has_a_run()
+    ensures whole { (server : Server) (first : ℕ) (events : List Event) (until : Option ℕ) → HasRun server (first_state first) events until }
+    ensures further { (server : Server) (first : ℕ) (history : List Link) (state : ProxyState) (events : List Event) (until : Option ℕ)
+        → IsChain server (first_state first) history state → HasRun server state events until }
 {}

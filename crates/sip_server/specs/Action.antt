@@ -1,5 +1,5 @@
 -- What the actions of a server transaction start and send.
-use Rattle.std.specs.Prelude.{ℕ, Bool, true, false, Option, Some, None}
+use Rattle.std.specs.Prelude.{ℕ, Bool, true, false, List, [], ◌∷◌, Option, Some, None}
 use Rattle.sip_transaction.specs.declared.letter.Letter.{Letter}
 use Rattle.sip_server.specs.declared.actions.Action.{Action}
 use Rattle.sip_server.specs.declared.actions.Action.TheVariants.{Send, SendAgain, Start}
@@ -14,3 +14,13 @@ abbrev pub sends_answer : Action → Bool
 sends_answer Send = true
 sends_answer SendAgain = true
 sends_answer _ = false
+
+-- an action that sends the last answer again
+abbrev pub sends_again : Action → Bool
+sends_again SendAgain = true
+sends_again _ = false
+
+-- what is done for a copy of the request, by whether the last answer goes to it again (RFC 3261 17.2.1, 17.2.2)
+abbrev pub copy_actions : Bool → List Action
+copy_actions true = SendAgain ∷ []
+copy_actions false = []

@@ -1,6 +1,6 @@
 -- The server transaction of an INVITE: RFC 3261 17.2.1 and figure 7, with the Accepted state of RFC 6026
 -- 7.1. Times are in milliseconds.
-use Rattle.std.specs.Prelude.{◌*◌, min, Bool, true, false, ◌&&◌, nat_le, if◌then◌else◌, List, [], ◌∷◌}
+use Rattle.std.specs.Prelude.{ℕ, ◌*◌, min, Bool, true, false, ◌&&◌, nat_le, if◌then◌else◌, List, [], ◌∷◌, Option, Some, None}
 use Rattle.sip_transaction.specs.Machine.{Machine}
 use Rattle.sip_transaction.specs.declared.letter.Letter.{Letter}
 use Rattle.sip_server.specs.Action.{start_of, sends_answer}
@@ -66,3 +66,17 @@ runs _ _ = false
 -- the machine of these
 abbrev pub invite_machine : Machine ServerInvite ServerInviteInput Action
 invite_machine = record { on = server_invite; fired = Fired; runs = runs; start_of = start_of; sends = sends_answer }
+
+-- what Timer G was last set to, which the state holds in which it runs (RFC 3261 17.2.1)
+abbrev pub wait_g : ServerInvite → Option ℕ
+wait_g (Completed g) = Some g
+wait_g _ = None
+
+-- whether a copy of the INVITE gets the last answer again: one of 100 to 199, or 300 to 699 until the ACK, but
+-- no 2xx (RFC 3261 17.2.1; RFC 6026 7.1)
+abbrev pub answers_copy : ServerInvite → Bool
+answers_copy (Proceeding answered) = answered
+answers_copy (Completed g) = true
+answers_copy Confirmed = false
+answers_copy Accepted = false
+answers_copy Terminated = false

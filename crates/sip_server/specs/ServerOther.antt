@@ -65,3 +65,11 @@ finals_sent state [] = 0
 finals_sent state (input ∷ inputs) =
     let next = server_other state input in
     final_sent (heard input) next.1 + finals_sent next.0 inputs
+
+-- whether a copy of the request gets the last answer again: once there is one, until the transaction is over
+-- (RFC 3261 17.2.2)
+abbrev pub answers_copy : ServerOther → Bool
+answers_copy Trying = false
+answers_copy Proceeding = true
+answers_copy Completed = true
+answers_copy Terminated = false

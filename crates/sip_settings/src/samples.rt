@@ -11,8 +11,9 @@ ghost use Rattle.sip_settings.specs.Sample;
 use crate::config::Config;
 use sip_header::Own;
 use sip_hops::{Hop, HostAddress};
+use sip_host::Addr;
 use sip_policy::{OperationPattern, Rule, RuleVerdict, TargetPattern, User, Who};
-use sip_text::{Addr, Bytes, Items};
+use sip_text::{Bytes, Items};
 use std::alloc::{AllocError, Global};
 
 fn own(alloc: Global) -> Result<Own, AllocError>

@@ -1,1 +1,2 @@
 pub mod Sameness
+pub mod Opened

@@ -1,7 +1,7 @@
 -- A call of x's to help, as its dialogs see it, for the worked examples.
 use Rattle.std.specs.Prelude.{ℕ, false, List, [], ◌∷◌, ◌++◌, codes, Option, Some, None}
-use Rattle.sip_message.specs.declared.field_name.FieldName.TheVariants as Name
-use Rattle.sip_message.specs.declared.field.Field.{Field}
+use Rattle.sip_field.specs.declared.field_name.FieldName.TheVariants as Name
+use Rattle.sip_field.specs.declared.field.Field.{Field}
 use Rattle.sip_message.specs.declared.message.Start.TheVariants.{Request, Status}
 use Rattle.sip_message.specs.declared.message.Message.{Message}
 use Rattle.sip_hops.specs.Examples as Places

@@ -1,5 +1,5 @@
 -- What a proxy knows: its open requests, each with its branches, its bindings, nonces and dialogs (RFC 3261 16).
-use Rattle.std.specs.Prelude.{ℕ, ◌+◌, Bool, true, false, not, ◌&&◌, List, [], ◌++◌, filter, codes, Option, Some, None, nat_le}
+use Rattle.std.specs.Prelude.{ℕ, ◌+◌, Bool, true, false, not, ◌&&◌, List, [], ◌∷◌, ◌++◌, filter, codes, Option, Some, None, nat_le}
 use Rattle.std.specs.Option.{option_to_list}
 use Rattle.std.specs.List.{flat_map, filter_map, list_all}
 use Rattle.std.specs.Str.{bytes_eq}
@@ -90,6 +90,10 @@ target_branches r = filter (λ (b : Branch). not b.is_cancel) r.branches
 -- whether a request stays open no longer: its transaction and those of all its branches have ended
 abbrev pub has_left : OpenRequest → Bool
 has_left r = is_closed r.side && list_all (λ (b : Branch). is_ended b.phase) r.branches
+
+-- the open requests with one more, which stands behind all others
+abbrev pub with_one_more : OpenRequest → List OpenRequest → List OpenRequest
+with_one_more r requests = requests ++ r ∷ []
 
 -- whether a request has this key (RFC 3261 17.2.3)
 abbrev pub has_key : Key → OpenRequest → Bool

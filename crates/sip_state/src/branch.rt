@@ -1,5 +1,6 @@
 use crate::resend::Resend;
-use sip_text::{Addr, Bytes};
+use sip_host::Addr;
+use sip_text::Bytes;
 
 /// How far a branch is, with its deadline in milliseconds.
 #[derive(Clone, Copy)]

@@ -1,9 +1,9 @@
-ghost use Rattle.std.specs.Prelude.{◌≡◌, ℕ, List, find};
+ghost use Rattle.std.specs.Prelude.{◌≡◌, ℕ, Bool, true, List, find, Some, None};
 ghost use Rattle.sip_uri.specs.declared.aor.Aor.{Aor};
-ghost use Rattle.sip_text.specs.declared.addr.Addr.{Addr};
+ghost use Rattle.sip_host.specs.declared.addr.Addr.{Addr};
 ghost use Rattle.sip_header.specs.declared.key.Key.{Key};
 ghost use Rattle.sip_digest.specs.Credential.{Credential};
-ghost use Rattle.sip_digest.specs.Nonces.{worth_of};
+ghost use Rattle.sip_nonces.specs.Nonces.{worth_of};
 ghost use Rattle.sip_location.specs.Binding.{live};
 ghost use Rattle.sip_dialog.specs.Dialogs.{is_in_dialog};
 ghost use Rattle.sip_dialog.specs.declared.dialog.Dialog.{Dialog};
@@ -14,7 +14,7 @@ ghost use Rattle.sip_state.specs.Server.{Server};
 ghost use Rattle.sip_state.specs.declared.open_request.OpenRequest.{OpenRequest};
 ghost use Rattle.sip_state.specs.declared.open_request.Upward.{Upward};
 ghost use Rattle.sip_state.specs.declared.proxy_state.ProxyState.{ProxyState};
-ghost use Rattle.sip_state.specs.State.{has_key};
+ghost use Rattle.sip_state.specs.State.{has_key, with_one_more};
 ghost use Rattle.sip_state.specs.SameState.{SameState};
 ghost use Rattle.sip_state.specs.Dialogs.{after_request, after_answers, after_leaving};
 
@@ -45,4 +45,11 @@ pub fn dialogs_stay_same()
     ensures answers { (server : Server) (now : ℕ) (r : OpenRequest) (upward : List Upward) (left right : List Dialog) → SameDialogs now left right
         → SameDialogs now (after_answers server now r upward left) (after_answers server now r upward right) }
     ensures leaving { (now : ℕ) (r : OpenRequest) (left right : List Dialog) → SameDialogs now left right → SameDialogs now (after_leaving now r left) (after_leaving now r right) }
+{}
+
+/// A request that is opened stands behind all others: the first open request that passes some test stays the
+/// first, and the new one is it only where none was.
+pub fn opened_stands_last()
+    ensures earlier { (test : OpenRequest → Bool) (requests : List OpenRequest) (first r : OpenRequest) → find test requests ≡ Some first → find test (with_one_more r requests) ≡ Some first }
+    ensures alone { (test : OpenRequest → Bool) (requests : List OpenRequest) (r : OpenRequest) → find test requests ≡ None → test r ≡ true → find test (with_one_more r requests) ≡ Some r }
 {}

@@ -2,8 +2,9 @@ use crate::branch::Branch;
 use crate::resend::Resend;
 use sip_best::Final;
 use sip_header::Key;
+use sip_host::Addr;
 use sip_message::Message;
-use sip_text::{Addr, Bytes, Items};
+use sip_text::{Bytes, Items};
 
 /// How far the answering side of a request is, with its deadline in milliseconds.
 #[derive(Clone, Copy)]

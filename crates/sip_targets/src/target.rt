@@ -1,4 +1,4 @@
-use sip_text::Addr;
+use sip_host::Addr;
 use sip_uri::Uri;
 
 /// A place that a request is sent to (RFC 3261 16.5).

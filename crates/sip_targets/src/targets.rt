@@ -1,5 +1,6 @@
 use crate::target::Target;
-use sip_text::{Addr, Items};
+use sip_host::Addr;
+use sip_text::Items;
 use sip_uri::Uri;
 
 /// Where a request goes that policy lets through.

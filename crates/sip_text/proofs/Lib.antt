@@ -12,5 +12,4 @@ pub mod Splitting
 pub mod CutsOutside
 pub mod PartLaws
 pub mod PlainDecimals
-pub mod Dotted
-pub mod Dots
+pub mod Differing

@@ -1,4 +1,5 @@
 pub mod Words
+pub mod Distinct
 pub mod Span
 pub mod Escapes
 pub mod Reading
@@ -9,5 +10,4 @@ pub mod ListText
 pub mod Splits
 pub mod Cuts
 pub mod Numbers
-pub mod Addresses
 pub mod TextError

@@ -1,6 +1,4 @@
-ghost use Rattle.std.specs.Prelude.{◌≡◌, ◌<◌, ◌^◌, ◌↔◌, ℕ, true, nat_le, List, length, decimal, Some, None};
-ghost use Rattle.std.specs.List.{list_all};
-ghost use Rattle.sip_text.specs.Addresses;
+ghost use Rattle.std.specs.Prelude.{◌≡◌, ◌<◌, ◌^◌, ◌↔◌, ℕ, List, decimal, Some, None, true, false, AllPairs};
 ghost use Rattle.sip_text.specs.Escapes.{unescaped, unquoted};
 ghost use Rattle.sip_text.specs.Lists.{cut};
 ghost use Rattle.sip_text.specs.EscapedText.{IsEscaped};
@@ -8,6 +6,10 @@ ghost use Rattle.sip_text.specs.ListText.{IsList};
 ghost use Rattle.sip_text.specs.QuotedText.{IsQuoted};
 ghost use Rattle.sip_text.specs.Cuts.{IsParted, parts_at};
 ghost use Rattle.sip_text.specs.Numbers.{plain_decimal_of};
+ghost use Rattle.sip_text.specs.Words.{is_same_text};
+ghost use Rattle.sip_text.specs.Distinct.{order_without_case, all_differ};
+ghost use Rattle.std.specs.Cmp.{IsTotalOrder};
+ghost use Rattle.std.specs.declared.cmp.Ordering.TheVariants.{Equal};
 
 /// The items that `cut_list` gives are what stands between the commas of the list, and it refuses
 /// what is no list (RFC 3261 7.3.1).
@@ -37,17 +39,17 @@ pub fn parts_make_up_a_text()
     ensures only { (mark : ℕ) (text : List ℕ) (parts : List (List ℕ)) → IsParted mark text parts → parts ≡ parts_at mark text }
 {}
 
-/// The dotted text of each address is read as that address, and no other text is (RFC 3261 25.1,
-/// `IPv4address`).
-pub fn ip_text_is_read()
-    ensures read { (ip : List ℕ) → length ip ≡ 4 → list_all (λ n. nat_le n 255) ip ≡ true
-        → Addresses.ip_of (Addresses.ip_text ip) ≡ Some ip }
-    ensures written { (text : List ℕ) (ip : List ℕ) → Addresses.ip_of text ≡ Some ip → text ≡ Addresses.ip_text ip }
-{}
-
 /// The decimal text of each number below 2^64 is read as that number, and no other text without leading
 /// zeros is (RFC 3261 25.1, `1*DIGIT`).
 pub fn numbers_are_read()
     ensures read { (number : ℕ) → number < 2 ^ 64 → plain_decimal_of (decimal number) ≡ Some number }
     ensures written { (text : List ℕ) (number : ℕ) → plain_decimal_of text ≡ Some number → text ≡ decimal number }
+{}
+
+/// Texts stand in one order without case, in which those and only those are equal that are the same text
+/// (RFC 3261 7.3.1), and a list of texts differs exactly where no two of its places hold the same one.
+pub fn texts_are_in_order()
+    ensures order { IsTotalOrder order_without_case }
+    ensures equal { (left right : List ℕ) → (order_without_case left right ≡ Equal) ↔ (is_same_text left right ≡ true) }
+    ensures differ { (texts : List (List ℕ)) → (all_differ texts ≡ true) ↔ AllPairs (λ left right. is_same_text left right ≡ false) texts }
 {}

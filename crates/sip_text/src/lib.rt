@@ -1,12 +1,11 @@
 //! The smallest parts of SIP text: tokens, numbers, text compared with and without case, lists cut at
-//! their commas, text cut at a byte, escapes `%HH`, quoted text, addresses, the spans that name parts of
-//! a source, bytes that a value owns, and lists of items. Every crate that reads or writes text stands
-//! on this one.
+//! their commas, text cut at a byte, escapes `%HH`, quoted text, the spans that name parts of a source,
+//! bytes that a value owns, and lists of items. Every crate that reads or writes text stands on this one.
 #![tactic(auto)]
 
-mod addr;
 mod bytes;
 mod cuts;
+mod distinct;
 mod error;
 mod escapes;
 pub mod examples;
@@ -19,16 +18,18 @@ mod span;
 mod splits;
 mod words;
 
-pub use addr::{Addr, addr_of, addr_text, ip_of, ip_text};
 pub use bytes::Bytes;
 pub use cuts::{Quoting, first_part, split_outside, split_word};
+pub use distinct::{FEW_TEXTS, all_differ, compare_no_case};
 pub use error::TextError;
 pub use escapes::unescape;
 pub use items::Items;
 pub use lists::{
     cut_list, is_space_or_tab, without_blanks, without_end_blanks, without_front_blanks,
 };
-pub use numbers::{hex_bytes, hex_text, plain_decimal, plain_decimal_below, plain_port};
+pub use numbers::{
+    has_leading_zero, hex_bytes, hex_text, plain_decimal, plain_decimal_below, plain_port,
+};
 pub use quotes::unquote;
 pub use span::Span;
 pub use splits::split_once;

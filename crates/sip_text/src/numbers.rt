@@ -6,8 +6,8 @@ use crate::words::decimal;
 use hex::encode_to_slice;
 use std::alloc::{AllocError, Global};
 
-/// Whether digits begin with a 0 that another one follows.
-pub(crate) fn has_leading_zero(digits: &[u8]) -> bool
+/// Whether digits begin with a 0 that another one follows. Takes no memory.
+pub fn has_leading_zero(digits: &[u8]) -> bool
     ensures { result ≡ Numbers.has_leading_zero digits.now }
 {
     let [first, _, ..] = digits else {

@@ -5,3 +5,4 @@ pub mod ListLaws
 pub mod ReadingLaws
 pub mod Equal
 pub mod Escapes
+pub mod Names

@@ -17,9 +17,13 @@ use Rattle.sip_uri.specs.declared.scheme.Scheme.{Scheme}
 use Rattle.sip_uri.specs.declared.scheme.Scheme.TheVariants.{Sip, Sips}
 use Rattle.sip_uri.specs.declared.user.UserInfo.{UserInfo}
 use Rattle.sip_uri.specs.Scheme.{scheme_text, is_scheme_name, scheme_of}
-use Rattle.sip_uri.specs.Parts.{are_escaped, is_escaped, is_user_byte, is_user, is_password_byte, is_host_byte, is_address_byte, is_address_rest, is_host, in_port_range, is_port}
+use Rattle.sip_host.specs.Host.{is_host, is_address_rest, is_address_byte, is_host_byte}
+use Rattle.sip_host.specs.Port.{in_port_range, is_port}
+use Rattle.sip_uri.specs.Parts.{are_escaped, is_escaped, is_user_byte, is_user, is_password_byte}
 use Rattle.sip_uri.specs.Uri.{behind_mark, userinfo_text, port_text, is_password_or_none, is_userinfo, is_port_or_none}
-use Rattle.sip_uri.specs.Reading.{◌>>=◌, part_before, userinfo_from, valid_userinfo, userinfo_of, user_from, user_of, is_not, host_length, host_of, port_of, place_of}
+use Rattle.sip_host.specs.Host.{place_of, host_of, host_length, is_not}
+use Rattle.sip_host.specs.Port.{port_of}
+use Rattle.sip_uri.specs.Reading.{◌>>=◌, part_before, userinfo_from, valid_userinfo, userinfo_of, user_from, user_of}
 use Rattle.sip_text.specs.Splits.{split_at_byte}
 use Rattle.sip_uri.proofs.Tests.{some_is, pair_is, valid_is, and_both, and_is, is_other, others, all_join, split_again, never_split, split_is, part_whole, part_again, take_front, drop_front, front_length}
 

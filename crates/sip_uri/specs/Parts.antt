@@ -1,10 +1,8 @@
 -- The texts that a URI is made of.
-use Rattle.std.specs.Prelude.{ℕ, Bool, true, false, ◌||◌, ◌&&◌, ◌==◌, nat_le, List, [], ◌∷◌, codes, Option, Some, None, if◌then◌else◌}
-use Rattle.std.specs.Option.{option_and_then, is_some}
-use Rattle.std.specs.List.{list_all, list_any}
+use Rattle.std.specs.Prelude.{ℕ, Bool, true, false, ◌||◌, ◌&&◌, ◌==◌, List, [], ◌∷◌, codes, if◌then◌else◌}
+use Rattle.std.specs.List.{list_any}
 use Rattle.std.specs.Str.{byte}
 use Rattle.std.specs.Char.{is_ascii_alphanumeric, is_ascii_hexdigit}
-use Rattle.sip_text.specs.Words.{decimal_of}
 use Rattle.sip_text.specs.Lists.{is_nil}
 use Rattle.sip_uri.specs.declared.escaped.Class.{Class}
 use Rattle.sip_uri.specs.declared.escaped.Class.TheVariants.{User, Password, Parameter, Header}
@@ -68,33 +66,3 @@ is_of User = is_user_byte
 is_of Password = is_password_byte
 is_of Parameter = is_parameter_byte
 is_of Header = is_header_byte
-
--- a byte of a host name (RFC 3261 25.1: hostname; this project's profile has `_`, too)
-abbrev pub is_host_byte : ℕ → Bool
-is_host_byte b = is_ascii_alphanumeric b || list_any (λ c. b == c) (codes "-._")
-
--- a byte of an address in brackets (RFC 3261 25.1: IPv6address)
-abbrev pub is_address_byte : ℕ → Bool
-is_address_byte b = is_ascii_hexdigit b || list_any (λ c. b == c) (codes ":.")
-
--- the rest of an address in brackets: one or more bytes, then the closing bracket
-abbrev pub is_address_rest : Bool → List ℕ → Bool
-is_address_rest has_begun [] = false
-is_address_rest has_begun (b ∷ bs) = if b == byte "]" then has_begun && is_nil bs else is_address_byte b && is_address_rest true bs
-
--- a host name, or an address in square brackets (RFC 3261 25.1: host)
-abbrev pub is_host : List ℕ → Bool
-is_host [] = false
-is_host (b ∷ bs) = if b == byte "[" then is_address_rest false bs else list_all is_host_byte (b ∷ bs)
-
--- a number, if it may be a port
-abbrev pub in_port_range : ℕ → Option ℕ
-in_port_range n = if nat_le 1 n && nat_le n 65535 then Some n else None
-
--- the number of a port, 1 to 65535; leading zeros are read (this project's profile of RFC 3261 25.1: port)
-abbrev pub port_value : List ℕ → Option ℕ
-port_value digits = option_and_then in_port_range (decimal_of digits)
-
--- the digits of a port
-abbrev pub is_port : List ℕ → Bool
-is_port digits = is_some (port_value digits)

@@ -1,7 +1,6 @@
 -- The URI that bytes write, or why they write none.
-use Rattle.std.specs.Prelude.{◌≡◌, ◌⊎◌, ℕ, ◌+◌, Bool, false, ◌&&◌, ◌==◌, not, List, [], ◌∷◌, take, drop, Option, Some, None, option_map, Result, Ok, Err, if◌then◌else◌}
+use Rattle.std.specs.Prelude.{◌≡◌, ◌⊎◌, ℕ, ◌==◌, List, [], ◌∷◌, Option, Some, None, option_map, Result, Ok, Err, if◌then◌else◌}
 use Rattle.std.specs.Option.{ok_or, option_and_then}
-use Rattle.std.specs.List.{prefix_len}
 use Rattle.std.specs.Str.{byte}
 use Rattle.sip_text.specs.Lists.{onto}
 use Rattle.sip_text.specs.Splits.{split_at_byte}
@@ -13,8 +12,8 @@ use Rattle.sip_uri.specs.declared.parameters.Parameter.{Parameter}
 use Rattle.sip_uri.specs.declared.headers.UriHeader.{UriHeader}
 use Rattle.sip_uri.specs.declared.uri.Uri.{Uri}
 use Rattle.sip_uri.specs.Scheme.{scheme_of}
-use Rattle.sip_uri.specs.Parts.{is_host, is_port}
-use Rattle.sip_uri.specs.Uri.{is_userinfo, is_parameter, names_differ, is_header, port_number}
+use Rattle.sip_host.specs.Host.{place_of}
+use Rattle.sip_uri.specs.Uri.{is_userinfo, is_parameter, names_differ, is_header}
 
 infixl 10 ◌>>=◌
 abbrev pub ◌>>=◌ : {A B : Type 0} → Result A UriError → (A → Result B UriError) → Result B UriError
@@ -73,40 +72,6 @@ user_from text (Some x) = do
 -- the user before the first `@` if there is one, and what follows. It is looked for first, since a user may have `;` and `?` (RFC 3261 25.1: userinfo).
 abbrev pub user_of : List ℕ → Result (Option UserInfo × List ℕ) UriError
 user_of text = user_from text (split_at_byte (byte "@") text)
-
--- ---- the host and the port
-
--- whether a text begins with `[`
-abbrev pub begins_bracket : List ℕ → Bool
-begins_bracket [] = false
-begins_bracket (b ∷ bs) = b == byte "["
-
--- whether a byte is another
-abbrev pub is_not : ℕ → ℕ → Bool
-is_not mark b = not (b == mark)
-
--- how long the host at the front is: up to the bracket that closes it, else up to a `:` (RFC 3261 25.1: hostport)
-abbrev pub host_length : List ℕ → ℕ
-host_length text = if begins_bracket text then prefix_len (is_not (byte "]")) text + 1 else prefix_len (is_not (byte ":")) text
-
--- the host at the front, and what follows it
-abbrev pub host_of : List ℕ → Option (List ℕ × List ℕ)
-host_of text =
-    let host = take (host_length text) text in
-    if is_host host then Some (host, drop (host_length text) text) else None
-
--- the port of a text that has nothing else (RFC 3261 25.1: hostport)
-abbrev pub port_of : List ℕ → Option (Option (List ℕ))
-port_of [] = Some None
-port_of (b ∷ digits) = if b == byte ":" && is_port digits then Some (Some digits) else None
-
--- a host, and perhaps a port behind it (RFC 3261 25.1: hostport)
-abbrev pub place_of : List ℕ → Option (List ℕ × Option (List ℕ))
-place_of text = option_and_then (λ host. option_map (λ port. (host.0, port)) (port_of host.1)) (host_of text)
-
--- the same with the port by its number
-abbrev pub host_port_of : List ℕ → Option (List ℕ × Option ℕ)
-host_port_of text = option_map (λ place. (place.0, port_number place.1)) (place_of text)
 
 -- ---- the parameters
 

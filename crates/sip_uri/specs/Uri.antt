@@ -1,6 +1,5 @@
 -- URIs: their text, and the grammar.
 use Rattle.std.specs.Prelude.{◌≡◌, ℕ, Bool, true, ◌&&◌, not, List, [], ◌∷◌, ◌++◌, codes, Option, Some, None}
-use Rattle.std.specs.Option.{option_and_then}
 use Rattle.std.specs.List.{flat_map, list_all, list_any}
 use Rattle.std.specs.Str.{byte}
 use Rattle.sip_text.specs.Words.{is_same_text}
@@ -9,7 +8,9 @@ use Rattle.sip_uri.specs.declared.parameters.Parameter.{Parameter}
 use Rattle.sip_uri.specs.declared.headers.UriHeader.{UriHeader}
 use Rattle.sip_uri.specs.declared.uri.Uri.{Uri}
 use Rattle.sip_uri.specs.Scheme.{scheme_text}
-use Rattle.sip_uri.specs.Parts.{is_user, is_password, is_parameter_part, is_header_name, is_header_value, is_host, is_port, port_value}
+use Rattle.sip_host.specs.Host.{is_host}
+use Rattle.sip_host.specs.Port.{is_port}
+use Rattle.sip_uri.specs.Parts.{is_user, is_password, is_parameter_part, is_header_name, is_header_value}
 
 -- ---- the text of a URI (RFC 3261 19.1.1)
 
@@ -98,7 +99,3 @@ pub record IsWritten (bytes : List ℕ) (u : Uri) : Type 0 where
   pub in_any_case : is_same_text scheme (scheme_text u.scheme) ≡ true
   pub whole : bytes ≡ scheme ++ byte ":" ∷ rest_text u
   pub valid : IsValid u
-
--- the number of the port, if one is written
-abbrev pub port_number : Option (List ℕ) → Option ℕ
-port_number port = option_and_then port_value port

@@ -1,4 +1,4 @@
-ghost use Rattle.std.specs.Prelude.{◌≡◌, option_map};
+ghost use Rattle.std.specs.Prelude.{◌≡◌, IfOk, map, option_map};
 ghost use Rattle.std.specs.Option.{ok_or};
 ghost use Rattle.std.specs.List.{list_any};
 ghost use Rattle.sip_text.specs.Words.{is_same_text};
@@ -9,8 +9,8 @@ ghost use Rattle.sip_uri.specs.declared.error.UriError.TheVariants.{Syntax};
 use crate::error::UriError;
 use crate::escaped::{Class, is_escaped};
 use crate::parts::{copy_part, part_before};
-use sip_text::{Bytes, Items, same_no_case, split_once};
-use std::alloc::Global;
+use sip_text::{Bytes, FEW_TEXTS, Items, all_differ, same_no_case, split_once};
+use std::alloc::{AllocError, Global};
 
 /// A URI parameter, as written (RFC 3261 19.1.1).
 #[derive(Clone, Drop)]
@@ -70,8 +70,8 @@ fn has_name(parameters: &[Parameter], name: &[u8]) -> bool
         .any(|parameter| same_no_case(name, parameter.name.as_slice()))
 }
 
-/// Whether no name stands twice.
-fn names_differ(parameters: &[Parameter]) -> bool
+/// Whether no name of a few parameters stands twice, each compared with each. Takes no memory.
+fn few_names_differ(parameters: &[Parameter]) -> bool
     ensures { result ≡ Definitions.names_differ parameters.now }
 {
     let mut rest = parameters;
@@ -82,6 +82,28 @@ fn names_differ(parameters: &[Parameter]) -> bool
         rest = others;
     }
     true
+}
+
+fn names_of(alloc: Global, parameters: &[Parameter]) -> Result<Vec<&[u8]>, AllocError>
+    ensures { IfOk result (λ names. map (λ x. x.now) names.items ≡ map (λ p. p.name) parameters.now) }
+{
+    let mut names = Vec::new(alloc);
+    for parameter in parameters {
+        names.push(parameter.name.as_slice())?;
+    }
+    Ok(names)
+}
+
+/// Whether no name stands twice. Of many parameters the names are put in order, since comparing each with
+/// each would cost the square of the text.
+fn names_differ(alloc: Global, parameters: &[Parameter]) -> Result<bool, AllocError>
+    ensures { IfOk result (λ differ. differ ≡ Definitions.names_differ parameters.now) }
+{
+    if parameters.len() <= FEW_TEXTS {
+        return Ok(few_names_differ(parameters));
+    }
+    let mut names = names_of(alloc, parameters)?;
+    Ok(all_differ(names.as_mut_slice()))
 }
 
 /// The parameters behind the first `;`, if one stands there. No name may stand twice.
@@ -95,7 +117,7 @@ pub(crate) fn read_parameters(
         return Ok(Items::new(alloc));
     };
     let parameters = list_parameters(alloc, text)?;
-    if !names_differ(parameters.as_slice()) {
+    if !names_differ(alloc, parameters.as_slice())? {
         return Err(UriError::Syntax);
     }
     Ok(parameters)

@@ -4,9 +4,9 @@ ghost use Rattle.sip_uri.specs.Reading.{Gives, rest_of, reading_of};
 
 use crate::error::UriError;
 use crate::headers::read_headers;
-use crate::host::read_place;
 use crate::parameters::read_parameters;
 use crate::parts::part_before;
+use crate::place::read_place;
 use crate::scheme::{Scheme, scheme_named};
 use crate::uri::Uri;
 use crate::user::user_before;

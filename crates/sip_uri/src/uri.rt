@@ -2,9 +2,9 @@ ghost use Rattle.std.specs.Prelude.{◌≡◌};
 
 use crate::headers::UriHeader;
 use crate::parameters::Parameter;
-use crate::parts::port_value;
 use crate::scheme::Scheme;
 use crate::user::UserInfo;
+use sip_host::port_value;
 use sip_text::{Bytes, Items};
 
 /// A SIP or SIPS URI (RFC 3261 19.1.1). Each text is kept as it was written, with its escapes.
@@ -36,7 +36,7 @@ impl Drop for Uri {
 }
 
 impl Uri {
-    ghost use Rattle.sip_uri.specs.Uri.{port_number};
+    ghost use Rattle.sip_host.specs.Port.{port_number};
 
     /// The number of the port, 1 to 65535. None where no port, or no such number, is written.
     pub fn port_number(&self) -> Option<u16>

@@ -1,2 +1,2 @@
-pub mod ByNumbers
 pub mod Sameness
+pub mod Alike

@@ -1,7 +1,7 @@
 -- What comes to a server of the sample configuration, and what it knows then, for the worked examples. Moments are in milliseconds.
 use Rattle.std.specs.Prelude.{ℕ, zero, suc, true, false, List, [], ◌∷◌, ◌++◌, codes, Option, None, Some}
-use Rattle.sip_text.specs.declared.addr.Addr.{Addr}
-use Rattle.sip_message.specs.declared.field_name.FieldName.TheVariants as Name
+use Rattle.sip_host.specs.declared.addr.Addr.{Addr}
+use Rattle.sip_field.specs.declared.field_name.FieldName.TheVariants as Name
 use Rattle.sip_message.specs.declared.message.Start.TheVariants.{Request, Status}
 use Rattle.sip_message.specs.declared.message.Message.{Message}
 use Rattle.sip_header.specs.RoutingExamples.{fields_of}

@@ -1,4 +1,3 @@
 pub mod Verdict
 pub mod Examples
-pub mod BranchById
 pub mod Sameness

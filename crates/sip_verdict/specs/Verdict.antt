@@ -1,12 +1,12 @@
 -- What is to be done with a datagram: the first case that applies (RFC 3261 16.3 to 16.5, 10.3, 17.1.3, 17.2.3).
 use Rattle.std.specs.Prelude.{ℕ, Bool, true, false, not, ◌&&◌, ◌||◌, ◌==◌, nat_le, is_some, if◌then◌else◌, List, [], ◌∷◌, length, find, codes, Option, Some, None, option_map, Result, Ok, Err}
-use Rattle.std.specs.Option.{option_and_then, option_map_or}
+use Rattle.std.specs.Option.{option_and_then}
 use Rattle.std.specs.Result.{result_ok}
 use Rattle.std.specs.Str.{bytes_eq}
 use Rattle.sip_uri.specs.declared.uri.Uri.{Uri}
 use Rattle.sip_uri.specs.declared.aor.Aor.{Aor}
-use Rattle.sip_message.specs.declared.field.Field.{Field}
-use Rattle.sip_message.specs.declared.field_name.FieldName.TheVariants as Name
+use Rattle.sip_field.specs.declared.field.Field.{Field}
+use Rattle.sip_field.specs.declared.field_name.FieldName.TheVariants as Name
 use Rattle.sip_message.specs.declared.message.Start.{Start}
 use Rattle.sip_message.specs.declared.message.Start.TheVariants.{Request, Status}
 use Rattle.sip_message.specs.declared.message.Message.{Message}
@@ -17,17 +17,16 @@ use Rattle.sip_header.specs.declared.key.Key.{Key}
 use Rattle.sip_header.specs.declared.core_fields.CoreFields.{CoreFields}
 use Rattle.sip_header.specs.declared.via.Via.{Via}
 use Rattle.sip_header.specs.Key.{key_of}
-use Rattle.sip_message.specs.Values.{values_of, first_value}
+use Rattle.sip_field.specs.Values.{values_of, first_value}
 use Rattle.sip_header.specs.Via.{via_of}
 use Rattle.sip_header.specs.Parameters.{branch_of}
 use Rattle.sip_header.specs.Own.{is_own_via}
 use Rattle.sip_header.specs.CoreFields.{core_of, cseq_in}
 use Rattle.sip_header.specs.Way.{way_of, request_uri_of, next_uri}
-use Rattle.sip_digest.specs.declared.nonces.Nonce.{Nonce}
-use Rattle.sip_text.specs.declared.addr.Addr.{Addr}
+use Rattle.sip_nonces.specs.declared.nonces.Nonce.{Nonce}
+use Rattle.sip_host.specs.declared.addr.Addr.{Addr}
 use Rattle.sip_hops.specs.HostAddress.{address_of}
-use Rattle.sip_edit.specs.OwnVia.{branch_text}
-use Rattle.sip_edit.specs.Extras.{unsupported_field, min_expires}
+use Rattle.sip_reply.specs.Extras.{unsupported_field, min_expires}
 use Rattle.sip_policy.specs.declared.operation.Operation.{Operation}
 use Rattle.sip_policy.specs.declared.decision.Decision.{Decision}
 use Rattle.sip_policy.specs.Operation.{operation_of}
@@ -53,6 +52,7 @@ use Rattle.sip_state.specs.declared.open_request.OpenRequest.{OpenRequest}
 use Rattle.sip_state.specs.declared.branch.Branch.{Branch}
 use Rattle.sip_state.specs.State.{has_key}
 use Rattle.sip_context.specs.Branches.{is_accepted}
+use Rattle.sip_context.specs.FoundBranch.{found_branch}
 use Rattle.sip_state.specs.Dialogs.{dialog_of}
 
 -- A datagram that comes: its number, the moment, the word that makes the nonce of a challenge, and its source.
@@ -90,20 +90,6 @@ pub data Verdict : Type 0 where
   Register : Question → ℕ → Registered → Verdict
 
 -- ---- a response
-
--- whether a branch has this text and was sent with this method (RFC 3261 17.1.3)
-abbrev pub is_branch : Server → List ℕ → List ℕ → OpenRequest → Branch → Bool
-is_branch server text method r b =
-    bytes_eq (branch_text server.word r.number b.number) text && bytes_eq (if b.is_cancel then codes "CANCEL" else r.key.method) method
-
--- the branch of an open request with this text and method
-abbrev pub branch_in : Server → List ℕ → List ℕ → OpenRequest → Option Branch
-branch_in server text method r = find (is_branch server text method r) r.branches
-
--- the branch of the first open request that has such a one
-abbrev pub found_branch : Server → List ℕ → List ℕ → List OpenRequest → Option (OpenRequest × Branch)
-found_branch server text method [] = None
-found_branch server text method (r ∷ rs) = option_map_or (λ b. Some (r, b)) (branch_in server text method r) (found_branch server text method rs)
 
 -- whether there are two or more
 abbrev pub is_many : List (List ℕ) → Bool

@@ -1,6 +1,6 @@
 ghost use Rattle.std.specs.Prelude.{◌≡◌, ◌∷◌, [], codes, Some, None, true, false};
 ghost use Rattle.sip_hops.specs.Examples.{local};
-ghost use Rattle.sip_edit.specs.Examples.{register};
+ghost use Rattle.sip_reply.specs.Examples.{register};
 ghost use Rattle.sip_edit.specs.OnwardExamples as Onward;
 ghost use Rattle.sip_dialog.specs.Examples as Dialogs;
 ghost use Rattle.sip_targets.specs.declared.targets.Targets.{Targets};

@@ -1,23 +1,14 @@
-ghost use Rattle.std.specs.Prelude.{◌≡◌, ◌≤◌, ℕ, List, count_by};
-ghost use Rattle.std.specs.List.{AllByRecursion};
+ghost use Rattle.std.specs.Prelude.{◌≡◌, ◌≤◌, ℕ, List};
 ghost use Rattle.sip_state.specs.Server.{Server};
-ghost use Rattle.sip_state.specs.declared.open_request.OpenRequest.{OpenRequest};
-ghost use Rattle.sip_verdict.specs.BranchById.{is_of_datagram, branch_by_id, HasNumbers};
 ghost use Rattle.sip_message.specs.declared.message.Message.{Message};
 ghost use Rattle.sip_header.specs.declared.core_fields.CoreFields.{CoreFields};
 ghost use Rattle.sip_policy.specs.declared.decision.Decision.{Decision};
 ghost use Rattle.sip_location.specs.declared.binding.Binding.{Binding};
 ghost use Rattle.sip_location.specs.Sameness.{SameBindings};
-ghost use Rattle.sip_verdict.specs.Sameness.{SameRegistered};
-ghost use Rattle.sip_verdict.specs.Verdict.{found_branch, Question, request_targets, registration_by};
-
-/// The branch whose text and method are these is found by the two numbers in the text, where no number is that
-/// of two open requests: no other text need be compared (RFC 3261 17.1.3).
-pub fn found_by_numbers()
-    ensures { (server : Server) (text method : List ℕ) (requests : List OpenRequest)
-        → ((number : ℕ) → count_by (is_of_datagram number) requests ≤ 1) → AllByRecursion HasNumbers requests
-        → found_branch server text method requests ≡ branch_by_id server text method requests }
-{}
+ghost use Rattle.sip_state.specs.declared.proxy_state.ProxyState.{ProxyState};
+ghost use Rattle.sip_state.specs.SameState.{SameState};
+ghost use Rattle.sip_verdict.specs.Sameness.{SameRegistered, SameSaid};
+ghost use Rattle.sip_verdict.specs.Verdict.{Arrival, Question, request_targets, registration_by, verdict_of};
 
 /// A request has the same targets over rows that say the same (RFC 3261 16.5).
 pub fn request_targets_same()
@@ -29,4 +20,12 @@ pub fn request_targets_same()
 pub fn registration_same()
     ensures { (server : Server) (left right : List Binding) (now : ℕ) (m : Message) (core : CoreFields) → SameBindings now left right
         → SameRegistered now (registration_by server left now m core) (registration_by server right now m core) }
+{}
+
+/// The verdict on a datagram is the same in states that are the same, where it comes at their moment or later:
+/// no verdict tells by the order of rows or dialogs, by a row that has expired, or by a dialog that was
+/// forgotten.
+pub fn verdicts_same()
+    ensures { (server : Server) (left right : ProxyState) (a : Arrival) (bytes : List ℕ) → SameState left right → left.moment ≤ a.now
+        → SameSaid a.now (verdict_of server left a bytes) (verdict_of server right a bytes) }
 {}

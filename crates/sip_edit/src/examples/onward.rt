@@ -1,5 +1,5 @@
 ghost use Rattle.std.specs.Prelude.{◌≡◌, ◌∷◌, [], codes, length};
-ghost use Rattle.sip_message.specs.declared.field_name.FieldName.TheVariants as Name;
+ghost use Rattle.sip_field.specs.declared.field_name.FieldName.TheVariants as Name;
 ghost use Rattle.sip_message.specs.declared.message.Start.TheVariants.{Request};
 ghost use Rattle.sip_message.specs.Text.{text_of};
 ghost use Rattle.sip_header.specs.RoutingExamples.{own, sample_realm};

@@ -1,5 +1,5 @@
 ghost use Rattle.std.specs.Prelude.{◌≡◌, [], ◌∷◌, codes, true, false, Some, None};
-ghost use Rattle.sip_message.specs.declared.field_name.FieldName.TheVariants as Name;
+ghost use Rattle.sip_field.specs.declared.field_name.FieldName.TheVariants as Name;
 ghost use Rattle.sip_uri.specs.Uri.{text_of};
 ghost use Rattle.sip_header.specs.declared.contact_item.ContactItem.TheVariants.{Star};
 ghost use Rattle.sip_header.specs.declared.max_forwards.MaxForwards.TheVariants as MaxForwards;

@@ -1,5 +1,5 @@
 use Rattle.std.proofs.Common.{sym, ◌∙◌}
-use Rattle.sip_message.specs.declared.field_name.FieldName.TheVariants.{Contact}
+use Rattle.sip_field.specs.declared.field_name.FieldName.TheVariants.{Contact}
 use Rattle.sip_engine.proofs.Values.{only_value, no_value}
 use Rattle.sip_engine.proofs.registration.only_contact.Goals as goal
 

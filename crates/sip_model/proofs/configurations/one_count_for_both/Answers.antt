@@ -5,7 +5,7 @@ use Rattle.sha2.specs.Sha256.{first_words, schedule, rounds as rounds256, compre
 use Rattle.hex.specs.Hex.{encode_with}
 use Rattle.sip_uri.specs.Reading.{rest_of, reading_of}
 use Rattle.sip_header.specs.CoreFields.{core_in}
-use Rattle.sip_digest.specs.NonceText.{nonce_text}
+use Rattle.sip_nonces.specs.NonceText.{nonce_text}
 use Rattle.sip_model.proofs.configurations.one_count_for_both.Goals as goal
 
 pub returns-clause-by_md5 : goal.returns-clause-by_md5

@@ -4,7 +4,7 @@ use Rattle.md5.specs.Md5.{block_words, rounds, compress, hash_after, digest_byte
 use Rattle.hex.specs.Hex.{encode_with}
 use Rattle.sip_uri.specs.Reading.{rest_of, reading_of}
 use Rattle.sip_header.specs.CoreFields.{core_in}
-use Rattle.sip_digest.specs.NonceText.{nonce_text}
+use Rattle.sip_nonces.specs.NonceText.{nonce_text}
 use Rattle.sip_model.proofs.registrations.registered_beside_others.Goals as goal
 
 pub returns-clause-alone : goal.returns-clause-alone

@@ -1,0 +1,2 @@
+pub mod CredentialLaws
+pub mod Names

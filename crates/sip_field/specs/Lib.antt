@@ -1,0 +1,5 @@
+pub mod FieldName
+pub mod Named
+pub mod Values
+pub mod Piece
+pub mod KeptField

@@ -1,0 +1,112 @@
+ghost use Rattle.std.specs.Prelude.{◌≡◌, ◌≤◌, false, length, take, drop, option_map};
+ghost use Rattle.std.specs.List.{list_all, prefix_len};
+ghost use Rattle.sip_host.specs.Host;
+ghost use Rattle.sip_host.specs.Host.{place_of, host_port_of};
+
+use crate::port::{port_behind, port_value};
+
+/// Whether all bytes may stand in a host name.
+fn are_host_bytes(bytes: &[u8]) -> bool
+    ensures { result ≡ list_all Host.is_host_byte bytes.now }
+{
+    bytes.iter().all(|byte| byte.is_ascii_alphanumeric() || matches!(byte, b'-' | b'.' | b'_'))
+}
+
+/// Whether a byte may stand in an address in brackets.
+fn is_address_byte(byte: u8) -> bool
+    ensures { result ≡ Host.is_address_byte byte }
+{
+    byte.is_ascii_hexdigit() || matches!(byte, b':' | b'.')
+}
+
+/// Whether bytes are the rest of an address behind its opening bracket.
+fn is_address_rest(rest: &[u8]) -> bool
+    ensures { result ≡ Host.is_address_rest false rest.now }
+{
+    let mut has_begun = false;
+    for (at, byte) in rest.iter().enumerate() {
+        if *byte == b']' {
+            return has_begun && at + 1 == rest.len();
+        }
+        if !is_address_byte(*byte) {
+            return false;
+        }
+        has_begun = true;
+    }
+    false
+}
+
+/// Whether bytes are a host: a name, or an address in square brackets (RFC 3261 25.1, `host`). Takes no memory.
+pub fn is_host(host: &[u8]) -> bool
+    ensures { result ≡ Host.is_host host.now }
+{
+    let Some((first, rest)) = host.split_first() else {
+        return false;
+    };
+    if *first == b'[' {
+        return is_address_rest(rest);
+    }
+    are_host_bytes(host)
+}
+
+fn begins_bracket(text: &[u8]) -> bool
+    ensures { result ≡ Host.begins_bracket text.now }
+{
+    let Some((first, _)) = text.split_first() else {
+        return false;
+    };
+    *first == b'['
+}
+
+/// How many bytes stand before the first of a byte.
+fn count_before(mark: u8, text: &[u8]) -> usize
+    ensures value { result ≡ prefix_len (Host.is_not mark) text.now }
+    ensures within { result ≤ length text.now }
+{
+    text.iter().take_while(|byte| !(**byte == mark)).count()
+}
+
+/// How long the host at the front of a text is.
+fn host_length(text: &[u8]) -> usize
+    ensures { result ≡ Host.host_length text.now }
+{
+    if begins_bracket(text) {
+        count_before(b']', text) + 1
+    } else {
+        count_before(b':', text)
+    }
+}
+
+/// A text up to the end of the host at its front, and what follows.
+fn cut_host(text: &[u8]) -> (&[u8], &[u8])
+    ensures front { result.0.now ≡ take (Host.host_length text.now) text.now }
+    ensures rest { result.1.now ≡ drop (Host.host_length text.now) text.now }
+{
+    let end = host_length(text).min(text.len());
+    text.split_at(end)
+}
+
+/// The host that a text writes, and the digits of the port behind it, if one is written there (RFC 3261 25.1,
+/// `hostport`). None of any other text. Takes no memory.
+pub fn place_in(text: &[u8]) -> Option<(&[u8], Option<&[u8]>)>
+    ensures { option_map (λ x. (x.0.now, option_map (λ digits. digits.now) x.1)) result ≡ place_of text.now }
+{
+    let (host, rest) = cut_host(text);
+    if !is_host(host) {
+        return None;
+    }
+    let port = port_behind(rest)?;
+    Some((host, port))
+}
+
+/// The host that a text writes, and the number of the port behind it, if one is written there (RFC 3261 25.1,
+/// `hostport` and `sent-by`). None of any other text. Takes no memory.
+pub fn host_port(text: &[u8]) -> Option<(&[u8], Option<u16>)>
+    ensures { option_map (λ x. (x.0.now, x.1)) result ≡ host_port_of text.now }
+{
+    let (host, port) = place_in(text)?;
+    match port {
+        Some(digits) => Some((host, port_value(digits))),
+        None => Some((host, None)),
+    }
+}

@@ -1,0 +1,13 @@
+//! Hosts, ports and addresses (RFC 3261 25.1): an IPv4 address with a UDP port and its dotted text, what
+//! may stand as a host, and the host and the port that a text writes.
+#![tactic(auto)]
+
+mod addr;
+pub mod examples;
+mod host;
+pub mod laws;
+mod port;
+
+pub use addr::{Addr, addr_of, addr_text, ip_of, ip_text};
+pub use host::{host_port, is_host, place_in};
+pub use port::port_value;

@@ -1,0 +1,52 @@
+ghost use Rattle.std.specs.Prelude.{◌≡◌, ◌+◌, length, decimal, min, ◌-◌, ◌^◌};
+
+use itoa::Buffer;
+
+/// The length of a decimal number.
+fn number_length(number: u64) -> usize
+    ensures { result ≡ length (decimal number) }
+{
+    let mut buffer = Buffer::new();
+    buffer.format(number).len()
+}
+
+/// The length of a request line of these parts, or the greatest `usize` where it is longer.
+pub(crate) fn request_length(method: &[u8], uri: &[u8], version: &[u8]) -> usize
+    ensures { result ≡ min (length method.now + length uri.now + length version.now + 2) (2 ^ 64 - 1) }
+{
+    method
+        .len()
+        .saturating_add(uri.len())
+        .saturating_add(version.len())
+        .saturating_add(b"  ".len())
+}
+
+/// The length of a status line of these parts, or the greatest `usize` where it is longer.
+pub(crate) fn status_length(code: u16, reason: &[u8]) -> usize
+    ensures { result ≡ min (length (decimal code) + length reason.now + 9) (2 ^ 64 - 1) }
+{
+    number_length(u64::from(code))
+        .saturating_add(reason.len())
+        .saturating_add(b"SIP/2.0  ".len())
+}
+
+/// The length of a field of these parts with its CRLF, or the greatest `usize` where it is longer.
+pub(crate) fn line_length(name: &[u8], value: &[u8]) -> usize
+    ensures { result ≡ min (length name.now + length value.now + 4) (2 ^ 64 - 1) }
+{
+    name.len()
+        .saturating_add(value.len())
+        .saturating_add(b": \r\n".len())
+}
+
+/// The length of a message whose start line, fields and body are so long, or the greatest `usize` where it is
+/// longer.
+pub(crate) fn whole_length(start: usize, fields: usize, body: usize) -> usize
+    ensures { result ≡ min (start + fields + length (decimal body) + body + 22) (2 ^ 64 - 1) }
+{
+    start
+        .saturating_add(fields)
+        .saturating_add(number_length(body as u64))
+        .saturating_add(body)
+        .saturating_add(b"\r\nContent-Length: \r\n\r\n".len())
+}

@@ -1,0 +1,91 @@
+ghost use Rattle.std.specs.Prelude.{◌≡◌, ◌⊎◌, IfOk, IfErr, Some, Ok};
+ghost use Rattle.sip_message.specs.Says.{Says, IsWithinLimits};
+ghost use Rattle.sip_message.specs.Reading.{Gives, limited, message_from, datagram_of, reading_of, fault_of};
+ghost use Rattle.sip_message.specs.ViewStart.{start_seen};
+ghost use Rattle.sip_message.specs.declared.message.Message.{Message};
+ghost use Rattle.sip_message.specs.declared.error.ReadError.TheVariants.{NoMemory};
+
+use crate::body::{body_part, is_cut_short, length_of};
+use crate::entries::fields_of_lines;
+use crate::keeping::kept_of;
+use crate::line::Line;
+use crate::lines::{first_line, lines_of_head, without_blank_lines};
+use crate::message_view::View;
+use crate::start_line::start_of_line;
+use crate::view_error::ViewError;
+use crate::view_length::view_length;
+use crate::view_refusal::ViewRefusal;
+use crate::view_start::ViewStart;
+use std::alloc::Global;
+
+/// The view, if it is within the limits and its body is whole.
+fn within_limits<'a>(short: bool, view: View<'a>) -> Result<View<'a>, ViewError<'a>>
+    ensures { Gives (λ m. m) result (limited short view.entry) }
+{
+    if view.fields().as_slice().len() > 256 {
+        return Err(ViewError::new(ViewRefusal::TooManyFields));
+    }
+    if view_length(&view) > 49_152 {
+        return Err(ViewError::new(ViewRefusal::TooLong));
+    }
+    if short {
+        return Err(ViewError::new(ViewRefusal::ShortBody(view)));
+    }
+    Ok(view)
+}
+
+/// The view of a start line, lines of fields, and what follows them.
+#[tactic(auto, unfolding(crate::specs::Reading::message_from))]
+fn view_of<'a>(
+    alloc: Global,
+    start: ViewStart<'a>,
+    lines: &[Line<'a>],
+    rest: &'a [u8],
+) -> Result<View<'a>, ViewError<'a>>
+    ensures { Gives (λ m. m) result (message_from (start_seen start.entry) lines.now rest.now) }
+{
+    let entries = fields_of_lines(alloc, lines)?;
+    let length = length_of(&entries)?;
+    let fields = kept_of(alloc, entries)?;
+    let view = View::new(start, fields, body_part(length, rest));
+    within_limits(is_cut_short(length, rest), view)
+}
+
+/// The view of bytes that aren't too many.
+#[tactic(auto, unfolding(crate::specs::Reading::datagram_of))]
+fn view_datagram<'a>(alloc: Global, bytes: &'a [u8]) -> Result<View<'a>, ViewError<'a>>
+    ensures { Gives (λ m. m) result (datagram_of bytes.now) }
+{
+    let Some((line, head)) = first_line(without_blank_lines(bytes)) else {
+        return Err(ViewError::new(ViewRefusal::NotSip));
+    };
+    let start = start_of_line(alloc, line)?;
+    let (lines, rest) = lines_of_head(alloc, head)?;
+    view_of(alloc, start, &lines, rest)
+}
+
+/// The view of bytes.
+#[tactic(auto, unfolding(crate::specs::Reading::reading_of))]
+fn view_bytes<'a>(alloc: Global, bytes: &'a [u8]) -> Result<View<'a>, ViewError<'a>>
+    ensures { Gives (λ m. m) result (reading_of bytes.now) }
+{
+    if bytes.len() > 65_507 {
+        return Err(ViewError::new(ViewRefusal::TooLong));
+    }
+    view_datagram(alloc, bytes)
+}
+
+/// The message that a datagram says (RFC 3261 7), as parts of the datagram. The refusals are those of `read`, in the
+/// same order.
+pub fn view<'a>(alloc: Global, bytes: &'a [u8]) -> Result<View<'a>, ViewError<'a>>
+    // The message or the first refusal, unless memory runs out.
+    ensures exact { Gives (λ m. m) result (reading_of bytes.now) }
+    // What is viewed is said.
+    ensures said { IfOk result (λ m. Says bytes.now m × IsWithinLimits bytes.now m) }
+    // What is said within the limits is viewed, unless memory runs out.
+    ensures only { (m : Message) → Says bytes.now m → IsWithinLimits bytes.now m → Gives (λ m. m) result (Ok m) }
+    // A refusal other than for memory is the first that applies.
+    ensures refused { IfErr result (λ e. (e ≡ NoMemory) ⊎ (fault_of bytes.now ≡ Some e)) }
+{
+    view_bytes(alloc, bytes)
+}

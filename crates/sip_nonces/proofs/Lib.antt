@@ -1,0 +1,7 @@
+pub mod Counting
+pub mod Formulas
+pub mod NonceTexts
+pub mod Replays
+pub mod LiveRows
+pub mod Rows
+pub mod Lookups

@@ -1,0 +1,3 @@
+pub mod NonceText
+pub mod Nonces
+pub mod Rows

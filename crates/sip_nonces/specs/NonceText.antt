@@ -1,0 +1,19 @@
+-- The text of a nonce (this project's choice).
+use Rattle.std.specs.Prelude.{ℕ, ◌==◌, if◌then◌else◌, List, length, Option, Some, None}
+use Rattle.std.specs.Str.{bytes_eq}
+use Rattle.std.specs.Int.{w128, to_be_bytes}
+use Rattle.std.specs.Option.{option_and_then}
+use Rattle.hex.specs.Hex.{encode_lower}
+use Rattle.sip_digest.specs.HexNumber.{hex_number_of}
+
+-- the text of a word's nonce: its 32 hexadecimal digits in lower case, the high half first
+unfoldable pub nonce_text : ℕ → List ℕ
+nonce_text word = encode_lower (to_be_bytes w128 word)
+
+-- the word that a text names: the one whose nonce's text it is, byte by byte
+abbrev pub named : List ℕ → ℕ → Option ℕ
+named text word = if bytes_eq (nonce_text word) text then Some word else None
+
+-- the word whose nonce a text is, if it is one's
+abbrev pub word_of : List ℕ → Option ℕ
+word_of text = if length text == 32 then option_and_then (named text) (hex_number_of text) else None

@@ -1,0 +1,18 @@
+//! What a server answers by itself: whole responses with their reasons and To tags, challenges, the values
+//! of Contact in a list of bindings, and the fields that only some responses have (RFC 3261 8.2.6, 10.3;
+//! RFC 2617 3.2.1; RFC 8760 2.3).
+#![tactic(auto)]
+
+mod challenges;
+mod contacts;
+pub mod examples;
+pub mod laws;
+mod reasons;
+mod reply;
+mod tags;
+
+pub use challenges::{challenge, challenge_fields};
+pub use contacts::contact_value;
+pub use reasons::reason_of;
+pub use reply::respond;
+pub use tags::to_tag;

@@ -1,0 +1,2 @@
+pub mod Retransmission
+pub mod Examples

@@ -1,0 +1,5 @@
+//! What goes again of an open request, and when: its last answer, its requests to targets, their CANCELs and
+//! ACKs (RFC 3261 13.3.1.4, 17). Nothing runs here; bodies are proved equal to these definitions.
+#![tactic(auto)]
+
+pub mod examples;
