@@ -12,6 +12,25 @@ pub fn gives<T: Drop, E: Drop, F: FnOnce(&T) -> bool>(given: Result<T, E>, is_ri
     }
 }
 
+/// Whether a reading says something, and the right thing.
+pub fn says<T: Drop, E: Drop, F: FnOnce(&T) -> bool>(
+    said: Result<Option<T>, E>,
+    is_right: F,
+) -> bool
+    requires { F.IsAlwaysCallable is_right }
+{
+    match said {
+        Ok(Some(value)) => is_right(&value),
+        Ok(None) => false,
+        Err(_) => false,
+    }
+}
+
+/// Whether a reading says nothing, with ample memory.
+pub fn says_nothing<T: Drop, E: Drop>(said: Result<Option<T>, E>) -> bool {
+    matches!(said, Ok(None))
+}
+
 /// Whether a value is refused, for the right reason.
 pub fn refuses<T: Drop, E: Drop, F: FnOnce(&E) -> bool>(given: Result<T, E>, is_right: F) -> bool
     requires { F.IsAlwaysCallable is_right }

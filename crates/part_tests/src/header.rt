@@ -1,11 +1,11 @@
-use crate::checks::{gives, refuses};
+use crate::checks::{gives, refuses, says, says_nothing};
 use sip_credentials::{Credentials, credentials_of};
 use sip_header::{
-    AnyUri, CoreFields, HeaderError, Key, NameAddr, Via, core_of, cseq_of, key_of, name_addr_of,
-    via_of,
+    AnyUri, CoreFields, HeaderError, NameAddr, Via, core_of, cseq_of, name_addr_of, via_of,
 };
-use sip_message::{FieldName, Message, read};
-use std::alloc::Global;
+use sip_key::Key;
+use sip_message::{FieldName, View, view};
+use std::alloc::{AllocError, Global};
 
 const REGISTER: &[u8] =
     b"REGISTER sip:host.com SIP/2.0\r\nVia: SIP/2.0/UDP 127.0.0.1:5062;branch=z9hG4bKreg1\r\nMax-Forwards: 70\r\nFrom: <sip:Mufasa@host.com>;tag=a1\r\nTo: <sip:Mufasa@host.com>\r\nCall-ID: c1@127.0.0.1\r\nCSeq: 1 REGISTER\r\nContact: <sip:Mufasa@127.0.0.1:5062>\r\nContent-Length: 0\r\n\r\n";
@@ -13,7 +13,7 @@ const REGISTER: &[u8] =
 const WITHOUT_CSEQ: &[u8] =
     b"REGISTER sip:host.com SIP/2.0\r\nFrom: <sip:a@b>\r\nTo: <sip:a@b>\r\nCall-ID: c\r\n\r\n";
 
-fn are_core(core: &CoreFields) -> bool {
+fn are_core(core: &CoreFields<'_>) -> bool {
     core.cseq.number == 1
         && core.cseq.method.as_slice() == b"REGISTER".as_slice()
         && core.from.parameters.as_slice().len() == 1
@@ -21,55 +21,54 @@ fn are_core(core: &CoreFields) -> bool {
         && core.call_id.as_slice() == b"c1@127.0.0.1".as_slice()
 }
 
-fn is_key(key: &Option<Key>) -> bool {
-    match key {
-        Some(key) => {
-            key.branch.as_slice() == b"z9hG4bKreg1".as_slice()
-                && key.host.as_slice() == b"127.0.0.1".as_slice()
-                && key.port == 5062
-        }
-        None => false,
+fn is_key(key: &Key) -> bool {
+    key.branch.as_slice() == b"z9hG4bKreg1".as_slice()
+        && key.host.as_slice() == b"127.0.0.1".as_slice()
+        && key.port == 5062
+}
+
+/// The key of a REGISTER.
+fn key_in(alloc: Global, message: &View<'_>) -> Result<Option<Key>, AllocError> {
+    let Some(value) = message.fields().first(&FieldName::Via) else {
+        return Ok(None);
+    };
+    match via_of(alloc, value)? {
+        Some(via) => Key::of_request(alloc, b"REGISTER", &via),
+        None => Ok(None),
     }
 }
 
-fn is_hop_count(message: &Message, wanted: &[u8]) -> bool {
-    match message.fields.first(&FieldName::MaxForwards) {
+fn is_hop_count(message: &View<'_>, wanted: &[u8]) -> bool {
+    match message.fields().first(&FieldName::MaxForwards) {
         Some(value) => value == wanted,
         None => false,
     }
 }
 
 /// Whether a message has the parts of the REGISTER.
-fn is_register(alloc: Global, message: &Message) -> bool {
+fn is_register(alloc: Global, message: &View<'_>) -> bool {
     gives(core_of(alloc, message), are_core)
-        && gives(key_of(alloc, message), is_key)
+        && says(key_in(alloc, message), is_key)
         && is_hop_count(message, b"70")
-        && message.fields.count(&FieldName::Via) == 1
+        && message.fields().count(&FieldName::Via) == 1
 }
 
 #[test]
 fn core_fields(rt: HostRuntime) {
     let alloc = rt.alloc();
-    assert!(rt; gives(read(alloc, REGISTER), |message| is_register(alloc, message)));
+    assert!(rt; gives(view(alloc, REGISTER), |message| is_register(alloc, message)));
 }
 
 fn is_missing_cseq(e: &HeaderError) -> bool {
     matches!(e, HeaderError::Missing(FieldName::CSeq))
 }
 
-fn is_malformed_cseq(e: &HeaderError) -> bool {
-    matches!(e, HeaderError::Malformed(FieldName::CSeq))
-}
-
-fn misses_cseq(alloc: Global, message: &Message) -> bool {
+fn misses_cseq(alloc: Global, message: &View<'_>) -> bool {
     refuses(core_of(alloc, message), is_missing_cseq)
 }
 
 fn is_refused_authorization(alloc: Global, value: &[u8]) -> bool {
-    refuses(
-        credentials_of(alloc, FieldName::Authorization, value),
-        |_| true,
-    )
+    says_nothing(credentials_of(alloc, value))
 }
 
 #[test]
@@ -77,19 +76,19 @@ fn faults(rt: HostRuntime) {
     let alloc = rt.alloc();
     assert!(rt;
         gives(
-            read(alloc, WITHOUT_CSEQ),
+            view(alloc, WITHOUT_CSEQ),
             |message| misses_cseq(alloc, message)
         )
     );
-    assert!(rt; refuses(cseq_of(alloc, b"2147483648 INVITE"), is_malformed_cseq));
-    assert!(rt; gives(cseq_of(alloc, b"2147483647 INVITE"), |_| true));
+    assert!(rt; cseq_of(b"2147483648 INVITE").is_none());
+    assert!(rt; cseq_of(b"2147483647 INVITE").is_some());
     assert!(rt; is_refused_authorization(alloc, b"Digest"));
     assert!(rt; is_refused_authorization(alloc, b"Digest a=b, A=c"));
 }
 
 const SPACED_VIA: &[u8] = b"sip / 2.0 / UDP  pc.host.com:05070 ; branch = z9hG4bKx;rport";
 
-fn is_spaced_via(via: &Via) -> bool {
+fn is_spaced_via(via: &Via<'_>) -> bool {
     via.host.as_slice() == b"pc.host.com".as_slice()
         && via.port == Some(5070)
         && via.parameters.as_slice().len() == 2
@@ -99,7 +98,7 @@ const DIGEST: &[u8] =
     b"Digest username=\"Mufasa\", realm=\"a, b\", nonce=n, uri=\"sip:h\", response=r";
 
 /// Whether credentials have a realm with a comma in it, and no quality of protection.
-fn has_comma_in_realm(credentials: &Credentials) -> bool {
+fn has_comma_in_realm(credentials: &Credentials<'_>) -> bool {
     match &credentials.realm {
         Some(realm) => realm.as_slice() == b"a, b".as_slice() && credentials.qop.is_none(),
         None => false,
@@ -109,29 +108,28 @@ fn has_comma_in_realm(credentials: &Credentials) -> bool {
 #[test]
 fn values(rt: HostRuntime) {
     let alloc = rt.alloc();
-    let credentials = credentials_of(alloc, FieldName::Authorization, DIGEST);
-    assert!(rt; gives(credentials, has_comma_in_realm));
-    assert!(rt; gives(via_of(alloc, SPACED_VIA), is_spaced_via));
+    assert!(rt; says(credentials_of(alloc, DIGEST), has_comma_in_realm));
+    assert!(rt; says(via_of(alloc, SPACED_VIA), is_spaced_via));
 }
 
 /// How many parameters a SIP URI has; None for another URI.
-fn uri_parameters(uri: &AnyUri) -> Option<usize> {
+fn uri_parameters(uri: &AnyUri<'_>) -> Option<usize> {
     match uri {
         AnyUri::Sip(uri) => Some(uri.parameters.as_slice().len()),
         AnyUri::Other(_) => None,
     }
 }
 
-fn is_sip(address: &NameAddr) -> bool {
+fn is_sip(address: &NameAddr<'_>) -> bool {
     uri_parameters(&address.uri).is_some()
 }
 
-fn is_other(address: &NameAddr) -> bool {
+fn is_other(address: &NameAddr<'_>) -> bool {
     uri_parameters(&address.uri).is_none()
 }
 
 /// Whether the field and the URI in it have a parameter each.
-fn has_a_parameter_each(route: &NameAddr) -> bool {
+fn has_a_parameter_each(route: &NameAddr<'_>) -> bool {
     route.parameters.as_slice().len() == 1 && uri_parameters(&route.uri) == Some(1)
 }
 
@@ -139,15 +137,13 @@ fn has_a_parameter_each(route: &NameAddr) -> bool {
 fn addresses(rt: HostRuntime) {
     let alloc = rt.alloc();
     let quoted = b"\"A <b>\" <sip:bob@host.com> ; tag=x1";
-    assert!(rt; gives(name_addr_of(alloc, FieldName::To, quoted), is_sip));
-    assert!(rt; gives(name_addr_of(alloc, FieldName::To, b"<tel:+1>"), is_other));
-    let bare = name_addr_of(alloc, FieldName::To, b"sip:bob@host.com?a=b");
-    assert!(rt; refuses(bare, |_| true));
+    assert!(rt; says(name_addr_of(alloc, quoted), is_sip));
+    assert!(rt; says(name_addr_of(alloc, b"<tel:+1>"), is_other));
+    assert!(rt; says_nothing(name_addr_of(alloc, b"sip:bob@host.com?a=b")));
 }
 
 #[test]
 fn routes(rt: HostRuntime) {
     let value = b"<sip:sip.host.com:5060;lr>;x=1";
-    let route = name_addr_of(rt.alloc(), FieldName::Route, value);
-    assert!(rt; gives(route, has_a_parameter_each));
+    assert!(rt; says(name_addr_of(rt.alloc(), value), has_a_parameter_each));
 }

@@ -5,13 +5,29 @@
 #![tactic(auto)]
 
 #[cfg(test)]
+mod audit;
+#[cfg(test)]
+mod auth;
+#[cfg(test)]
+mod best;
+#[cfg(test)]
 mod checks;
+#[cfg(test)]
+mod dialogs;
 #[cfg(test)]
 mod digest;
 #[cfg(test)]
 mod edit;
 #[cfg(test)]
+mod equality;
+#[cfg(test)]
 mod header;
+#[cfg(test)]
+mod header_fields;
+#[cfg(test)]
+mod hops;
+#[cfg(test)]
+mod locations;
 #[cfg(test)]
 mod message;
 #[cfg(test)]
@@ -19,10 +35,16 @@ mod nonces;
 #[cfg(test)]
 mod places;
 #[cfg(test)]
+mod policy;
+#[cfg(test)]
 mod reply;
+#[cfg(test)]
+mod targets;
 #[cfg(test)]
 mod text;
 #[cfg(test)]
 mod uri;
 #[cfg(test)]
 mod views;
+#[cfg(test)]
+mod way;

@@ -1,9 +1,11 @@
-use crate::checks::{gives, gives_bytes};
+use crate::checks::{gives, gives_bytes, says};
 use sip_digest::Algorithm;
-use sip_edit::{received, response_address};
+use sip_edit::{received_via, response_address, with_top_via};
+use sip_header::{Via, via_of};
 use sip_host::Addr;
-use sip_message::{Field, FieldName, Fields, Message, read, write};
+use sip_message::{Field, FieldName, Fields, View, view};
 use sip_reply::{challenge, challenge_fields, contact_value, reason_of, respond, to_tag};
+use sip_text::Bytes;
 use std::alloc::{AllocError, Global};
 
 const PHONE: Addr = Addr {
@@ -17,45 +19,44 @@ const MESSAGE: &[u8] =
 const NOT_FOUND: &[u8] =
     b"SIP/2.0 404 Not Found\r\nVia: SIP/2.0/UDP pc.host.com:5071;branch=z9hG4bKm;rport=5070;received=127.0.0.1\r\nFrom: <sip:x@away.net>;tag=f1\r\nTo: <sip:help@host.com>;tag=00000000000000ff.7\r\nCall-ID: k2\r\nCSeq: 8 MESSAGE\r\nContent-Length: 0\r\n\r\n";
 
-/// A message as it came from the phone.
-fn from_phone(alloc: Global, message: &Message) -> Result<Message, AllocError> {
-    received(alloc, message.clone()?, PHONE)
-}
-
-fn is_not_found(alloc: Global, response: &Message) -> bool {
-    gives_bytes(write(alloc, response), NOT_FOUND)
-}
-
-/// Whether a request is answered with the 404.
-fn is_answered(alloc: Global, request: &Message) -> bool {
-    let response = respond(
+/// The 404 to a message with this Via on top, as it came from the phone.
+fn answer(
+    alloc: Global,
+    message: &View<'_>,
+    via: &Via<'_>,
+    value: &[u8],
+) -> Result<Bytes, AllocError> {
+    let top = received_via(alloc, Some(via), value, PHONE)?;
+    let received = with_top_via(alloc, message, top.as_slice())?;
+    respond(
         alloc,
-        request,
+        &received,
         404,
         b"00000000000000ff.7",
-        Fields::new(alloc),
-    );
-    gives(response, |response| is_not_found(alloc, response))
+        &Fields::new(alloc),
+    )
 }
 
-/// Whether the message, as it came from the phone, is answered there.
-fn is_answered_there(alloc: Global, message: &Message) -> bool {
-    response_address(alloc, message, PHONE) == Ok(PHONE)
-        && gives(
-            from_phone(alloc, message),
-            |request| is_answered(alloc, request),
-        )
+/// Whether a message with this Via on top is answered with the 404, at the phone.
+fn is_answered_by(alloc: Global, message: &View<'_>, via: &Via<'_>, value: &[u8]) -> bool {
+    response_address(Some(via), PHONE) == PHONE
+        && gives_bytes(answer(alloc, message, via, value), NOT_FOUND)
+}
+
+fn is_answered(alloc: Global, message: &View<'_>) -> bool {
+    match message.fields().first(&FieldName::Via) {
+        Some(value) => says(
+            via_of(alloc, value),
+            |via| is_answered_by(alloc, message, via, value),
+        ),
+        None => false,
+    }
 }
 
 #[test]
 fn answers(rt: HostRuntime) {
     let alloc = rt.alloc();
-    assert!(rt;
-        gives(
-            read(alloc, MESSAGE),
-            |message| is_answered_there(alloc, message)
-        )
-    );
+    assert!(rt; gives(view(alloc, MESSAGE), |message| is_answered(alloc, message)));
 }
 
 const STALE: &[u8] = b"Digest realm=\"r\", nonce=\"n\", algorithm=MD5, qop=\"auth\", stale=true";

@@ -1,0 +1,4 @@
+pub mod Words
+pub mod Users
+pub mod Outcomes
+pub mod LineLaws

@@ -1,3 +1,6 @@
+pub mod AuditError
 pub mod Names
 pub mod Lines
+pub mod Reading
+pub mod Parts
 pub mod Examples

@@ -1,6 +1,6 @@
 -- Audit lines (this project's profile).
-use Rattle.std.specs.Prelude.{◌≡◌, ℕ, Bool, true, ◌&&◌, ◌+◌, ◌/◌, ◌%◌, nat_lt, List, [], ◌∷◌, ◌++◌, codes, decimal, Option, Some, None, if◌then◌else◌}
-use Rattle.std.specs.List.{flat_map}
+use Rattle.std.specs.Prelude.{◌≡◌, ◌<◌, ℕ, Bool, true, ◌&&◌, ◌+◌, ◌/◌, ◌%◌, ◌^◌, nat_lt, List, [], ◌∷◌, ◌++◌, codes, decimal, Option, Some, None, if◌then◌else◌}
+use Rattle.std.specs.List.{flat_map, list_all}
 use Rattle.std.specs.Str.{byte}
 use Rattle.sip_text.specs.Words.{is_token_text}
 use Rattle.sip_host.specs.Host.{is_host}
@@ -70,3 +70,26 @@ pub record IsOfRequest (r : Record) : Type 0 where
   pub who : is_name_or_none r.who ≡ true
   pub host : is_host r.target.host ≡ true
   pub minute : is_minute_of r.outcome r.minute ≡ true
+
+-- A text is the line of a record of a request.
+pub record IsLineOf (line : List ℕ) (r : Record) : Type 0 where
+  pub good : IsOfRequest r
+  pub written : line ≡ line_of r
+
+-- whether a number is a byte
+abbrev pub is_byte : ℕ → Bool
+is_byte b = nat_lt b 256
+
+-- the numbers of an outcome are of their types
+abbrev pub IsOutcomeInRange : Outcome → Type 0
+IsOutcomeInRange (Challenge status) = status < 2 ^ 16
+IsOutcomeInRange (Deny rule) = rule < 2 ^ 32
+IsOutcomeInRange (Sent rule targets) = (rule < 2 ^ 32) × (targets < 2 ^ 32)
+IsOutcomeInRange (Answer rule status) = (rule < 2 ^ 32) × (status < 2 ^ 16)
+
+-- The numbers of a record are of their types, as those of each value that a program holds are.
+pub record IsInRange (r : Record) : Type 0 where
+  pub at : r.at < 2 ^ 64
+  pub number : r.number < 2 ^ 64
+  pub user : list_all is_byte r.target.user ≡ true
+  pub outcome : IsOutcomeInRange r.outcome

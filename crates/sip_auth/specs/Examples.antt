@@ -1,9 +1,9 @@
 -- Requests with credentials, and what they prove to the sample's users.
 use Rattle.std.specs.Prelude.{ℕ, List, [], ◌∷◌, ◌++◌, codes, Some}
 use Rattle.sip_field.specs.declared.field_name.FieldName.{FieldName}
-use Rattle.sip_message.specs.declared.message.Start.TheVariants.{Request}
-use Rattle.sip_message.specs.declared.message.Message.{Message}
-use Rattle.sip_header.specs.RoutingExamples.{sample_realm}
+use Rattle.sip_form.specs.declared.message.Start.TheVariants.{Request}
+use Rattle.sip_form.specs.declared.message.Message.{Message}
+use Rattle.sip_way.specs.Examples.{sample_realm}
 use Rattle.sip_digest.specs.declared.algorithm.Algorithm.TheVariants.{Md5}
 use Rattle.sip_digest.specs.Answers.{answer_of}
 use Rattle.sip_digest.specs.Credential.{Credential}

@@ -4,3 +4,4 @@ pub mod Examples
 pub mod Sha256Examples
 pub mod RealmExamples
 pub mod RightAnswer
+pub mod Finding

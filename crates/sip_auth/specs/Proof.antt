@@ -5,7 +5,7 @@ use Rattle.std.specs.Result.{result_ok}
 use Rattle.std.specs.Str.{bytes_eq}
 use Rattle.sip_text.specs.Words.{is_same_text}
 use Rattle.sip_uri.specs.declared.uri.Uri.{Uri}
-use Rattle.sip_uri.specs.Equality.{same}
+use Rattle.sip_equality.specs.Equality.{same}
 use Rattle.sip_uri.specs.Reading.{reading_of}
 use Rattle.sip_digest.specs.declared.algorithm.Algorithm.{Algorithm}
 use Rattle.sip_digest.specs.declared.algorithm.Algorithm.TheVariants.{Md5, Sha256}
@@ -18,9 +18,9 @@ use Rattle.sip_nonces.specs.declared.nonces.Worth.{Worth}
 use Rattle.sip_field.specs.declared.field_name.FieldName.{FieldName}
 use Rattle.sip_field.specs.declared.field_name.FieldName.TheVariants as Name
 use Rattle.sip_field.specs.declared.field.Field.{Field}
-use Rattle.sip_message.specs.declared.message.Start.{Start}
-use Rattle.sip_message.specs.declared.message.Start.TheVariants.{Request, Status}
-use Rattle.sip_message.specs.declared.message.Message.{Message}
+use Rattle.sip_form.specs.declared.message.Start.{Start}
+use Rattle.sip_form.specs.declared.message.Start.TheVariants.{Request, Status}
+use Rattle.sip_form.specs.declared.message.Message.{Message}
 use Rattle.sip_credentials.specs.declared.credentials.Credentials.{Credentials}
 use Rattle.sip_field.specs.Values.{values_of}
 use Rattle.sip_credentials.specs.Credentials.{credentials_of, is_realm}

@@ -1,7 +1,7 @@
 -- What a right proof rests on.
 use Rattle.std.specs.Prelude.{◌≡◌, ◌<◌, ℕ, true, List, Contains, Some}
-use Rattle.sip_message.specs.declared.message.Start.TheVariants.{Request}
-use Rattle.sip_message.specs.declared.message.Message.{Message}
+use Rattle.sip_form.specs.declared.message.Start.TheVariants.{Request}
+use Rattle.sip_form.specs.declared.message.Message.{Message}
 use Rattle.sip_field.specs.Values.{values_of}
 use Rattle.sip_credentials.specs.declared.credentials.Credentials.{Credentials}
 use Rattle.sip_credentials.specs.Credentials.{credentials_of, is_realm}

@@ -1,2 +1,4 @@
 pub mod Orders
 pub mod Choices
+pub mod Picking
+pub mod Lengths

@@ -3,9 +3,9 @@ use Rattle.std.specs.Prelude.{◌≡◌, ℕ, Bool, false, ◌||◌, ◌==◌, n
 use Rattle.std.specs.List.{AllByRecursion, list_any, flat_map}
 use Rattle.sip_field.specs.declared.field_name.FieldName.TheVariants.{WwwAuthenticate, ProxyAuthenticate}
 use Rattle.sip_field.specs.declared.field.Field.{Field}
-use Rattle.sip_message.specs.declared.message.Message.{Message}
+use Rattle.sip_form.specs.declared.message.Message.{Message}
 use Rattle.sip_field.specs.FieldName.{is_same_name}
-use Rattle.sip_message.specs.Text.{text_of}
+use Rattle.sip_form.specs.Text.{text_of}
 use Rattle.sip_best.specs.declared.final_answer.Final.{Final}
 use Rattle.sip_best.specs.Ranks.{outranks}
 

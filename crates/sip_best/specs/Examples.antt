@@ -2,7 +2,7 @@
 use Rattle.std.specs.Prelude.{ℕ, List, [], ◌∷◌, codes, Some, None}
 use Rattle.sip_field.specs.declared.field.Field.{Field}
 use Rattle.sip_field.specs.declared.field_name.FieldName.TheVariants as Name
-use Rattle.sip_message.specs.declared.message.Start.TheVariants.{Status}
+use Rattle.sip_form.specs.declared.message.Start.TheVariants.{Status}
 use Rattle.sip_best.specs.declared.final_answer.Final.{Final}
 
 -- an answer with a Via and further fields

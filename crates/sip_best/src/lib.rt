@@ -2,8 +2,13 @@
 //! branches goes up, and with which challenges.
 #![tactic(auto)]
 
+mod challenges;
+mod choice;
 pub mod examples;
 mod final_answer;
 pub mod laws;
+mod rank;
 
+pub use choice::best;
 pub use final_answer::Final;
+pub use rank::better;

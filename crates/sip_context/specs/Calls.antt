@@ -2,8 +2,8 @@
 use Rattle.std.specs.Prelude.{ℕ, Bool, false, true, List, [], ◌∷◌, ◌++◌, length, map, codes, None, Some}
 use Rattle.std.specs.Option.{option_map_or}
 use Rattle.sip_field.specs.declared.field_name.FieldName.TheVariants as Name
-use Rattle.sip_message.specs.declared.message.Start.TheVariants.{Status}
-use Rattle.sip_message.specs.declared.message.Message.{Message}
+use Rattle.sip_form.specs.declared.message.Start.TheVariants.{Status}
+use Rattle.sip_form.specs.declared.message.Message.{Message}
 use Rattle.sip_hops.specs.Examples.{local}
 use Rattle.sip_edit.specs.OwnVia.{branch_text}
 use Rattle.sip_edit.specs.OnwardExamples as Onward

@@ -14,36 +14,36 @@ use Rattle.sip_dialog.specs.Dialogs.{is_known, known, is_named, holds, is_in_dia
 -- ---- counts
 
 -- one more element
-count_first : {X : Type 0} (p : X → Bool) (x : X) (xs : List X) → count_by p (x ∷ xs) ≡ cond (p x) 1 0 + count_by p xs
+pub count_first : {X : Type 0} (p : X → Bool) (x : X) (xs : List X) → count_by p (x ∷ xs) ≡ cond (p x) 1 0 + count_by p xs
 count_first p x xs = sum_by-cons (λ y. cond (p y) 1 0) x xs
 
-count_filter : {X : Type 0} (p q : X → Bool) (xs : List X) → count_by p (filter q xs) ≡ count_by (λ x. q x && p x) xs
+pub count_filter : {X : Type 0} (p q : X → Bool) (xs : List X) → count_by p (filter q xs) ≡ count_by (λ x. q x && p x) xs
 count_filter p q [] = refl
 count_filter p q (x ∷ xs) = by_test (q x) (count_filter p q xs) ∙ sym (count_first (λ y. q y && p y) x xs) where
   by_test : (t : Bool) → count_by p (filter q xs) ≡ count_by (λ y. q y && p y) xs → count_by p (cond t (x ∷ filter q xs) (filter q xs)) ≡ cond (t && p x) 1 0 + count_by (λ y. q y && p y) xs
   by_test true e = count_first p x (filter q xs) ∙ ap (λ n. cond (p x) 1 0 + n) e
   by_test false e = omega (arith, e)
 
-count_map : {X Y : Type 0} (p : Y → Bool) (f : X → Y) (xs : List X) → count_by p (map f xs) ≡ count_by (λ x. p (f x)) xs
+pub count_map : {X Y : Type 0} (p : Y → Bool) (f : X → Y) (xs : List X) → count_by p (map f xs) ≡ count_by (λ x. p (f x)) xs
 count_map p f [] = refl
 count_map p f (x ∷ xs) = count_first p (f x) (map f xs) ∙ ap (λ n. cond (p (f x)) 1 0 + n) (count_map p f xs) ∙ sym (count_first (λ y. p (f y)) x xs)
 
-any_counts : {X : Type 0} (p : X → Bool) (xs : List X) → list_any p xs ≡ ltb 0 (count_by p xs)
+pub any_counts : {X : Type 0} (p : X → Bool) (xs : List X) → list_any p xs ≡ ltb 0 (count_by p xs)
 any_counts p [] = refl
 any_counts p (x ∷ xs) = by_test (p x) (count_by p xs) (any_counts p xs) ∙ ap (ltb 0) (sym (count_first p x xs)) where
   by_test : (t : Bool) (n : ℕ) → list_any p xs ≡ ltb 0 n → (t || list_any p xs) ≡ ltb 0 (cond t 1 0 + n)
   by_test true n e = grind (arith, nat_tests)
   by_test false n e = let same : n ≡ 0 + n = omega arith in e ∙ ap (ltb 0) same
 
-length_counts : {X : Type 0} (xs : List X) → length xs ≡ count_by (λ x. true) xs
+pub length_counts : {X : Type 0} (xs : List X) → length xs ≡ count_by (λ x. true) xs
 length_counts [] = refl
 length_counts (x ∷ xs) = omega (arith, length_counts xs, count_first (λ y. true) x xs)
 
-count_joined : {X : Type 0} (p : X → Bool) (xs ys : List X) → count_by p (xs ++ ys) ≡ count_by p xs + count_by p ys
+pub count_joined : {X : Type 0} (p : X → Bool) (xs ys : List X) → count_by p (xs ++ ys) ≡ count_by p xs + count_by p ys
 count_joined p xs ys = sum_by-append (λ y. cond (p y) 1 0) xs ys
 
 -- tests that agree count the same
-count_alike : {X : Type 0} (p q : X → Bool) (xs : List X) → ((x : X) → p x ≡ q x) → count_by p xs ≡ count_by q xs
+pub count_alike : {X : Type 0} (p q : X → Bool) (xs : List X) → ((x : X) → p x ≡ q x) → count_by p xs ≡ count_by q xs
 count_alike p q [] h = refl
 count_alike p q (x ∷ xs) h = count_first p x xs ∙ ap₂ (λ (b : Bool) (n : ℕ). cond b 1 0 + n) (h x) (count_alike p q xs h) ∙ sym (count_first q x xs)
 
@@ -75,13 +75,13 @@ pub after_invite_same : (now number : ℕ) (left right : List Dialog) → SameDi
 after_invite_same now number left right h = same_filtered (λ d. not (is_unconfirmed number d)) now left right h
 
 -- what is known
-knows_same : (now : ℕ) (id : DialogId) (left right : List Dialog) → SameDialogs now left right → knows now id left ≡ knows now id right
+pub knows_same : (now : ℕ) (id : DialogId) (left right : List Dialog) → SameDialogs now left right → knows now id left ≡ knows now id right
 knows_same now id left right h = any_counts (is_named id) (known now left) ∙ ap (ltb 0) (h (is_named id)) ∙ sym (any_counts (is_named id) (known now right))
 
-length_same : (now : ℕ) (left right : List Dialog) → SameDialogs now left right → length (known now left) ≡ length (known now right)
+pub length_same : (now : ℕ) (left right : List Dialog) → SameDialogs now left right → length (known now left) ≡ length (known now right)
 length_same now left right h = length_counts (known now left) ∙ h (λ d. true) ∙ sym (length_counts (known now right))
 
-same_known : (now : ℕ) (more left right : List Dialog) → SameDialogs now left right → SameDialogs now (known now left ++ more) (known now right ++ more)
+pub same_known : (now : ℕ) (more left right : List Dialog) → SameDialogs now left right → SameDialogs now (known now left ++ more) (known now right ++ more)
 same_known now more left right h = λ p. at_once p left ∙ ap (λ n. n + count_by (λ d. is_known now d && p d) more) (h (λ d. is_known now d && p d)) ∙ sym (at_once p right) where
   at_once : (p : Dialog → Bool) (ds : List Dialog)
       → count_by p (known now (known now ds ++ more)) ≡ count_by (λ d. is_known now d && p d) (known now ds) + count_by (λ d. is_known now d && p d) more

@@ -4,3 +4,7 @@ pub mod Dialogs
 pub mod Examples
 pub mod DialogError
 pub mod Sameness
+pub mod Naming
+pub mod SameNames
+pub mod Table
+pub mod Rows

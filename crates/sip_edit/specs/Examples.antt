@@ -1,8 +1,8 @@
 -- Worked examples.
 use Rattle.std.specs.Prelude.{ℕ, List, [], ◌∷◌, codes}
 use Rattle.sip_field.specs.declared.field_name.FieldName.TheVariants as Name
-use Rattle.sip_message.specs.declared.message.Start.TheVariants.{Request}
-use Rattle.sip_message.specs.declared.message.Message.{Message}
+use Rattle.sip_form.specs.declared.message.Start.TheVariants.{Request}
+use Rattle.sip_form.specs.declared.message.Message.{Message}
 use Rattle.sip_host.specs.declared.addr.Addr.{Addr}
 
 -- 127.0.0.1:5070

@@ -7,17 +7,17 @@ use Rattle.sip_uri.specs.Reading.{reading_of}
 use Rattle.sip_field.specs.declared.field_name.FieldName.{FieldName}
 use Rattle.sip_field.specs.declared.field_name.FieldName.TheVariants as Name
 use Rattle.sip_field.specs.declared.field.Field.{Field}
-use Rattle.sip_message.specs.declared.message.Start.{Start}
-use Rattle.sip_message.specs.declared.message.Start.TheVariants.{Request, Status}
-use Rattle.sip_message.specs.declared.message.Message.{Message}
+use Rattle.sip_form.specs.declared.message.Start.{Start}
+use Rattle.sip_form.specs.declared.message.Start.TheVariants.{Request, Status}
+use Rattle.sip_form.specs.declared.message.Message.{Message}
 use Rattle.sip_field.specs.FieldName.{is_same_name}
 use Rattle.sip_header.specs.declared.max_forwards.MaxForwards.{MaxForwards}
 use Rattle.sip_header.specs.declared.max_forwards.MaxForwards.TheVariants.{Absent, Hops, Malformed}
-use Rattle.sip_header.specs.declared.own.Own.{Own}
+use Rattle.sip_way.specs.declared.own.Own.{Own}
 use Rattle.sip_credentials.specs.Credentials.{credentials_of, is_realm}
 use Rattle.sip_header.specs.MaxForwards.{max_forwards_of}
-use Rattle.sip_header.specs.Own.{record_route_uri}
-use Rattle.sip_header.specs.Way.{request_uri, fields_left, way_of}
+use Rattle.sip_way.specs.Own.{record_route_uri}
+use Rattle.sip_way.specs.Way.{request_uri, fields_left, way_of}
 use Rattle.sip_edit.specs.OwnVia.{own_via_field}
 
 -- ---- Request-URI (step 2)

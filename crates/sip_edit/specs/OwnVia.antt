@@ -3,8 +3,8 @@ use Rattle.std.specs.Prelude.{ℕ, List, ◌++◌, decimal, codes}
 use Rattle.sip_text.specs.Numbers.{hex_text}
 use Rattle.sip_field.specs.declared.field_name.FieldName.TheVariants as Name
 use Rattle.sip_field.specs.declared.field.Field.{Field}
-use Rattle.sip_message.specs.declared.message.Message.{Message}
-use Rattle.sip_header.specs.declared.own.Own.{Own}
+use Rattle.sip_form.specs.declared.message.Message.{Message}
+use Rattle.sip_way.specs.declared.own.Own.{Own}
 use Rattle.sip_field.specs.Values.{without_first}
 
 -- The branch to a target: the magic cookie, the boot word in sixteen small hexadecimal digits, the number of the datagram that brought the request, and the

@@ -10,5 +10,5 @@ mod received_request;
 mod top_via;
 
 pub use branch_id::BranchId;
-pub use received_request::{received, response_address};
+pub use received_request::{response_address, with_top_via};
 pub use top_via::received_via;

@@ -1,62 +1,48 @@
-ghost use Rattle.std.specs.Prelude.{◌≡◌, IfOk};
-ghost use Rattle.sip_edit.specs.ReceivedRequest;
+ghost use Rattle.std.specs.Prelude.{◌≡◌, IfOk, option_map};
+ghost use Rattle.sip_field.specs.declared.field_name.FieldName.TheVariants as Name;
+ghost use Rattle.sip_field.specs.Values.{with_first};
+ghost use Rattle.sip_edit.specs.ReceivedRequest.{address_by, response_port};
 
-use crate::top_via::received_via;
-use sip_header::{HeaderError, Via, parameter_of, via_of};
+use sip_header::{Via, parameter_of};
 use sip_host::Addr;
-use sip_message::{FieldName, Fields, Message};
+use sip_message::{FieldName, View};
 use std::alloc::{AllocError, Global};
 
-/// Copies of fields, the first Via among them edited.
-fn received_fields(alloc: Global, fields: &Fields, from: Addr) -> Result<Fields, AllocError>
-    ensures { IfOk result (λ edited. edited ≡ ReceivedRequest.received_fields from fields.now) }
+/// A request whose top Via has another value, as `received_via` gives it (RFC 3261 18.2.1). No byte is copied.
+/// `AllocError` is the only refusal.
+pub fn with_top_via<'v>(
+    alloc: Global,
+    request: &'v View<'_>,
+    value: &'v [u8],
+) -> Result<View<'v>, AllocError>
+    ensures { IfOk result (λ edited. edited ≡ record request.now { fields = with_first Name.Via value.now request.now.fields }) }
 {
-    let Some(value) = fields.first(&FieldName::Via) else {
-        return fields.clone();
-    };
-    let value = received_via(alloc, value, from)?;
-    fields.with_first(alloc, &FieldName::Via, value.as_slice())
+    let fields = request.fields().with_first(alloc, &FieldName::Via, value)?;
+    Ok(request.with_fields(fields))
 }
 
-/// A request as it came from an address: the value of its top Via is the one that `received_via` gives
-/// (RFC 3261 18.2.1; RFC 3581 4). `AllocError` is the only refusal.
-pub fn received(alloc: Global, request: Message, from: Addr) -> Result<Message, AllocError>
-    ensures { IfOk result (λ edited. edited ≡ ReceivedRequest.received request from) }
+/// The port to which the responses go of a request with this Via on top.
+fn response_port(via: &Via<'_>, from: Addr) -> u16
+    ensures { result ≡ response_port via.now from }
 {
-    let fields = received_fields(alloc, &request.fields, from)?;
-    Ok(Message {
-        start: request.start,
-        fields,
-        body: request.body,
-    })
-}
-
-/// The top Via, if it's there and can be read.
-fn top_via(alloc: Global, request: &Message) -> Result<Option<Via>, AllocError>
-    ensures { IfOk result (λ via. via ≡ ReceivedRequest.top_via request.now) }
-{
-    let Some(value) = request.fields.first(&FieldName::Via) else {
-        return Ok(None);
-    };
-    match via_of(alloc, value) {
-        Ok(via) => Ok(Some(via)),
-        Err(HeaderError::NoMemory) => Err(AllocError),
-        Err(_) => Ok(None),
-    }
-}
-
-/// Where the responses to a request that came from an address go: to the source's address, at its port if
-/// the top Via has an `rport`, else at the port of its sent-by, else at 5060 (RFC 3261 18.2.2; RFC 3581 4). Without a top Via that can be read it is the source itself. `AllocError` is the only refusal.
-pub fn response_address(alloc: Global, request: &Message, from: Addr) -> Result<Addr, AllocError>
-    ensures { IfOk result (λ to. to ≡ ReceivedRequest.response_address request.now from) }
-{
-    let Some(via) = top_via(alloc, request)? else {
-        return Ok(from);
-    };
     if parameter_of(via.parameters.as_slice(), b"rport").is_some() {
-        return Ok(from);
+        return from.port;
     }
-    let ip = from.ip;
-    let port = via.port.unwrap_or(5060);
-    Ok(Addr { ip, port })
+    via.port.unwrap_or(5060)
+}
+
+/// Where the responses go to a request that came from an address with this Via on top: to the source's address, at its
+/// port if the Via has an `rport`, else at the port of its sent-by, else at 5060 (RFC 3261 18.2.2; RFC 3581 4). Without
+/// a Via that can be read it is the source itself.
+pub fn response_address(via: Option<&Via<'_>>, from: Addr) -> Addr
+    ensures { result ≡ address_by (option_map (λ v. v.now) via.entry) from }
+{
+    match via {
+        Some(via) => {
+            let ip = from.ip;
+            let port = response_port(via, from);
+            Addr { ip, port }
+        }
+        None => from,
+    }
 }

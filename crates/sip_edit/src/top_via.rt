@@ -1,8 +1,8 @@
-ghost use Rattle.std.specs.Prelude.{◌≡◌, ◌++◌, length, decimal, codes, IfOk, OnOk};
+ghost use Rattle.std.specs.Prelude.{◌≡◌, ◌++◌, length, decimal, codes, option_map, IfOk, OnOk};
 ghost use Rattle.sip_text.specs.Cuts.{parts_at};
 ghost use Rattle.sip_edit.specs.TopVia;
 
-use sip_header::{HeaderError, via_of};
+use sip_header::Via;
 use sip_host::{Addr, ip_text};
 use sip_text::{Bytes, first_part, same_no_case, without_blanks};
 use std::alloc::{AllocError, Global};
@@ -82,16 +82,20 @@ fn with_source(alloc: Global, value: &[u8], host: &[u8], from: Addr) -> Result<B
     Ok(out)
 }
 
-/// The value of the top Via of a request as it came from an address: a `received` that came is removed, an
-/// `rport` gets the source's port, and `received` with the source's address goes last where there was an
-/// `rport`, or where the sent-by is another host. All other text stays, and so does a value that can't be
+/// The value of the top Via of a request as it came from an address, by what it says: a `received` that came is
+/// removed, an `rport` gets the source's port, and `received` with the source's address goes last where there was
+/// an `rport`, or where the sent-by is another host. All other text stays, and so does a value that can't be
 /// read (RFC 3261 18.2.1; RFC 3581 4). `AllocError` is the only refusal.
-pub fn received_via(alloc: Global, value: &[u8], from: Addr) -> Result<Bytes, AllocError>
-    ensures { IfOk result (λ edited. edited ≡ TopVia.received_via value.now from) }
+pub fn received_via(
+    alloc: Global,
+    via: Option<&Via<'_>>,
+    value: &[u8],
+    from: Addr,
+) -> Result<Bytes, AllocError>
+    ensures { IfOk result (λ edited. edited ≡ TopVia.received_as (option_map (λ v. v.now) via.entry) value.now from) }
 {
-    match via_of(alloc, value) {
-        Ok(via) => with_source(alloc, value, via.host.as_slice(), from),
-        Err(HeaderError::NoMemory) => Err(AllocError),
-        Err(_) => Bytes::copy(alloc, value),
+    match via {
+        Some(via) => with_source(alloc, value, via.host.as_slice(), from),
+        None => Bytes::copy(alloc, value),
     }
 }

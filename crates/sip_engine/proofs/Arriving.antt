@@ -1,9 +1,9 @@
 -- What is asked of a message that is served.
 use Rattle.std.proofs.Common.{◌≡◌, ℕ, ◌<◌, ◌≤◌, [], length, leb, true, false, Option, Some, None, refl, ◌∙◌, ap, arith}
 use Rattle.std.proofs.lemmas.Bool.Decides.{nat_tests}
-use Rattle.sip_message.specs.declared.message.Message.{Message}
-use Rattle.sip_header.specs.declared.key.Key.{Key}
-use Rattle.sip_header.specs.Key.{key_of}
+use Rattle.sip_form.specs.declared.message.Message.{Message}
+use Rattle.sip_key.specs.declared.key.Key.{Key}
+use Rattle.sip_key.specs.Key.{key_of}
 use Rattle.sip_settings.specs.declared.config.Config.{Config}
 use Rattle.sip_engine.specs.declared.registration.Registration.{Registration}
 use Rattle.sip_engine.specs.declared.tables.Tables.{Tables}

@@ -4,8 +4,8 @@ use Rattle.std.specs.Prelude.{find, codes}
 use Rattle.std.proofs.lemmas.Bool.Decides.{nat_tests}
 use Rattle.std.proofs.lemmas.List.Sums.{sum_by_push}
 use Rattle.sip_field.specs.declared.field.Field.{Field}
-use Rattle.sip_message.specs.declared.message.Message.{Message}
-use Rattle.sip_header.specs.declared.key.Key.{Key}
+use Rattle.sip_form.specs.declared.message.Message.{Message}
+use Rattle.sip_key.specs.declared.key.Key.{Key}
 use Rattle.sip_settings.specs.declared.config.Config.{Config}
 use Rattle.sip_event.specs.declared.packet.Packet.{Packet}
 use Rattle.sip_engine.specs.declared.proof.Proof.{Proof}

@@ -4,3 +4,4 @@ pub mod Deadlines
 pub mod Values
 pub mod Later
 pub mod Arriving
+pub mod TopVia

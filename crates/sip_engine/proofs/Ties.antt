@@ -4,7 +4,7 @@ use Rattle.std.specs.Prelude.{not, ◌&&◌, count_by, sum_by, remove, find, sli
 use Rattle.std.proofs.lemmas.Bool.Decides.{nat_tests}
 use Rattle.std.proofs.lemmas.List.Sums.{sum_by_push, sum_by-remove}
 use Rattle.std.proofs.lemmas.Option.{slice_get_within, get_or_from_slice_get}
-use Rattle.sip_header.specs.declared.Key.{Key}
+use Rattle.sip_key.specs.declared.Key.{Key}
 use Rattle.sip_server.specs.declared.server_other.ServerOther.{ServerOther}
 use Rattle.sip_server.specs.declared.server_other.ServerOther.TheVariants.{Trying, Proceeding, Completed, Terminated}
 use Rattle.sip_server.specs.declared.server_other.ServerOtherInput.TheVariants.{Answer}

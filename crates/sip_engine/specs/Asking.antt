@@ -1,8 +1,8 @@
 -- A REGISTER that is served: what the laws about it suppose.
 use Rattle.std.specs.Prelude.{◌≡◌, ◌<◌, length, find, Some, None}
-use Rattle.sip_message.specs.declared.message.Message.{Message}
-use Rattle.sip_header.specs.declared.key.Key.{Key}
-use Rattle.sip_header.specs.Key.{key_of}
+use Rattle.sip_form.specs.declared.message.Message.{Message}
+use Rattle.sip_key.specs.declared.key.Key.{Key}
+use Rattle.sip_key.specs.Key.{key_of}
 use Rattle.sip_settings.specs.declared.config.Config.{Config}
 use Rattle.sip_engine.specs.declared.registration.Registration.{Registration}
 use Rattle.sip_engine.specs.declared.tables.Tables.{Tables}

@@ -1,8 +1,8 @@
 -- Open requests, and the timers that they name.
 use Rattle.std.specs.Prelude.{ℕ, ◌≡◌, ◌≤◌, ◌+◌, ◌==◌, ◌&&◌, nat_lt, nat_le, Bool, true, false, not, Some, List, [], ◌∷◌, map, count_by, slice_get, remove}
 use Rattle.std.specs.List.{flat_map}
-use Rattle.sip_header.specs.declared.Key.{Key}
-use Rattle.sip_header.specs.Key.{same_key}
+use Rattle.sip_key.specs.declared.Key.{Key}
+use Rattle.sip_key.specs.Key.{same_key}
 use Rattle.sip_server.specs.declared.actions.Action.{Action}
 use Rattle.sip_server.specs.declared.actions.Action.TheVariants.{Send, SendAgain, Up, Start}
 use Rattle.sip_transaction.specs.declared.letter.Letter.TheVariants.{J}

@@ -6,12 +6,12 @@ use Rattle.sip_nonces.specs.NonceText.{nonce_text}
 use Rattle.sip_nonces.specs.Nonces.{issued, spent_by}
 use Rattle.sip_field.specs.declared.field_name.FieldName.TheVariants as Name
 use Rattle.sip_field.specs.declared.field.Field.{Field}
-use Rattle.sip_message.specs.declared.message.Message.{Message}
-use Rattle.sip_message.specs.declared.error.ReadError.{ReadError}
-use Rattle.sip_message.specs.Text.{text_of}
+use Rattle.sip_form.specs.declared.message.Message.{Message}
+use Rattle.sip_form.specs.declared.error.ReadError.{ReadError}
+use Rattle.sip_form.specs.Text.{text_of}
 use Rattle.sip_message.specs.Reading.{reading_of}
-use Rattle.sip_header.specs.declared.key.Key.{Key}
-use Rattle.sip_header.specs.Key.{key_of}
+use Rattle.sip_key.specs.declared.key.Key.{Key}
+use Rattle.sip_key.specs.Key.{key_of}
 use Rattle.sip_reply.specs.Challenges.{challenge}
 use Rattle.sip_reply.specs.Contacts.{contact_value}
 use Rattle.sip_edit.specs.ReceivedRequest.{received, response_address}

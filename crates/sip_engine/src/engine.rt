@@ -1,7 +1,7 @@
 ghost use Rattle.std.specs.Prelude.{◌≡◌, ◌≤◌, ◌<◌, ◌^◌, ℕ, max, [], false, true, Option, Some, None, Ok, Err, IfOk, IfErr, IfSome, IfNone, IsOk};
-ghost use Rattle.sip_message.specs.declared.message.Message.{Message};
+ghost use Rattle.sip_form.specs.declared.message.Message.{Message};
 ghost use Rattle.sip_message.specs.Says.{Says, IsWithinLimits};
-ghost use Rattle.sip_header.specs.Key.{key_of};
+ghost use Rattle.sip_key.specs.Key.{key_of};
 ghost use Rattle.sip_engine.specs.Bindings.{live};
 ghost use Rattle.sip_engine.specs.Requests.{IsNextDeadline, closing_by, closing_before};
 ghost use Rattle.sip_engine.specs.Serving.{heard};

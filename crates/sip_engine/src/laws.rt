@@ -1,7 +1,7 @@
 ghost use Rattle.std.specs.Prelude.{◌≡◌, ◌≤◌, ℕ, List, [], ◌∷◌, length, find, Some, None, true, false};
-ghost use Rattle.sip_message.specs.declared.message.Message.{Message};
-ghost use Rattle.sip_header.specs.declared.key.Key.{Key};
-ghost use Rattle.sip_header.specs.Key.{key_of};
+ghost use Rattle.sip_form.specs.declared.message.Message.{Message};
+ghost use Rattle.sip_key.specs.declared.key.Key.{Key};
+ghost use Rattle.sip_key.specs.Key.{key_of};
 ghost use Rattle.sip_settings.specs.declared.config.Config.{Config};
 ghost use Rattle.sip_engine.specs.declared.proof.Claim.{Claim};
 ghost use Rattle.sip_engine.specs.declared.proof.Proof.TheVariants.{Right, Stale, Wrong};

@@ -6,6 +6,7 @@
 mod bindings;
 mod engine;
 mod error;
+mod incoming;
 pub mod laws;
 mod proof;
 mod registration;

@@ -8,41 +8,41 @@ ghost use Rattle.sip_engine.specs.Proof.{is_realm, matching, first_for_realm, is
 
 use sip_credentials::{Credentials, credentials_of};
 use sip_digest::Algorithm;
-use sip_header::HeaderError;
-use sip_message::{FieldName, Fields, Message, Start};
+use sip_message::{FieldName, View, ViewFields, ViewStart};
 use sip_nonces::{Nonces, Worth};
 use sip_policy::User;
 use sip_settings::Config;
 use sip_text::{Bytes, same_bytes, same_no_case};
 use sip_uri::{UriError, parse_uri, write_uri};
+use sip_view::Value;
 use std::alloc::{AllocError, Global};
 
 /// The quality of protection `auth`: the count of the nonce's uses, and the client's own nonce.
 #[derive(Debug, Drop)]
-pub struct Quality {
-    pub nc: Bytes,
-    pub cnonce: Bytes,
+pub struct Quality<'v> {
+    pub nc: Value<'v>,
+    pub cnonce: Value<'v>,
 }
 
 /// What credentials claim: a user, who answers a nonce for a URI.
 #[derive(Debug, Drop)]
-pub struct Claim {
-    pub user: Bytes,
-    pub nonce: Bytes,
-    pub uri: Bytes,
-    pub quality: Option<Quality>,
-    pub response: Bytes,
+pub struct Claim<'v> {
+    pub user: Value<'v>,
+    pub nonce: Value<'v>,
+    pub uri: Value<'v>,
+    pub quality: Option<Quality<'v>>,
+    pub response: Value<'v>,
 }
 
 /// Whom a request proves to come from: a user by a claim that is right, or nobody.
 #[derive(Debug, Drop)]
-pub enum Proof {
-    Right(Claim),
+pub enum Proof<'v> {
+    Right(Claim<'v>),
     Stale,
     Wrong,
 }
 
-impl Claim {
+impl<'v> Claim<'v> {
     /// The claim as the digest crate takes it, on a request of this method.
     pub fn on<'a>(&'a self, method: &'a [u8]) -> sip_digest::Credential<'a>
         ensures { shown result ≡ credential_of method.now self.now }
@@ -65,7 +65,7 @@ impl Claim {
     }
 }
 
-fn is_realm(realm: &[u8], said: &Option<Bytes>) -> bool
+fn is_realm(realm: &[u8], said: &Option<Value<'_>>) -> bool
     ensures { result ≡ is_realm realm.now said.now }
 {
     match said {
@@ -75,28 +75,28 @@ fn is_realm(realm: &[u8], said: &Option<Bytes>) -> bool
 }
 
 /// The Digest credentials that a value has for a realm.
-fn matching(alloc: Global, realm: &[u8], value: &[u8]) -> Result<Option<Credentials>, AllocError>
+fn matching<'v>(
+    alloc: Global,
+    realm: &[u8],
+    value: &'v [u8],
+) -> Result<Option<Credentials<'v>>, AllocError>
     ensures { IfOk result (λ found. found ≡ matching realm.now (Said.credentials_of value.now)) }
 {
-    match credentials_of(alloc, FieldName::Authorization, value) {
-        Ok(credentials) => {
-            if is_realm(realm, &credentials.realm) {
-                Ok(Some(credentials))
-            } else {
-                Ok(None)
-            }
-        }
-        Err(HeaderError::NoMemory) => Err(AllocError),
-        Err(_) => Ok(None),
+    let Some(credentials) = credentials_of(alloc, value)? else {
+        return Ok(None);
+    };
+    if !is_realm(realm, &credentials.realm) {
+        return Ok(None);
     }
+    Ok(Some(credentials))
 }
 
 /// The first Digest credentials for a realm among some values.
-fn first_for_realm(
+fn first_for_realm<'v>(
     alloc: Global,
     realm: &[u8],
-    values: &[&[u8]],
-) -> Result<Option<Credentials>, AllocError>
+    values: &[&'v [u8]],
+) -> Result<Option<Credentials<'v>>, AllocError>
     ensures { IfOk result (λ found. found ≡ first_for_realm realm.now (map (λ value. value.now) values.now)) }
 {
     for value in values {
@@ -109,18 +109,18 @@ fn first_for_realm(
 }
 
 /// The first Digest credentials for a realm that fields have.
-fn credentials_in(
+fn credentials_in<'v>(
     alloc: Global,
     realm: &[u8],
-    fields: &Fields,
-) -> Result<Option<Credentials>, AllocError>
+    fields: &'v ViewFields<'_>,
+) -> Result<Option<Credentials<'v>>, AllocError>
     ensures { IfOk result (λ found. found ≡ first_for_realm realm.now (values_of FieldName.Authorization fields.now)) }
 {
     let values = fields.values(alloc, &FieldName::Authorization)?;
     first_for_realm(alloc, realm, &values)
 }
 
-fn is_md5(algorithm: &Option<Bytes>) -> bool
+fn is_md5(algorithm: &Option<Value<'_>>) -> bool
     ensures { result ≡ is_md5 algorithm.now }
 {
     match algorithm {
@@ -130,12 +130,12 @@ fn is_md5(algorithm: &Option<Bytes>) -> bool
 }
 
 /// The quality of protection that credentials name, if what they name is one that is taken.
-fn quality_of(
-    qop: Option<Bytes>,
-    nc: Option<Bytes>,
-    cnonce: Option<Bytes>,
-) -> Option<Option<Quality>>
-    ensures { result ≡ quality_of qop nc cnonce }
+fn quality_of<'v>(
+    qop: Option<Value<'v>>,
+    nc: Option<Value<'v>>,
+    cnonce: Option<Value<'v>>,
+) -> Option<Option<Quality<'v>>>
+    ensures { result ≡ quality_of qop.entry nc.entry cnonce.entry }
 {
     let Some(qop) = qop else {
         return Some(None);
@@ -148,14 +148,14 @@ fn quality_of(
     Some(Some(Quality { nc, cnonce }))
 }
 
-fn claim_from(
-    quality: Option<Quality>,
-    user: Option<Bytes>,
-    nonce: Option<Bytes>,
-    uri: Option<Bytes>,
-    response: Option<Bytes>,
-) -> Option<Claim>
-    ensures { result ≡ claim_from quality user nonce uri response }
+fn claim_from<'v>(
+    quality: Option<Quality<'v>>,
+    user: Option<Value<'v>>,
+    nonce: Option<Value<'v>>,
+    uri: Option<Value<'v>>,
+    response: Option<Value<'v>>,
+) -> Option<Claim<'v>>
+    ensures { result ≡ claim_from quality.entry user.entry nonce.entry uri.entry response.entry }
 {
     let user = user?;
     let nonce = nonce?;
@@ -171,8 +171,8 @@ fn claim_from(
 }
 
 /// What credentials claim, if they have what an answer needs.
-fn claim_of(c: Credentials) -> Option<Claim>
-    ensures { result ≡ claim_of c }
+fn claim_of(c: Credentials<'_>) -> Option<Claim<'_>>
+    ensures { result ≡ claim_of c.entry }
 {
     if !is_md5(&c.algorithm) {
         return None;
@@ -216,8 +216,8 @@ fn user_named<'a>(users: &'a [User], name: &[u8]) -> Option<&'a User>
     None
 }
 
-fn judged(claim: Claim, worth: Worth) -> Proof
-    ensures { result ≡ judged claim worth }
+fn judged(claim: Claim<'_>, worth: Worth) -> Proof<'_>
+    ensures { result ≡ judged claim.entry worth }
 {
     match worth {
         Worth::Right => Proof::Right(claim),
@@ -227,8 +227,14 @@ fn judged(claim: Claim, worth: Worth) -> Proof
 }
 
 /// What a claim proves, by its user.
-fn proof_by(users: &[User], nonces: &Nonces, now: u64, method: &[u8], claim: Claim) -> Proof
-    ensures { result ≡ proof_by nonces.now now method.now claim (find (is_named claim.user) users.now) }
+fn proof_by<'v>(
+    users: &[User],
+    nonces: &Nonces,
+    now: u64,
+    method: &[u8],
+    claim: Claim<'v>,
+) -> Proof<'v>
+    ensures { result ≡ proof_by nonces.now now method.now claim.entry (find (is_named claim.entry.user) users.now) }
 {
     let worth = match user_named(users, claim.user.as_slice()) {
         Some(user) => nonces.check(&user.a1, &claim.on(method), now),
@@ -238,16 +244,16 @@ fn proof_by(users: &[User], nonces: &Nonces, now: u64, method: &[u8], claim: Cla
 }
 
 /// What a claim on a request proves.
-fn proof_from(
+fn proof_from<'v>(
     alloc: Global,
     config: &Config,
     nonces: &Nonces,
     now: u64,
     method: &[u8],
     uri: &[u8],
-    claim: Claim,
-) -> Result<Proof, AllocError>
-    ensures { IfOk result (λ proof. proof ≡ proof_from config.now nonces.now now method.now uri.now (Some claim)) }
+    claim: Claim<'v>,
+) -> Result<Proof<'v>, AllocError>
+    ensures { IfOk result (λ proof. proof ≡ proof_from config.now nonces.now now method.now uri.now (Some claim.entry)) }
 {
     if claim.on(method).count().is_none() {
         return Ok(Proof::Wrong);
@@ -259,32 +265,24 @@ fn proof_from(
 }
 
 /// Whom a REGISTER proves to come from.
-pub fn proof_of(
+pub fn proof_of<'v>(
     alloc: Global,
     config: &Config,
     nonces: &Nonces,
     now: u64,
-    message: &Message,
-) -> Result<Proof, AllocError>
+    message: &'v View<'_>,
+) -> Result<Proof<'v>, AllocError>
     ensures { IfOk result (λ proof. proof ≡ proof_of config.now nonces.now now message.now) }
 {
-    let Start::Request { method, uri, .. } = &message.start else {
+    let ViewStart::Request { method, uri, .. } = message.start() else {
         return Ok(Proof::Wrong);
     };
-    let found = credentials_in(alloc, config.realm.as_slice(), &message.fields)?;
+    let found = credentials_in(alloc, config.realm.as_slice(), message.fields())?;
     let Some(credentials) = found else {
         return Ok(Proof::Wrong);
     };
     let Some(claim) = claim_of(credentials) else {
         return Ok(Proof::Wrong);
     };
-    proof_from(
-        alloc,
-        config,
-        nonces,
-        now,
-        method.as_slice(),
-        uri.as_slice(),
-        claim,
-    )
+    proof_from(alloc, config, nonces, now, method, uri, claim)
 }

@@ -2,11 +2,12 @@ ghost use Rattle.std.specs.Prelude.{◌≡◌, IfOk, option_map};
 ghost use Rattle.std.specs.List.{list_any};
 ghost use Rattle.sip_text.specs.Words.{is_same_text};
 ghost use Rattle.sip_field.specs.Values.{values_of};
+ghost use Rattle.sip_form.specs.ViewStart.{start_seen};
 ghost use Rattle.sip_policy.specs.User.{is_named};
 ghost use Rattle.sip_engine.specs.Registration.{serves, inside_brackets, contact_of, only_contact, sip_uri, registration_for, registration_with, registration_in, has_none, is_register, registration_of};
 
 use sip_header::{AnyUri, CoreFields, HeaderError, core_of};
-use sip_message::{FieldName, Fields, Message, Start};
+use sip_message::{FieldName, View, ViewFields, ViewStart};
 use sip_policy::User;
 use sip_settings::Config;
 use sip_text::{Bytes, same_bytes, same_no_case};
@@ -73,7 +74,7 @@ fn contact_of(alloc: Global, value: &[u8]) -> Result<Option<Bytes>, AllocError>
 }
 
 /// The one contact.
-fn only_contact(alloc: Global, fields: &Fields) -> Result<Option<Bytes>, AllocError>
+fn only_contact(alloc: Global, fields: &ViewFields<'_>) -> Result<Option<Bytes>, AllocError>
     ensures { IfOk result (λ contact. contact ≡ only_contact (values_of FieldName.Contact fields.now)) }
 {
     if fields.count(&FieldName::Contact) != 1 {
@@ -87,9 +88,10 @@ fn only_contact(alloc: Global, fields: &Fields) -> Result<Option<Bytes>, AllocEr
 
 /// What is asked for an address of record.
 fn registration_for(
+    alloc: Global,
     config: &Config,
     contact: Bytes,
-    core: &CoreFields,
+    core: &CoreFields<'_>,
     aor: Aor,
 ) -> Result<Option<Registration>, AllocError>
     ensures { IfOk result (λ registration. registration ≡ registration_for config.now contact core.now aor) }
@@ -97,7 +99,7 @@ fn registration_for(
     if !serves(config, &aor) {
         return Ok(None);
     }
-    let call_id = core.call_id.clone()?;
+    let call_id = core.call_id.to_bytes(alloc)?;
     Ok(Some(Registration {
         aor,
         contact,
@@ -111,14 +113,14 @@ fn registration_with(
     alloc: Global,
     config: &Config,
     contact: Bytes,
-    core: &CoreFields,
+    core: &CoreFields<'_>,
 ) -> Result<Option<Registration>, AllocError>
     ensures { IfOk result (λ registration. registration ≡ registration_with config.now contact core.now) }
 {
     match &core.to.uri {
         AnyUri::Sip(uri) => {
             let aor = aor_of(alloc, uri)?;
-            registration_for(config, contact, core, aor)
+            registration_for(alloc, config, contact, core, aor)
         }
         AnyUri::Other(_) => Ok(None),
     }
@@ -127,11 +129,11 @@ fn registration_with(
 fn registration_in(
     alloc: Global,
     config: &Config,
-    message: &Message,
+    message: &View<'_>,
 ) -> Result<Option<Registration>, AllocError>
     ensures { IfOk result (λ registration. registration ≡ registration_in config.now message.now.fields) }
 {
-    let Some(contact) = only_contact(alloc, &message.fields)? else {
+    let Some(contact) = only_contact(alloc, message.fields())? else {
         return Ok(None);
     };
     match core_of(alloc, message) {
@@ -141,12 +143,12 @@ fn registration_in(
     }
 }
 
-fn is_register(start: &Start) -> bool
-    ensures { result ≡ is_register start.now }
+fn is_register(start: &ViewStart<'_>) -> bool
+    ensures { result ≡ is_register (start_seen start.now) }
 {
     match start {
-        Start::Request { method, .. } => same_bytes(method.as_slice(), b"REGISTER"),
-        Start::Status { .. } => false,
+        ViewStart::Request { method, .. } => same_bytes(method, b"REGISTER"),
+        ViewStart::Status { .. } => false,
     }
 }
 
@@ -154,14 +156,14 @@ fn is_register(start: &Start) -> bool
 pub fn registration_of(
     alloc: Global,
     config: &Config,
-    message: &Message,
+    message: &View<'_>,
 ) -> Result<Option<Registration>, AllocError>
     ensures { IfOk result (λ registration. registration ≡ registration_of config.now message.now) }
 {
-    if !is_register(&message.start) {
+    if !is_register(message.start()) {
         return Ok(None);
     }
-    if message.fields.count(&FieldName::Expires) != 0 {
+    if message.fields().count(&FieldName::Expires) != 0 {
         return Ok(None);
     }
     registration_in(alloc, config, message)

@@ -6,8 +6,8 @@ ghost use Rattle.sip_timers.specs.declared.timer.Owner.TheVariants.{Server};
 ghost use Rattle.sip_transaction.specs.declared.letter.Letter.TheVariants.{J};
 
 use sip_event::{Packet, Ticket};
-use sip_header::{Key, same_key};
 use sip_host::Addr;
+use sip_key::{Key, same_key};
 use sip_server::{Action, ServerOther, ServerOtherInput};
 use sip_text::{Bytes, Items};
 use sip_timers::{ListTimers, Name, Owner, Timer, TimerError, Timers};

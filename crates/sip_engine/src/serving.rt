@@ -1,27 +1,28 @@
 ghost use Rattle.std.specs.Prelude.{◌≡◌, ◌≤◌, ◌<◌, ◌^◌, ◌++◌, false, [], ◌∷◌, length, nat_le, IfOk, OnOk};
 ghost use Rattle.sip_message.specs.Says.{Says, IsWithinLimits};
-ghost use Rattle.sip_header.specs.Key as Keys;
+ghost use Rattle.sip_form.specs.declared.message.Message.{Message};
+ghost use Rattle.sip_key.specs.Key as Keys;
 ghost use Rattle.sip_engine.specs.Registration as Asks;
 ghost use Rattle.sip_engine.specs.Bindings.{bound, live};
 ghost use Rattle.sip_engine.specs.Proof as Proofs;
 ghost use Rattle.sip_engine.specs.Requests.{closing_by, answer_packet, opened};
 ghost use Rattle.sip_engine.specs.Serving;
-ghost use Rattle.sip_engine.specs.Serving.{answer_text, challenge_field, challenged, binding_for, contact_field, contact_fields, registered, may_register, judged_by, asked, heard, taken};
+ghost use Rattle.sip_engine.specs.Serving.{challenge_field, challenged, binding_for, contact_field, contact_fields, registered, may_register, judged_by, asked, heard, taken};
 
 use crate::bindings::{Binding, Bindings};
+use crate::incoming::Incoming;
 use crate::proof::{Claim, Proof, proof_of};
 use crate::registration::{Registration, registration_of};
 use crate::requests::{Answered, Requests};
 use crate::tables::{Arrival, Tables};
 use sip_digest::Algorithm;
-use sip_edit::{received, response_address};
 use sip_event::Packet;
-use sip_header::{Key, key_of};
-use sip_message::{Field, FieldName, Fields, Message, ReadError, read, write};
+use sip_key::Key;
+use sip_message::{Field, FieldName, Fields, View, ViewRefusal, view};
 use sip_nonces::nonce_text;
-use sip_reply::{challenge, contact_value, respond, to_tag};
+use sip_reply::{challenge, contact_value};
 use sip_settings::Config;
-use sip_text::{Bytes, Items, same_bytes};
+use sip_text::{Items, same_bytes};
 use sip_uri::Aor;
 use std::alloc::{AllocError, Global};
 
@@ -33,45 +34,29 @@ const BOUND_FOR: u64 = 3_600_000;
 
 /// A request, when it came, and what it is found by.
 #[derive(Drop)]
-struct Incoming {
-    message: Message,
+struct Asked<'r, 'v> {
+    message: &'r Incoming<'v>,
     key: Key,
     arrival: Arrival,
-}
-
-/// The text of an answer to a request.
-fn answer_text(
-    alloc: Global,
-    word: u64,
-    arrival: Arrival,
-    message: Message,
-    status: u16,
-    extras: Fields,
-) -> Result<Bytes, AllocError>
-    ensures { IfOk result (λ text. text ≡ answer_text word arrival message status extras) }
-{
-    let tag = to_tag(alloc, word, arrival.number)?;
-    let received = received(alloc, message, arrival.from)?;
-    let response = respond(alloc, &received, status, tag.as_slice(), extras)?;
-    write(alloc, &response)
 }
 
 /// A request with its final answer.
 fn answered(
     alloc: Global,
     word: u64,
-    request: Incoming,
+    request: Asked<'_, '_>,
     status: u16,
-    extras: Fields,
+    extras: &Fields,
 ) -> Result<Answered, AllocError>
-    ensures { IfOk result (λ answered. answered ≡ Serving.answered word request.arrival request.message request.key status extras) }
+    ensures { IfOk result (λ answered. answered ≡ Serving.answered word request.entry.arrival request.entry.message.now request.entry.key status extras.now) }
 {
     let arrival = request.arrival;
-    let source = response_address(alloc, &request.message, arrival.from)?;
-    let answer = answer_text(alloc, word, arrival, request.message, status, extras)?;
+    let answer = request
+        .message
+        .answer_text(alloc, word, arrival, status, extras)?;
     Ok(Answered {
         key: request.key,
-        source,
+        source: request.message.response_address(arrival.from),
         number: arrival.number,
         status,
         answer,
@@ -83,15 +68,15 @@ fn reply(
     alloc: Global,
     word: u64,
     requests: &mut Requests,
-    request: Incoming,
+    request: Asked<'_, '_>,
     status: u16,
-    extras: Fields,
+    extras: &Fields,
 ) -> Result<Items<Packet>, AllocError>
     requires early { request.arrival.now < 2 ^ 62 }
     requires settled { closing_by request.arrival.now requests.old ≡ 0 }
     requires answered { (200 ≤ status) × (status < 700) }
-    ensures packets { IfOk result (λ packets. packets ≡ answer_packet false (opened (Serving.answered word request.arrival request.message request.key status extras) request.arrival.now) ∷ []) }
-    ensures requests { IfOk result (λ packets. requests.new ≡ requests.old ++ opened (Serving.answered word request.arrival request.message request.key status extras) request.arrival.now ∷ []) }
+    ensures packets { IfOk result (λ packets. packets ≡ answer_packet false (opened (Serving.answered word request.entry.arrival request.entry.message.now request.entry.key status extras.now) request.entry.arrival.now) ∷ []) }
+    ensures requests { IfOk result (λ packets. requests.new ≡ requests.old ++ opened (Serving.answered word request.entry.arrival request.entry.message.now request.entry.key status extras.now) request.entry.arrival.now ∷ []) }
 {
     let now = request.arrival.now;
     let answered = answered(alloc, word, request, status, extras)?;
@@ -127,18 +112,18 @@ fn challenge_request(
     config: &Config,
     word: u64,
     tables: &mut Tables,
-    request: Incoming,
+    request: Asked<'_, '_>,
     stale: bool,
 ) -> Result<Items<Packet>, AllocError>
     requires early { request.arrival.now < 2 ^ 62 }
     requires settled { closing_by request.arrival.now tables.old.requests ≡ 0 }
-    ensures { IfOk result (λ packets. (packets, tables.new) ≡ challenged config.now word request.arrival request.message request.key stale tables.old) }
+    ensures { IfOk result (λ packets. (packets, tables.new) ≡ challenged config.now word request.entry.arrival request.entry.message.now request.entry.key stale tables.old) }
 {
     let arrival = request.arrival;
     let mut extras = Fields::new(alloc);
     extras.push(challenge_field(alloc, config, arrival, stale)?)?;
     tables.nonces.issue(arrival.word, arrival.now);
-    let packets = reply(alloc, word, &mut tables.requests, request, 401, extras)?;
+    let packets = reply(alloc, word, &mut tables.requests, request, 401, &extras)?;
     Ok(packets)
 }
 
@@ -211,19 +196,19 @@ fn register(
     alloc: Global,
     word: u64,
     tables: &mut Tables,
-    request: Incoming,
+    request: Asked<'_, '_>,
     registration: &Registration,
-    claim: &Claim,
+    claim: &Claim<'_>,
 ) -> Result<Items<Packet>, AllocError>
     requires early { request.arrival.now < 2 ^ 62 }
     requires settled { closing_by request.arrival.now tables.old.requests ≡ 0 }
-    ensures { IfOk result (λ packets. (packets, tables.new) ≡ registered word request.arrival request.message request.key registration.now claim.now tables.old) }
+    ensures { IfOk result (λ packets. (packets, tables.new) ≡ registered word request.entry.arrival request.entry.message.now request.entry.key registration.now claim.now tables.old) }
 {
     let now = request.arrival.now;
     bind_contact(&mut tables.bindings, now, registration)?;
     tables.nonces.spend(&claim.on(b"REGISTER"), now);
     let extras = live_fields(alloc, &tables.bindings, &registration.aor, now)?;
-    reply(alloc, word, &mut tables.requests, request, 200, extras)
+    reply(alloc, word, &mut tables.requests, request, 200, &extras)
 }
 
 /// Whether a user may register a contact.
@@ -231,7 +216,7 @@ fn may_register(
     tables: &Tables,
     arrival: Arrival,
     registration: &Registration,
-    claim: &Claim,
+    claim: &Claim<'_>,
 ) -> bool
     ensures { result ≡ may_register arrival registration.now claim.now tables.now }
 {
@@ -250,13 +235,13 @@ fn answer_by(
     config: &Config,
     word: u64,
     tables: &mut Tables,
-    request: Incoming,
+    request: Asked<'_, '_>,
     registration: &Registration,
-    proof: Proof,
+    proof: Proof<'_>,
 ) -> Result<Items<Packet>, AllocError>
     requires early { request.arrival.now < 2 ^ 62 }
     requires settled { closing_by request.arrival.now tables.old.requests ≡ 0 }
-    ensures { IfOk result (λ packets. (packets, tables.new) ≡ judged_by config.now word request.arrival request.message request.key registration.now tables.old proof) }
+    ensures { IfOk result (λ packets. (packets, tables.new) ≡ judged_by config.now word request.entry.arrival request.entry.message.now request.entry.key registration.now tables.old proof.entry) }
 {
     match proof {
         Proof::Wrong => challenge_request(alloc, config, word, tables, request, false),
@@ -284,15 +269,15 @@ fn judge(
     config: &Config,
     word: u64,
     tables: &mut Tables,
-    request: Incoming,
+    request: Asked<'_, '_>,
     registration: &Registration,
 ) -> Result<Items<Packet>, AllocError>
     requires early { request.arrival.now < 2 ^ 62 }
     requires settled { closing_by request.arrival.now tables.old.requests ≡ 0 }
-    ensures { IfOk result (λ packets. (packets, tables.new) ≡ judged_by config.now word request.arrival request.message request.key registration.now tables.old (Proofs.proof_of config.now tables.old.nonces request.arrival.now request.message)) }
+    ensures { IfOk result (λ packets. (packets, tables.new) ≡ judged_by config.now word request.entry.arrival request.entry.message.now request.entry.key registration.now tables.old (Proofs.proof_of config.now tables.old.nonces request.entry.arrival.now request.entry.message.now)) }
 {
     let now = request.arrival.now;
-    let proof = proof_of(alloc, config, &tables.nonces, now, &request.message)?;
+    let proof = proof_of(alloc, config, &tables.nonces, now, request.message.view())?;
     answer_by(alloc, config, word, tables, request, registration, proof)
 }
 
@@ -302,13 +287,13 @@ fn serve_new(
     config: &Config,
     word: u64,
     tables: &mut Tables,
-    request: Incoming,
+    request: Asked<'_, '_>,
 ) -> Result<Items<Packet>, AllocError>
     requires early { request.arrival.now < 2 ^ 62 }
     requires settled { closing_by request.arrival.now tables.old.requests ≡ 0 }
-    ensures { IfOk result (λ packets. (packets, tables.new) ≡ asked config.now word tables.old request.arrival request.message request.key (Asks.registration_of config.now request.message)) }
+    ensures { IfOk result (λ packets. (packets, tables.new) ≡ asked config.now word tables.old request.entry.arrival request.entry.message.now request.entry.key (Asks.registration_of config.now request.entry.message.now)) }
 {
-    let Some(registration) = registration_of(alloc, config, &request.message)? else {
+    let Some(registration) = registration_of(alloc, config, request.message.view())? else {
         return Ok(Items::new(alloc));
     };
     if is_full(&tables.requests) {
@@ -318,6 +303,33 @@ fn serve_new(
     Ok(packets)
 }
 
+/// Serves a message whose top Via can be read.
+fn serve_incoming(
+    alloc: Global,
+    config: &Config,
+    word: u64,
+    tables: &mut Tables,
+    arrival: Arrival,
+    message: &Incoming<'_>,
+) -> Result<Items<Packet>, AllocError>
+    requires early { arrival.now < 2 ^ 62 }
+    requires settled { closing_by arrival.now tables.old.requests ≡ 0 }
+    ensures { IfOk result (λ packets. (packets, tables.new) ≡ heard config.now word tables.old arrival message.now (Keys.key_of message.now)) }
+{
+    let Some(key) = message.key(alloc)? else {
+        return Ok(Items::new(alloc));
+    };
+    if let Some(packets) = tables.requests.repeat(alloc, &key)? {
+        return Ok(packets);
+    }
+    let request = Asked {
+        message,
+        key,
+        arrival,
+    };
+    serve_new(alloc, config, word, tables, request)
+}
+
 /// Serves a message.
 fn serve(
     alloc: Global,
@@ -325,24 +337,16 @@ fn serve(
     word: u64,
     tables: &mut Tables,
     arrival: Arrival,
-    message: Message,
+    message: &View<'_>,
 ) -> Result<Items<Packet>, AllocError>
     requires early { arrival.now < 2 ^ 62 }
     requires settled { closing_by arrival.now tables.old.requests ≡ 0 }
-    ensures { IfOk result (λ packets. (packets, tables.new) ≡ heard config.now word tables.old arrival message (Keys.key_of message)) }
+    ensures { IfOk result (λ packets. (packets, tables.new) ≡ heard config.now word tables.old arrival message.now (Keys.key_of message.now)) }
 {
-    let Some(key) = key_of(alloc, &message)? else {
-        return Ok(Items::new(alloc));
-    };
-    if let Some(packets) = tables.requests.repeat(alloc, &key)? {
-        return Ok(packets);
+    match Incoming::of(alloc, message)? {
+        Some(message) => serve_incoming(alloc, config, word, tables, arrival, &message),
+        None => Ok(Items::new(alloc)),
     }
-    let request = Incoming {
-        message,
-        key,
-        arrival,
-    };
-    serve_new(alloc, config, word, tables, request)
 }
 
 /// Does what the bytes of a datagram call for.
@@ -361,12 +365,14 @@ pub fn take_datagram(
     ensures said { (m : Message) → Says bytes.now m → IsWithinLimits bytes.now m → IfOk result (λ packets. (packets, tables.new) ≡ heard config.now word tables.old arrival m (Keys.key_of m)) }
     ensures later { OnOk result (closing_by arrival.now tables.new.requests ≡ 0) }
 {
-    match read(alloc, bytes) {
+    match view(alloc, bytes) {
         Ok(message) => {
-            let packets = serve(alloc, config, word, tables, arrival, message)?;
+            let packets = serve(alloc, config, word, tables, arrival, &message)?;
             Ok(packets)
         }
-        Err(ReadError::NoMemory) => Err(AllocError),
-        Err(_) => Ok(Items::new(alloc)),
+        Err(error) => match error.refusal() {
+            ViewRefusal::NoMemory => Err(AllocError),
+            _ => Ok(Items::new(alloc)),
+        },
     }
 }

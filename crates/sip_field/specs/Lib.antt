@@ -1,5 +1,3 @@
 pub mod FieldName
 pub mod Named
 pub mod Values
-pub mod Piece
-pub mod KeptField

@@ -155,7 +155,7 @@ fn name_of_credentials(name: &[u8]) -> Option<FieldName>
 }
 
 /// The name that is written so, if this project knows it. Takes no memory.
-pub(crate) fn known_name(name: &[u8]) -> Option<FieldName>
+pub fn known_name(name: &[u8]) -> Option<FieldName>
     ensures { MatchOption result (name_of name.now ≡ Other name.now) (λ known. known ≡ name_of name.now) }
 {
     if let Some(known) = name_with_compact_form(name) {

@@ -1,5 +1,6 @@
 pub mod Collecting
 pub mod OneValue
+pub mod Single
 pub mod Words
 pub mod NumberLaws
 pub mod ParameterLaws

@@ -1,5 +1,5 @@
 -- The one value of a field, by its first value and their number.
-use Rattle.std.proofs.Common.{◌≡◌, ℕ, ◌<◌, ◌≤◌, Bool, true, false, cond, List, [], ◌∷◌, length, Option, Some, None, Ok, Err, Result, refl, sym, ap, subst, ◌∙◌, arith, inl, inr}
+use Rattle.std.proofs.Common.{◌≡◌, ℕ, ◌<◌, ◌≤◌, Bool, true, false, cond, List, [], ◌∷◌, length, Option, Some, None, Ok, Err, Result, refl, sym, ap, ◌∙◌, arith}
 use Rattle.sip_field.specs.declared.field_name.FieldName.{FieldName}
 use Rattle.sip_field.specs.declared.field.Field.{Field}
 use Rattle.sip_header.specs.declared.error.HeaderError.TheVariants.{Missing, Malformed}
@@ -10,11 +10,10 @@ use Rattle.sip_field.specs.FieldName.{is_same_name}
 use Rattle.sip_field.specs.Named.{first_named, all_named}
 use Rattle.sip_header.specs.declared.error.HeaderError.{HeaderError}
 use Rattle.sip_header.specs.declared.name_addr.NameAddr.{NameAddr}
-use Rattle.sip_header.specs.Reading.{Reads}
 use Rattle.sip_header.specs.NameAddr.{name_addr_of}
-use Rattle.sip_header.specs.CoreFields.{◌>>=◌, Gives, the_one, only_value, name_addr_in}
+use Rattle.sip_header.specs.CoreFields.{◌>>=◌, the_one, only_value, name_addr_in}
 
-abbrev first : List (List ℕ) → Option (List ℕ)
+abbrev pub first : List (List ℕ) → Option (List ℕ)
 first [] = None
 first (value ∷ values) = Some value
 
@@ -22,7 +21,7 @@ by_test : (t : Bool) (field : Field) (o : Option Field) (fields : List Field) �
 by_test true field o fields e = refl
 by_test false field o fields e = e
 
-first_is : (name : FieldName) (fields : List Field) → first_value name fields ≡ first (values_of name fields)
+pub first_is : (name : FieldName) (fields : List Field) → first_value name fields ≡ first (values_of name fields)
 first_is name [] = refl
 first_is name (field ∷ fields) = by_test (is_same_name field.name name) field (first_named name fields) (all_named name fields) (first_is name fields)
 
@@ -53,18 +52,19 @@ one name value fields e le = one_by name value (values_of name fields) (e ∙ fi
 
 -- ---- an address among them
 
-reads_given : (name : FieldName) (result : Result NameAddr HeaderError) (meaning : Option NameAddr) → Reads name result meaning → Gives (λ x. x) result (ok_or meaning (Malformed name))
-reads_given name (Ok x) meaning r = ap (λ (o : Option NameAddr). ok_or o (Malformed name)) r
-reads_given name (Err e) meaning r = elim r [ inl memory ↦ inl memory | inr bad ↦ inr (ap (λ (o : Option NameAddr). ok_or o (Malformed name)) bad.1 ∙ ap (λ (x : HeaderError). Err x) (sym bad.0)) ]
-
 pub addr_missing : (name : FieldName) (fields : List Field) → None ≡ first_value name fields → name_addr_in name fields ≡ Err (Missing name)
 addr_missing name fields e = ap (λ (r : Result (List ℕ) HeaderError). r >>= λ value. ok_or (name_addr_of value) (Malformed name)) (none_there name fields e)
 
 pub addr_several : (name : FieldName) (fields : List Field) → 1 < length (values_of name fields) → name_addr_in name fields ≡ Err (Malformed name)
 addr_several name fields lt = ap (λ (r : Result (List ℕ) HeaderError). r >>= λ value. ok_or (name_addr_of value) (Malformed name)) (several name fields lt)
 
-pub addr_given : (name : FieldName) (value : List ℕ) (fields : List Field) (result : Result NameAddr HeaderError) → Some value ≡ first_value name fields → length (values_of name fields) ≤ 1
-    → Reads name result (name_addr_of value) → Gives (λ x. x) result (name_addr_in name fields)
-addr_given name value fields result e le r =
-    let whole : name_addr_in name fields ≡ ok_or (name_addr_of value) (Malformed name) = ap (λ (r : Result (List ℕ) HeaderError). r >>= λ value. ok_or (name_addr_of value) (Malformed name)) (one name value fields e le) in
-    subst (λ (w : Result NameAddr HeaderError). Gives (λ x. x) result w) (sym whole) (reads_given name result (name_addr_of value) r)
+addr_read : (name : FieldName) (value : List ℕ) (fields : List Field) → Some value ≡ first_value name fields → length (values_of name fields) ≤ 1 → name_addr_in name fields ≡ ok_or (name_addr_of value) (Malformed name)
+addr_read name value fields e le = ap (λ (r : Result (List ℕ) HeaderError). r >>= λ value. ok_or (name_addr_of value) (Malformed name)) (one name value fields e le)
+
+pub addr_good : (name : FieldName) (value : List ℕ) (fields : List Field) (address : NameAddr) → Some value ≡ first_value name fields → length (values_of name fields) ≤ 1
+    → Some address ≡ name_addr_of value → name_addr_in name fields ≡ Ok address
+addr_good name value fields address e le is = addr_read name value fields e le ∙ ap (λ (o : Option NameAddr). ok_or o (Malformed name)) (sym is)
+
+pub addr_bad : (name : FieldName) (value : List ℕ) (fields : List Field) → Some value ≡ first_value name fields → length (values_of name fields) ≤ 1
+    → None ≡ name_addr_of value → name_addr_in name fields ≡ Err (Malformed name)
+addr_bad name value fields e le is = addr_read name value fields e le ∙ ap (λ (o : Option NameAddr). ok_or o (Malformed name)) (sym is)

@@ -2,8 +2,8 @@
 use Rattle.std.specs.Prelude.{ℕ, List, [], ◌∷◌, ◌++◌, codes, Some, None}
 use Rattle.sip_field.specs.declared.field.Field.{Field}
 use Rattle.sip_field.specs.declared.field_name.FieldName.TheVariants as Name
-use Rattle.sip_message.specs.declared.message.Start.TheVariants.{Request}
-use Rattle.sip_message.specs.declared.message.Message.{Message}
+use Rattle.sip_form.specs.declared.message.Start.TheVariants.{Request}
+use Rattle.sip_form.specs.declared.message.Message.{Message}
 use Rattle.sip_uri.specs.declared.scheme.Scheme.TheVariants as Scheme
 use Rattle.sip_uri.specs.declared.uri.Uri.{Uri}
 use Rattle.sip_header.specs.declared.parameters.Parameter.{Parameter}
@@ -37,7 +37,3 @@ register_with more = record { start = Request (codes "REGISTER") (codes "sip:hos
 -- the same with a CSeq
 abbrev pub register_numbered : List ℕ → Message
 register_numbered cseq = register_with (record { name = Name.CSeq; value = cseq } ∷ [])
-
--- a request of a method whose one field is this Via
-abbrev pub request_by : List ℕ → List ℕ → Message
-request_by method via = record { start = Request method (codes "sip:help@host.com") (codes "SIP/2.0"); fields = record { name = Name.Via; value = via } ∷ []; body = [] }

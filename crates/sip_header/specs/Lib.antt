@@ -2,15 +2,12 @@ pub mod Reading
 pub mod Parameters
 pub mod Via
 pub mod CSeq
-pub mod Key
 pub mod NameAddr
 pub mod CoreFields
 pub mod Examples
 pub mod ContactItem
 pub mod MaxForwards
 pub mod Expires
-pub mod Own
 pub mod Route
-pub mod Way
-pub mod RoutingExamples
+pub mod FieldExamples
 pub mod HeaderError

@@ -1,40 +1,74 @@
-ghost use Rattle.std.specs.Prelude.{◌≡◌, IfOk, option_map};
+ghost use Rattle.std.specs.Prelude.{◌≡◌, IfOk, option_map, if◌then◌else◌, None};
 ghost use Rattle.std.specs.List.{list_all};
 ghost use Rattle.sip_text.specs.Words.{is_token_byte};
 ghost use Rattle.sip_text.specs.Cuts.{parts_at, split_outside};
 ghost use Rattle.sip_header.specs.NameAddr.{is_opaque_byte, is_opaque, other_of, any_uri_of, with_parameters, is_bare_byte, bare_in, is_word_byte, is_display, behind_bracket, bracketed_by, name_addr_of};
-ghost use Rattle.sip_header.specs.Reading.{Reads};
 
-use crate::error::HeaderError;
-use crate::parameters::{Parameter, is_quoted, parameters_from};
-use sip_message::FieldName;
+use crate::parameters::{Parameter, parameters_from};
+use sip_message::Value;
 use sip_text::{
-    Bytes, Items, first_part, is_space_or_tab, is_token, split_outside, without_blanks,
+    Items, Text, first_part, is_quoted, is_space_or_tab, is_token, split_outside, without_blanks,
 };
-use sip_uri::{Uri, UriError, parse_uri};
+use sip_uri::{Uri, UriError, parse_uri, write_uri};
 use std::alloc::{AllocError, Global};
 
 /// A URI of any scheme.
 #[derive(Drop)]
-pub enum AnyUri {
+pub enum AnyUri<'a> {
     Sip(Uri),
     /// One of another scheme than `sip` and `sips`, as it was written.
-    Other(Bytes),
+    Other(Text<'a>),
+}
+
+impl<'a> AnyUri<'a> {
+    ghost use Rattle.sip_header.specs.NameAddr.{sip_uri};
+    ghost use Rattle.sip_header.specs.Route.{uri_text};
+
+    /// The SIP or SIPS URI that it is, if it is one. Takes no memory.
+    pub fn sip_uri(&self) -> Option<&Uri>
+        ensures { option_map (λ uri. uri.now) result ≡ sip_uri self.now }
+    {
+        match self {
+            AnyUri::Sip(uri) => Some(uri),
+            AnyUri::Other(_) => None,
+        }
+    }
+
+    /// Its text: of a SIP or SIPS URI the written form, of another the bytes that were read. `AllocError` is the
+    /// only refusal.
+    pub fn text(&self, alloc: Global) -> Result<Value<'a>, AllocError>
+        ensures { IfOk result (λ text. text ≡ uri_text self.now) }
+    {
+        match self {
+            AnyUri::Sip(uri) => Ok(Value::of_bytes(write_uri(alloc, uri)?)),
+            AnyUri::Other(text) => Ok(Value::of_part(text.as_slice())),
+        }
+    }
 }
 
 /// A URI with header parameters. A display name is read and not kept.
-pub struct NameAddr {
-    pub uri: AnyUri,
-    pub parameters: Items<Parameter>,
+pub struct NameAddr<'a> {
+    pub uri: AnyUri<'a>,
+    pub parameters: Items<Parameter<'a>>,
 }
 
 /// Written out, so that it is proved once and not wherever an address is dropped.
-impl Drop for NameAddr {
+impl<'a> Drop for NameAddr<'a> {
     fn drop(self) {
         let NameAddr {
             uri: _,
             parameters: _,
         } = self;
+    }
+}
+
+impl<'a> NameAddr<'a> {
+    /// Its URI, which it gives up.
+    pub fn into_uri(self) -> AnyUri<'a>
+        ensures { result ≡ self.entry.uri }
+    {
+        let NameAddr { uri, parameters: _ } = self;
+        uri
     }
 }
 
@@ -88,39 +122,39 @@ fn has_opaque_part(bytes: &[u8]) -> bool
 }
 
 /// A URI of another scheme.
-fn other_uri(alloc: Global, bytes: &[u8]) -> Result<Option<AnyUri>, AllocError>
-    ensures { IfOk result (λ uri. uri ≡ other_of bytes.now) }
+fn other_uri(bytes: &[u8]) -> Option<AnyUri<'_>>
+    ensures { result ≡ other_of bytes.now }
 {
     if !has_opaque_part(bytes) {
-        return Ok(None);
+        return None;
     }
-    Ok(Some(AnyUri::Other(Bytes::copy(alloc, bytes)?)))
+    Some(AnyUri::Other(Text::new(bytes)))
 }
 
 /// A URI of any scheme.
-fn any_uri(alloc: Global, bytes: &[u8]) -> Result<Option<AnyUri>, AllocError>
+fn any_uri(alloc: Global, bytes: &[u8]) -> Result<Option<AnyUri<'_>>, AllocError>
     ensures { IfOk result (λ uri. uri ≡ any_uri_of bytes.now) }
 {
     match parse_uri(alloc, bytes) {
         Ok(uri) => Ok(Some(AnyUri::Sip(uri))),
         Err(UriError::NoMemory) => Err(AllocError),
-        Err(UriError::Scheme) => other_uri(alloc, bytes),
+        Err(UriError::Scheme) => Ok(other_uri(bytes)),
         Err(UriError::Syntax) => Ok(None),
     }
 }
 
 /// Whether bytes are a display name, or nothing.
-fn is_display_name(alloc: Global, bytes: &[u8]) -> Result<bool, AllocError>
-    ensures { IfOk result (λ fits. fits ≡ is_display bytes.now) }
+fn is_display_name(bytes: &[u8]) -> bool
+    ensures { result ≡ is_display bytes.now }
 {
     if all_word_bytes(bytes) {
-        return Ok(true);
+        return true;
     }
-    is_quoted(alloc, without_blanks(bytes))
+    is_quoted(without_blanks(bytes))
 }
 
 /// A URI without brackets, and parameters.
-fn bare(alloc: Global, bytes: &[u8]) -> Result<Option<NameAddr>, AllocError>
+fn bare(alloc: Global, bytes: &[u8]) -> Result<Option<NameAddr<'_>>, AllocError>
     ensures { IfOk result (λ found. found ≡ bare_in (parts_at 59 bytes.now)) }
 {
     let (uri, behind) = first_part(bytes, b';');
@@ -140,7 +174,7 @@ fn bare(alloc: Global, bytes: &[u8]) -> Result<Option<NameAddr>, AllocError>
 fn parameters_behind_bracket(
     alloc: Global,
     bytes: &[u8],
-) -> Result<Option<Items<Parameter>>, AllocError>
+) -> Result<Option<Items<Parameter<'_>>>, AllocError>
     ensures { IfOk result (λ parameters. parameters ≡ behind_bracket (parts_at 59 bytes.now)) }
 {
     let (gap, behind) = first_part(bytes, b';');
@@ -151,7 +185,7 @@ fn parameters_behind_bracket(
 }
 
 /// A URI up to its `>`, and parameters.
-fn bracketed(alloc: Global, bytes: &[u8]) -> Result<Option<NameAddr>, AllocError>
+fn bracketed(alloc: Global, bytes: &[u8]) -> Result<Option<NameAddr<'_>>, AllocError>
     ensures { IfOk result (λ found. found ≡ bracketed_by (split_outside 62 bytes.now)) }
 {
     let Some((uri, behind)) = split_outside(bytes, b'>') else {
@@ -166,23 +200,27 @@ fn bracketed(alloc: Global, bytes: &[u8]) -> Result<Option<NameAddr>, AllocError
     Ok(Some(NameAddr { uri, parameters }))
 }
 
-/// What the value of a name-addr field says, None where it is malformed.
-fn read_name_addr(alloc: Global, value: &[u8]) -> Result<Option<NameAddr>, AllocError>
-    ensures { IfOk result (λ found. found ≡ name_addr_of value.now) }
+/// An address in brackets: what stands before its `<`, and what stands behind.
+pub(crate) fn in_brackets<'v>(
+    alloc: Global,
+    display: &[u8],
+    rest: &'v [u8],
+) -> Result<Option<NameAddr<'v>>, AllocError>
+    ensures { IfOk result (λ found. found ≡ (if is_display display.now then bracketed_by (split_outside 62 rest.now) else None)) }
 {
-    let Some((display, rest)) = split_outside(value, b'<') else {
-        return bare(alloc, value);
-    };
-    if !is_display_name(alloc, display)? {
+    if !is_display_name(display) {
         return Ok(None);
     }
     bracketed(alloc, rest)
 }
 
-/// What the value of a field `name` says that holds an address, as From and To: a name-addr or a URI without
-/// brackets, and header parameters (RFC 3261 20.10). Any other value is Malformed.
-pub fn name_addr_of(alloc: Global, name: FieldName, value: &[u8]) -> Result<NameAddr, HeaderError>
-    ensures { Reads name result (name_addr_of value.now) }
+/// What the value of a field says that holds an address, as From and To: a name-addr or a URI without brackets,
+/// and header parameters (RFC 3261 20.10). None where it is malformed. `AllocError` is the only refusal.
+pub fn name_addr_of(alloc: Global, value: &[u8]) -> Result<Option<NameAddr<'_>>, AllocError>
+    ensures { IfOk result (λ found. found ≡ name_addr_of value.now) }
 {
-    read_name_addr(alloc, value)?.ok_or(HeaderError::Malformed(name))
+    let Some((display, rest)) = split_outside(value, b'<') else {
+        return bare(alloc, value);
+    };
+    in_brackets(alloc, display, rest)
 }

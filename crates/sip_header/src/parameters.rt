@@ -6,20 +6,22 @@ ghost use Rattle.sip_header.specs.Parameters.{is_value, needs_value, bare_parame
 
 use sip_host::is_host;
 use sip_text::{
-    Bytes, Items, TextError, first_part, is_token, same_no_case, split_outside, unquote,
-    without_blanks,
+    Items, Text, first_part, is_quoted, is_token, same_no_case, split_outside, without_blanks,
 };
 use std::alloc::{AllocError, Global};
 
 /// A header parameter: its name, and its value as it was written, quotes included.
 #[derive(Drop)]
-pub struct Parameter {
-    pub name: Bytes,
-    pub value: Option<Bytes>,
+pub struct Parameter<'a> {
+    pub name: Text<'a>,
+    pub value: Option<Text<'a>>,
 }
 
 /// The first parameter of a name, which is compared without case.
-pub fn parameter_of<'a>(parameters: &'a [Parameter], name: &[u8]) -> Option<&'a Parameter>
+pub fn parameter_of<'a, 'v>(
+    parameters: &'a [Parameter<'v>],
+    name: &[u8],
+) -> Option<&'a Parameter<'v>>
     ensures { option_copied result ≡ parameter_of name.now parameters.now }
 {
     for parameter in parameters {
@@ -31,7 +33,7 @@ pub fn parameter_of<'a>(parameters: &'a [Parameter], name: &[u8]) -> Option<&'a 
 }
 
 /// The value of the first parameter of a name, if it has one.
-pub fn value_of<'a>(parameters: &'a [Parameter], name: &[u8]) -> Option<&'a [u8]>
+pub fn value_of<'v>(parameters: &[Parameter<'v>], name: &[u8]) -> Option<&'v [u8]>
     ensures { option_map (λ x. x.now) result ≡ value_of name.now parameters.now }
 {
     let parameter = parameter_of(parameters, name)?;
@@ -42,41 +44,30 @@ pub fn value_of<'a>(parameters: &'a [Parameter], name: &[u8]) -> Option<&'a [u8]
 }
 
 /// The tag, if there is one (RFC 3261 19.3).
-pub fn tag_of(parameters: &[Parameter]) -> Option<&[u8]>
+pub fn tag_of<'v>(parameters: &[Parameter<'v>]) -> Option<&'v [u8]>
     ensures { option_map (λ x. x.now) result ≡ tag_of parameters.now }
 {
     value_of(parameters, b"tag")
 }
 
 /// The branch, if there is one (RFC 3261 8.1.1.7).
-pub fn branch_of(parameters: &[Parameter]) -> Option<&[u8]>
+pub fn branch_of<'v>(parameters: &[Parameter<'v>]) -> Option<&'v [u8]>
     ensures { option_map (λ x. x.now) result ≡ branch_of parameters.now }
 {
     value_of(parameters, b"branch")
 }
 
-/// Whether bytes are quoted text.
-pub(crate) fn is_quoted(alloc: Global, bytes: &[u8]) -> Result<bool, AllocError>
-    ensures { IfOk result (λ quoted. quoted ≡ is_some (unquoted bytes.now)) }
-{
-    match unquote(alloc, bytes) {
-        Ok(_) => Ok(true),
-        Err(TextError::NoMemory) => Err(AllocError),
-        Err(_) => Ok(false),
-    }
-}
-
 /// Whether bytes may be the value of a parameter.
-fn is_value_text(alloc: Global, bytes: &[u8]) -> Result<bool, AllocError>
-    ensures { IfOk result (λ fits. fits ≡ is_value bytes.now) }
+fn is_value_text(bytes: &[u8]) -> bool
+    ensures { result ≡ is_value bytes.now }
 {
     if is_token(bytes) {
-        return Ok(true);
+        return true;
     }
     if is_host(bytes) {
-        return Ok(true);
+        return true;
     }
-    is_quoted(alloc, bytes)
+    is_quoted(bytes)
 }
 
 /// Whether a parameter of this name needs a value.
@@ -86,55 +77,58 @@ fn wants_value(name: &[u8]) -> bool
     same_no_case(name, b"tag") || same_no_case(name, b"branch")
 }
 
-fn without_value(alloc: Global, name: &[u8]) -> Result<Option<Parameter>, AllocError>
-    ensures { IfOk result (λ parameter. parameter ≡ bare_parameter name.now) }
+fn without_value(name: &[u8]) -> Option<Parameter<'_>>
+    ensures { result ≡ bare_parameter name.now }
 {
     if !is_token(name) {
-        return Ok(None);
+        return None;
     }
     if wants_value(name) {
-        return Ok(None);
+        return None;
     }
-    let name = Bytes::copy(alloc, name)?;
-    Ok(Some(Parameter { name, value: None }))
+    Some(Parameter {
+        name: Text::new(name),
+        value: None,
+    })
 }
 
-fn with_value(alloc: Global, name: &[u8], value: &[u8]) -> Result<Option<Parameter>, AllocError>
-    ensures { IfOk result (λ parameter. parameter ≡ valued_parameter name.now value.now) }
+fn with_value<'v>(name: &'v [u8], value: &'v [u8]) -> Option<Parameter<'v>>
+    ensures { result ≡ valued_parameter name.now value.now }
 {
     if !is_token(name) {
-        return Ok(None);
+        return None;
     }
-    if !is_value_text(alloc, value)? {
-        return Ok(None);
+    if !is_value_text(value) {
+        return None;
     }
-    let name = Bytes::copy(alloc, name)?;
-    let value = Some(Bytes::copy(alloc, value)?);
-    Ok(Some(Parameter { name, value }))
+    Some(Parameter {
+        name: Text::new(name),
+        value: Some(Text::new(value)),
+    })
 }
 
 /// The parameter that bytes write.
-fn parameter_from(alloc: Global, bytes: &[u8]) -> Result<Option<Parameter>, AllocError>
-    ensures { IfOk result (λ parameter. parameter ≡ parameter_in bytes.now) }
+fn parameter_from(bytes: &[u8]) -> Option<Parameter<'_>>
+    ensures { result ≡ parameter_in bytes.now }
 {
     match split_outside(bytes, b'=') {
-        Some((name, value)) => with_value(alloc, without_blanks(name), without_blanks(value)),
-        None => without_value(alloc, without_blanks(bytes)),
+        Some((name, value)) => with_value(without_blanks(name), without_blanks(value)),
+        None => without_value(without_blanks(bytes)),
     }
 }
 
 /// The parameters that the rest of a value writes, each behind a `;`.
-pub(crate) fn parameters_from(
+pub(crate) fn parameters_from<'v>(
     alloc: Global,
-    behind: Option<&[u8]>,
-) -> Result<Option<Items<Parameter>>, AllocError>
+    behind: Option<&'v [u8]>,
+) -> Result<Option<Items<Parameter<'v>>>, AllocError>
     ensures { IfOk result (λ parameters. parameters ≡ parameters_in (parts_behind 59 (option_map (λ x. x.now) behind.entry))) }
 {
     let mut parameters = Items::new(alloc);
     let mut behind = behind;
     while let Some(text) = behind {
         let (part, rest) = first_part(text, b';');
-        let Some(parameter) = parameter_from(alloc, part)? else {
+        let Some(parameter) = parameter_from(part) else {
             return Ok(None);
         };
         parameters.push(parameter)?;

@@ -8,7 +8,7 @@ use Rattle.sip_uri.specs.declared.scheme.Scheme.TheVariants.{Sip, Sips}
 use Rattle.sip_uri.specs.declared.parameters.Parameter.{Parameter}
 use Rattle.sip_uri.specs.declared.uri.Uri.{Uri}
 use Rattle.sip_host.specs.Port.{port_value}
-use Rattle.sip_uri.specs.Equality.{says_same_no_case}
+use Rattle.sip_equality.specs.Equality.{says_same_no_case}
 use Rattle.sip_host.specs.declared.addr.Addr.{Addr}
 use Rattle.sip_hops.specs.declared.host_address.HostAddress.{HostAddress}
 use Rattle.sip_host.specs.Addresses.{ip_of}

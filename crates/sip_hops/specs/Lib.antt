@@ -1,4 +1,7 @@
 pub use Rattle.sip_host.specs.Addresses
+pub mod HopsError
 pub mod HostAddress
 pub mod Hop
+pub mod Code
+pub mod Hops
 pub mod Examples

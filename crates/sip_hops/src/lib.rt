@@ -2,9 +2,16 @@
 //! table stands in for DNS (RFC 3263).
 #![tactic(auto)]
 
+mod address_table;
+mod code;
+mod error;
 pub mod examples;
 mod hop;
+mod hops;
 mod host_address;
+mod way;
 
+pub use error::HopsError;
 pub use hop::Hop;
+pub use hops::Hops;
 pub use host_address::HostAddress;

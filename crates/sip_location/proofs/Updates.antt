@@ -10,7 +10,7 @@ use Rattle.std.proofs.lemmas.List.Elements.{filter-append, filter_passes, All-we
 use Rattle.sip_uri.specs.declared.aor.Aor.{Aor}
 use Rattle.sip_uri.specs.declared.uri.Uri.{Uri}
 use Rattle.sip_uri.specs.Aor.{is_same_aor}
-use Rattle.sip_uri.specs.Equality.{same}
+use Rattle.sip_equality.specs.Equality.{same}
 use Rattle.sip_header.specs.declared.contact_item.ContactItem.{ContactItem}
 use Rattle.sip_header.specs.declared.contact_item.ContactItem.TheVariants.{Star, Address}
 use Rattle.sip_header.specs.NameAddr.{sip_uri}
@@ -79,7 +79,7 @@ after_contacts_lives : (r : Registration) (now : ℕ) (contacts : List ContactIt
 after_contacts_lives r now [] bs h = h
 after_contacts_lives r now (contact ∷ others) bs h = after_contacts_lives r now others (after_contact r now contact bs) (after_contact_lives r now contact bs h)
 
-edited_lives : (rows : List Binding) (r : Registration) (now : ℕ) → AllByRecursion (IsLiveOf r.aor now) (edited rows r now)
+pub edited_lives : (rows : List Binding) (r : Registration) (now : ℕ) → AllByRecursion (IsLiveOf r.aor now) (edited rows r now)
 edited_lives rows r now = after_contacts_lives r now r.contacts (live r.aor now rows) (each_passes (λ b. is_of r.aor b && is_live now b) rows)
 
 -- ---- the whole

@@ -3,7 +3,7 @@ use Rattle.std.specs.Prelude.{ℕ, ◌+◌, ◌-◌, ◌/◌, Bool, ◌&&◌, no
 use Rattle.sip_uri.specs.declared.aor.Aor.{Aor}
 use Rattle.sip_uri.specs.declared.uri.Uri.{Uri}
 use Rattle.sip_uri.specs.Aor.{is_same_aor}
-use Rattle.sip_uri.specs.Equality.{same}
+use Rattle.sip_equality.specs.Equality.{same}
 use Rattle.sip_location.specs.declared.binding.Binding.{Binding}
 
 -- a binding is live while its expiry is above the moment (RFC 3261 10.3: expiration)

@@ -5,3 +5,5 @@ pub mod Examples
 pub mod LocationError
 pub mod Registering
 pub mod Sameness
+pub mod Locations
+pub mod Filed

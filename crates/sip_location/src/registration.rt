@@ -1,16 +1,16 @@
 use sip_header::{ContactItem, Expires};
-use sip_text::{Bytes, Items};
+use sip_text::{Items, Text};
 use sip_uri::Aor;
 
 /// What a registrar reads of a REGISTER (RFC 3261 10.3). Without contacts it is a query.
 #[derive(Drop)]
-pub struct Registration {
+pub struct Registration<'a> {
     /// The address of record that To names.
     pub aor: Aor,
     /// The items of Contact, in their order.
-    pub contacts: Items<ContactItem>,
+    pub contacts: Items<ContactItem<'a>>,
     /// What its Expires says.
     pub expires: Expires,
-    pub call_id: Bytes,
+    pub call_id: Text<'a>,
     pub cseq: u32,
 }

@@ -2,10 +2,6 @@ pub mod Lines
 pub mod Start
 pub mod Field
 pub mod Body
-pub mod Text
 pub mod Says
 pub mod Reading
-pub mod ReadError
-pub mod ViewStart
-pub mod ViewRefusal
 pub mod Seen

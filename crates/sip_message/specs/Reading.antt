@@ -3,15 +3,15 @@ use Rattle.std.specs.Prelude.{◌≡◌, ◌⊎◌, ℕ, Bool, nat_lt, List, len
 use Rattle.std.specs.Option.{ok_or}
 use Rattle.std.specs.Result.{result_err}
 use Rattle.sip_field.specs.declared.field.Field.{Field}
-use Rattle.sip_message.specs.declared.message.Start.{Start}
-use Rattle.sip_message.specs.declared.message.Message.{Message}
-use Rattle.sip_message.specs.declared.error.ReadError.{ReadError}
-use Rattle.sip_message.specs.declared.error.ReadError.TheVariants.{NoMemory, TooLong, NotSip, BadField, TooManyFields, ShortBody}
+use Rattle.sip_form.specs.declared.message.Start.{Start}
+use Rattle.sip_form.specs.declared.message.Message.{Message}
+use Rattle.sip_form.specs.declared.error.ReadError.{ReadError}
+use Rattle.sip_form.specs.declared.error.ReadError.TheVariants.{NoMemory, TooLong, NotSip, BadField, TooManyFields, ShortBody}
 use Rattle.sip_message.specs.Lines.{after_blanks, line_at, head_at}
 use Rattle.sip_message.specs.Start.{start_of}
 use Rattle.sip_message.specs.Field.{entries_of, kept}
 use Rattle.sip_message.specs.Body.{lengths, one_length, body_of, is_short}
-use Rattle.sip_message.specs.Text.{text_of}
+use Rattle.sip_form.specs.Text.{text_of}
 
 infixl 10 ◌>>=◌
 -- a step, and what follows it unless it is refused

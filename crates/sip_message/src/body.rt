@@ -2,12 +2,11 @@ ghost use Rattle.std.specs.Prelude.{◌≡◌, Some, None, Err};
 ghost use Rattle.std.specs.Option.{ok_or};
 ghost use Rattle.sip_message.specs.Body.{lengths, one_length, body_of, is_short};
 ghost use Rattle.sip_message.specs.Reading.{Gives};
-ghost use Rattle.sip_message.specs.declared.error.ReadError.TheVariants.{BadField};
+ghost use Rattle.sip_form.specs.declared.error.ReadError.TheVariants.{BadField};
 
-use crate::view_error::ViewError;
-use crate::view_refusal::ViewRefusal;
-use sip_field::ViewFields;
+use sip_form::{ViewError, ViewRefusal};
 use sip_text::decimal;
+use sip_view::ViewFields;
 
 /// The one Content-Length, if there is one (RFC 3261 20.14).
 pub(crate) fn length_of<'a>(entries: &ViewFields<'a>) -> Result<Option<u64>, ViewError<'a>>

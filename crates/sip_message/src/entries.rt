@@ -6,13 +6,12 @@ ghost use Rattle.sip_field.specs.declared.field.Field.{Field};
 ghost use Rattle.sip_message.specs.Field.{is_text, field_from, field_of, entries_of};
 ghost use Rattle.sip_message.specs.Reading.{Gives};
 ghost use Rattle.sip_message.specs.Seen.{seen_field};
-ghost use Rattle.sip_message.specs.declared.error.ReadError.TheVariants.{BadField};
+ghost use Rattle.sip_form.specs.declared.error.ReadError.TheVariants.{BadField};
 
 use crate::line::Line;
-use crate::view_error::ViewError;
-use crate::view_refusal::ViewRefusal;
-use sip_field::{Value, ViewField, ViewFields, ViewName};
+use sip_form::{ViewError, ViewRefusal};
 use sip_text::{Bytes, is_token, split_once, without_blanks, without_end_blanks};
+use sip_view::{Value, ViewField, ViewFields, ViewName};
 use std::alloc::{AllocError, Global};
 
 /// Whether a byte may stand in a value.

@@ -3,12 +3,11 @@ ghost use Rattle.std.specs.Option.{ok_or};
 ghost use Rattle.sip_text.specs.Span.{part, IsWithin};
 ghost use Rattle.sip_message.specs.Field.{pieces, kept};
 ghost use Rattle.sip_message.specs.Reading.{Gives};
-ghost use Rattle.sip_message.specs.declared.error.ReadError.TheVariants.{NoMemory, BadField};
+ghost use Rattle.sip_form.specs.declared.error.ReadError.TheVariants.{NoMemory, BadField};
 
-use crate::view_error::ViewError;
-use crate::view_refusal::ViewRefusal;
-use sip_field::{ViewField, ViewFields};
+use sip_form::{ViewError, ViewRefusal};
 use sip_text::{Span, TextError, cut_list};
+use sip_view::{ViewField, ViewFields};
 use std::alloc::{AllocError, Global};
 
 /// The field with this part of its value.

@@ -5,33 +5,20 @@
 
 mod body;
 mod entries;
-mod error;
 pub mod examples;
 mod keeping;
-mod kept;
 pub mod laws;
-mod lengths;
 mod line;
 mod lines;
-mod message;
-mod message_view;
 mod reading;
 mod start_line;
-mod view_error;
-mod view_length;
-mod view_refusal;
-mod view_start;
 mod viewing;
-mod writing;
 
-pub use error::ReadError;
-pub use kept::Kept;
-pub use message::{Message, Start};
-pub use message_view::View;
 pub use reading::read;
-pub use sip_field::{Field, FieldName, Fields, Value, ViewField, ViewFields, ViewName};
-pub use view_error::ViewError;
-pub use view_refusal::ViewRefusal;
-pub use view_start::ViewStart;
+pub use sip_field::{Field, FieldName, Fields};
+pub use sip_form::{
+    Kept, Message, ReadError, Start, View, ViewError, ViewRefusal, ViewStart, write, write_view,
+    written_length,
+};
+pub use sip_view::{Value, ViewField, ViewFields, ViewName};
 pub use viewing::view;
-pub use writing::{write, written_length};

@@ -2,12 +2,11 @@ ghost use Rattle.std.specs.Prelude.{◌≡◌, ◌+◌, ◌<◌, slice_index, �
 ghost use Rattle.std.specs.Option.{ok_or};
 ghost use Rattle.sip_message.specs.Lines.{after_blanks, is_crlf, line_at, is_fold, joined, unfolded_after, head_at};
 ghost use Rattle.sip_message.specs.Reading.{Gives};
-ghost use Rattle.sip_message.specs.declared.error.ReadError.TheVariants.{NotSip};
+ghost use Rattle.sip_form.specs.declared.error.ReadError.TheVariants.{NotSip};
 
 use crate::line::Line;
-use crate::view_error::ViewError;
-use crate::view_refusal::ViewRefusal;
 use memchr::memmem;
+use sip_form::{ViewError, ViewRefusal};
 use sip_text::is_space_or_tab;
 use std::alloc::{AllocError, Global};
 use std::marker::Model;

@@ -1,21 +1,17 @@
 ghost use Rattle.std.specs.Prelude.{◌≡◌, ◌⊎◌, IfOk, IfErr, Some, Ok};
 ghost use Rattle.sip_message.specs.Says.{Says, IsWithinLimits};
 ghost use Rattle.sip_message.specs.Reading.{Gives, limited, message_from, datagram_of, reading_of, fault_of};
-ghost use Rattle.sip_message.specs.ViewStart.{start_seen};
-ghost use Rattle.sip_message.specs.declared.message.Message.{Message};
-ghost use Rattle.sip_message.specs.declared.error.ReadError.TheVariants.{NoMemory};
+ghost use Rattle.sip_form.specs.ViewStart.{start_seen};
+ghost use Rattle.sip_form.specs.declared.message.Message.{Message};
+ghost use Rattle.sip_form.specs.declared.error.ReadError.TheVariants.{NoMemory};
 
 use crate::body::{body_part, is_cut_short, length_of};
 use crate::entries::fields_of_lines;
 use crate::keeping::kept_of;
 use crate::line::Line;
 use crate::lines::{first_line, lines_of_head, without_blank_lines};
-use crate::message_view::View;
 use crate::start_line::start_of_line;
-use crate::view_error::ViewError;
-use crate::view_length::view_length;
-use crate::view_refusal::ViewRefusal;
-use crate::view_start::ViewStart;
+use sip_form::{View, ViewError, ViewRefusal, ViewStart};
 use std::alloc::Global;
 
 /// The view, if it is within the limits and its body is whole.
@@ -25,7 +21,7 @@ fn within_limits<'a>(short: bool, view: View<'a>) -> Result<View<'a>, ViewError<
     if view.fields().as_slice().len() > 256 {
         return Err(ViewError::new(ViewRefusal::TooManyFields));
     }
-    if view_length(&view) > 49_152 {
+    if view.written_length() > 49_152 {
         return Err(ViewError::new(ViewRefusal::TooLong));
     }
     if short {

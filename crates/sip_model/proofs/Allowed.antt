@@ -1,7 +1,7 @@
 -- A REGISTER counts as let through exactly where it is valid and new, and a rule lets it through.
 use Rattle.std.proofs.Common.{◌≡◌, ◌↔◌, ℕ, List, cond, Bool, true, false, refl, sym, ◌∙◌, ap, Option, Some, None}
 use Rattle.std.specs.Option.{option_and_then}
-use Rattle.sip_message.specs.declared.message.Message.{Message}
+use Rattle.sip_form.specs.declared.message.Message.{Message}
 use Rattle.sip_message.specs.Reading.{reading_of}
 use Rattle.sip_header.specs.declared.core_fields.CoreFields.{CoreFields}
 use Rattle.sip_policy.specs.declared.decision.Decision.{Decision}

@@ -2,9 +2,9 @@
 use Rattle.std.proofs.Common.{◌≡◌, ℕ, ◌+◌, ◌≤◌, Bool, true, false, cond, List, [], ◌∷◌, ◌++◌, find, Option, Some, None, refl, sym, subst, ◌∙◌, arith}
 use Rattle.std.specs.Prelude.{◌&&◌, is_some, option_map}
 use Rattle.std.specs.Option.{option_map_or, option_and_then}
-use Rattle.sip_message.specs.declared.message.Message.{Message}
-use Rattle.sip_message.specs.declared.message.Start.{Start}
-use Rattle.sip_message.specs.declared.message.Start.TheVariants.{Request, Status}
+use Rattle.sip_form.specs.declared.message.Message.{Message}
+use Rattle.sip_form.specs.declared.message.Start.{Start}
+use Rattle.sip_form.specs.declared.message.Start.TheVariants.{Request, Status}
 use Rattle.sip_message.specs.Reading.{reading_of}
 use Rattle.sip_header.specs.declared.core_fields.CoreFields.{CoreFields}
 use Rattle.sip_policy.specs.declared.decision.Decision.{Decision}

@@ -3,11 +3,11 @@ use Rattle.std.proofs.Common.{◌≡◌, ◌∙◌, inr, ℕ, ◌+◌, ◌&&◌,
 use Rattle.std.specs.List.{AllByRecursion}
 use Rattle.std.specs.Option.{option_map_or}
 use Rattle.sip_field.specs.declared.field.Field.{Field}
-use Rattle.sip_message.specs.declared.message.Start.TheVariants.{Status}
-use Rattle.sip_message.specs.declared.message.Message.{Message}
+use Rattle.sip_form.specs.declared.message.Start.TheVariants.{Status}
+use Rattle.sip_form.specs.declared.message.Message.{Message}
 use Rattle.sip_field.specs.declared.field_name.FieldName.TheVariants as Name
 use Rattle.sip_field.specs.Values.{first_value}
-use Rattle.sip_message.specs.Text.{text_of}
+use Rattle.sip_form.specs.Text.{text_of}
 use Rattle.sip_edit.specs.OwnVia.{without_top_via}
 use Rattle.sip_edit.specs.OwnRequests.{cancel_of}
 use Rattle.sip_location.specs.declared.binding.Binding.{Binding}

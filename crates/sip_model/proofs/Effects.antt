@@ -3,8 +3,8 @@ use Rattle.std.proofs.Common.{◌≡◌, ◌∙◌, ℕ, ◌+◌, ◌≤◌, ◌
 use Rattle.std.specs.List.{AllByRecursion}
 use Rattle.sip_uri.specs.declared.aor.Aor.{Aor}
 use Rattle.sip_field.specs.declared.field.Field.{Field}
-use Rattle.sip_message.specs.declared.message.Message.{Message}
-use Rattle.sip_message.specs.Text.{text_of}
+use Rattle.sip_form.specs.declared.message.Message.{Message}
+use Rattle.sip_form.specs.Text.{text_of}
 use Rattle.sip_header.specs.declared.core_fields.CoreFields.{CoreFields}
 use Rattle.sip_host.specs.declared.addr.Addr.{Addr}
 use Rattle.sip_reply.specs.Extras.{denial_warning}

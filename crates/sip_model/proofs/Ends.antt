@@ -1,7 +1,7 @@
 -- Every open request of every history has a deadline.
 use Rattle.std.proofs.Common.{◌≡◌, inl, inr, ℕ, ◌+◌, Bool, true, false, not, ◌&&◌, ◌||◌, cond, List, [], ◌∷◌, ◌++◌, map, filter, filter_map, option_to_list, Option, Some, None, refl, sym, ap, subst, ◌∙◌, is_some}
 use Rattle.std.specs.List.{AllByRecursion, list_any, list_all, cons_option}
-use Rattle.sip_message.specs.declared.message.Message.{Message}
+use Rattle.sip_form.specs.declared.message.Message.{Message}
 use Rattle.sip_best.specs.declared.final_answer.Final.{Final}
 use Rattle.sip_event.specs.declared.packet.Packet.{Packet}
 use Rattle.sip_state.specs.declared.resend.Resend.{Resend}

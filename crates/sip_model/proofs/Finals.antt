@@ -4,7 +4,7 @@ use Rattle.std.specs.List.{AllByRecursion, flat_map}
 use Rattle.sip_field.specs.declared.field_name.FieldName.{FieldName}
 use Rattle.sip_field.specs.declared.field_name.FieldName.TheVariants as Name
 use Rattle.sip_field.specs.declared.field.Field.{Field}
-use Rattle.sip_message.specs.declared.message.Message.{Message}
+use Rattle.sip_form.specs.declared.message.Message.{Message}
 use Rattle.sip_field.specs.FieldName.{is_same_name}
 use Rattle.sip_field.specs.Values.{without_first}
 use Rattle.sip_edit.specs.OwnVia.{without_top_via}

@@ -5,18 +5,18 @@ use Rattle.std.specs.Option.{option_map_or}
 use Rattle.std.specs.Result.{result_ok}
 use Rattle.sip_field.specs.declared.field_name.FieldName.TheVariants as Name
 use Rattle.sip_field.specs.declared.field.Field.{Field}
-use Rattle.sip_message.specs.declared.message.Start.{Start}
-use Rattle.sip_message.specs.declared.message.Start.TheVariants.{Request, Status}
-use Rattle.sip_message.specs.declared.message.Message.{Message}
+use Rattle.sip_form.specs.declared.message.Start.{Start}
+use Rattle.sip_form.specs.declared.message.Start.TheVariants.{Request, Status}
+use Rattle.sip_form.specs.declared.message.Message.{Message}
 use Rattle.sip_message.specs.Reading.{reading_of}
-use Rattle.sip_header.specs.declared.own.Own.{Own}
-use Rattle.sip_header.specs.declared.key.Key.{Key}
+use Rattle.sip_way.specs.declared.own.Own.{Own}
+use Rattle.sip_key.specs.declared.key.Key.{Key}
 use Rattle.sip_header.specs.declared.cseq.CSeq.{CSeq}
 use Rattle.sip_header.specs.declared.core_fields.CoreFields.{CoreFields}
-use Rattle.sip_header.specs.Key.{key_of}
+use Rattle.sip_key.specs.Key.{key_of}
 use Rattle.sip_field.specs.Values.{values_of}
 use Rattle.sip_header.specs.CoreFields.{core_of, cseq_in}
-use Rattle.sip_header.specs.Way.{request_uri_of}
+use Rattle.sip_way.specs.Way.{request_uri_of}
 use Rattle.sip_policy.specs.User.{is_users_address}
 use Rattle.sip_host.specs.declared.addr.Addr.{Addr}
 use Rattle.sip_policy.specs.declared.decision.Decision.{Decision}

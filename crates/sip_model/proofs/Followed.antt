@@ -3,7 +3,7 @@ use Rattle.std.proofs.Common.{◌≡◌, inl, inr, ℕ, ◌≤◌, List, [], ◌
 use Rattle.std.specs.Prelude.{option_map, ◌==◌}
 use Rattle.std.specs.Option.{option_map_or}
 use Rattle.std.specs.List.{AllByRecursion}
-use Rattle.sip_message.specs.declared.message.Message.{Message}
+use Rattle.sip_form.specs.declared.message.Message.{Message}
 use Rattle.sip_nonces.specs.declared.nonces.Nonce.{Nonce}
 use Rattle.sip_targets.specs.declared.targets.Targets.{Targets}
 use Rattle.sip_dialog.specs.declared.dialog.Dialog.{Dialog}

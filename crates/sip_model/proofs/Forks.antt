@@ -4,7 +4,7 @@ use Rattle.std.specs.Prelude.{◌++◌, ◌==◌, not, filter}
 use Rattle.std.specs.Option.{option_map_or}
 use Rattle.std.specs.List.{flat_map}
 use Rattle.std.proofs.lemmas.List.Elements.{filter-append}
-use Rattle.sip_message.specs.Text.{text_of}
+use Rattle.sip_form.specs.Text.{text_of}
 use Rattle.sip_host.specs.declared.addr.Addr.{Addr}
 use Rattle.sip_targets.specs.declared.target.Target.{Target}
 use Rattle.sip_audit.specs.declared.record.Record.{Record}

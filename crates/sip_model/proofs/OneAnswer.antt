@@ -2,8 +2,8 @@
 use Rattle.std.proofs.Common.{◌≡◌, inl, inr, ℕ, ◌+◌, ◌≤◌, Bool, true, false, ◌&&◌, cond, ◌==◌, List, [], ◌∷◌, ◌++◌, length, append-nil, None, refl, sym, ap, subst, ◌∙◌, arith, count_by, bytes_eq, codes, nat_le}
 use Rattle.std.specs.List.{AllByRecursion}
 use Rattle.std.proofs.lemmas.Bool.Decides.{nat_tests}
-use Rattle.sip_message.specs.declared.message.Message.{Message}
-use Rattle.sip_header.specs.declared.key.Key.{Key}
+use Rattle.sip_form.specs.declared.message.Message.{Message}
+use Rattle.sip_key.specs.declared.key.Key.{Key}
 use Rattle.sip_event.specs.declared.packet.Packet.{Packet}
 use Rattle.sip_state.specs.Server.{Server}
 use Rattle.sip_state.specs.declared.branch.Branch.{Branch}

@@ -3,10 +3,10 @@ use Rattle.std.proofs.Common.{◌≡◌, ◌∙◌, ℕ, ◌+◌, ◌==◌, Bool
 use Rattle.std.specs.Option.{option_map_or}
 use Rattle.std.specs.List.{AllByRecursion}
 use Rattle.sip_host.specs.declared.addr.Addr.{Addr}
-use Rattle.sip_message.specs.declared.message.Message.{Message}
+use Rattle.sip_form.specs.declared.message.Message.{Message}
 use Rattle.sip_field.specs.declared.field_name.FieldName.TheVariants as Name
 use Rattle.sip_field.specs.Values.{first_value}
-use Rattle.sip_message.specs.Text.{text_of}
+use Rattle.sip_form.specs.Text.{text_of}
 use Rattle.sip_edit.specs.OwnRequests.{ack_with}
 use Rattle.sip_targets.specs.declared.targets.Targets.{Targets}
 use Rattle.sip_targets.specs.Targets.{target_list}

@@ -3,7 +3,7 @@ use Rattle.std.proofs.Common.{◌≡◌, ℕ, ◌≤◌, ◌==◌, List, [], ◌
 use Rattle.std.specs.List.{AllByRecursion}
 use Rattle.std.specs.Option.{option_map_or}
 use Rattle.sip_uri.specs.declared.aor.Aor.{Aor}
-use Rattle.sip_message.specs.declared.message.Message.{Message}
+use Rattle.sip_form.specs.declared.message.Message.{Message}
 use Rattle.sip_message.specs.Reading.{reading_of}
 use Rattle.sip_host.specs.declared.addr.Addr.{Addr}
 use Rattle.sip_location.specs.Binding.{live}

@@ -4,7 +4,7 @@ use Rattle.std.specs.Prelude.{Contains, max}
 use Rattle.std.specs.Option.{option_map_or}
 use Rattle.std.specs.Result.{result_ok}
 use Rattle.sip_uri.specs.declared.aor.Aor.{Aor}
-use Rattle.sip_message.specs.declared.message.Message.{Message}
+use Rattle.sip_form.specs.declared.message.Message.{Message}
 use Rattle.sip_header.specs.declared.core_fields.CoreFields.{CoreFields}
 use Rattle.sip_header.specs.CoreFields.{core_of}
 use Rattle.sip_location.specs.declared.binding.Binding.{Binding}

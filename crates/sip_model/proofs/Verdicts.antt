@@ -5,15 +5,15 @@ use Rattle.std.specs.Result.{result_ok}
 use Rattle.sip_uri.specs.declared.uri.Uri.{Uri}
 use Rattle.sip_uri.specs.declared.aor.Aor.{Aor}
 use Rattle.sip_field.specs.declared.field.Field.{Field}
-use Rattle.sip_message.specs.declared.message.Start.{Start}
-use Rattle.sip_message.specs.declared.message.Start.TheVariants.{Request, Status}
-use Rattle.sip_message.specs.declared.message.Message.{Message}
-use Rattle.sip_header.specs.declared.key.Key.{Key}
+use Rattle.sip_form.specs.declared.message.Start.{Start}
+use Rattle.sip_form.specs.declared.message.Start.TheVariants.{Request, Status}
+use Rattle.sip_form.specs.declared.message.Message.{Message}
+use Rattle.sip_key.specs.declared.key.Key.{Key}
 use Rattle.sip_header.specs.declared.core_fields.CoreFields.{CoreFields}
-use Rattle.sip_header.specs.Key.{key_of}
+use Rattle.sip_key.specs.Key.{key_of}
 use Rattle.sip_header.specs.CoreFields.{core_of, cseq_in}
 use Rattle.sip_header.specs.declared.cseq.CSeq.{CSeq}
-use Rattle.sip_header.specs.Way.{request_uri_of}
+use Rattle.sip_way.specs.Way.{request_uri_of}
 use Rattle.sip_host.specs.declared.addr.Addr.{Addr}
 use Rattle.sip_hops.specs.declared.host_address.HostAddress.{HostAddress}
 use Rattle.sip_hops.specs.Hop.{hop_of}

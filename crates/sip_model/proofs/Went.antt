@@ -6,8 +6,8 @@ use Rattle.std.proofs.lemmas.List.Elements.{Contains-append_right, Contains-appe
 use Rattle.sip_host.specs.declared.addr.Addr.{Addr}
 use Rattle.sip_field.specs.declared.field.Field.{Field}
 use Rattle.sip_field.specs.declared.field_name.FieldName.TheVariants as Name
-use Rattle.sip_message.specs.declared.message.Message.{Message}
-use Rattle.sip_message.specs.Text.{text_of}
+use Rattle.sip_form.specs.declared.message.Message.{Message}
+use Rattle.sip_form.specs.Text.{text_of}
 use Rattle.sip_field.specs.Values.{first_value}
 use Rattle.sip_message.specs.Reading.{reading_of}
 use Rattle.sip_edit.specs.OwnRequests.{ack_with}

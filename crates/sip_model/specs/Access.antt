@@ -3,15 +3,15 @@ use Rattle.std.specs.Prelude.{◌≡◌, ◌⊎◌, ℕ, ◌==◌, Bool, true, f
 use Rattle.std.specs.List.{AllByRecursion, flat_map}
 use Rattle.std.specs.Str.{bytes_eq}
 use Rattle.sip_field.specs.declared.field.Field.{Field}
-use Rattle.sip_message.specs.declared.message.Start.TheVariants.{Request, Status}
-use Rattle.sip_message.specs.declared.message.Message.{Message}
+use Rattle.sip_form.specs.declared.message.Start.TheVariants.{Request, Status}
+use Rattle.sip_form.specs.declared.message.Message.{Message}
 use Rattle.sip_field.specs.declared.field_name.FieldName.TheVariants as Name
 use Rattle.sip_field.specs.Values.{first_value}
 use Rattle.sip_message.specs.Reading.{reading_of}
-use Rattle.sip_message.specs.Text.{text_of}
-use Rattle.sip_header.specs.declared.key.Key.{Key}
+use Rattle.sip_form.specs.Text.{text_of}
+use Rattle.sip_key.specs.declared.key.Key.{Key}
 use Rattle.sip_header.specs.declared.core_fields.CoreFields.{CoreFields}
-use Rattle.sip_header.specs.Key.{key_of}
+use Rattle.sip_key.specs.Key.{key_of}
 use Rattle.sip_header.specs.CoreFields.{core_of}
 use Rattle.sip_host.specs.declared.addr.Addr.{Addr}
 use Rattle.sip_reply.specs.Extras.{denial_warning}

@@ -1,8 +1,8 @@
 -- The sample configuration with a window, and with a second key, for the worked examples.
 use Rattle.std.specs.Prelude.{ℕ, false, List, [], ◌∷◌, ◌++◌, codes, pos, Some}
 use Rattle.sip_field.specs.declared.field_name.FieldName.TheVariants as Name
-use Rattle.sip_message.specs.declared.message.Start.TheVariants.{Request}
-use Rattle.sip_message.specs.declared.message.Message.{Message}
+use Rattle.sip_form.specs.declared.message.Start.TheVariants.{Request}
+use Rattle.sip_form.specs.declared.message.Message.{Message}
 use Rattle.sip_reply.specs.Examples as Replies
 use Rattle.sip_edit.specs.OnwardExamples as Onward
 use Rattle.sip_policy.specs.declared.user.User.{User}

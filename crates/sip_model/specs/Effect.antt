@@ -10,12 +10,12 @@ use Rattle.sip_uri.specs.Uri as UriText
 use Rattle.sip_field.specs.declared.field.Field.{Field}
 use Rattle.sip_field.specs.declared.field_name.FieldName.{FieldName}
 use Rattle.sip_field.specs.declared.field_name.FieldName.TheVariants as Name
-use Rattle.sip_message.specs.declared.message.Start.{Start}
-use Rattle.sip_message.specs.declared.message.Start.TheVariants.{Request, Status}
-use Rattle.sip_message.specs.declared.message.Message.{Message}
-use Rattle.sip_message.specs.Text.{text_of}
-use Rattle.sip_header.specs.declared.key.Key.{Key}
-use Rattle.sip_header.specs.Key.{key_of}
+use Rattle.sip_form.specs.declared.message.Start.{Start}
+use Rattle.sip_form.specs.declared.message.Start.TheVariants.{Request, Status}
+use Rattle.sip_form.specs.declared.message.Message.{Message}
+use Rattle.sip_form.specs.Text.{text_of}
+use Rattle.sip_key.specs.declared.key.Key.{Key}
+use Rattle.sip_key.specs.Key.{key_of}
 use Rattle.sip_host.specs.declared.addr.Addr.{Addr}
 use Rattle.sip_reply.specs.Challenges.{challenge_fields}
 use Rattle.sip_auth.specs.Offer.{offers_sha256}

@@ -1,8 +1,8 @@
 -- REGISTERs beside what else is known, for the worked examples.
 use Rattle.std.specs.Prelude.{ℕ, List, [], ◌∷◌, ◌++◌, codes}
 use Rattle.sip_field.specs.declared.field_name.FieldName.TheVariants as Name
-use Rattle.sip_message.specs.declared.message.Message.{Message}
-use Rattle.sip_message.specs.Text.{text_of}
+use Rattle.sip_form.specs.declared.message.Message.{Message}
+use Rattle.sip_form.specs.Text.{text_of}
 use Rattle.sip_nonces.specs.declared.nonces.Nonce.{Nonce}
 use Rattle.sip_location.specs.declared.binding.Binding.{Binding}
 use Rattle.sip_model.specs.Effect.{Effect, datagram_effect}

@@ -1,9 +1,9 @@
 ghost use Rattle.std.specs.Prelude.{◌≡◌, ◌↔◌, ℕ, true, false, List, [], ◌∷◌, map, Option, Some};
 ghost use Rattle.sip_uri.specs.declared.uri.Uri.{Uri};
 ghost use Rattle.sip_uri.specs.Aor.{aor_of};
-ghost use Rattle.sip_message.specs.declared.message.Message.{Message};
+ghost use Rattle.sip_form.specs.declared.message.Message.{Message};
 ghost use Rattle.sip_header.specs.declared.core_fields.CoreFields.{CoreFields};
-ghost use Rattle.sip_header.specs.Way.{request_uri_of};
+ghost use Rattle.sip_way.specs.Way.{request_uri_of};
 ghost use Rattle.sip_host.specs.declared.addr.Addr.{Addr};
 ghost use Rattle.sip_hops.specs.Hop.{hop_of};
 ghost use Rattle.sip_policy.specs.declared.decision.Decision.{Decision};

@@ -1,2 +1,3 @@
 pub mod FirstMatch
+pub mod Names
 pub mod Windows

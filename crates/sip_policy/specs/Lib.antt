@@ -1,8 +1,11 @@
 pub mod Who
 pub mod User
+pub mod Users
 pub mod Operation
 pub mod TargetPattern
 pub mod Window
 pub mod Rule
 pub mod Decision
+pub mod Policy
+pub mod PolicyError
 pub mod Examples

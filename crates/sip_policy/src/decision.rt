@@ -1,5 +1,5 @@
 /// What policy decides about a request. The first numbers are those of the deciding rules; 0 is no rule's.
-#[derive(Clone, Copy, Debug, PartialEq, Eq)]
+#[derive(Clone, Copy, PartialEq, Eq)]
 pub enum Decision {
     Allow(u32),
     /// To the hop at this place of the configured list, counted from 0.

@@ -3,21 +3,34 @@
 #![tactic(auto)]
 
 mod decision;
+mod domains;
+mod error;
 pub mod examples;
 pub mod laws;
+mod list_rules;
 mod operation;
 mod rule;
 mod rule_verdict;
+mod rules;
+mod ruling;
 mod target_pattern;
+mod texts;
 mod user;
+mod users;
 mod who;
 mod window;
 
 pub use decision::Decision;
+pub use domains::{is_own_domain, is_users_address};
+pub use error::PolicyError;
+pub use list_rules::ListRules;
 pub use operation::{Operation, OperationPattern};
 pub use rule::Rule;
 pub use rule_verdict::RuleVerdict;
+pub use rules::Rules;
+pub use ruling::Ruling;
 pub use target_pattern::TargetPattern;
 pub use user::User;
+pub use users::Users;
 pub use who::Who;
-pub use window::Window;
+pub use window::{Window, holds, minute_of};

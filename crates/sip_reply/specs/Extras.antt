@@ -2,7 +2,7 @@
 use Rattle.std.specs.Prelude.{ℕ, List, ◌++◌, decimal, codes}
 use Rattle.sip_field.specs.declared.field_name.FieldName.TheVariants as Name
 use Rattle.sip_field.specs.declared.field.Field.{Field}
-use Rattle.sip_header.specs.declared.own.Own.{Own}
+use Rattle.sip_way.specs.declared.own.Own.{Own}
 
 -- the rule that a 403 is by (RFC 3261 20.43, in this project's profile)
 abbrev pub denial_warning : Own → ℕ → Field

@@ -2,9 +2,9 @@
 use Rattle.std.specs.Prelude.{ℕ, List, [], ◌∷◌, ◌++◌, codes}
 use Rattle.sip_field.specs.declared.field_name.FieldName.TheVariants as Name
 use Rattle.sip_field.specs.declared.field.Field.{Field}
-use Rattle.sip_message.specs.declared.message.Start.TheVariants.{Request}
-use Rattle.sip_message.specs.declared.message.Message.{Message}
-use Rattle.sip_message.specs.Text.{text_of}
+use Rattle.sip_form.specs.declared.message.Start.TheVariants.{Request}
+use Rattle.sip_form.specs.declared.message.Message.{Message}
+use Rattle.sip_form.specs.Text.{text_of}
 use Rattle.sip_edit.specs.Examples.{client}
 use Rattle.sip_edit.specs.ReceivedRequest.{received}
 use Rattle.sip_reply.specs.Reply.{reply_of}

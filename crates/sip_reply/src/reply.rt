@@ -1,70 +1,89 @@
-ghost use Rattle.std.specs.Prelude.{◌≡◌, ◌++◌, map, IfOk, OnOk};
+ghost use Rattle.std.specs.Prelude.{◌≡◌, ◌++◌, map, option_map, IfOk, OnOk};
+ghost use Rattle.std.specs.Option.{option_to_list};
+ghost use Rattle.sip_field.specs.Named.{first_named};
 ghost use Rattle.sip_edit.specs.FirstField.{first_of};
+ghost use Rattle.sip_form.specs.Text.{text_of};
 ghost use Rattle.sip_reply.specs.Reply;
 ghost use Rattle.sip_header.specs.NameAddr.{name_addr_of};
 
 use crate::reasons::reason_of;
-use sip_header::{HeaderError, name_addr_of, tag_of};
-use sip_message::{Field, FieldName, Fields, Message, Start};
+use sip_header::{name_addr_of, tag_of};
+use sip_message::{FieldName, Fields, View, ViewStart, write_view};
 use sip_text::Bytes;
+use sip_view::{Value, ViewField, ViewFields};
 use std::alloc::{AllocError, Global};
 
-/// Adds a copy of the first field of a name, if there is one.
-fn put_first(out: &mut Fields, name: &FieldName, fields: &Fields) -> Result<(), AllocError>
+/// The most fields of a response that stand once: From, To, Call-ID, CSeq and Timestamp.
+const SINGLE_FIELDS: usize = 5;
+
+/// Adds the first field of a name, if there is one.
+fn put_first<'v>(
+    out: &mut ViewFields<'v>,
+    name: &FieldName,
+    fields: &'v ViewFields<'_>,
+) -> Result<(), AllocError>
     ensures { OnOk result (out.new ≡ out.old ++ first_of name.now fields.now) }
 {
     let Some(field) = fields.first_field(name) else {
         return Ok(());
     };
-    out.push(field.clone()?)
+    out.push(field.lent()?)
 }
 
 /// Whether the value of a To takes a tag.
 fn lacks_tag(alloc: Global, to: &[u8]) -> Result<bool, AllocError>
     ensures { IfOk result (λ lacks. lacks ≡ Reply.lacks_tag (name_addr_of to.now)) }
 {
-    match name_addr_of(alloc, FieldName::To, to) {
-        Ok(to) => Ok(tag_of(to.parameters.as_slice()).is_none()),
-        Err(HeaderError::NoMemory) => Err(AllocError),
-        Err(_) => Ok(false),
+    match name_addr_of(alloc, to)? {
+        Some(to) => Ok(tag_of(to.parameters.as_slice()).is_none()),
+        None => Ok(false),
     }
 }
 
-/// The value of To in a response.
-fn answered_to(alloc: Global, status: u16, tag: &[u8], to: &[u8]) -> Result<Bytes, AllocError>
+/// The value of To in a response, of its own where a tag is added.
+fn answered_to<'v>(
+    alloc: Global,
+    status: u16,
+    tag: &[u8],
+    to: &'v [u8],
+) -> Result<Value<'v>, AllocError>
     ensures { IfOk result (λ value. value ≡ Reply.answered_to status tag.now to.now) }
 {
-    let mut value = Bytes::copy(alloc, to)?;
     if status == 100 {
-        return Ok(value);
+        return Ok(Value::of_part(to));
     }
-    if lacks_tag(alloc, to)? {
-        value.extend(b";tag=")?;
-        value.extend(tag)?;
+    if !lacks_tag(alloc, to)? {
+        return Ok(Value::of_part(to));
     }
-    Ok(value)
+    let mut value = Bytes::joined(alloc, to, b";tag=")?;
+    value.extend(tag)?;
+    Ok(Value::of_bytes(value))
 }
 
 /// Adds the first To as it stands in a response, if there is one.
-fn put_to(
+fn put_to<'v>(
     alloc: Global,
-    out: &mut Fields,
+    out: &mut ViewFields<'v>,
     status: u16,
     tag: &[u8],
-    fields: &Fields,
+    fields: &'v ViewFields<'_>,
 ) -> Result<(), AllocError>
     ensures { OnOk result (out.new ≡ out.old ++ map (Reply.answered_field status tag.now) (first_of FieldName.To fields.now)) }
 {
     let Some(to) = fields.first_field(&FieldName::To) else {
         return Ok(());
     };
-    let name = to.name.clone()?;
-    let value = answered_to(alloc, status, tag, to.value.as_slice())?;
-    out.push(Field { name, value })
+    let name = to.name().lent()?;
+    let value = answered_to(alloc, status, tag, to.value().as_slice())?;
+    out.push(ViewField::new(name, value))
 }
 
 /// Adds the Timestamp of a 100.
-fn put_timestamp(out: &mut Fields, status: u16, fields: &Fields) -> Result<(), AllocError>
+fn put_timestamp<'v>(
+    out: &mut ViewFields<'v>,
+    status: u16,
+    fields: &'v ViewFields<'_>,
+) -> Result<(), AllocError>
     ensures { OnOk result (out.new ≡ out.old ++ Reply.timestamp_for status fields.now) }
 {
     if status != 100 {
@@ -73,34 +92,46 @@ fn put_timestamp(out: &mut Fields, status: u16, fields: &Fields) -> Result<(), A
     put_first(out, &FieldName::Timestamp, fields)
 }
 
-/// The response to a request, whose top Via names its source, with this status, this To tag where the
-/// request has none, and further fields behind those that it copies; it has no body (RFC 3261 8.2.6).
-/// `AllocError` is the only refusal.
-pub fn respond(
+/// The fields of a response.
+fn reply_fields<'v>(
     alloc: Global,
-    request: &Message,
+    copied: &'v ViewFields<'_>,
     status: u16,
     to_tag: &[u8],
-    extras: Fields,
-) -> Result<Message, AllocError>
-    ensures { IfOk result (λ response. response ≡ Reply.reply_of request.now status to_tag.now extras) }
+    extras: &'v Fields,
+) -> Result<ViewFields<'v>, AllocError>
+    ensures { IfOk result (λ fields. fields ≡ Reply.reply_fields status to_tag.now copied.now extras.now) }
 {
-    let copied = &request.fields;
-    let mut fields = Fields::new(alloc);
-    fields.extend_named(alloc, &FieldName::Via, copied)?;
+    let many = copied
+        .count(&FieldName::Via)
+        .saturating_add(extras.as_slice().len());
+    let mut fields = ViewFields::with_room(alloc, many.saturating_add(SINGLE_FIELDS))?;
+    fields.extend_named(&FieldName::Via, copied)?;
     put_first(&mut fields, &FieldName::From, copied)?;
     put_to(alloc, &mut fields, status, to_tag, copied)?;
     put_first(&mut fields, &FieldName::CallId, copied)?;
     put_first(&mut fields, &FieldName::CSeq, copied)?;
     put_timestamp(&mut fields, status, copied)?;
-    fields.extend(&extras)?;
-    let reason = Bytes::copy(alloc, reason_of(status))?;
-    Ok(Message {
-        start: Start::Status {
-            code: status,
-            reason,
-        },
-        fields,
-        body: Bytes::new(alloc),
-    })
+    fields.extend(extras)?;
+    Ok(fields)
+}
+
+/// The text of the response to a request, whose top Via names its source, with this status, this To tag where the
+/// request has none, and further fields behind those that it copies; it has no body (RFC 3261 8.2.6). It is written
+/// once, into a buffer of its length. `AllocError` is the only refusal.
+pub fn respond(
+    alloc: Global,
+    request: &View<'_>,
+    status: u16,
+    to_tag: &[u8],
+    extras: &Fields,
+) -> Result<Bytes, AllocError>
+    ensures { IfOk result (λ text. text ≡ text_of (Reply.reply_of request.now status to_tag.now extras.now)) }
+{
+    let fields = reply_fields(alloc, request.fields(), status, to_tag, extras)?;
+    let start = ViewStart::Status {
+        code: status,
+        reason: reason_of(status),
+    };
+    write_view(alloc, &View::new(start, fields, b""))
 }

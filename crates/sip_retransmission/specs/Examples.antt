@@ -2,8 +2,8 @@
 use Rattle.std.specs.Prelude.{ℕ, zero, suc, false, not, List, [], ◌∷◌, ◌++◌, map, find, codes, Option, Some, None}
 use Rattle.std.specs.Option.{option_map_or, option_to_list}
 use Rattle.sip_field.specs.declared.field_name.FieldName.TheVariants as Name
-use Rattle.sip_message.specs.declared.message.Start.TheVariants.{Status}
-use Rattle.sip_message.specs.declared.message.Message.{Message}
+use Rattle.sip_form.specs.declared.message.Start.TheVariants.{Status}
+use Rattle.sip_form.specs.declared.message.Message.{Message}
 use Rattle.sip_hops.specs.Examples as Places
 use Rattle.sip_edit.specs.OnwardExamples as Onward
 use Rattle.sip_settings.specs.Sample as Settings

@@ -1,6 +1,6 @@
 -- The sample configuration. Its parts stand where the examples of lower crates use them.
 use Rattle.std.specs.Prelude.{pos}
-use Rattle.sip_header.specs.RoutingExamples.{own, sample_realm}
+use Rattle.sip_way.specs.Examples.{own, sample_realm}
 use Rattle.sip_hops.specs.Examples.{sample_hops, sample_addresses}
 use Rattle.sip_policy.specs.Examples.{sample_users, sample_rules}
 use Rattle.sip_settings.specs.declared.config.Config.{Config}

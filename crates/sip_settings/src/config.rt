@@ -1,7 +1,7 @@
-use sip_header::Own;
 use sip_hops::{Hop, HostAddress};
 use sip_policy::{Rule, User};
 use sip_text::{Bytes, Items};
+use sip_way::Own;
 
 /// What a server is told before it starts.
 #[derive(Debug, Drop)]

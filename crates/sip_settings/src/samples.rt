@@ -1,5 +1,5 @@
 ghost use Rattle.std.specs.Prelude.{◌≡◌, ◌++◌, [], ◌∷◌, codes, IfOk, OnOk};
-ghost use Rattle.sip_header.specs.RoutingExamples;
+ghost use Rattle.sip_way.specs.Examples as RoutingExamples;
 ghost use Rattle.sip_hops.specs.Examples as Places;
 ghost use Rattle.sip_policy.specs.declared.operation.OperationPattern.TheVariants as Pattern;
 ghost use Rattle.sip_policy.specs.declared.target_pattern.TargetPattern.TheVariants as Target;
@@ -9,11 +9,11 @@ ghost use Rattle.sip_policy.specs.Examples as Policy;
 ghost use Rattle.sip_settings.specs.Sample;
 
 use crate::config::Config;
-use sip_header::Own;
 use sip_hops::{Hop, HostAddress};
 use sip_host::Addr;
 use sip_policy::{OperationPattern, Rule, RuleVerdict, TargetPattern, User, Who};
 use sip_text::{Bytes, Items};
+use sip_way::Own;
 use std::alloc::{AllocError, Global};
 
 fn own(alloc: Global) -> Result<Own, AllocError>

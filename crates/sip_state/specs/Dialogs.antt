@@ -3,7 +3,7 @@ use Rattle.std.specs.Prelude.{ℕ, ◌&&◌, nat_le, List, [], ◌∷◌, ◌++�
 use Rattle.std.specs.Option.{option_and_then, option_map_or, option_to_list}
 use Rattle.std.specs.Result.{result_ok}
 use Rattle.std.specs.Str.{bytes_eq}
-use Rattle.sip_message.specs.declared.message.Message.{Message}
+use Rattle.sip_form.specs.declared.message.Message.{Message}
 use Rattle.sip_header.specs.CoreFields.{core_of}
 use Rattle.sip_host.specs.declared.addr.Addr.{Addr}
 use Rattle.sip_hops.specs.HostAddress.{address_of}

@@ -1,7 +1,7 @@
 ghost use Rattle.std.specs.Prelude.{◌≡◌, ℕ, Bool, true, List, find, Some, None};
 ghost use Rattle.sip_uri.specs.declared.aor.Aor.{Aor};
 ghost use Rattle.sip_host.specs.declared.addr.Addr.{Addr};
-ghost use Rattle.sip_header.specs.declared.key.Key.{Key};
+ghost use Rattle.sip_key.specs.declared.key.Key.{Key};
 ghost use Rattle.sip_digest.specs.Credential.{Credential};
 ghost use Rattle.sip_nonces.specs.Nonces.{worth_of};
 ghost use Rattle.sip_location.specs.Binding.{live};
@@ -9,7 +9,7 @@ ghost use Rattle.sip_dialog.specs.Dialogs.{is_in_dialog};
 ghost use Rattle.sip_dialog.specs.declared.dialog.Dialog.{Dialog};
 ghost use Rattle.sip_dialog.specs.declared.dialog.DialogId.{DialogId};
 ghost use Rattle.sip_dialog.specs.Sameness.{SameDialogs};
-ghost use Rattle.sip_message.specs.declared.message.Message.{Message};
+ghost use Rattle.sip_form.specs.declared.message.Message.{Message};
 ghost use Rattle.sip_state.specs.Server.{Server};
 ghost use Rattle.sip_state.specs.declared.open_request.OpenRequest.{OpenRequest};
 ghost use Rattle.sip_state.specs.declared.open_request.Upward.{Upward};

@@ -1,8 +1,8 @@
 use crate::branch::Branch;
 use crate::resend::Resend;
 use sip_best::Final;
-use sip_header::Key;
 use sip_host::Addr;
+use sip_key::Key;
 use sip_message::Message;
 use sip_text::{Bytes, Items};
 

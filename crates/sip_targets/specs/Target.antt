@@ -2,7 +2,7 @@
 use Rattle.std.specs.Prelude.{Bool, not, filter, List, [], codes}
 use Rattle.sip_uri.specs.declared.parameters.Parameter.{Parameter}
 use Rattle.sip_uri.specs.declared.uri.Uri.{Uri}
-use Rattle.sip_uri.specs.Equality.{says_same_no_case}
+use Rattle.sip_equality.specs.Equality.{says_same_no_case}
 use Rattle.sip_hops.specs.declared.host_address.HostAddress.{HostAddress}
 use Rattle.sip_hops.specs.HostAddress.{address_of}
 use Rattle.sip_targets.specs.declared.target.Target.{Target}

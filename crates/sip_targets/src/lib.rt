@@ -5,7 +5,9 @@
 pub mod examples;
 pub mod laws;
 mod target;
+mod target_set;
 mod targets;
 
 pub use target::Target;
+pub use target_set::targets_of;
 pub use targets::Targets;

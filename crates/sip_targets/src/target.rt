@@ -1,5 +1,13 @@
+ghost use Rattle.std.specs.Prelude.{◌≡◌, not, filter, IfOk};
+ghost use Rattle.sip_targets.specs.Target as Definitions;
+ghost use Rattle.sip_targets.specs.Target.{target_for};
+
+use sip_equality::says_same_no_case;
+use sip_hops::Hops;
 use sip_host::Addr;
-use sip_uri::Uri;
+use sip_text::{Bytes, Items};
+use sip_uri::{Parameter, Uri, UserInfo};
+use std::alloc::{AllocError, Global};
 
 /// A place that a request is sent to (RFC 3261 16.5).
 #[derive(Drop)]
@@ -8,4 +16,68 @@ pub struct Target {
     pub uri: Uri,
     /// None: nothing can be sent, and the branch counts as answered 503.
     pub address: Option<Addr>,
+}
+
+/// Whether a parameter is the `method` parameter, escapes in its name resolved.
+fn is_method(parameter: &Parameter) -> bool
+    ensures { result ≡ Definitions.is_method parameter.now }
+{
+    says_same_no_case(parameter.name.as_slice(), b"method")
+}
+
+fn copied_parameter(parameter: &Parameter) -> Result<Parameter, AllocError>
+    ensures { IfOk result (λ copy. copy ≡ parameter.now) }
+{
+    parameter.clone()
+}
+
+/// Copies of some parameters, without the `method` parameter.
+fn without_method(alloc: Global, parameters: &[Parameter]) -> Result<Items<Parameter>, AllocError>
+    ensures { IfOk result (λ kept. kept ≡ filter (λ p. not (Definitions.is_method p)) parameters.now) }
+{
+    let mut kept = Items::new(alloc);
+    for parameter in parameters {
+        if !is_method(parameter) {
+            kept.push(copied_parameter(parameter)?)?;
+        }
+    }
+    Ok(kept)
+}
+
+fn copied_userinfo(userinfo: &Option<UserInfo>) -> Result<Option<UserInfo>, AllocError>
+    ensures { IfOk result (λ copy. copy ≡ userinfo.now) }
+{
+    userinfo.clone()
+}
+
+fn copied_port(port: &Option<Bytes>) -> Result<Option<Bytes>, AllocError>
+    ensures { IfOk result (λ copy. copy ≡ port.now) }
+{
+    port.clone()
+}
+
+/// The Request-URI for a contact: without `method` and without URI headers, which no Request-URI has (RFC 3261
+/// 19.1.1, table 1).
+fn target_uri(alloc: Global, contact: &Uri) -> Result<Uri, AllocError>
+    ensures { IfOk result (λ uri. uri ≡ Definitions.target_uri contact.now) }
+{
+    Ok(Uri {
+        scheme: contact.scheme,
+        userinfo: copied_userinfo(&contact.userinfo)?,
+        host: contact.host.clone()?,
+        port: copied_port(&contact.port)?,
+        parameters: without_method(alloc, contact.parameters.as_slice())?,
+        headers: Items::new(alloc),
+    })
+}
+
+impl Target {
+    /// The target for a contact, at the address of its URI if it has one. `AllocError` is the only refusal.
+    pub(crate) fn for_contact(alloc: Global, contact: &Uri, hops: &Hops) -> Result<Self, AllocError>
+        ensures { IfOk result (λ target. target ≡ target_for hops.now.addresses contact.now) }
+    {
+        let uri = target_uri(alloc, contact)?;
+        let address = hops.address_of(&uri);
+        Ok(Target { uri, address })
+    }
 }

@@ -1,5 +1,5 @@
 -- Text up to its first `%`, and behind it.
-use Rattle.std.proofs.Common.{◌≡◌, ℕ, zero, suc, ◌<◌, ◌≤◌, true, false, List, [], ◌∷◌, ◌++◌, length, take, drop, get_or, Option, Some, None, refl, sym, ap, ◌∙◌, append_assoc, arith}
+use Rattle.std.proofs.Common.{◌≡◌, ℕ, zero, suc, ◌<◌, ◌≤◌, true, false, List, [], ◌∷◌, ◌++◌, length, take, drop, get_or, is_some, Option, Some, None, refl, sym, ap, ◌∙◌, append_assoc, arith}
 use Rattle.std.specs.Prelude.{◌==◌}
 use Rattle.std.proofs.lemmas.List.{append-nil, take_all, drop_all, drop_more}
 use Rattle.memchr.specs.Find.{NoneBefore, Nowhere, Passes, is_byte}
@@ -54,3 +54,8 @@ pub ends : (front text : List ℕ) (total : Option (List ℕ)) → Nowhere (Pass
 ends front text total none so_far =
     let all : unescaped text ≡ Some text = plain_run (length text) text (omega arith) (λ i lt. none i (omega arith) lt) ∙ rw (take_all (length text) text (omega arith), drop_all (length text) text (omega arith)) (ap (λ (v : List ℕ). Some v) (append-nil text)) in
     sym so_far ∙ ap (with_front front) all
+
+-- what stands in front doesn't tell whether there is a rest
+pub some_behind : (front : List ℕ) (o : Option (List ℕ)) → is_some (with_front front o) ≡ is_some o
+some_behind front None = refl
+some_behind front (Some v) = refl

@@ -1,9 +1,12 @@
 -- What `unquoted` reads, as a grammar.
-use Rattle.std.proofs.Common.{◌≡◌, ◌↔◌, ℕ, Bool, true, false, cond, List, [], ◌∷◌, ◌++◌, map, Option, Some, None, refl, sym, ap, ◌∙◌, eqb-true}
-use Rattle.std.specs.Prelude.{◌==◌, option_map}
+use Rattle.std.proofs.Common.{◌≡◌, ◌↔◌, ℕ, Bool, true, false, cond, List, [], ◌∷◌, ◌++◌, map, length, take, drop, Option, Some, None, refl, sym, ap, subst, ◌∙◌, eqb-true}
+use Rattle.std.specs.Prelude.{◌==◌, ◌&&◌, not, option_map}
 use Rattle.std.specs.List.{AllByRecursion, flat_map}
 use Rattle.std.proofs.lemmas.Option.{cond_some}
-use Rattle.sip_text.specs.Escapes.{inside_quotes, unquoted, with_front}
+use Rattle.std.proofs.lemmas.List.{take-append-drop}
+use Rattle.std.proofs.lemmas.List.Sums.{take_while-cons}
+use Rattle.std.proofs.lemmas.List.Folds.{length-prefix_len}
+use Rattle.sip_text.specs.Escapes.{inside_quotes, unquoted, with_front, stands_for_itself, plain_front}
 use Rattle.sip_text.specs.QuotedText.{QuotedPiece, QdText, QuotedPair, IsQuotedPiece, piece_text, piece_byte, IsQuoted}
 use Rattle.sip_text.proofs.EscapedLaws.{differs, no_match}
 
@@ -72,3 +75,35 @@ reads_pieces (QuotedPair b ∷ pieces) each =
 
 pub quoted_both : (text bytes : List ℕ) → (unquoted text ≡ Some bytes) ↔ IsQuoted text bytes
 quoted_both text bytes = (quoted_of text bytes, λ r. ap unquoted r.written ∙ reads_pieces r.pieces r.each ∙ ap (λ (v : List ℕ). Some v) (sym r.says))
+
+-- ---- text that stands so between its quotes
+
+neither : (a b : Bool) → (not a && not b) ≡ true → (a ≡ false) × (b ≡ false)
+neither false false e = (refl, refl)
+neither false true e = absurd cc
+neither true b e = absurd cc
+
+front_by : (x : ℕ) (xs : List ℕ) (t : Bool) → stands_for_itself x ≡ t → inside_quotes (plain_front xs ++ 34 ∷ []) ≡ Some (plain_front xs)
+    → inside_quotes (plain_front (x ∷ xs) ++ 34 ∷ []) ≡ Some (plain_front (x ∷ xs))
+front_by x xs true e rest_is =
+    let front : plain_front (x ∷ xs) ≡ x ∷ plain_front xs = take_while-cons stands_for_itself x xs ∙ ap (λ (t : Bool). cond t (x ∷ plain_front xs) []) e in
+    let plain = neither (x == 34) (x == 92) e in
+    subst (λ (ys : List ℕ). inside_quotes (ys ++ 34 ∷ []) ≡ Some ys) (sym front) (plain_inside x (plain_front xs ++ 34 ∷ []) plain.0 plain.1 ∙ ap (with_front (x ∷ [])) rest_is)
+front_by x xs false e rest_is =
+    let front : plain_front (x ∷ xs) ≡ [] = take_while-cons stands_for_itself x xs ∙ ap (λ (t : Bool). cond t (x ∷ plain_front xs) []) e in
+    subst (λ (ys : List ℕ). inside_quotes (ys ++ 34 ∷ []) ≡ Some ys) (sym front) refl
+
+front_quoted : (xs : List ℕ) → inside_quotes (plain_front xs ++ 34 ∷ []) ≡ Some (plain_front xs)
+front_quoted [] = refl
+front_quoted (x ∷ xs) = front_by x xs (stands_for_itself x) refl (front_quoted xs)
+
+front_is_plain : (xs : List ℕ) → take (length (plain_front xs)) xs ≡ plain_front xs
+front_is_plain xs = ap (λ (n : ℕ). take n xs) (length-prefix_len stands_for_itself xs)
+
+-- what stands before the last quote where no byte of it is a quote or a `\`
+pub plain_ends : (xs front behind : List ℕ) → front ≡ take (length (plain_front xs)) xs → behind ≡ drop (length (plain_front xs)) xs → behind ≡ 34 ∷ [] → inside_quotes xs ≡ Some front
+plain_ends xs front behind front_is behind_is e =
+    let plain = front_is ∙ front_is_plain xs in
+    let whole : xs ≡ plain_front xs ++ 34 ∷ [] =
+    sym (take-append-drop (length (plain_front xs)) xs) ∙ ap (λ (v : List ℕ). take (length (plain_front xs)) xs ++ v) (sym behind_is ∙ e) ∙ ap (λ (v : List ℕ). v ++ 34 ∷ []) (front_is_plain xs) in
+    ap inside_quotes whole ∙ front_quoted xs ∙ ap (λ (v : List ℕ). Some v) (sym plain)

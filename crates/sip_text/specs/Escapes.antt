@@ -1,8 +1,9 @@
 -- Escapes and quoted text (RFC 3261 25.1, escaped and quoted-string), read from the left. Their
 -- grammars stand in EscapedText and QuotedText, and `escapes_are_pieces` and `quotes_are_pieces` are
 -- the proofs that they are the same.
-use Rattle.std.specs.Prelude.{◌≡◌, ℕ, ◌+◌, ◌*◌, ◌&&◌, ◌==◌, if◌then◌else◌, List, [], ◌∷◌, ◌++◌, Option, Some, None, option_map}
+use Rattle.std.specs.Prelude.{◌≡◌, ℕ, Bool, ◌+◌, ◌*◌, ◌&&◌, ◌==◌, not, if◌then◌else◌, List, [], ◌∷◌, ◌++◌, Option, Some, None, option_map}
 use Rattle.std.specs.Char.{is_ascii_hexdigit, digit_value}
+use Rattle.std.specs.List.{take_while}
 use Rattle.std.specs.Str.{byte}
 
 -- the bytes that a text with escapes `%HH` stands for, if each `%` begins one
@@ -42,3 +43,11 @@ at_end (b ∷ c ∷ rest) = None
 abbrev pub unquoted : List ℕ → Option (List ℕ)
 unquoted [] = None
 unquoted (b ∷ rest) = if b == byte "\"" then inside_quotes rest else None
+
+-- a byte that stands for itself in quoted text (RFC 3261 25.1, qdtext)
+abbrev pub stands_for_itself : ℕ → Bool
+stands_for_itself b = not (b == byte "\"") && not (b == byte "\\")
+
+-- the front of a text whose bytes all do
+abbrev pub plain_front : List ℕ → List ℕ
+plain_front text = take_while stands_for_itself text

@@ -28,6 +28,15 @@ impl Bytes {
         }
     }
 
+    /// No bytes, and room for so many.
+    pub fn with_room(alloc: Global, room: usize) -> Result<Self, AllocError>
+        ensures { IfOk result (λ bytes. bytes ≡ []) }
+    {
+        Ok(Bytes {
+            bytes: Vec::with_capacity(alloc, room)?,
+        })
+    }
+
     /// These bytes, copied.
     pub fn copy(alloc: Global, bytes: &[u8]) -> Result<Self, AllocError>
         ensures { IfOk result (λ copy. copy ≡ bytes.now) }

@@ -1,6 +1,6 @@
 //! The smallest parts of SIP text: tokens, numbers, text compared with and without case, lists cut at
 //! their commas, text cut at a byte, escapes `%HH`, quoted text, the spans that name parts of a source,
-//! bytes that a value owns, and lists of items. Every crate that reads or writes text stands on this one.
+//! bytes that a value owns, texts that it borrows, and lists of items. Every crate that reads or writes text stands on this one.
 #![tactic(auto)]
 
 mod bytes;
@@ -16,6 +16,7 @@ mod numbers;
 mod quotes;
 mod span;
 mod splits;
+mod text;
 mod words;
 
 pub use bytes::Bytes;
@@ -30,7 +31,8 @@ pub use lists::{
 pub use numbers::{
     has_leading_zero, hex_bytes, hex_text, plain_decimal, plain_decimal_below, plain_port,
 };
-pub use quotes::unquote;
+pub use quotes::{is_quoted, plain_quoted, unquote};
 pub use span::Span;
 pub use splits::split_once;
+pub use text::Text;
 pub use words::{decimal, is_token, lower_case, same_bytes, same_no_case};

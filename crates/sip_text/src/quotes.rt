@@ -1,5 +1,5 @@
-ghost use Rattle.std.specs.Prelude.{◌≡◌, ◌<◌, [], ◌∷◌, length, MatchOption};
-ghost use Rattle.sip_text.specs.Escapes.{unquoted, inside_quotes, with_front, at_end};
+ghost use Rattle.std.specs.Prelude.{◌≡◌, ◌<◌, [], ◌∷◌, length, is_some, Some, IfSome, MatchOption};
+ghost use Rattle.sip_text.specs.Escapes.{unquoted, inside_quotes, with_front, at_end, plain_front};
 ghost use Rattle.sip_text.specs.Reading.{Reads};
 
 use crate::bytes::Bytes;
@@ -41,4 +41,51 @@ pub fn unquote(alloc: Global, text: &[u8]) -> Result<Bytes, TextError>
         [b'"'] => Ok(bytes),
         _ => Err(TextError::Unbalanced),
     }
+}
+
+/// Whether a text is quoted text (RFC 3261 25.1, `quoted-string`).
+pub fn is_quoted(text: &[u8]) -> bool
+    ensures { result ≡ is_some (unquoted text.now) }
+{
+    let Some((b'"', inside)) = text.split_first() else {
+        return false;
+    };
+    let mut rest = inside;
+    while let Some((_, after)) = quoted_byte(rest) {
+        rest = after;
+    }
+    matches!(rest, [b'"'])
+}
+
+/// How many bytes stand for themselves at the front of a text.
+fn plain_length(bytes: &[u8]) -> usize
+    ensures { result ≡ length (plain_front bytes.now) }
+{
+    bytes
+        .iter()
+        .take_while(|byte| **byte != b'"' && **byte != b'\\')
+        .count()
+}
+
+/// The rest of quoted text before its last `"`, where each byte of it stands for itself.
+fn plain_inside(inside: &[u8]) -> Option<&[u8]>
+    ensures { IfSome result (λ part. inside_quotes inside.now ≡ Some part.now) }
+{
+    let (front, behind) = inside.split_at(plain_length(inside));
+    if behind == b"\"".as_slice() {
+        Some(front)
+    } else {
+        None
+    }
+}
+
+/// What quoted text says where it stands so between the quotes, as a part of the text. None of quoted text with a
+/// `\`, and of any other text.
+pub fn plain_quoted(text: &[u8]) -> Option<&[u8]>
+    ensures { IfSome result (λ part. unquoted text.now ≡ Some part.now) }
+{
+    let Some((b'"', inside)) = text.split_first() else {
+        return None;
+    };
+    plain_inside(inside)
 }

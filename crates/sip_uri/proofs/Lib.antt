@@ -3,6 +3,5 @@ pub mod Tests
 pub mod PartLaws
 pub mod ListLaws
 pub mod ReadingLaws
-pub mod Equal
 pub mod Escapes
 pub mod Names

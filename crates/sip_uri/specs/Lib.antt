@@ -3,7 +3,5 @@ pub mod Parts
 pub mod Uri
 pub mod Reading
 pub mod Aor
-pub mod Equality
 pub mod Examples
 pub mod UriError
-pub mod EqualityExamples

@@ -2,19 +2,62 @@ ghost use Rattle.std.specs.Prelude.{◌≡◌, ◌↔◌, IfOk, IsTrue};
 ghost use Rattle.std.specs.Option.{unwrap_or};
 ghost use Rattle.sip_text.specs.Escapes.{unescaped};
 ghost use Rattle.sip_uri.specs.Aor as Definitions;
+ghost use Rattle.std.specs.Prelude.{◌++◌};
+ghost use Rattle.std.specs.Hash as fed;
+ghost use Rattle.std.specs.Cmp.Rules.{comparing, hashing};
+ghost use Rattle.std.proofs.Common.{rules};
 
 use crate::uri::Uri;
 use crate::user::UserInfo;
 use sip_text::{Bytes, TextError, lower_case, same_bytes, unescape};
 use std::alloc::{AllocError, Global};
+use std::hash::{Hash, Hasher};
 
 /// An address of record: the user and the host that a registrar keeps bindings for (RFC 3261 10.3).
-#[derive(Clone, Debug, Drop)]
+#[derive(Debug, Drop)]
 pub struct Aor {
     /// The user without escapes; empty where a URI has none.
     pub user: Bytes,
     /// The host. [`aor_of`] gives it in lower case.
     pub host: Bytes,
+}
+
+/// Written out, so that a copy is known to be equal.
+impl Clone for Aor {
+    ghost is_clone = { λ aor copy. copy ≡ aor };
+
+    fn clone(&self) -> Result<Aor, AllocError> {
+        Ok(Aor {
+            user: self.user.clone()?,
+            host: self.host.clone()?,
+        })
+    }
+}
+
+/// Byte by byte, as [`same_aor`].
+impl PartialEq for Aor {
+    ghost eq = { Definitions.is_same_aor };
+
+    ghost laws = { Prim.search (comparing, rules) };
+
+    fn eq(&self, other: &Aor) -> bool {
+        same_aor(self, other)
+    }
+}
+
+impl Eq for Aor {
+    ghost laws = { Prim.search (comparing, rules) };
+}
+
+impl Hash for Aor {
+    ghost hash_input = { λ aor. fed.slice fed.u8 aor.user ++ fed.slice fed.u8 aor.host };
+
+    ghost respects_eq = { Prim.search (hashing, rules) };
+
+    fn hash<H: Hasher>(&self, state: &mut H) {
+        self.user.as_slice().hash(state);
+        self.host.as_slice().hash(state);
+    }
 }
 
 /// What a user says without its escapes; with a bad escape, the user as it stands.

@@ -1,12 +1,9 @@
-ghost use Rattle.std.specs.Prelude.{◌≡◌, codes, Ok, Err, true, false};
+ghost use Rattle.std.specs.Prelude.{◌≡◌, codes, Ok, Err};
 ghost use Rattle.sip_uri.specs.declared.error.UriError.{UriError};
 ghost use Rattle.sip_uri.specs.Uri.{text_of, IsWritten};
 ghost use Rattle.sip_uri.specs.Reading.{reading_of};
 ghost use Rattle.sip_uri.specs.Aor.{aor_of};
-ghost use Rattle.sip_uri.specs.Equality.{same};
-ghost use Rattle.sip_uri.specs.Examples.{bob, bob_at_5060, bob_by_udp, escaped_alice, alice, carol, carol_secured, carol_unsecured, bob_x, bob_x_with_lr, each_part, empty_password, escaped_name};
-
-pub mod equality;
+ghost use Rattle.sip_uri.specs.Examples.{bob_x, bob_x_with_lr, each_part, empty_password, escaped_name};
 
 /// `SIP:Bob%20X@Host.com` is read, is written `sip:Bob%20X@Host.com`, and names the user `Bob X` of
 /// `host.com`. `tel:+1` has another scheme, and `sip:@host` has an empty user.
@@ -60,21 +57,4 @@ pub fn bad_parameters_and_headers()
     ensures lone_mark { reading_of (codes "sip:h?") ≡ Err UriError.Syntax }
     ensures no_equals { reading_of (codes "sip:h?a=1&b") ≡ Err UriError.Syntax }
     ensures empty_header_name { reading_of (codes "sip:h?=a") ≡ Err UriError.Syntax }
-{}
-
-/// `sip:carol@chicago.com` equals itself with `;security=on` and with `;security=off`, and these two
-/// differ.
-pub fn equality_is_not_transitive()
-    ensures on { same carol carol_secured ≡ true }
-    ensures off { same carol carol_unsecured ≡ true }
-    ensures differ { same carol_secured carol_unsecured ≡ false }
-{}
-
-/// `sip:bob@biloxi.com` equals neither `sip:bob@biloxi.com:5060` nor
-/// `sip:bob@biloxi.com;transport=udp`; `sip:%61lice@atlanta.com;transport=TCP` equals
-/// `sip:alice@AtLanTa.CoM;Transport=tcp` (RFC 3261 19.1.4).
-pub fn uri_equality()
-    ensures port { same bob bob_at_5060 ≡ false }
-    ensures transport { same bob bob_by_udp ≡ false }
-    ensures equal { same escaped_alice alice ≡ true }
 {}

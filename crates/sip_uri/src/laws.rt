@@ -1,9 +1,8 @@
-ghost use Rattle.std.specs.Prelude.{◌≡◌, List, ℕ, Some, Ok, true};
+ghost use Rattle.std.specs.Prelude.{◌≡◌, List, ℕ, Some, Ok};
 ghost use Rattle.sip_text.specs.Escapes.{unescaped};
 ghost use Rattle.sip_uri.specs.Uri.{text_of, IsValid};
 ghost use Rattle.sip_uri.specs.Reading.{reading_of};
 ghost use Rattle.sip_uri.specs.Aor.{aor_of};
-ghost use Rattle.sip_uri.specs.Equality.{same, names_say_different};
 
 use crate::uri::Uri;
 use crate::user::UserInfo;
@@ -12,16 +11,6 @@ use crate::user::UserInfo;
 pub fn written_again()
     ensures was_read { (bytes : List ℕ) (uri : Uri) → reading_of bytes ≡ Ok uri → reading_of (text_of uri) ≡ Ok uri }
     ensures valid { (uri : Uri) → IsValid uri → reading_of (text_of uri) ≡ Ok uri }
-{}
-
-/// Equality of URIs (RFC 3261 19.1.4) doesn't depend on which of two stands first.
-pub fn equality_is_symmetric()
-    ensures { (left : Uri) (right : Uri) → same left right ≡ same right left }
-{}
-
-/// A URI equals itself, if no two of its parameters have one name once escapes are resolved.
-pub fn equality_is_reflexive()
-    ensures { (uri : Uri) → names_say_different uri.parameters ≡ true → same uri uri ≡ true }
 {}
 
 /// Every escape in the user of a URI of the grammar is good, so its address of record has what the user

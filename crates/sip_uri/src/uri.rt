@@ -1,4 +1,4 @@
-ghost use Rattle.std.specs.Prelude.{◌≡◌};
+ghost use Rattle.std.specs.Prelude.{◌≡◌, IfOk};
 
 use crate::headers::UriHeader;
 use crate::parameters::Parameter;
@@ -6,9 +6,9 @@ use crate::scheme::Scheme;
 use crate::user::UserInfo;
 use sip_host::port_value;
 use sip_text::{Bytes, Items};
+use std::alloc::AllocError;
 
 /// A SIP or SIPS URI (RFC 3261 19.1.1). Each text is kept as it was written, with its escapes.
-#[derive(Clone)]
 pub struct Uri {
     pub scheme: Scheme,
     /// What stands before the `@`, where one stands.
@@ -32,6 +32,52 @@ impl Drop for Uri {
             parameters: _,
             headers: _,
         } = self;
+    }
+}
+
+fn copied_userinfo(userinfo: &Option<UserInfo>) -> Result<Option<UserInfo>, AllocError>
+    ensures { IfOk result (λ copy. copy ≡ userinfo.now) }
+{
+    userinfo.clone()
+}
+
+fn copied_text(text: &Bytes) -> Result<Bytes, AllocError>
+    ensures { IfOk result (λ copy. copy ≡ text.now) }
+{
+    text.clone()
+}
+
+fn copied_port(port: &Option<Bytes>) -> Result<Option<Bytes>, AllocError>
+    ensures { IfOk result (λ copy. copy ≡ port.now) }
+{
+    port.clone()
+}
+
+fn copied_parameters(parameters: &Items<Parameter>) -> Result<Items<Parameter>, AllocError>
+    ensures { IfOk result (λ copy. copy ≡ parameters.now) }
+{
+    parameters.clone()
+}
+
+fn copied_headers(headers: &Items<UriHeader>) -> Result<Items<UriHeader>, AllocError>
+    ensures { IfOk result (λ copy. copy ≡ headers.now) }
+{
+    headers.clone()
+}
+
+/// Written out, so that a copy is known to be equal.
+impl Clone for Uri {
+    ghost is_clone = { λ uri copy. copy ≡ uri };
+
+    fn clone(&self) -> Result<Uri, AllocError> {
+        Ok(Uri {
+            scheme: self.scheme,
+            userinfo: copied_userinfo(&self.userinfo)?,
+            host: copied_text(&self.host)?,
+            port: copied_port(&self.port)?,
+            parameters: copied_parameters(&self.parameters)?,
+            headers: copied_headers(&self.headers)?,
+        })
     }
 }
 

@@ -3,11 +3,11 @@ use Rattle.std.specs.Prelude.{ℕ, Bool, List, codes, Option}
 use Rattle.std.specs.Result.{result_ok}
 use Rattle.std.specs.Str.{bytes_eq}
 use Rattle.sip_field.specs.declared.field.Field.{Field}
-use Rattle.sip_header.specs.declared.own.Own.{Own}
+use Rattle.sip_way.specs.declared.own.Own.{Own}
 use Rattle.sip_header.specs.declared.core_fields.CoreFields.{CoreFields}
-use Rattle.sip_header.specs.declared.way.Way.{Way}
+use Rattle.sip_way.specs.declared.way.Way.{Way}
 use Rattle.sip_header.specs.CoreFields.{core_in}
-use Rattle.sip_header.specs.Way.{way_from}
+use Rattle.sip_way.specs.Way.{way_from}
 
 -- where it is checked, its parts, and whether fewer bytes of its body came than its length says
 pub record Candidate : Type 0 where

@@ -2,11 +2,11 @@
 use Rattle.std.specs.Prelude.{ℕ, Bool, List, [], Option, Some, None, option_map, Result, Err}
 use Rattle.std.specs.Option.{ok_or}
 use Rattle.std.specs.Result.{result_ok}
-use Rattle.sip_message.specs.declared.message.Message.{Message}
-use Rattle.sip_header.specs.declared.own.Own.{Own}
+use Rattle.sip_form.specs.declared.message.Message.{Message}
+use Rattle.sip_way.specs.declared.own.Own.{Own}
 use Rattle.sip_header.specs.declared.core_fields.CoreFields.{CoreFields}
 use Rattle.sip_header.specs.CoreFields.{core_of}
-use Rattle.sip_header.specs.Way.{way_of}
+use Rattle.sip_way.specs.Way.{way_of}
 use Rattle.sip_validate.specs.declared.checked.Checked.{Checked}
 use Rattle.sip_validate.specs.declared.refused.Refused.{Refused}
 use Rattle.sip_validate.specs.Refusal.{refusal_of}

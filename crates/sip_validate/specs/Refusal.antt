@@ -6,17 +6,17 @@ use Rattle.std.specs.Str.{bytes_eq}
 use Rattle.sip_field.specs.declared.field_name.FieldName.{FieldName}
 use Rattle.sip_field.specs.declared.field_name.FieldName.TheVariants as Name
 use Rattle.sip_field.specs.declared.field.Field.{Field}
-use Rattle.sip_message.specs.declared.message.Start.{Start}
-use Rattle.sip_message.specs.declared.message.Start.TheVariants.{Request, Status}
-use Rattle.sip_message.specs.declared.message.Message.{Message}
+use Rattle.sip_form.specs.declared.message.Start.{Start}
+use Rattle.sip_form.specs.declared.message.Start.TheVariants.{Request, Status}
+use Rattle.sip_form.specs.declared.message.Message.{Message}
 use Rattle.sip_header.specs.declared.max_forwards.MaxForwards.{MaxForwards}
 use Rattle.sip_header.specs.declared.max_forwards.MaxForwards.TheVariants.{Absent, Hops, Malformed}
-use Rattle.sip_header.specs.declared.own.Own.{Own}
+use Rattle.sip_way.specs.declared.own.Own.{Own}
 use Rattle.sip_field.specs.Values.{values_of, first_value}
 use Rattle.sip_header.specs.Parameters.{tag_of}
 use Rattle.sip_header.specs.Via.{via_of}
 use Rattle.sip_header.specs.MaxForwards.{max_forwards_of}
-use Rattle.sip_header.specs.Own.{is_own_via}
+use Rattle.sip_way.specs.Own.{is_own_via}
 use Rattle.sip_validate.specs.Candidate.{Candidate, is_register, core, way}
 use Rattle.sip_validate.specs.Faults.{has_sip_scheme, is_bad}
 

@@ -4,9 +4,9 @@ use Rattle.std.specs.Prelude.{◌&&◌, Result}
 use Rattle.sip_uri.specs.declared.uri.Uri.{Uri}
 use Rattle.sip_uri.specs.declared.aor.Aor.{Aor}
 use Rattle.sip_field.specs.declared.field.Field.{Field}
-use Rattle.sip_message.specs.declared.message.Message.{Message}
+use Rattle.sip_form.specs.declared.message.Message.{Message}
 use Rattle.sip_header.specs.declared.core_fields.CoreFields.{CoreFields}
-use Rattle.sip_header.specs.Way.{request_uri_of}
+use Rattle.sip_way.specs.Way.{request_uri_of}
 use Rattle.sip_policy.specs.declared.decision.Decision.{Decision}
 use Rattle.sip_policy.specs.User.{is_users_address}
 use Rattle.sip_location.specs.declared.binding.Binding.{Binding}

@@ -2,9 +2,9 @@
 use Rattle.std.specs.Prelude.{ℕ, zero, suc, true, false, List, [], ◌∷◌, ◌++◌, codes, Option, None, Some}
 use Rattle.sip_host.specs.declared.addr.Addr.{Addr}
 use Rattle.sip_field.specs.declared.field_name.FieldName.TheVariants as Name
-use Rattle.sip_message.specs.declared.message.Start.TheVariants.{Request, Status}
-use Rattle.sip_message.specs.declared.message.Message.{Message}
-use Rattle.sip_header.specs.RoutingExamples.{fields_of}
+use Rattle.sip_form.specs.declared.message.Start.TheVariants.{Request, Status}
+use Rattle.sip_form.specs.declared.message.Message.{Message}
+use Rattle.sip_header.specs.FieldExamples.{fields_of}
 use Rattle.sip_hops.specs.Examples.{local}
 use Rattle.sip_edit.specs.OwnVia.{branch_text}
 use Rattle.sip_policy.specs.declared.who.Who.{Who}

@@ -1,6 +1,6 @@
 -- When a REGISTER comes to the same, and when verdicts are the same.
 use Rattle.std.specs.Prelude.{◌≡◌, ℕ, Option, Some, None}
-use Rattle.sip_message.specs.declared.message.Message.{Message}
+use Rattle.sip_form.specs.declared.message.Message.{Message}
 use Rattle.sip_location.specs.Sameness.{SameBindings}
 use Rattle.sip_verdict.specs.Verdict.{Question, Registered, Bound, Refused, Verdict, Register}
 

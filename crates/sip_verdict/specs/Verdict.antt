@@ -7,22 +7,22 @@ use Rattle.sip_uri.specs.declared.uri.Uri.{Uri}
 use Rattle.sip_uri.specs.declared.aor.Aor.{Aor}
 use Rattle.sip_field.specs.declared.field.Field.{Field}
 use Rattle.sip_field.specs.declared.field_name.FieldName.TheVariants as Name
-use Rattle.sip_message.specs.declared.message.Start.{Start}
-use Rattle.sip_message.specs.declared.message.Start.TheVariants.{Request, Status}
-use Rattle.sip_message.specs.declared.message.Message.{Message}
-use Rattle.sip_message.specs.declared.error.ReadError.{ReadError}
-use Rattle.sip_message.specs.declared.error.ReadError.TheVariants as Refusal
+use Rattle.sip_form.specs.declared.message.Start.{Start}
+use Rattle.sip_form.specs.declared.message.Start.TheVariants.{Request, Status}
+use Rattle.sip_form.specs.declared.message.Message.{Message}
+use Rattle.sip_form.specs.declared.error.ReadError.{ReadError}
+use Rattle.sip_form.specs.declared.error.ReadError.TheVariants as Refusal
 use Rattle.sip_message.specs.Reading.{reading_of}
-use Rattle.sip_header.specs.declared.key.Key.{Key}
+use Rattle.sip_key.specs.declared.key.Key.{Key}
 use Rattle.sip_header.specs.declared.core_fields.CoreFields.{CoreFields}
 use Rattle.sip_header.specs.declared.via.Via.{Via}
-use Rattle.sip_header.specs.Key.{key_of}
+use Rattle.sip_key.specs.Key.{key_of}
 use Rattle.sip_field.specs.Values.{values_of, first_value}
 use Rattle.sip_header.specs.Via.{via_of}
 use Rattle.sip_header.specs.Parameters.{branch_of}
-use Rattle.sip_header.specs.Own.{is_own_via}
+use Rattle.sip_way.specs.Own.{is_own_via}
 use Rattle.sip_header.specs.CoreFields.{core_of, cseq_in}
-use Rattle.sip_header.specs.Way.{way_of, request_uri_of, next_uri}
+use Rattle.sip_way.specs.Way.{way_of, request_uri_of, next_uri}
 use Rattle.sip_nonces.specs.declared.nonces.Nonce.{Nonce}
 use Rattle.sip_host.specs.declared.addr.Addr.{Addr}
 use Rattle.sip_hops.specs.HostAddress.{address_of}

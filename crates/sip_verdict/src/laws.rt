@@ -1,6 +1,6 @@
 ghost use Rattle.std.specs.Prelude.{◌≡◌, ◌≤◌, ℕ, List};
 ghost use Rattle.sip_state.specs.Server.{Server};
-ghost use Rattle.sip_message.specs.declared.message.Message.{Message};
+ghost use Rattle.sip_form.specs.declared.message.Message.{Message};
 ghost use Rattle.sip_header.specs.declared.core_fields.CoreFields.{CoreFields};
 ghost use Rattle.sip_policy.specs.declared.decision.Decision.{Decision};
 ghost use Rattle.sip_location.specs.declared.binding.Binding.{Binding};

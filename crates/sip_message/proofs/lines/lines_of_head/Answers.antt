@@ -1,7 +1,7 @@
 use Rattle.std.proofs.Common.{Err, inr, sym, ◌∙◌, ap}
 use Rattle.std.specs.Option.{ok_or}
-use Rattle.sip_message.specs.declared.error.ReadError.{ReadError}
-use Rattle.sip_message.specs.declared.error.ReadError.TheVariants.{NotSip}
+use Rattle.sip_form.specs.declared.error.ReadError.{ReadError}
+use Rattle.sip_form.specs.declared.error.ReadError.TheVariants.{NotSip}
 use Rattle.sip_message.proofs.Folds.{goes_on, ends, never_ends, empty_or, shorter}
 use Rattle.sip_message.proofs.lines.lines_of_head.Goals as goal
 

@@ -6,8 +6,8 @@ use Rattle.md5.specs.Md5.{block_words, rounds, compress, hash_after, digest_byte
 use Rattle.hex.specs.Hex.{encode_with}
 use Rattle.sip_uri.specs.Reading.{rest_of, reading_of}
 use Rattle.sip_message.specs.Reading as Bytes
-use Rattle.sip_message.specs.Text.{text_of}
-use Rattle.sip_message.specs.declared.message.Message.{Message}
+use Rattle.sip_form.specs.Text.{text_of}
+use Rattle.sip_form.specs.declared.message.Message.{Message}
 use Rattle.sip_header.specs.CoreFields.{core_in}
 use Rattle.sip_nonces.specs.NonceText.{nonce_text}
 use Rattle.sip_audit.specs.Lines.{line_of}

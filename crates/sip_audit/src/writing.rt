@@ -1,0 +1,77 @@
+ghost use Rattle.std.specs.Prelude.{◌≡◌, ◌++◌, codes, decimal, IfOk, IfErr, OnOk};
+ghost use Rattle.sip_audit.specs.Lines as Definitions;
+ghost use Rattle.sip_audit.specs.Lines.{who_text, target_text, operation_text, outcome_text};
+ghost use Rattle.sip_audit.specs.declared.error.AuditError.TheVariants.{NoMemory};
+
+use crate::decision::push_outcome;
+use crate::error::AuditError;
+use crate::record::{Operation, Record};
+use crate::target::push_target;
+use sip_text::Bytes;
+use std::alloc::{AllocError, Global};
+
+/// Adds a word and the space behind it.
+fn push_word(line: &mut Bytes, word: &[u8]) -> Result<(), AllocError>
+    ensures { OnOk result (line.new ≡ line.old ++ word.now ++ codes " ") }
+{
+    line.extend(word)?;
+    line.push(b' ')
+}
+
+fn push_number(line: &mut Bytes, number: u64) -> Result<(), AllocError>
+    ensures { OnOk result (line.new ≡ line.old ++ decimal number ++ codes " ") }
+{
+    line.push_decimal(number)?;
+    line.push(b' ')
+}
+
+/// The name of the user that was proven, `-` for nobody.
+fn who_word(who: &Option<Bytes>) -> &[u8]
+    ensures { result.now ≡ who_text who.now }
+{
+    match who {
+        Some(name) => name.as_slice(),
+        None => b"-",
+    }
+}
+
+fn operation_word(operation: Operation) -> &'static [u8]
+    ensures { result.now ≡ operation_text operation }
+{
+    match operation {
+        Operation::Register => b"register",
+        Operation::List => b"list",
+        Operation::Send => b"send",
+    }
+}
+
+/// Adds what stands before the target: moment, number, method and user.
+fn push_request(line: &mut Bytes, record: &Record) -> Result<(), AllocError>
+    ensures { OnOk result (line.new ≡ line.old ++ decimal «record».now.at ++ codes " " ++ decimal «record».now.number ++ codes " " ++ «record».now.method ++ codes " " ++ who_text «record».now.who ++ codes " ") }
+{
+    push_number(line, record.at)?;
+    push_number(line, record.number)?;
+    push_word(line, record.method.as_slice())?;
+    push_word(line, who_word(&record.who))
+}
+
+/// Adds the target, the operation, the rule and the outcome.
+fn push_decision(line: &mut Bytes, record: &Record) -> Result<(), AllocError>
+    ensures { OnOk result (line.new ≡ line.old ++ target_text «record».now.target ++ codes " " ++ operation_text «record».now.operation ++ codes " " ++ outcome_text «record».now.minute «record».now.outcome) }
+{
+    push_target(line, &record.target)?;
+    line.push(b' ')?;
+    push_word(line, operation_word(record.operation))?;
+    push_outcome(line, record.minute, record.outcome)
+}
+
+/// The line of a record, without its end. `NoMemory` is the only refusal.
+pub fn line_of(alloc: Global, record: &Record) -> Result<Bytes, AuditError>
+    ensures line { IfOk result (λ line. line ≡ Definitions.line_of «record».now) }
+    ensures refused { IfErr result (λ e. e ≡ NoMemory) }
+{
+    let mut line = Bytes::new(alloc);
+    push_request(&mut line, record)?;
+    push_decision(&mut line, record)?;
+    Ok(line)
+}

@@ -1,0 +1,32 @@
+ghost use Rattle.std.specs.Prelude.{◌≡◌, IfOk};
+ghost use Rattle.std.specs.Result.{result_ok};
+ghost use Rattle.sip_uri.specs.Reading.{reading_of};
+ghost use Rattle.sip_auth.specs.Proof.{is_equal_uri};
+
+use sip_equality::same;
+use sip_uri::{Uri, UriError, parse_uri};
+use std::alloc::{AllocError, Global};
+
+/// The SIP URI that bytes write, if they write one.
+fn uri_in(alloc: Global, text: &[u8]) -> Result<Option<Uri>, AllocError>
+    ensures { IfOk result (λ uri. uri ≡ result_ok (reading_of text.now)) }
+{
+    match parse_uri(alloc, text) {
+        Ok(uri) => Ok(Some(uri)),
+        Err(UriError::NoMemory) => Err(AllocError),
+        Err(_) => Ok(None),
+    }
+}
+
+/// Whether two texts are SIP URIs that are equal (RFC 3261 19.1.4).
+pub(crate) fn is_equal_uri(alloc: Global, left: &[u8], right: &[u8]) -> Result<bool, AllocError>
+    ensures { IfOk result (λ equal. equal ≡ is_equal_uri left.now right.now) }
+{
+    let Some(left) = uri_in(alloc, left)? else {
+        return Ok(false);
+    };
+    let Some(right) = uri_in(alloc, right)? else {
+        return Ok(false);
+    };
+    Ok(same(&left, &right))
+}

@@ -1,0 +1,382 @@
+-- What the rows of a table say of the dialogs that are known.
+use Rattle.std.proofs.Common.{◌≡◌, ℕ, zero, suc, ◌+◌, ◌≤◌, ◌<◌, List, [], ◌∷◌, ◌++◌, length, cond, ltb, Bool, true, false, refl, sym, subst, ◌∙◌, ap, ap₂, arith, map, slice_get, Option, None, Some, option_map, swap_remove, get_or, length-append}
+use Rattle.std.specs.Prelude.{◌&&◌, not, count_by, filter, nat_le, nat_lt, if◌then◌else◌, IfSome, IfErr, OnOk, Result, Ok, Err, ◌↔◌}
+use Rattle.std.specs.List.{list_any}
+use Rattle.std.specs.Map.{values_of}
+use Rattle.std.proofs.lemmas.Bool.Decides.{nat_tests}
+use Rattle.std.proofs.lemmas.List.Sums.{sum_by-swap_remove}
+use Rattle.std.proofs.lemmas.Option.{slice_get_within, slice_get-map, get_or_from_slice_get}
+use Rattle.indexmap.specs.IndexMap.{set_value_at}
+use Rattle.sip_host.specs.declared.addr.Addr.{Addr}
+use Rattle.sip_dialog.specs.declared.dialog.DialogId.{DialogId}
+use Rattle.sip_dialog.specs.declared.dialog.Dialog.{Dialog}
+use Rattle.sip_dialog.specs.declared.dialog.InviteAnswer.{InviteAnswer}
+use Rattle.sip_dialog.specs.declared.error.DialogError.{DialogError}
+use Rattle.sip_dialog.specs.declared.error.DialogError.TheVariants.{NoMemory, Full}
+use Rattle.sip_dialog.specs.declared.standing.Standing.{Standing}
+use Rattle.sip_dialog.specs.Addresses.{is_same_addr}
+use Rattle.sip_dialog.specs.Dialogs.{is_known, known, is_named, holds, is_in_dialog, edited, learnt, knows, is_full_for, answered_again, begun, without_dialog, is_unconfirmed, after_invite}
+use Rattle.sip_dialog.specs.Rows.{names, dialog_of, dialogs_in, is_recent, StandsAt, StandsNowhere, IsKnownAt}
+use Rattle.sip_dialog.specs.Sameness.{SameDialogs}
+use Rattle.sip_dialog.proofs.Alone.{Row}
+use Rattle.sip_dialog.proofs.Sameness.{count_first, count_filter, count_map, any_counts, count_joined, count_alike, length_same, dialogs_joined, edited_same}
+
+-- the dialog of a row
+abbrev pub dialog : Row → Dialog
+dialog r = dialog_of r.0 r.1
+
+-- what is known, counted by rows
+counted : (now : ℕ) (q : Dialog → Bool) (rows : List Row) → count_by q (known now (dialogs_in rows)) ≡ count_by (λ r. is_recent now r.1 && q (dialog r)) rows
+counted now q rows = count_filter q (is_known now) (dialogs_in rows) ∙ count_map (λ d. is_known now d && q d) dialog rows
+
+-- what stands at an index
+standing_is : {id : DialogId} {rows : List Row} {at : ℕ} (h : StandsAt id rows at) (s : Standing) → slice_get (values_of rows) at ≡ Some s → h.row.1 ≡ s
+standing_is {id} {rows} {at} h s e =
+    let row : Some h.row.1 ≡ Some s = sym (slice_get-map (λ (r : Row). r.1) rows at ∙ ap (λ (o : Option Row). option_map (λ (r : Row). r.1) o) h.there) ∙ e in
+    cc
+
+one_or_none : (b : Bool) → ltb 0 (cond b 1 0) ≡ b
+one_or_none true = refl
+one_or_none false = refl
+
+and_turned : (x y : Bool) → (x && y) ≡ (y && x)
+and_turned true true = refl
+and_turned true false = refl
+and_turned false true = refl
+and_turned false false = refl
+
+and_between : (x y z : Bool) → (x && y && z) ≡ (y && (x && z))
+and_between true y z = refl
+and_between false true z = refl
+and_between false false z = refl
+
+-- ---- whether a request is in a dialog
+
+in_dialog_counts : (now : ℕ) (rows : List Row) (id : DialogId) (address : Addr)
+    → is_in_dialog now (dialogs_in rows) id address ≡ ltb 0 (count_by (λ r. names id r.0 && (is_recent now r.1 && holds address (dialog r))) rows)
+in_dialog_counts now rows id address =
+    any_counts (λ d. is_known now d && is_named id d && holds address d) (dialogs_in rows)
+    ∙ ap (ltb 0) (count_map (λ d. is_known now d && is_named id d && holds address d) dialog rows
+    ∙ count_alike _ _ rows (λ r. and_between (is_recent now r.1) (names id r.0) (holds address (dialog r))))
+
+pub in_dialog_at : (now : ℕ) (rows : List Row) (id : DialogId) (address : Addr) (at : ℕ) (s : Standing) → StandsAt id rows at → slice_get (values_of rows) at ≡ Some s
+    → (is_recent now s && list_any (is_same_addr address) s.addresses) ≡ is_in_dialog now (dialogs_in rows) id address
+in_dialog_at now rows id address at s h e =
+    ap (λ (v : Standing). is_recent now v && list_any (is_same_addr address) v.addresses) (sym (standing_is h s e))
+    ∙ sym (one_or_none (is_recent now h.row.1 && holds address (dialog h.row)))
+    ∙ sym (ap (ltb 0) (h.alone (λ r. is_recent now r.1 && holds address (dialog r))))
+    ∙ sym (in_dialog_counts now rows id address)
+
+pub in_no_dialog : (now : ℕ) (rows : List Row) (id : DialogId) (address : Addr) → StandsNowhere id rows → false ≡ is_in_dialog now (dialogs_in rows) id address
+in_no_dialog now rows id address h = sym (in_dialog_counts now rows id address ∙ ap (ltb 0) (h.none (λ r. is_recent now r.1 && holds address (dialog r))))
+
+-- ---- whether a dialog is known
+
+knows_counts : (now : ℕ) (rows : List Row) (id : DialogId) → knows now id (dialogs_in rows) ≡ ltb 0 (count_by (λ r. names id r.0 && is_recent now r.1) rows)
+knows_counts now rows id =
+    any_counts (is_named id) (known now (dialogs_in rows))
+    ∙ ap (ltb 0) (counted now (is_named id) rows ∙ count_alike _ _ rows (λ r. and_turned (is_recent now r.1) (names id r.0)))
+
+pub knows_at : (now : ℕ) (rows : List Row) (id : DialogId) (at : ℕ) (s : Standing) → StandsAt id rows at → slice_get (values_of rows) at ≡ Some s → is_recent now s ≡ knows now id (dialogs_in rows)
+knows_at now rows id at s h e =
+    ap (is_recent now) (sym (standing_is h s e))
+    ∙ sym (one_or_none (is_recent now h.row.1))
+    ∙ sym (ap (ltb 0) (h.alone (λ r. is_recent now r.1)))
+    ∙ sym (knows_counts now rows id)
+
+pub knows_none : (now : ℕ) (rows : List Row) (id : DialogId) → StandsNowhere id rows → false ≡ knows now id (dialogs_in rows)
+knows_none now rows id h = sym (knows_counts now rows id ∙ ap (ltb 0) (h.none (λ r. is_recent now r.1)))
+
+pub recent_there : (now : ℕ) (rows : List Row) (id : DialogId) (at : ℕ) (s : Standing) → StandsAt id rows at → slice_get (values_of rows) at ≡ Some s → is_recent now s ≡ true → IsKnownAt now id rows at
+recent_there now rows id at s h e recent = record { stands = h; recent = ap (is_recent now) (standing_is h s e) ∙ recent }
+
+-- ---- rows that are taken out
+
+taken_out : (test : Row → Bool) (rows : List Row) (at : ℕ) (row other : Row) → slice_get rows at ≡ Some row → count_by test (swap_remove rows at other) + cond (test row) 1 0 ≡ count_by test rows
+taken_out test rows at row other h =
+    let is : get_or rows at other ≡ row = get_or_from_slice_get rows at row other h in
+    let here : cond (test (get_or rows at other)) 1 0 ≡ cond (test row) 1 0 = ap (λ (r : Row). cond {A = ℕ} (test r) 1 0) is in
+    omega (arith, sum_by-swap_remove (λ r. cond {A = ℕ} (test r) 1 0) rows at other (slice_get_within rows at row h), here)
+
+split_by : (p test : Row → Bool) (rows : List Row) → count_by test rows ≡ count_by (λ r. p r && test r) rows + count_by (λ r. not (p r) && test r) rows
+split_by p test [] = refl
+split_by p test (r ∷ rows) =
+    let rest = split_by p test rows in
+    omega (arith, count_first test r rows, count_first (λ r. p r && test r) r rows, count_first (λ r. not (p r) && test r) r rows, rest, by_tests (p r) (test r))
+  where
+    by_tests : (x y : Bool) → cond y 1 0 ≡ cond (x && y) 1 0 + cond (not x && y) 1 0
+    by_tests true true = refl
+    by_tests true false = refl
+    by_tests false true = refl
+    by_tests false false = refl
+
+-- what the removal of a row left
+pub removed : {id : DialogId} {rows : List Row} {at : ℕ} (h : StandsAt id rows at) (new : List Row) (r : Option Row) → r ≡ slice_get rows at → IfSome r (λ other. new ≡ swap_remove rows at other) → new ≡ swap_remove rows at h.row
+removed {id} {rows} {at} h new r is e = by_result r (is ∙ h.there) e where
+  by_result : (r : Option Row) → r ≡ Some h.row → IfSome r (λ other. new ≡ swap_remove rows at other) → new ≡ swap_remove rows at h.row
+  by_result None is e = absurd (cc)
+  by_result (Some other) is e = let same : other ≡ h.row = cc in e ∙ ap (swap_remove rows at) same
+
+-- one that isn't known any more
+pub forgotten_same : (now : ℕ) (rows : List Row) (id : DialogId) (at : ℕ) (s : Standing) (other : Row) → StandsAt id rows at → slice_get (values_of rows) at ≡ Some s → is_recent now s ≡ false
+    → SameDialogs now (dialogs_in (swap_remove rows at other)) (dialogs_in rows)
+forgotten_same now rows id at s other h e past = λ p.
+    let test : Row → Bool = λ r. is_recent now r.1 && p (dialog r) in
+    let old : is_recent now h.row.1 ≡ false = ap (is_recent now) (standing_is h s e) ∙ past in
+    let here : cond (test h.row) 1 0 ≡ 0 = ap (λ (b : Bool). cond {A = ℕ} (b && p (dialog h.row)) 1 0) old in
+    omega (arith, counted now p (swap_remove rows at other), counted now p rows, taken_out test rows at h.row other h.there, here)
+
+-- and then no row has its name
+pub forgotten_there : (rows : List Row) (id : DialogId) (at : ℕ) (other : Row) → StandsAt id rows at → StandsNowhere id (swap_remove rows at other)
+forgotten_there rows id at other h = record {
+  none = λ test.
+      let here : cond (names id h.row.0 && test h.row) 1 0 ≡ cond (test h.row) 1 0 = ap (λ (b : Bool). cond {A = ℕ} (b && test h.row) 1 0) h.named in
+      omega (arith, taken_out (λ r. names id r.0 && test r) rows at h.row other h.there, h.alone test, here);
+}
+
+again : (x y : Bool) → (x && (x && y)) ≡ (x && y)
+again true y = refl
+again false y = refl
+
+-- a dialog that ends
+without_counts : (now : ℕ) (rows : List Row) (id : DialogId) (p : Dialog → Bool)
+    → count_by p (known now (without_dialog now id (dialogs_in rows))) ≡ count_by (λ r. not (names id r.0) && (is_recent now r.1 && p (dialog r))) rows
+without_counts now rows id p =
+    count_filter p (is_known now) (without_dialog now id (dialogs_in rows))
+    ∙ count_filter (λ d. is_known now d && p d) (λ d. not (is_named id d)) (known now (dialogs_in rows))
+    ∙ counted now (λ d. not (is_named id d) && (is_known now d && p d)) rows
+    ∙ count_alike _ _ rows (λ r. by_tests (is_recent now r.1) (names id r.0) (p (dialog r)))
+  where
+    by_tests : (x y z : Bool) → (x && (not y && (x && z))) ≡ (not y && (x && z))
+    by_tests true y z = refl
+    by_tests false true z = refl
+    by_tests false false z = refl
+
+pub ended_same : (now : ℕ) (rows : List Row) (id : DialogId) (at : ℕ) (other : Row) → StandsAt id rows at
+    → SameDialogs now (dialogs_in (swap_remove rows at other)) (without_dialog now id (dialogs_in rows))
+ended_same now rows id at other h = λ p.
+    let test : Row → Bool = λ r. is_recent now r.1 && p (dialog r) in
+    omega (arith, counted now p (swap_remove rows at other), without_counts now rows id p, taken_out test rows at h.row other h.there, split_by (λ r. names id r.0) test rows, h.alone test)
+
+pub ended_none : (now : ℕ) (rows : List Row) (id : DialogId) → StandsNowhere id rows → SameDialogs now (dialogs_in rows) (without_dialog now id (dialogs_in rows))
+ended_none now rows id h = λ p.
+    let test : Row → Bool = λ r. is_recent now r.1 && p (dialog r) in
+    omega (arith, counted now p rows, without_counts now rows id p, split_by (λ r. names id r.0) test rows, h.none test)
+
+-- ---- a pass over all
+
+filtered : (p q : Dialog → Bool) (rows : List Row) → dialogs_in (filter (λ r. p (dialog r) && q (dialog r)) rows) ≡ filter q (filter p (dialogs_in rows))
+filtered p q [] = refl
+filtered p q (r ∷ rows) = by_tests (p (dialog r)) (q (dialog r)) refl (filtered p q rows) where
+  by_tests : (x y : Bool) → q (dialog r) ≡ y → dialogs_in (filter (λ r. p (dialog r) && q (dialog r)) rows) ≡ filter q (filter p (dialogs_in rows))
+      → dialogs_in (cond (x && y) (r ∷ filter (λ r. p (dialog r) && q (dialog r)) rows) (filter (λ r. p (dialog r) && q (dialog r)) rows))
+      ≡ filter q (cond x (dialog r ∷ filter p (dialogs_in rows)) (filter p (dialogs_in rows)))
+  by_tests true true is e = rw is (ap (λ rest. dialog r ∷ rest) e)
+  by_tests true false is e = rw is e
+  by_tests false y is e = e
+
+pub forgotten : (now : ℕ) (rows : List Row) → dialogs_in (filter (λ r. is_recent now r.1) rows) ≡ known now (dialogs_in rows)
+forgotten now [] = refl
+forgotten now (r ∷ rows) = by_test (is_recent now r.1) (forgotten now rows) where
+  by_test : (b : Bool) → dialogs_in (filter (λ r. is_recent now r.1) rows) ≡ known now (dialogs_in rows)
+      → dialogs_in (cond b (r ∷ filter (λ r. is_recent now r.1) rows) (filter (λ r. is_recent now r.1) rows)) ≡ cond b (dialog r ∷ known now (dialogs_in rows)) (known now (dialogs_in rows))
+  by_test true e = ap (λ rest. dialog r ∷ rest) e
+  by_test false e = e
+
+pub left_by_invite : (now number : ℕ) (rows : List Row) → dialogs_in (filter (λ r. is_recent now r.1 && not (is_unconfirmed number (dialog r))) rows) ≡ after_invite now number (dialogs_in rows)
+left_by_invite now number rows = filtered (is_known now) (λ d. not (is_unconfirmed number d)) rows
+
+moved : (x y z : Bool) → (x && (y && z)) ≡ (y && (x && z))
+moved true y z = refl
+moved false true z = refl
+moved false false z = refl
+
+pub nowhere_kept : (keep : Row → Bool) (rows : List Row) (id : DialogId) → StandsNowhere id rows → StandsNowhere id (filter keep rows)
+nowhere_kept keep rows id h = record {
+  none = λ test. count_filter (λ r. names id r.0 && test r) keep rows ∙ count_alike _ _ rows (λ r. moved (keep r) (names id r.0) (test r)) ∙ h.none (λ r. keep r && test r);
+}
+
+-- ---- an edit
+
+put_in : (test : Row → Bool) (rows : List Row) (at : ℕ) (row : Row) (w : Standing) → slice_get rows at ≡ Some row
+    → count_by test (set_value_at rows at w) + cond (test row) 1 0 ≡ count_by test rows + cond (test (row.0, w)) 1 0
+put_in test [] at row w h = absurd (cc)
+put_in test (r ∷ rows) zero row w h =
+    let is : r ≡ row = cc in
+    let here : cond (test r) 1 0 ≡ cond (test row) 1 0 = ap (λ (x : Row). cond {A = ℕ} (test x) 1 0) is in
+    let there : cond (test (r.0, w)) 1 0 ≡ cond (test (row.0, w)) 1 0 = ap (λ (x : Row). cond {A = ℕ} (test (x.0, w)) 1 0) is in
+    omega (arith, count_first test r rows, count_first test (r.0, w) rows, here, there)
+put_in test (r ∷ rows) (suc at) row w h = omega (arith, count_first test r rows, count_first test r (set_value_at rows at w), put_in test rows at row w h)
+
+module _ (now : ℕ) (id : DialogId) (edit : Dialog → Dialog) where
+  -- a dialog after the edit
+  abbrev one : Dialog → Dialog
+  one d = if is_named id d then edit d else d
+
+  edited_counts : (rows : List Row) (p : Dialog → Bool) → count_by p (known now (edited now id edit (dialogs_in rows))) ≡ count_by (λ r. is_recent now r.1 && (is_known now (one (dialog r)) && p (one (dialog r)))) rows
+  edited_counts rows p =
+      count_filter p (is_known now) (map one (known now (dialogs_in rows)))
+      ∙ count_map (λ d. is_known now d && p d) one (known now (dialogs_in rows))
+      ∙ counted now (λ d. is_known now (one d) && p (one d)) rows
+
+  -- rows of other names stay
+  others_stay : (p : Dialog → Bool) (r : Row)
+      → (not (names id r.0) && (is_recent now r.1 && (is_known now (one (dialog r)) && p (one (dialog r))))) ≡ (not (names id r.0) && (is_recent now r.1 && p (dialog r)))
+  others_stay p r = by_test (names id r.0) where
+    by_test : (b : Bool) → (not b && (is_recent now r.1 && (is_known now (if b then edit (dialog r) else dialog r) && p (if b then edit (dialog r) else dialog r)))) ≡ (not b && (is_recent now r.1 && p (dialog r)))
+    by_test true = refl
+    by_test false = again (is_recent now r.1) (p (dialog r))
+
+  pub edited_at : (rows : List Row) (at : ℕ) (s w : Standing) → StandsAt id rows at → slice_get (values_of rows) at ≡ Some s → is_recent now s ≡ true → ((k : DialogId) → dialog_of k w ≡ edit (dialog_of k s))
+      → SameDialogs now (dialogs_in (set_value_at rows at w)) (edited now id edit (dialogs_in rows))
+  edited_at rows at s w h e recent makes = λ p.
+      let before : Row → Bool = λ r. is_recent now r.1 && p (dialog r) in
+      let after : Row → Bool = λ r. is_recent now r.1 && (is_known now (one (dialog r)) && p (one (dialog r))) in
+      let rest = count_alike (λ r. not (names id r.0) && after r) (λ r. not (names id r.0) && before r) rows (others_stay p) in
+      let old : is_recent now h.row.1 ≡ true = ap (is_recent now) (standing_is h s e) ∙ recent in
+      let made : one (dialog h.row) ≡ dialog_of h.row.0 w =
+      ap (λ (b : Bool). if b then edit (dialog h.row) else dialog h.row) h.named ∙ ap (λ (v : Standing). edit (dialog_of h.row.0 v)) (standing_is h s e) ∙ sym (makes h.row.0) in
+      let same : after h.row ≡ before (h.row.0, w) =
+      ap (λ (b : Bool). b && (is_known now (one (dialog h.row)) && p (one (dialog h.row)))) old ∙ ap (λ (d : Dialog). is_known now d && p d) made in
+      let here : cond (after h.row) 1 0 ≡ cond (before (h.row.0, w)) 1 0 = ap (λ (b : Bool). cond {A = ℕ} b 1 0) same in
+      omega (arith, counted now p (set_value_at rows at w), edited_counts rows p, put_in before rows at h.row w h.there, split_by (λ r. names id r.0) before rows, split_by (λ r. names id r.0) after rows, h.alone before, h.alone after, rest, here)
+
+  -- where the dialog isn't known nothing changes
+  unknown_stay : (ds : List Dialog) (p : Dialog → Bool) → count_by (is_named id) ds ≡ 0 → count_by (λ d. p (one d)) ds ≡ count_by p ds
+  unknown_stay [] p h = refl
+  unknown_stay (d ∷ ds) p h = by_test (is_named id d) refl (unknown_stay ds p) where
+    by_test : (b : Bool) → is_named id d ≡ b → (count_by (is_named id) ds ≡ 0 → count_by (λ d. p (one d)) ds ≡ count_by p ds) → count_by (λ d. p (one d)) (d ∷ ds) ≡ count_by p (d ∷ ds)
+    by_test true is rest =
+        let here : cond (is_named id d) 1 0 ≡ 1 = ap (λ (b : Bool). cond {A = ℕ} b 1 0) is in
+        absurd (omega (arith, count_first (is_named id) d ds, h, here))
+    by_test false is rest =
+        let none : count_by (is_named id) ds ≡ 0 = omega (arith, count_first (is_named id) d ds, h) in
+        let here : cond (p (one d)) 1 0 ≡ cond (p d) 1 0 = ap (λ (b : Bool). cond {A = ℕ} (p (if b then edit d else d)) 1 0) is in
+        omega (arith, count_first (λ d. p (one d)) d ds, count_first p d ds, rest none, here)
+
+  no_more : (n : ℕ) → ltb 0 n ≡ false → n ≡ 0
+  no_more n e = grind (arith, nat_tests)
+
+  pub edited_unknown : (ds : List Dialog) → false ≡ knows now id ds → SameDialogs now ds (edited now id edit ds)
+  edited_unknown ds h = λ p.
+      let none : count_by (is_named id) (known now ds) ≡ 0 = no_more (count_by (is_named id) (known now ds)) (sym (h ∙ any_counts (is_named id) (known now ds))) in
+      count_filter p (is_known now) ds
+      ∙ sym (count_alike _ _ ds (λ d. again (is_known now d) (p d)))
+      ∙ sym (count_filter (λ d. is_known now d && p d) (is_known now) ds)
+      ∙ sym (unknown_stay (known now ds) (λ d. is_known now d && p d) none)
+      ∙ sym (count_map (λ d. is_known now d && p d) one (known now ds))
+      ∙ sym (count_filter p (is_known now) (map one (known now ds)))
+
+-- an edit of the row that was met, and none where none was
+pub edit_met : (now : ℕ) (id : DialogId) (edit : Dialog → Dialog) (old rows : List Row) (at : ℕ) (s w : Standing) → SameDialogs now (dialogs_in rows) (dialogs_in old) → IsKnownAt now id rows at
+    → slice_get (values_of rows) at ≡ Some s → ((k : DialogId) → dialog_of k w ≡ edit (dialog_of k s)) → SameDialogs now (dialogs_in (set_value_at rows at w)) (edited now id edit (dialogs_in old))
+edit_met now id edit old rows at s w same h e makes =
+    dialogs_joined now _ _ _ (edited_at now id edit rows at s w h.stands e (sym (ap (is_recent now) (standing_is h.stands s e)) ∙ h.recent) makes) (edited_same now id edit (dialogs_in rows) (dialogs_in old) same)
+
+pub edit_missed : (now : ℕ) (id : DialogId) (edit : Dialog → Dialog) (old rows : List Row) → SameDialogs now (dialogs_in rows) (dialogs_in old) → false ≡ knows now id (dialogs_in old)
+    → SameDialogs now (dialogs_in rows) (edited now id edit (dialogs_in old))
+edit_missed now id edit old rows same unknown = dialogs_joined now _ _ _ same (edited_unknown now id edit (dialogs_in old) unknown)
+
+pub set_len : (rows : List Row) (at : ℕ) (w : Standing) → length (set_value_at rows at w) ≡ length rows
+set_len [] at w = refl
+set_len (r ∷ rows) zero w = refl
+set_len (r ∷ rows) (suc at) w = omega (arith, set_len rows at w)
+
+-- ---- a dialog that becomes known
+
+known_le : (now : ℕ) (ds : List Dialog) → length (known now ds) ≤ length ds
+known_le now [] = omega arith
+known_le now (d ∷ ds) = by_test (is_known now d) (known_le now ds) where
+  by_test : (b : Bool) → length (known now ds) ≤ length ds → length (cond b (d ∷ known now ds) (known now ds)) ≤ length (d ∷ ds)
+  by_test true le = omega (arith, le)
+  by_test false le = omega (arith, le)
+
+rows_len : (rows : List Row) → length (dialogs_in rows) ≡ length rows
+rows_len [] = refl
+rows_len (r ∷ rows) = omega (arith, rows_len rows)
+
+below : (n : ℕ) → n < 4096 → true ≡ not (nat_le 4096 n)
+below n lt = grind (arith, nat_tests)
+
+turned_limit : (n : ℕ) → nat_lt n 4096 ≡ not (nat_le 4096 n)
+turned_limit n = grind (arith, nat_tests)
+
+-- fewer rows than may stand
+pub place_free : (now : ℕ) (rows : List Row) → length rows < 4096 → true ≡ not (nat_le 4096 (length (known now (dialogs_in rows))))
+place_free now rows lt = below (length (known now (dialogs_in rows))) (omega (arith, known_le now (dialogs_in rows), rows_len rows, lt))
+
+-- and where none is left that isn't known
+pub place_after : (now : ℕ) (old rows : List Row) → dialogs_in rows ≡ known now (dialogs_in old) → nat_lt (length rows) 4096 ≡ not (nat_le 4096 (length (known now (dialogs_in old))))
+place_after now old rows e = ap (λ (n : ℕ). nat_lt n 4096) (sym (rows_len rows) ∙ ap (λ (ds : List Dialog). length ds) e) ∙ turned_limit (length (known now (dialogs_in old)))
+
+pub known_same : (now : ℕ) (old rows : List Dialog) → rows ≡ known now old → SameDialogs now rows old
+known_same now old rows e = λ p.
+    ap (λ (ds : List Dialog). count_by p (known now ds)) e
+    ∙ count_filter p (is_known now) (known now old)
+    ∙ count_filter (λ d. is_known now d && p d) (is_known now) old
+    ∙ count_alike _ _ old (λ d. again (is_known now d) (p d))
+    ∙ sym (count_filter p (is_known now) old)
+
+-- one more row
+pub row_added : (rows : List Row) (row : Row) → dialogs_in (rows ++ row ∷ []) ≡ dialogs_in rows ++ dialog row ∷ []
+row_added [] row = refl
+row_added (r ∷ rows) row = ap (λ rest. dialog r ∷ rest) (row_added rows row)
+
+pub added_len : (rows new : List Row) (row : Row) → new ≡ rows ++ row ∷ [] → length new ≡ length rows + 1
+added_len rows new row e = omega (arith, ap (λ (rs : List Row). length rs) e, length-append rows (row ∷ []))
+
+one_more_same : (now : ℕ) (new old more : List Dialog) → SameDialogs now new old → SameDialogs now (new ++ more) (known now old ++ more)
+one_more_same now new old more same = λ p.
+    let test : Dialog → Bool = λ d. is_known now d && p d in
+    let left = count_filter p (is_known now) (new ++ more) ∙ count_joined test new more in
+    let right = count_filter p (is_known now) (known now old ++ more) ∙ count_joined test (known now old) more in
+    let again_known = count_filter test (is_known now) old ∙ count_alike _ _ old (λ d. again (is_known now d) (p d)) in
+    let same_p : count_by test new ≡ count_by test old = sym (count_filter p (is_known now) new) ∙ same p ∙ count_filter p (is_known now) old in
+    omega (arith, left, right, again_known, same_p)
+
+-- the dialog that an answer makes known
+pub begun_same : (now : ℕ) (a : InviteAnswer) (old new : List Dialog) → SameDialogs now new old → false ≡ knows now a.id old → true ≡ not (nat_le 4096 (length (known now new)))
+    → SameDialogs now (new ++ begun a ∷ []) (learnt now a old)
+begun_same now a old new same unknown place =
+    subst (λ (ds : List Dialog). SameDialogs now (new ++ begun a ∷ []) ds) (sym learns) (one_more_same now new old (begun a ∷ []) same) where
+      few : (b : Bool) → true ≡ not b → b ≡ false
+      few false e = refl
+      few true e = absurd (cc)
+
+      learns : learnt now a old ≡ known now old ++ begun a ∷ []
+      learns = ap₂ (λ (known_there full : Bool). if known_there then edited now a.id (answered_again a) old else (if not known_there && full then known now old else known now old ++ begun a ∷ [])) (sym unknown)
+          (ap (nat_le 4096) (sym (length_same now new old same)) ∙ few _ place)
+
+-- a dialog that was known
+pub met_again : (now : ℕ) (a : InviteAnswer) (old new : List Dialog) → true ≡ knows now a.id old → SameDialogs now new (edited now a.id (answered_again a) old) → SameDialogs now new (learnt now a old)
+met_again now a old new there same = subst (λ (ds : List Dialog). SameDialogs now new ds) (sym learns) same where
+  learns : learnt now a old ≡ edited now a.id (answered_again a) old
+  learns = ap (λ (known_there : Bool). if known_there then edited now a.id (answered_again a) old else (if not known_there && nat_le 4096 (length (known now old)) then known now old else known now old ++ begun a ∷ [])) (sym there)
+
+-- whether there is a place
+pub place_kept : (now : ℕ) (old new : List Dialog) → SameDialogs now new old → true ≡ not (nat_le 4096 (length (known now old))) → true ≡ not (nat_le 4096 (length (known now new)))
+place_kept now old new same place = place ∙ ap (λ (n : ℕ). not (nat_le 4096 n)) (sym (length_same now new old same))
+
+pub not_full_known : (now : ℕ) (id : DialogId) (ds : List Dialog) → true ≡ knows now id ds → is_full_for now id ds ≡ false
+not_full_known now id ds there = ap (λ (b : Bool). not b && nat_le 4096 (length (known now ds))) (sym there)
+
+pub full_is : (now : ℕ) (id : DialogId) (old new : List Dialog) (place : Bool) → SameDialogs now new old → false ≡ knows now id old → place ≡ not (nat_le 4096 (length (known now new))) → is_full_for now id old ≡ not place
+full_is now id old new place same unknown is =
+    ap₂ (λ (b : Bool) (n : ℕ). not b && nat_le 4096 n) (sym unknown) (sym (length_same now new old same)) ∙ twice (nat_le 4096 (length (known now new))) ∙ ap not (sym is) where
+      twice : (b : Bool) → b ≡ not (not b)
+      twice true = refl
+      twice false = refl
+
+-- what the insertion leaves
+pub learnt_from_begin : (now : ℕ) (a : InviteAnswer) (old met placed new : List Row) (r : Result (Unit {0}) DialogError)
+    → SameDialogs now (dialogs_in met) (dialogs_in old) → SameDialogs now (dialogs_in placed) (dialogs_in met) → false ≡ knows now a.id (dialogs_in old)
+    → true ≡ not (nat_le 4096 (length (known now (dialogs_in met)))) → OnOk r (dialogs_in new ≡ dialogs_in placed ++ begun a ∷ [])
+    → OnOk r (SameDialogs now (dialogs_in new) (learnt now a (dialogs_in old)))
+learnt_from_begin now a old met placed new (Err e) same placed_same unknown place is = tt
+learnt_from_begin now a old met placed new (Ok u) same placed_same unknown place is =
+    subst (λ (ds : List Dialog). SameDialogs now ds (learnt now a (dialogs_in old))) (sym is)
+    (begun_same now a (dialogs_in old) (dialogs_in placed) (dialogs_joined now _ _ _ placed_same same) unknown (place_kept now (dialogs_in met) (dialogs_in placed) placed_same place))
+
+pub full_from_begin : (r : Result (Unit {0}) DialogError) (full : Bool) → full ≡ false → IfErr r (λ e. e ≡ NoMemory) → (r ≡ Err Full) ↔ (full ≡ true)
+full_from_begin (Ok u) full is memory = (λ e. absurd (cc), λ e. absurd (cc))
+full_from_begin (Err f) full is memory = (λ e. absurd (cc), λ e. absurd (cc))

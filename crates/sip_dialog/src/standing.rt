@@ -1,0 +1,84 @@
+ghost use Rattle.std.specs.Prelude.{◌≡◌, ◌&&◌};
+ghost use Rattle.std.specs.List.{list_any};
+ghost use Rattle.sip_dialog.specs.declared.dialog.DialogId.{DialogId};
+ghost use Rattle.sip_dialog.specs.Addresses.{is_same_addr};
+ghost use Rattle.sip_dialog.specs.Dialogs.{told, answered_again, begun};
+ghost use Rattle.sip_dialog.specs.Rows.{dialog_of, is_recent};
+
+use crate::addresses::Addresses;
+use crate::dialog::{DialogId, InviteAnswer};
+use sip_host::Addr;
+
+/// How long a dialog is known after its last request, in milliseconds: twelve hours.
+const LIFE: u64 = 43_200_000;
+
+/// What is known of a dialog beside its name, as `Dialog` says it.
+#[derive(Drop)]
+pub(crate) struct Standing {
+    pub(crate) number: u64,
+    pub(crate) has_success: bool,
+    pub(crate) since: u64,
+    pub(crate) addresses: Addresses,
+}
+
+impl Standing {
+    /// The name of a dialog that an answer makes known, and what is known of it.
+    pub(crate) fn begin(answer: InviteAnswer) -> (DialogId, Self)
+        ensures id { result.0 ≡ answer.id }
+        ensures begun { dialog_of result.0 result.1 ≡ begun answer }
+    {
+        let InviteAnswer {
+            id,
+            number,
+            arrived_at,
+            is_success,
+            addresses: given,
+        } = answer;
+        let mut addresses = Addresses::new();
+        addresses.add_all(given.as_slice());
+        let standing = Standing {
+            number,
+            has_success: is_success,
+            since: arrived_at,
+            addresses,
+        };
+        (id, standing)
+    }
+
+    /// Whether the dialog is still known.
+    pub(crate) fn is_recent(&self, now: u64) -> bool
+        ensures { result ≡ is_recent now self.now }
+    {
+        now.saturating_sub(self.since) < LIFE
+    }
+
+    /// Whether a request to this address is in the dialog.
+    pub(crate) fn allows(&self, address: Addr, now: u64) -> bool
+        ensures { result ≡ (is_recent now self.now && list_any (is_same_addr address) self.now.addresses) }
+    {
+        self.is_recent(now) && self.addresses.holds(address)
+    }
+
+    /// Learns addresses.
+    pub(crate) fn tell(&mut self, addresses: &[Addr])
+        ensures { (id : DialogId) → dialog_of id self.new ≡ told addresses.now (dialog_of id self.old) }
+    {
+        self.addresses.add_all(addresses);
+    }
+
+    /// Learns addresses from a request, which renews the dialog.
+    pub(crate) fn renew(&mut self, addresses: &[Addr], now: u64)
+        ensures { (id : DialogId) → dialog_of id self.new ≡ record (told addresses.now (dialog_of id self.old)) { since = now } }
+    {
+        self.addresses.add_all(addresses);
+        self.since = now;
+    }
+
+    /// Learns from a further answer to an INVITE.
+    pub(crate) fn answer_again(&mut self, answer: &InviteAnswer)
+        ensures { (id : DialogId) → dialog_of id self.new ≡ answered_again answer.now (dialog_of id self.old) }
+    {
+        self.addresses.add_all(answer.addresses.as_slice());
+        self.has_success = self.has_success || answer.is_success;
+    }
+}

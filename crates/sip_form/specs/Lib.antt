@@ -1,0 +1,4 @@
+pub mod Text
+pub mod ReadError
+pub mod ViewStart
+pub mod ViewRefusal

@@ -1,0 +1,2 @@
+pub mod Key
+pub mod Examples

@@ -1,0 +1,177 @@
+ghost use Rattle.std.specs.Prelude.{◌≡◌, ◌≤◌, ◌<◌, ◌^◌, ℕ, [], true, false, length, filter, Ok, IsOk, IfOk, IfErr, OnOk, OnErr};
+ghost use Rattle.std.specs.List.{AllByRecursion};
+ghost use Rattle.indexmap.specs.IndexMap.{spare};
+ghost use Rattle.sip_uri.specs.declared.aor.Aor.{Aor};
+ghost use Rattle.sip_uri.specs.Aor.{is_same_aor};
+ghost use Rattle.sip_location.specs.declared.registration.Registration.{Registration};
+ghost use Rattle.sip_location.specs.Binding.{is_of, is_live, live};
+ghost use Rattle.sip_location.specs.Filed.{AreFiled, IsReplaced};
+ghost use Rattle.sip_location.specs.Locations.{of_aor, IsPlan, IsRefusal};
+ghost use Rattle.sip_location.specs.Registration.{edited, registered};
+ghost use Rattle.sip_location.specs.Sameness.{SameOutcome};
+
+use crate::binding::Binding;
+use crate::edits::apply_contacts;
+use crate::error::LocationError;
+use crate::live::LiveBindings;
+use crate::plan::Plan;
+use crate::refusals::{has_bad_star, has_old_cseq, is_too_brief};
+use crate::registration::Registration;
+use crate::rows::{Rows, is_live};
+use indexmap::IndexMap;
+use sip_uri::Aor;
+use std::alloc::Global;
+use std::marker::Model;
+
+/// The most bindings that an address of record has.
+const MOST: usize = 16;
+
+/// The location service of a registrar (RFC 3261 10.3): the bindings of each address of record. What is asked of one
+/// address costs by its own rows, however many addresses there are. Performs no I/O and reads no clock: moments are
+/// handed in, in milliseconds.
+#[derive(Drop)]
+pub struct Locations {
+    rows: IndexMap<Aor, Rows>,
+}
+
+impl Model for Locations {
+    ghost use Rattle.indexmap.specs.IndexMap.{spare};
+    ghost use Rattle.sip_location.specs.Locations.{LocationService};
+    ghost use Rattle.sip_location.specs.Filed.{rows_in, AreFiled};
+
+    ghost Value = { LocationService };
+
+    ghost view = { λ l. record { rows = rows_in l.rows.entries; room = spare l.rows } };
+
+    ghost invariant = { λ l. AreFiled l.rows.entries };
+}
+
+impl Locations {
+    /// No binding. Refused with NoMemory where memory runs out.
+    pub fn new(alloc: Global) -> Result<Self, LocationError>
+        ensures { IfOk result (λ locations. locations.rows ≡ []) }
+    {
+        let rows = IndexMap::new(alloc);
+        Ok(Locations { rows })
+    }
+
+    /// The rows of an address of record, expired ones, too.
+    fn rows_of(&self, aor: &Aor) -> &[Binding]
+        ensures { result.now ≡ of_aor aor.now self.now.rows }
+    {
+        match self.rows.get(aor) {
+            Some(rows) => rows.as_slice(),
+            None => &[],
+        }
+    }
+
+    /// The live bindings of an address of record, in their order, lent. Takes no memory.
+    pub fn live(&self, aor: &Aor, now: u64) -> LiveBindings<'_>
+        ensures { result ≡ live aor.now now self.now.rows }
+    {
+        LiveBindings {
+            rows: self.rows_of(aor),
+            now,
+        }
+    }
+
+    /// How many live bindings an address of record has. Takes no memory.
+    pub fn count(&self, aor: &Aor, now: u64) -> usize
+        ensures { result ≡ length (live aor.now now self.now.rows) }
+    {
+        live_count(self.rows_of(aor), now)
+    }
+
+    /// What a REGISTER is to make of the bindings of its address of record (RFC 3261 10.3). It changes no binding, and
+    /// makes the room that [`Locations::apply`] uses. Refused with BadStar, TooBrief, OldCSeq or TooMany, in this order;
+    /// with NoMemory, possibly in place of any other answer, where memory runs out. Moments are below 2^62.
+    pub fn plan(&mut self, request: &Registration<'_>, now: u64) -> Result<Plan, LocationError>
+        requires { now < 2 ^ 62 }
+        ensures plan { IfOk result (IsPlan self.old.rows request.now now) }
+        ensures refused { IfErr result (IsRefusal self.old.rows request.now now) }
+        ensures unchanged { self.new.rows ≡ self.old.rows }
+        ensures room { OnOk result (1 ≤ self.new.room) }
+    {
+        let alloc = *self.rows.allocator();
+        let bindings = planned(alloc, self.rows_of(&request.aor), request, now)?;
+        let aor = request.aor.clone()?;
+        self.rows.reserve(1)?;
+        Ok(Plan { aor, bindings })
+    }
+
+    /// Gives the address of record of a plan its bindings, in place of all that it has. Takes no memory: `plan` made the
+    /// room.
+    pub fn apply(&mut self, plan: Plan)
+        requires { 1 ≤ self.old.room }
+        ensures own { of_aor plan.aor self.new.rows ≡ plan.bindings }
+        ensures others { (other : Aor) → is_same_aor other plan.aor ≡ false → of_aor other self.new.rows ≡ of_aor other self.old.rows }
+        ensures registered { (r : Registration) (now : ℕ) → IsPlan self.old.rows r now plan → SameOutcome now (Ok self.new.rows) (registered self.old.rows r now) }
+    {
+        let Plan { aor, bindings } = plan;
+        file(&mut self.rows, aor, bindings);
+    }
+
+    /// `plan`, then `apply`.
+    pub fn update(&mut self, request: &Registration<'_>, now: u64) -> Result<(), LocationError>
+        requires { now < 2 ^ 62 }
+        ensures updated { OnOk result (SameOutcome now (Ok self.new.rows) (registered self.old.rows request.now now)) }
+        ensures refused { IfErr result (IsRefusal self.old.rows request.now now) }
+        ensures unchanged { OnErr result (self.new.rows ≡ self.old.rows) }
+    {
+        let plan = self.plan(request, now)?;
+        self.apply(plan);
+        Ok(())
+    }
+}
+
+/// Files rows under an address of record, in place of what is filed there. An address without rows leaves the map.
+fn file(map: &mut IndexMap<Aor, Rows>, aor: Aor, rows: Rows)
+    requires room { 1 ≤ spare map.old }
+    requires filed { AreFiled map.old.entries }
+    requires own { AllByRecursion (λ b. is_of aor b ≡ true) rows }
+    ensures { IsReplaced map.old.entries aor rows map.new.entries }
+{
+    if rows.as_slice().is_empty() {
+        let _old = map.swap_remove(&aor);
+    } else {
+        let _old = map.insert(aor, rows).unwrap();
+    }
+}
+
+/// How many of some rows are live.
+fn live_count(rows: &[Binding], now: u64) -> usize
+    ensures { result ≡ length (filter (is_live now) rows.now) }
+{
+    rows.iter().filter(|row| is_live(row, now)).count()
+}
+
+/// The bindings that an address of record is to have, made of its rows.
+fn planned(
+    alloc: Global,
+    rows: &[Binding],
+    request: &Registration<'_>,
+    now: u64,
+) -> Result<Rows, LocationError>
+    requires { now < 2 ^ 62 }
+    ensures plan { IfOk result (λ bindings. IsOk (registered rows.now request.now now) × (bindings ≡ edited rows.now request.now now)) }
+    ensures refused { IfErr result (IsRefusal rows.now request.now now) }
+{
+    let mut bindings = Rows::live(alloc, rows, &request.aor, now)?;
+    if request.contacts.as_slice().is_empty() {
+        return Ok(bindings);
+    }
+    if has_bad_star(request) {
+        return Err(LocationError::BadStar);
+    }
+    if is_too_brief(request) {
+        return Err(LocationError::TooBrief);
+    }
+    if has_old_cseq(request, bindings.as_slice()) {
+        return Err(LocationError::OldCSeq);
+    }
+    apply_contacts(alloc, &mut bindings, request, now)?;
+    if bindings.as_slice().len() > MOST {
+        return Err(LocationError::TooMany);
+    }
+    Ok(bindings)
+}

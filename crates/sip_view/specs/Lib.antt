@@ -1,0 +1,3 @@
+pub mod Piece
+pub mod Slice
+pub mod KeptField

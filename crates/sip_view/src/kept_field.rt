@@ -1,0 +1,11 @@
+use sip_field::FieldName;
+use sip_text::Span;
+
+/// A field whose bytes stand in a store: a name that this project knows, or the span of its spelling, and the span
+/// of its value.
+#[derive(Drop)]
+pub struct KeptField {
+    pub known: Option<FieldName>,
+    pub spelling: Span,
+    pub value: Span,
+}

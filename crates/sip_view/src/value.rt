@@ -1,0 +1,78 @@
+ghost use Rattle.std.specs.Prelude.{◌≡◌, IfOk, IfSome};
+
+use crate::piece::Piece;
+use sip_text::{Bytes, Span};
+use std::alloc::{AllocError, Global};
+use std::marker::Model;
+
+/// A value of a view, seen as its bytes, wherever they stand.
+#[derive(Clone, Debug, Drop)]
+pub struct Value<'a> {
+    piece: Piece<'a>,
+}
+
+impl<'a> Model for Value<'a> {
+    ghost use Rattle.std.specs.Prelude.{ℕ, List};
+
+    ghost Value = { List ℕ };
+
+    ghost use Rattle.sip_view.specs.Piece.{bytes_of};
+
+    ghost view = { λ v. bytes_of v.piece };
+}
+
+impl<'a> Value<'a> {
+    ghost use Rattle.sip_text.specs.Span.{part, IsWithin};
+
+    /// A part of what was read. Takes no memory.
+    pub fn of_part(part: &'a [u8]) -> Self
+        ensures { result ≡ part.now }
+    {
+        Value {
+            piece: Piece::Part(part),
+        }
+    }
+
+    /// Bytes of its own.
+    pub fn of_bytes(bytes: Bytes) -> Self
+        ensures { result ≡ bytes }
+    {
+        Value {
+            piece: Piece::Joined(bytes),
+        }
+    }
+
+    /// The bytes, wherever they stand.
+    pub fn as_slice(&self) -> &[u8]
+        ensures { result.now ≡ self.now }
+    {
+        match &self.piece {
+            Piece::Part(part) => part,
+            Piece::Joined(bytes) => bytes.as_slice(),
+        }
+    }
+
+    /// The part of what was read that it is, if it is one.
+    pub fn as_part(&self) -> Option<&'a [u8]>
+        ensures { IfSome result (λ part. part.now ≡ self.now) }
+    {
+        match &self.piece {
+            Piece::Part(part) => Some(*part),
+            Piece::Joined(_) => None,
+        }
+    }
+
+    /// A part of the value: of a part no byte is copied.
+    pub fn within(&self, alloc: Global, span: Span) -> Result<Self, AllocError>
+        requires { IsWithin span self.now }
+        ensures { IfOk result (λ value. value ≡ part self.now span) }
+    {
+        match &self.piece {
+            Piece::Part(part) => Ok(Value::of_part(span.of(part))),
+            Piece::Joined(bytes) => {
+                let bytes = Bytes::copy(alloc, span.of(bytes.as_slice()))?;
+                Ok(Value::of_bytes(bytes))
+            }
+        }
+    }
+}

@@ -1,0 +1,3 @@
+pub mod Address
+pub mod Last
+pub mod Left

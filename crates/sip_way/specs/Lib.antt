@@ -1,0 +1,4 @@
+pub mod Own
+pub mod Way
+pub mod Routes
+pub mod Examples

@@ -1,0 +1,12 @@
+//! Where this server is, and where a request goes once this server's own part of its way is taken off
+//! (RFC 3261 16.4, 16.12).
+#![tactic(auto)]
+
+pub mod examples;
+pub mod laws;
+mod own;
+mod routes;
+mod way;
+
+pub use own::Own;
+pub use way::{Way, way_of};
