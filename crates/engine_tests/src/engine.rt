@@ -21,7 +21,12 @@ pub const PHONE: Addr = Addr {
 pub fn opened(alloc: Global, first: u64) -> Result<Engine, AllocError>
     ensures { IfOk result (λ engine. engine.state.moment ≡ 0) }
 {
-    Engine::open(alloc, sample(alloc)?, Boot { word: 0, first })
+    let boot = Boot {
+        word: 0,
+        first,
+        keys: 0,
+    };
+    Engine::open(alloc, sample(alloc)?, boot)
 }
 
 /// Takes a datagram, where nothing is due by its moment.

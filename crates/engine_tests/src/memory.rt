@@ -31,7 +31,12 @@ fn refused_inside_deliver(rt: HostRuntime) {
     let Ok(config) = sample(rt.alloc()) else {
         return;
     };
-    let Ok(mut engine) = Engine::open(rt.alloc(), config, Boot { word: 0, first: 1 }) else {
+    let boot = Boot {
+        word: 0,
+        first: 1,
+        keys: 0,
+    };
+    let Ok(mut engine) = Engine::open(rt.alloc(), config, boot) else {
         return;
     };
     match engine.deliver(1_000, 1, PHONE, REGISTER) {

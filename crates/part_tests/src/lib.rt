@@ -5,17 +5,11 @@
 #![tactic(auto)]
 
 #[cfg(test)]
-mod audit;
-#[cfg(test)]
-mod auth;
-#[cfg(test)]
-mod best;
-#[cfg(test)]
 mod checks;
 #[cfg(test)]
-mod dialogs;
+mod config;
 #[cfg(test)]
-mod digest;
+mod config_texts;
 #[cfg(test)]
 mod edit;
 #[cfg(test)]
@@ -25,25 +19,23 @@ mod header;
 #[cfg(test)]
 mod header_fields;
 #[cfg(test)]
-mod hops;
-#[cfg(test)]
-mod locations;
-#[cfg(test)]
 mod message;
 #[cfg(test)]
-mod nonces;
+mod onward;
+#[cfg(test)]
+mod own_requests;
 #[cfg(test)]
 mod places;
 #[cfg(test)]
-mod policy;
-#[cfg(test)]
 mod reply;
-#[cfg(test)]
-mod targets;
 #[cfg(test)]
 mod text;
 #[cfg(test)]
+mod timers;
+#[cfg(test)]
 mod uri;
+#[cfg(test)]
+mod validate;
 #[cfg(test)]
 mod views;
 #[cfg(test)]

@@ -7,7 +7,7 @@ use sip_way::{Own, Way, way_of};
 use std::alloc::{AllocError, Global};
 
 /// sip.host.com:5060 at 127.0.0.1, which serves host.com.
-fn own_place(alloc: Global) -> Result<Own, AllocError> {
+pub fn own_place(alloc: Global) -> Result<Own, AllocError> {
     let host = Bytes::copy(alloc, b"sip.host.com")?;
     let mut domains = Items::new(alloc);
     domains.push(Bytes::copy(alloc, b"host.com")?)?;

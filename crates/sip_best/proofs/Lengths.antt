@@ -1,5 +1,5 @@
 -- The length of a message with one more field.
-use Rattle.std.proofs.Common.{◌≡◌, ◌∙◌, ℕ, ◌+◌, ◌-◌, ◌^◌, Bor, get_or, drop, map, ◌<◌, ◌≤◌, List, [], ◌∷◌, ◌++◌, length, true, false, refl, ap, sym, arith, min, length-append}
+use Rattle.std.proofs.Common.{◌≡◌, ◌∙◌, ℕ, ◌+◌, ◌-◌, ◌^◌, get_or, drop, ◌<◌, ◌≤◌, List, [], ◌∷◌, ◌++◌, length, true, false, refl, ap, sym, arith, min, length-append}
 use Rattle.std.specs.List.{flat_map}
 use Rattle.std.proofs.lemmas.Grind.{flat_map-append}
 use Rattle.std.proofs.lemmas.List.{drop_more}
@@ -36,16 +36,16 @@ left_out m field fields long room is left less =
 
 -- at a place in a list
 
-next : (items : List (Bor Field)) (i : ℕ) (x : Bor Field) → i < length items → x ≡ get_or items i x → map (λ f. f.now) (drop i items) ≡ x.now ∷ map (λ f. f.now) (drop (i + 1) items)
+next : (items : List Field) (i : ℕ) (x : Field) → i < length items → x ≡ get_or items i x → drop i items ≡ x ∷ drop (i + 1) items
 next items i x h is = rw (drop_more items i x h, ← is) refl
 
-pub stops : (m : Message) (items : List (Bor Field)) (i : ℕ) (x : Bor Field) (long room : ℕ) (whole : Message) → i < length items → x ≡ get_or items i x → taking_along m (map (λ f. f.now) (drop i items)) ≡ whole → long ≡ min (length (field_text x.now)) (2 ^ 64 - 1) → room ≡ 65507 - length (text_of m) → room < long → m ≡ whole
+pub stops : (m : Message) (items : List Field) (i : ℕ) (x : Field) (long room : ℕ) (whole : Message) → i < length items → x ≡ get_or items i x → taking_along m (drop i items) ≡ whole → long ≡ min (length (field_text x)) (2 ^ 64 - 1) → room ≡ 65507 - length (text_of m) → room < long → m ≡ whole
 stops m items i x long room whole h is so_far long_is room_is less =
-    sym (left_out m x.now (map (λ f. f.now) (drop (i + 1) items)) long room long_is room_is less) ∙ (ap (λ (v : List Field). taking_along m v) (sym (next items i x h is)) ∙ so_far)
+    sym (left_out m x (drop (i + 1) items) long room long_is room_is less) ∙ (ap (λ (v : List Field). taking_along m v) (sym (next items i x h is)) ∙ so_far)
 
-pub goes_on : (m : Message) (items : List (Bor Field)) (i : ℕ) (x : Bor Field) (long room : ℕ) (whole : Message) → i < length items → x ≡ get_or items i x → taking_along m (map (λ f. f.now) (drop i items)) ≡ whole → long ≡ min (length (field_text x.now)) (2 ^ 64 - 1) → room ≡ 65507 - length (text_of m) → long ≤ room → taking_along (with_field m x.now) (map (λ f. f.now) (drop (i + 1) items)) ≡ whole
+pub goes_on : (m : Message) (items : List Field) (i : ℕ) (x : Field) (long room : ℕ) (whole : Message) → i < length items → x ≡ get_or items i x → taking_along m (drop i items) ≡ whole → long ≡ min (length (field_text x)) (2 ^ 64 - 1) → room ≡ 65507 - length (text_of m) → long ≤ room → taking_along (with_field m x) (drop (i + 1) items) ≡ whole
 goes_on m items i x long room whole h is so_far long_is room_is le =
-    taken m x.now (map (λ f. f.now) (drop (i + 1) items)) long room long_is room_is le ∙ (ap (λ (v : List Field). taking_along m v) (sym (next items i x h is)) ∙ so_far)
+    taken m x (drop (i + 1) items) long room long_is room_is le ∙ (ap (λ (v : List Field). taking_along m v) (sym (next items i x h is)) ∙ so_far)
 
 pub room_left : (m : Message) (field : Field) (long room : ℕ) → long ≡ min (length (field_text field)) (2 ^ 64 - 1) → room ≡ 65507 - length (text_of m) → long ≤ room → room - long ≡ 65507 - length (text_of (with_field m field))
 room_left m field long room long_is room_is le = omega (arith, length_with_field m field)

@@ -3,11 +3,12 @@ ghost use Rattle.std.specs.List.{list_any, flat_map};
 ghost use Rattle.sip_best.specs.Ranks.{outranks};
 ghost use Rattle.sip_best.specs.Best.{chosen_of, is_challenge_status, challenges_of, taking_along, going_up, best_of};
 
-use crate::challenges::{challenges_in, is_challenge_status, take_along};
+use crate::challenges::{challenges_in, fields_along, is_challenge_status};
 use crate::final_answer::Final;
 use crate::rank::better;
-use sip_field::Field;
-use sip_form::Message;
+use sip_form::Kept;
+use sip_shared::Shared;
+use sip_view::ViewField;
 use std::alloc::{AllocError, Global};
 
 /// The answer that goes up of some, and those that came before it and behind it.
@@ -42,8 +43,11 @@ fn choose<'a>(finals: &'a [Final]) -> Option<Choice<'a>>
 }
 
 /// The challenges of the other answers, in order of arrival.
-fn other_challenges<'a>(alloc: Global, choice: &Choice<'a>) -> Result<Vec<&'a Field>, AllocError>
-    ensures { IfOk result (λ found. map (λ field. field.now) found.items ≡ flat_map challenges_of (choice.now.before.now ++ choice.now.behind.now)) }
+fn other_challenges<'a>(
+    alloc: Global,
+    choice: &Choice<'a>,
+) -> Result<Vec<ViewField<'a>>, AllocError>
+    ensures { IfOk result (λ found. found.items ≡ flat_map challenges_of (choice.now.before.now ++ choice.now.behind.now)) }
 {
     let mut found = challenges_in(alloc, choice.before)?;
     let mut later = challenges_in(alloc, choice.behind)?;
@@ -51,28 +55,29 @@ fn other_challenges<'a>(alloc: Global, choice: &Choice<'a>) -> Result<Vec<&'a Fi
     Ok(found)
 }
 
-/// The same message.
-fn copied_message(message: &Message) -> Result<Message, AllocError>
-    ensures { IfOk result (λ copy. copy ≡ message.now) }
+/// A message with the challenges of the other answers behind its last field. This is the one copy.
+fn challenging(alloc: Global, choice: &Choice<'_>, message: &Kept) -> Result<Kept, AllocError>
+    ensures { IfOk result (λ up. up ≡ taking_along message.now (flat_map challenges_of (choice.now.before.now ++ choice.now.behind.now))) }
 {
-    Ok(Message {
-        start: message.start.clone()?,
-        fields: message.fields.clone()?,
-        body: message.body.clone()?,
-    })
+    let challenges = other_challenges(alloc, choice)?;
+    let fields = fields_along(alloc, message, challenges.as_slice())?;
+    let view = message.view(alloc)?;
+    Kept::of(alloc, &view.with_fields(fields))
 }
 
-/// The message of the chosen answer. That of a 401 or 407 takes along the challenges of the others.
-fn message_up(alloc: Global, choice: &Choice<'_>, message: &Message) -> Result<Message, AllocError>
+/// The message of the chosen answer: the one that came, but that of a 401 or 407 takes along the challenges of the
+/// others.
+fn message_up(
+    alloc: Global,
+    choice: &Choice<'_>,
+    message: &Shared<Kept>,
+) -> Result<Shared<Kept>, AllocError>
     ensures { IfOk result (λ up. up ≡ (if is_challenge_status choice.now.chosen.now.status then taking_along message.now (flat_map challenges_of (choice.now.before.now ++ choice.now.behind.now)) else message.now)) }
 {
-    let mut up = copied_message(message)?;
     if !is_challenge_status(choice.chosen.status) {
-        return Ok(up);
+        return message.clone();
     }
-    let challenges = other_challenges(alloc, choice)?;
-    take_along(&mut up, challenges.as_slice())?;
-    Ok(up)
+    Shared::new(alloc, challenging(alloc, choice, message.get())?)
 }
 
 /// The chosen answer as it goes up.

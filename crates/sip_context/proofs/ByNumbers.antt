@@ -10,7 +10,7 @@ use Rattle.sip_edit.specs.declared.branch_id.BranchId.{BranchId}
 use Rattle.sip_edit.specs.OwnVia.{branch_text}
 use Rattle.sip_edit.specs.BranchId.{branch_id_of}
 use Rattle.sip_edit.proofs.BranchIds.{id_with, branch_read, branch_written}
-use Rattle.sip_state.specs.Server.{Server}
+use Rattle.sip_state.specs.declared.server.Server.{Server}
 use Rattle.sip_state.specs.declared.open_request.OpenRequest.{OpenRequest}
 use Rattle.sip_state.specs.declared.branch.Branch.{Branch}
 use Rattle.sip_context.specs.FoundBranch.{is_branch, branch_in, found_branch}

@@ -9,7 +9,7 @@ use Rattle.sip_edit.specs.OwnVia.{branch_text}
 use Rattle.sip_edit.specs.OnwardExamples as Onward
 use Rattle.sip_settings.specs.Sample as Settings
 use Rattle.sip_event.specs.declared.packet.Packet.{Packet}
-use Rattle.sip_state.specs.Server.{Server}
+use Rattle.sip_state.specs.declared.server.Server.{Server}
 use Rattle.sip_state.specs.State.{first_resend}
 use Rattle.sip_state.specs.declared.branch.Phase.{Phase}
 use Rattle.sip_state.specs.declared.branch.Phase.TheVariants.{Unheard, Heard, Cancelled}

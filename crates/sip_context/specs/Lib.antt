@@ -3,3 +3,4 @@ pub mod Branches
 pub mod FoundBranch
 pub mod BranchById
 pub mod Calls
+pub mod Opening

@@ -12,7 +12,7 @@ use Rattle.sip_edit.specs.ReceivedRequest.{received, response_address}
 use Rattle.sip_reply.specs.Reply.{reply_of}
 use Rattle.sip_reply.specs.Tags.{to_tag}
 use Rattle.sip_event.specs.declared.packet.Packet.{Packet}
-use Rattle.sip_state.specs.Server.{Server}
+use Rattle.sip_state.specs.declared.server.Server.{Server}
 use Rattle.sip_state.specs.declared.branch.Branch.{Branch}
 use Rattle.sip_state.specs.declared.open_request.OpenRequest.{OpenRequest}
 use Rattle.sip_state.specs.State.{is_invite}

@@ -1,6 +1,6 @@
 ghost use Rattle.std.specs.Prelude.{◌≡◌, ◌≤◌, ℕ, List, count_by};
 ghost use Rattle.std.specs.List.{AllByRecursion};
-ghost use Rattle.sip_state.specs.Server.{Server};
+ghost use Rattle.sip_state.specs.declared.server.Server.{Server};
 ghost use Rattle.sip_state.specs.declared.open_request.OpenRequest.{OpenRequest};
 ghost use Rattle.sip_context.specs.BranchById.{is_of_datagram, branch_by_id, HasNumbers};
 ghost use Rattle.sip_context.specs.FoundBranch.{found_branch};

@@ -18,7 +18,7 @@ use Rattle.sip_credentials.specs.Credentials.{credentials_of, is_realm}
 use Rattle.sip_header.specs.MaxForwards.{max_forwards_of}
 use Rattle.sip_way.specs.Own.{record_route_uri}
 use Rattle.sip_way.specs.Way.{request_uri, fields_left, way_of}
-use Rattle.sip_edit.specs.OwnVia.{own_via_field}
+use Rattle.sip_edit.specs.OwnVia.{own_via}
 
 -- ---- Request-URI (step 2)
 
@@ -69,11 +69,15 @@ without_credentials realm fields = filter (λ field. not (is_for_realm realm fie
 abbrev pub onward_fields : Own → List ℕ → Message → List Field
 onward_fields own realm m = lowered (max_forwards_of m.fields) (without_credentials realm (fields_left own (request_uri m.start) m.fields))
 
+-- A request as it goes on to a Request-URI, with this server's Via of a value on top of what is the same for every target.
+abbrev pub to_target : List ℕ → List ℕ → Message → Message
+to_target uri via base =
+    record { start = with_uri uri base.start; fields = record { name = Name.Via; value = via } ∷ base.fields; body = base.body }
+
 -- A request as it goes on to a Request-URI: without this server's own Routes (RFC 3261 16.4), with one hop less, without the credentials for its realm, and with
 -- its Via of a branch on top (16.6 steps 1 to 3, 8; 22.3).
 abbrev pub onward_of : Own → List ℕ → List ℕ → List ℕ → Message → Message
-onward_of own realm uri branch m =
-    record { start = with_uri uri m.start; fields = own_via_field own branch ∷ onward_fields own realm m; body = m.body }
+onward_of own realm uri branch m = to_target uri (own_via own branch) (record m { fields = onward_fields own realm m })
 
 -- ---- Record-Route (step 4)
 
@@ -89,3 +93,8 @@ put_second field (first ∷ others) = first ∷ field ∷ others
 -- with this server's Record-Route behind its Via (RFC 3261 16.6 step 4; the place is this project's)
 abbrev pub with_record_route : Own → Message → Message
 with_record_route own m = record m { fields = put_second (record_route_field own) m.fields }
+
+-- what is the same of a request for every target: its fields as they go on, behind this server's Record-Route if it gets one
+abbrev pub onward_base : Own → List ℕ → Bool → Message → Message
+onward_base own realm records_route m =
+    record m { fields = if records_route then record_route_field own ∷ onward_fields own realm m else onward_fields own realm m }

@@ -1,7 +1,7 @@
 ghost use Rattle.std.specs.Prelude.{◌≡◌, ◌≤◌, ◌<◌, ◌+◌, ◌^◌, ℕ, false, true, [], ◌∷◌, ◌++◌, length, Some, None, IfOk, OnOk, OnErr, IfSome, IfNone, find, count_by, option_map, slice_get, remove, not};
 ghost use Rattle.std.specs.Option.{option_copied};
 ghost use Rattle.sip_engine.specs.Requests.{has_key, answer_packet, opened, IsNextDeadline, HasClosed, closing_by, packets_of, interval_of_j, IsNamed, is_timer_of, is_completed};
-ghost use Rattle.sip_timers.specs.Timers.{placed, due_by};
+ghost use Rattle.sip_timers.specs.Timers.{placed, first_due, due_by};
 ghost use Rattle.sip_timers.specs.declared.timer.Owner.TheVariants.{Server};
 ghost use Rattle.sip_transaction.specs.declared.letter.Letter.TheVariants.{J};
 
@@ -88,7 +88,7 @@ impl Requests {
         ensures some { IfSome result (λ due. IsNextDeadline due self.now) }
         ensures none { IfNone result (self.now ≡ []) }
     {
-        self.timers.next()
+        first_moment(&self.timers)
     }
 
     /// Opens a request with its final answer, which is handed out. No request closes by now.
@@ -171,6 +171,16 @@ fn interval_of_j(actions: &[Action]) -> u64
         }
     }
     0
+}
+
+/// When the first timer is due.
+fn first_moment(timers: &ListTimers) -> Option<u64>
+    ensures { result ≡ first_due timers.now.pending }
+{
+    match timers.next() {
+        Some((due, _name)) => Some(due),
+        None => None,
+    }
 }
 
 /// Sets the Timer J of a request; none is due by now.

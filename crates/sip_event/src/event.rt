@@ -3,12 +3,14 @@ use sip_audit::Record;
 use sip_host::Addr;
 use sip_text::{Bytes, Items};
 
-/// What a server starts with: the word that its branches and To tags begin with, and the number of its
-/// first datagram.
+/// What a server starts with: the word that its branches and To tags begin with, the number of its first
+/// datagram, and what its maps of keys that peers choose are hashed with.
 #[derive(Clone, Copy, PartialEq, Eq)]
 pub struct Boot {
     pub word: u64,
     pub first: u64,
+    /// No definition reads it: what a server does is the same with any.
+    pub keys: u128,
 }
 
 /// What happens to a server, at a moment in milliseconds.

@@ -1,61 +1,73 @@
-ghost use Rattle.std.specs.Prelude.{◌≡◌, IfOk};
+ghost use Rattle.std.specs.Prelude.{◌≡◌, IfOk, All, map};
+ghost use Rattle.sip_view.specs.KeptField.{field_kept, IsStored};
 
-use crate::message::Start;
+use crate::kept_start::{KeptStart, put_start, start_in};
 use crate::message_view::View;
-use crate::view_start::ViewStart;
-use sip_text::Bytes;
-use sip_view::KeptFields;
+use sip_text::{Bytes, Span};
+use sip_view::{KeptField, ViewFields, fields_in, put, put_fields};
 use std::alloc::{AllocError, Global};
 use std::marker::Model;
 
-/// A message that is kept beyond its datagram, seen as that message: the bytes of its fields stand in one store, and
-/// spans name their names and values.
+/// A message that is kept beyond its datagram, seen as that message: its bytes stand once, in one store, and spans
+/// name its first line, its fields and its body.
 #[derive(Drop)]
 pub struct Kept {
-    start: Start,
-    fields: KeptFields,
-    body: Bytes,
+    store: Bytes,
+    start: KeptStart,
+    list: Vec<KeptField>,
+    body: Span,
 }
 
 impl Model for Kept {
     ghost use Rattle.sip_form.specs.declared.message.Message.{Message};
+    ghost use Rattle.sip_form.specs.Kept.{message_kept, IsMessageStored};
 
     ghost Value = { Message };
 
-    ghost view = { λ k. record { start = k.start; fields = k.fields; body = k.body } };
+    ghost view = { λ k. message_kept k.store k.start k.list.items k.body };
+
+    ghost invariant = { λ k. IsMessageStored k.store k.start k.list.items k.body };
 }
 
 impl Kept {
-    /// The message of a view. `AllocError` is the only refusal.
+    /// The message of a view, in two pieces of memory: its bytes, and the spans of its fields. `AllocError` is the
+    /// only refusal.
     pub fn of(alloc: Global, view: &View<'_>) -> Result<Self, AllocError>
         ensures { IfOk result (λ kept. kept ≡ view.now) }
     {
-        let start = view.start().to_start(alloc)?;
-        let fields = KeptFields::of(alloc, view.fields())?;
-        let body = Bytes::copy(alloc, view.body())?;
+        let mut store = Bytes::with_room(alloc, view.written_length())?;
+        let start = put_start(&mut store, view.start())?;
+        let body = put(&mut store, view.body())?;
+        let list = put_fields(alloc, &mut store, view.fields().as_slice())?;
         Ok(Kept {
+            store,
             start,
-            fields,
+            list,
             body,
         })
     }
 
-    /// Its fields, with the spans of their names and values.
-    pub fn fields(&self) -> &KeptFields
-        ensures { result.now ≡ self.now.fields }
+    /// The store, and the fields as spans in it: what each span names is a spelling or a value.
+    pub fn places(&self) -> (&[u8], &[KeptField])
+        ensures fields { map (field_kept result.0.now) result.1.now ≡ self.now.fields }
+        ensures within { All (IsStored result.0.now) result.1.now }
     {
-        &self.fields
+        (self.store.as_slice(), self.list.as_slice())
+    }
+
+    /// Views of its fields, of which no byte is copied. `AllocError` is the only refusal.
+    pub fn fields<'k>(&'k self, alloc: Global) -> Result<ViewFields<'k>, AllocError>
+        ensures { IfOk result (λ fields. fields ≡ self.now.fields) }
+    {
+        fields_in(alloc, self.store.as_slice(), self.list.as_slice())
     }
 
     /// A view of the message, of which no byte is copied. `AllocError` is the only refusal.
     pub fn view<'k>(&'k self, alloc: Global) -> Result<View<'k>, AllocError>
         ensures { IfOk result (λ view. view ≡ self.now) }
     {
-        let fields = self.fields.view(alloc)?;
-        Ok(View::new(
-            ViewStart::of_start(&self.start),
-            fields,
-            self.body.as_slice(),
-        ))
+        let store = self.store.as_slice();
+        let fields = fields_in(alloc, store, self.list.as_slice())?;
+        Ok(View::new(start_in(store, self.start), fields, self.body.of(store)))
     }
 }

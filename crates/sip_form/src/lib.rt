@@ -4,6 +4,7 @@
 
 mod error;
 mod kept;
+mod kept_start;
 mod lengths;
 mod message;
 mod message_view;

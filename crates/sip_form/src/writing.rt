@@ -43,18 +43,26 @@ fn put_field(out: &mut Bytes, field: &Field) -> Result<(), AllocError>
     out.extend(b"\r\n")
 }
 
+/// Puts each field with its CRLF.
+fn put_fields(out: &mut Bytes, fields: &[Field]) -> Result<(), AllocError>
+    ensures { OnOk result (out.new ≡ out.old ++ flat_map field_text fields.now) }
+{
+    for field in fields {
+        put_field(out, field)?;
+    }
+    Ok(())
+}
+
 /// The written form of a message: its start line, each field on a line of its own as `Name: value`, then
 /// `Content-Length` with the length of the body, the empty line, and the body (RFC 3261 7). `AllocError`
 /// is the only refusal.
 pub fn write(alloc: Global, message: &Message) -> Result<Bytes, AllocError>
     ensures { IfOk result (λ written. written ≡ text_of message.now) }
 {
-    let mut out = Bytes::new(alloc);
+    let mut out = Bytes::with_room(alloc, written_length(message))?;
     put_start(&mut out, &message.start)?;
     out.extend(b"\r\n")?;
-    for field in message.fields.as_slice() {
-        put_field(&mut out, field)?;
-    }
+    put_fields(&mut out, message.fields.as_slice())?;
     out.extend(b"Content-Length: ")?;
     out.push_decimal(message.body.as_slice().len() as u64)?;
     out.extend(b"\r\n\r\n")?;

@@ -1,13 +1,14 @@
 //! What a REGISTER makes of the live bindings of its address of record (RFC 3261 10.3 steps 6 and 7).
 ghost use Rattle.std.specs.Prelude.{◌≡◌, ◌*◌, ◌+◌, ◌<◌, ◌≤◌, ◌^◌, IfOk, OnOk};
-ghost use Rattle.sip_header.specs.declared.contact_item.ContactItem.TheVariants.{Address};
+ghost use Rattle.std.specs.Option.{option_map_or};
+ghost use Rattle.sip_header.specs.NameAddr.{sip_uri};
 ghost use Rattle.sip_location.specs.Registration as Definitions;
 
 use crate::binding::Binding;
 use crate::interval::seconds_for;
 use crate::registration::Registration;
 use crate::rows::Rows;
-use sip_header::{AnyUri, ContactItem, NameAddr};
+use sip_header::{AnyUri, ContactItem};
 use sip_uri::Uri;
 use std::alloc::{AllocError, Global};
 
@@ -56,22 +57,21 @@ fn apply_uri(
     bindings.put(binding)
 }
 
-/// One of another scheme than `sip` and `sips` leaves the bindings as they are.
-fn apply_address(
+/// Does the same for a URI of any scheme. One of another than `sip` and `sips` leaves the bindings as they are.
+fn apply_any_uri(
     alloc: Global,
     bindings: &mut Rows,
     request: &Registration<'_>,
     now: u64,
-    address: &NameAddr<'_>,
+    uri: &AnyUri<'_>,
+    seconds: u64,
 ) -> Result<(), AllocError>
     requires now { now < 2 ^ 62 }
-    ensures { OnOk result (bindings.new ≡ Definitions.after_contact request.now now (Address address.now) bindings.old) }
+    requires small { seconds ≤ 86400 }
+    ensures { OnOk result (bindings.new ≡ option_map_or (Definitions.after_uri request.now now seconds bindings.old) (sip_uri uri.now) bindings.old) }
 {
-    match &address.uri {
-        AnyUri::Sip(uri) => {
-            let seconds = seconds_for(address, request.expires);
-            apply_uri(alloc, bindings, request, now, uri, seconds)
-        }
+    match uri {
+        AnyUri::Sip(uri) => apply_uri(alloc, bindings, request, now, uri, seconds),
         AnyUri::Other(_) => Ok(()),
     }
 }
@@ -91,7 +91,10 @@ fn apply_contact(
             bindings.clear();
             Ok(())
         }
-        ContactItem::Address(address) => apply_address(alloc, bindings, request, now, address),
+        ContactItem::Address(address) => {
+            let seconds = seconds_for(contact, request.expires);
+            apply_any_uri(alloc, bindings, request, now, &address.uri, seconds)
+        }
     }
 }
 

@@ -3,6 +3,7 @@ ghost use Rattle.std.specs.List.{AllByRecursion};
 ghost use Rattle.indexmap.specs.IndexMap.{spare};
 ghost use Rattle.sip_uri.specs.declared.aor.Aor.{Aor};
 ghost use Rattle.sip_uri.specs.Aor.{is_same_aor};
+ghost use Rattle.sip_location.specs.declared.error.LocationError.TheVariants.{NoMemory};
 ghost use Rattle.sip_location.specs.declared.registration.Registration.{Registration};
 ghost use Rattle.sip_location.specs.Binding.{is_of, is_live, live};
 ghost use Rattle.sip_location.specs.Filed.{AreFiled, IsReplaced};
@@ -49,7 +50,8 @@ impl Model for Locations {
 impl Locations {
     /// No binding. Refused with NoMemory where memory runs out.
     pub fn new(alloc: Global) -> Result<Self, LocationError>
-        ensures { IfOk result (λ locations. locations.rows ≡ []) }
+        ensures ok { IfOk result (λ locations. locations.rows ≡ []) }
+        ensures refused { IfErr result (λ e. e ≡ NoMemory) }
     {
         let rows = IndexMap::new(alloc);
         Ok(Locations { rows })

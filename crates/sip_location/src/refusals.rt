@@ -1,14 +1,14 @@
 //! Why a REGISTER is refused (RFC 3261 10.3 steps 6 and 7).
-ghost use Rattle.std.specs.Prelude.{◌≡◌};
+ghost use Rattle.std.specs.Prelude.{◌≡◌, is_some};
 ghost use Rattle.std.specs.List.{list_any};
-ghost use Rattle.sip_header.specs.declared.contact_item.ContactItem.TheVariants.{Address};
+ghost use Rattle.sip_header.specs.NameAddr.{sip_uri};
 ghost use Rattle.sip_location.specs.Registration as Definitions;
 
 use crate::binding::Binding;
 use crate::interval::{is_brief, is_zero, seconds_for};
 use crate::registration::Registration;
 use sip_equality::same;
-use sip_header::{AnyUri, ContactItem, Expires, NameAddr};
+use sip_header::{AnyUri, ContactItem, Expires};
 use sip_text::same_bytes;
 
 fn is_star(contact: &ContactItem<'_>) -> bool
@@ -40,13 +40,10 @@ pub(crate) fn has_bad_star(request: &Registration<'_>) -> bool
     has_star(contacts) && !(is_alone(contacts) && is_zero(request.expires))
 }
 
-fn address_asks_briefly(address: &NameAddr<'_>, expires: Expires) -> bool
-    ensures { result ≡ Definitions.asks_briefly expires (Address address.now) }
+fn is_sip(uri: &AnyUri<'_>) -> bool
+    ensures { result ≡ is_some (sip_uri uri.now) }
 {
-    match &address.uri {
-        AnyUri::Sip(_) => is_brief(seconds_for(address, expires)),
-        AnyUri::Other(_) => false,
-    }
+    matches!(uri, AnyUri::Sip(_))
 }
 
 fn asks_briefly(contact: &ContactItem<'_>, expires: Expires) -> bool
@@ -54,7 +51,9 @@ fn asks_briefly(contact: &ContactItem<'_>, expires: Expires) -> bool
 {
     match contact {
         ContactItem::Star => false,
-        ContactItem::Address(address) => address_asks_briefly(address, expires),
+        ContactItem::Address(address) => {
+            is_sip(&address.uri) && is_brief(seconds_for(contact, expires))
+        }
     }
 }
 

@@ -17,7 +17,11 @@ use std::alloc::Global;
 use std::io::{Read, Write};
 
 /// What a replay starts with.
-const BOOT: Boot = Boot { word: 0, first: 1 };
+const BOOT: Boot = Boot {
+    word: 0,
+    first: 1,
+    keys: 0,
+};
 
 /// Reads a script and writes the packets that the server hands out. Before each event, what is due by
 /// its moment is fired, each timer at its own moment; a moment below the greatest one so far counts as

@@ -64,7 +64,7 @@ within (b ∷ c ∷ rest) =
     ap (λ (w : Option (List (List ℕ) × List ℕ)). cond (is_crlf b c) (line_first [] (lines_at false rest)) w) later
     ∙ sym (choose from_line (is_crlf b c) (Some ([], rest)) (in_front (b ∷ []) (line_at (c ∷ rest))))
 
-abbrev is_empty : List ℕ → Bool
+abbrev pub is_empty : List ℕ → Bool
 is_empty [] = true
 is_empty (b ∷ bs) = false
 

@@ -9,3 +9,9 @@ pub mod StartAgain
 pub mod StartLaws
 pub mod Again
 pub mod FaultLaws
+pub mod Taking
+pub mod Heads
+pub mod Keeps
+pub mod Standing
+pub mod Halves
+pub mod Limits

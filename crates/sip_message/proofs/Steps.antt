@@ -22,7 +22,11 @@ joined done items (Some rest) = ap (λ (w : List Field). Some w) (sym (append_as
 
 -- ---- the fields of lines
 
-found : {A : Type 0} (x : A) (o : Option A) → ok_or o BadField ≡ Ok x → o ≡ Some x
+pub found_or : {A : Type 0} (e : ReadError) (x : A) (o : Option A) → ok_or o e ≡ Ok x → o ≡ Some x
+found_or e x None h = absurd cc
+found_or e x (Some y) h = ap (λ w. Some w) cc
+
+pub found : {A : Type 0} (x : A) (o : Option A) → ok_or o BadField ≡ Ok x → o ≡ Some x
 found x None e = absurd cc
 found x (Some y) e = ap (λ w. Some w) cc
 
@@ -58,7 +62,7 @@ step done new (Some items) o e =
 pub kept_step : (done new : List Field) (field : Field) (fields : List Field) (total : Option (List Field)) → behind done (pieces field) ≡ Some new → behind done (kept (field ∷ fields)) ≡ total → behind new (kept fields) ≡ total
 kept_step done new field fields total e so_far = sym (step done new (pieces field) (kept fields) e) ∙ so_far
 
-map-map : {A B C : Type 0} (f : B → C) (g : A → B) (xs : List A) → map f (map g xs) ≡ map (λ x. f (g x)) xs
+pub map-map : {A B C : Type 0} (f : B → C) (g : A → B) (xs : List A) → map f (map g xs) ≡ map (λ x. f (g x)) xs
 map-map f g [] = refl
 map-map f g (x ∷ xs) = ap (λ ys. f (g x) ∷ ys) (map-map f g xs)
 

@@ -5,3 +5,5 @@ pub mod Body
 pub mod Says
 pub mod Reading
 pub mod Seen
+pub mod Line
+pub mod Parts

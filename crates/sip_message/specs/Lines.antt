@@ -85,3 +85,21 @@ unfolded_after (line ∷ next ∷ taken) lines = line ∷ unfolded_after (next �
 -- the lines of a head, each with its folds, and what follows the empty line
 abbrev pub head_at : List ℕ → Option (List (List ℕ) × List ℕ)
 head_at bytes = option_map (λ x. (unfolded x.0, x.1)) (lines_at false bytes)
+
+-- ---- which lines have folds
+
+-- whether a line has a fold, and each of the lines behind it, once they are unfolded
+abbrev pub folds_on : Bool → List (List ℕ) → List Bool
+folds_on has_fold [] = has_fold ∷ []
+folds_on has_fold (next ∷ lines) = if is_fold next then folds_on true lines else has_fold ∷ folds_on false lines
+
+-- whether each line has a fold, once lines are unfolded (RFC 3261 7.3.1)
+abbrev pub folds_of : List (List ℕ) → List Bool
+folds_of [] = []
+folds_of (line ∷ lines) = folds_on false lines
+
+-- of lines that were taken, and the lines behind them: the last one may go on
+abbrev pub folds_after : List Bool → List (List ℕ) → List Bool
+folds_after [] lines = folds_of lines
+folds_after (has_fold ∷ []) lines = folds_on has_fold lines
+folds_after (has_fold ∷ next ∷ taken) lines = has_fold ∷ folds_after (next ∷ taken) lines

@@ -57,6 +57,32 @@ datagram_of bytes = do
 unfoldable pub reading_of : List ℕ → Result Message ReadError
 reading_of bytes = if nat_lt 65507 (length bytes) then Err TooLong else datagram_of bytes
 
+-- ---- before the limits
+
+-- whether the body is short, and the message, of a start line, lines and what follows them
+unfoldable pub content_from : Start → List (List ℕ) → List ℕ → Result (Bool × Message) ReadError
+content_from start lines rest = do
+  entries ← ok_or (entries_of lines) BadField
+  length ← ok_or (one_length (lengths entries)) BadField
+  fields ← ok_or (kept entries) BadField
+  Ok (is_short length rest, with_body start fields length rest)
+
+-- whether the body is short, and the message, of bytes that aren't too many
+unfoldable pub content_of : List ℕ → Result (Bool × Message) ReadError
+content_of bytes = do
+  first ← ok_or (line_at (after_blanks bytes)) NotSip
+  start ← ok_or (start_of first.0) NotSip
+  head ← ok_or (head_at first.1) NotSip
+  content_from start head.0 head.1
+
+-- whether the body is short, and the message, of a datagram: what is read of it is this, within the last limits
+unfoldable pub parts_of : List ℕ → Result (Bool × Message) ReadError
+parts_of bytes = if nat_lt 65507 (length bytes) then Err TooLong else content_of bytes
+
+-- what parts say, within the last limits
+abbrev pub within_limits : Result (Bool × Message) ReadError → Result Message ReadError
+within_limits said = said >>= (λ x. limited x.0 x.1)
+
 -- the first refusal that applies to bytes, if one does
 abbrev pub fault_of : List ℕ → Option ReadError
 fault_of bytes = result_err (reading_of bytes)

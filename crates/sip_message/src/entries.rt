@@ -1,17 +1,24 @@
-ghost use Rattle.std.specs.Prelude.{◌≡◌, option_map, IfOk};
+ghost use Rattle.std.specs.Prelude.{◌≡◌, option_map, map, IfOk, IfSome};
 ghost use Rattle.std.specs.List.{list_all};
 ghost use Rattle.std.specs.Option.{ok_or};
-ghost use Rattle.sip_field.specs.FieldName.{name_of};
-ghost use Rattle.sip_field.specs.declared.field.Field.{Field};
+ghost use Rattle.sip_text.specs.Lists.{trimmed};
+ghost use Rattle.sip_text.specs.Splits.{split_at_byte};
+ghost use Rattle.sip_view.specs.declared.piece.Piece.TheVariants.{Part, Joined};
+ghost use Rattle.sip_view.specs.Slice.{IsCutFrom, IsPieceCutFrom};
 ghost use Rattle.sip_message.specs.Field.{is_text, field_from, field_of, entries_of};
+ghost use Rattle.sip_message.specs.Line.{line_piece, line_bytes};
+ghost use Rattle.sip_message.specs.Parts.{field_seen, fields_seen, AreFieldsOf};
 ghost use Rattle.sip_message.specs.Reading.{Gives};
 ghost use Rattle.sip_message.specs.Seen.{seen_field};
 ghost use Rattle.sip_form.specs.declared.error.ReadError.TheVariants.{BadField};
 
 use crate::line::Line;
+use crate::part_field::PartField;
 use sip_form::{ViewError, ViewRefusal};
-use sip_text::{Bytes, is_token, split_once, without_blanks, without_end_blanks};
-use sip_view::{Value, ViewField, ViewFields, ViewName};
+use sip_text::{
+    Bytes, is_token, split_once, without_blanks, without_end_blanks, without_front_blanks,
+};
+use sip_view::{Piece, ViewName, slice_before, slice_from};
 use std::alloc::{AllocError, Global};
 
 /// Whether a byte may stand in a value.
@@ -28,9 +35,29 @@ fn is_text_value(bytes: &[u8]) -> bool
     bytes.iter().all(|byte| is_text_byte(*byte))
 }
 
+/// What stands before the first of a byte, and what follows it, where they stand.
+fn halves(bytes: &[u8], mark: u8) -> Option<(&[u8], &[u8])>
+    ensures halves { option_map (λ x. (x.0.now, x.1.now)) result ≡ split_at_byte mark bytes.now }
+    ensures cut { IfSome result (λ x. IsCutFrom bytes.entry x.0 × IsCutFrom bytes.entry x.1) }
+{
+    let (front, _) = split_once(bytes, mark)?;
+    let at = front.len();
+    Some((slice_before(bytes, at), slice_from(bytes, at + 1)))
+}
+
+/// Bytes without the spaces and tabs at both ends, where they stand.
+fn trimmed_slice(bytes: &[u8]) -> &[u8]
+    ensures value { result.now ≡ trimmed bytes.now }
+    ensures cut { IsCutFrom bytes.entry result }
+{
+    let start = bytes.len() - without_front_blanks(bytes).len();
+    slice_before(slice_from(bytes, start), without_blanks(bytes).len())
+}
+
 /// The written name and the value of the field of what stands before its `:` and behind it.
 fn field_from_parts<'a>(front: &'a [u8], value: &'a [u8]) -> Option<(&'a [u8], &'a [u8])>
-    ensures { option_map (λ x. seen_field x.0.now x.1.now) result ≡ field_from front.now value.now }
+    ensures field { option_map (λ x. seen_field x.0.now x.1.now) result ≡ field_from front.now value.now }
+    ensures cut { IfSome result (λ x. IsCutFrom value.entry x.1) }
 {
     let name = without_end_blanks(front);
     if !is_token(name) {
@@ -39,39 +66,46 @@ fn field_from_parts<'a>(front: &'a [u8], value: &'a [u8]) -> Option<(&'a [u8], &
     if !is_text_value(value) {
         return None;
     }
-    Some((name, without_blanks(value)))
+    Some((name, trimmed_slice(value)))
 }
 
 /// The written name and the value of the field that a line writes.
 fn parts_of_line(line: &[u8]) -> Option<(&[u8], &[u8])>
-    ensures { option_map (λ x. seen_field x.0.now x.1.now) result ≡ field_of line.now }
+    ensures field { option_map (λ x. seen_field x.0.now x.1.now) result ≡ field_of line.now }
+    ensures cut { IfSome result (λ x. IsCutFrom line.entry x.1) }
 {
-    let (front, value) = split_once(line, b':')?;
+    let (front, value) = halves(line, b':')?;
     field_from_parts(front, value)
 }
 
 /// The field with this name and value, which are copied.
-fn copied<'a>(alloc: Global, name: &[u8], value: &[u8]) -> Result<ViewField<'a>, AllocError>
-    ensures { IfOk result (λ field. field ≡ seen_field name.now value.now) }
+fn copied<'a>(alloc: Global, name: &[u8], value: &[u8]) -> Result<PartField<'a>, AllocError>
+    ensures field { IfOk result (λ field. field_seen field ≡ seen_field name.now value.now) }
+    ensures joined { IfOk result (λ field. IsPieceCutFrom (Joined value.now) field.value) }
 {
     let name = ViewName::copied(alloc, name)?;
-    let value = Value::of_bytes(Bytes::copy(alloc, value)?);
-    Ok(ViewField::new(name, value))
+    let value = Piece::Joined(Bytes::copy(alloc, value)?);
+    Ok(PartField { name, value })
 }
 
 /// The field that a line without folds writes. No byte is copied.
-fn field_of_part<'a>(line: &'a [u8]) -> Result<ViewField<'a>, ViewError<'a>>
-    ensures { Gives (λ field. field) result (ok_or (field_of line.now) BadField) }
+fn field_of_part<'a>(line: &'a [u8]) -> Result<PartField<'a>, ViewError<'a>>
+    ensures field { Gives field_seen result (ok_or (field_of line.now) BadField) }
+    ensures cut { IfOk result (λ field. IsPieceCutFrom (Part line.entry) field.value) }
 {
     match parts_of_line(line) {
-        Some((name, value)) => Ok(ViewField::new(ViewName::of_part(name), Value::of_part(value))),
+        Some((name, value)) => Ok(PartField {
+            name: ViewName::of_part(name),
+            value: Piece::Part(value),
+        }),
         None => Err(ViewError::new(ViewRefusal::BadField)),
     }
 }
 
 /// The field that a line with folds writes.
-fn field_of_bytes<'a>(alloc: Global, line: &[u8]) -> Result<ViewField<'a>, ViewError<'a>>
-    ensures { Gives (λ field. field) result (ok_or (field_of line.now) BadField) }
+fn field_of_bytes<'a>(alloc: Global, line: &[u8]) -> Result<PartField<'a>, ViewError<'a>>
+    ensures field { Gives field_seen result (ok_or (field_of line.now) BadField) }
+    ensures joined { IfOk result (λ field. IsPieceCutFrom (Joined line.now) field.value) }
 {
     match parts_of_line(line) {
         Some((name, value)) => Ok(copied(alloc, name, value)?),
@@ -80,12 +114,13 @@ fn field_of_bytes<'a>(alloc: Global, line: &[u8]) -> Result<ViewField<'a>, ViewE
 }
 
 /// The field that a line writes.
-fn field_of_line<'a>(alloc: Global, line: &Line<'a>) -> Result<ViewField<'a>, ViewError<'a>>
-    ensures { Gives (λ field. field) result (ok_or (field_of line.now) BadField) }
+fn field_of_line<'a>(alloc: Global, line: &Line<'a>) -> Result<PartField<'a>, ViewError<'a>>
+    ensures field { Gives field_seen result (ok_or (field_of (line_bytes line.now)) BadField) }
+    ensures cut { IfOk result (λ field. IsPieceCutFrom (line_piece line.now) field.value) }
 {
-    match line.as_part() {
-        Some(part) => field_of_part(part),
-        None => field_of_bytes(alloc, line.as_slice()),
+    match line {
+        Line::Part(part) => field_of_part(part),
+        Line::Unfolded(bytes) => field_of_bytes(alloc, bytes.as_slice()),
     }
 }
 
@@ -93,10 +128,11 @@ fn field_of_line<'a>(alloc: Global, line: &Line<'a>) -> Result<ViewField<'a>, Vi
 pub(crate) fn fields_of_lines<'a>(
     alloc: Global,
     lines: &[Line<'a>],
-) -> Result<ViewFields<'a>, ViewError<'a>>
-    ensures { Gives (λ fields. fields) result (ok_or (entries_of lines.now) BadField) }
+) -> Result<Vec<PartField<'a>>, ViewError<'a>>
+    ensures fields { Gives (λ fields. fields_seen fields.items) result (ok_or (entries_of (map line_bytes lines.now)) BadField) }
+    ensures cut { IfOk result (λ fields. AreFieldsOf lines.now fields.items) }
 {
-    let mut fields = ViewFields::new(alloc);
+    let mut fields = Vec::with_capacity(alloc, lines.len())?;
     for line in lines {
         fields.push(field_of_line(alloc, line)?)?;
     }

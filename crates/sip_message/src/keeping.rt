@@ -1,65 +1,105 @@
-ghost use Rattle.std.specs.Prelude.{◌≡◌, ◌++◌, length, map, IfOk, OnOk, OnErr, All, Some, None, Err, option_map, MatchResult, ◌⊎◌};
+ghost use Rattle.std.specs.Prelude.{◌≡◌, [], ◌∷◌, true, false, length, map, IfOk, OnOk, All, None, MatchResult, ◌⊎◌};
 ghost use Rattle.std.specs.Option.{ok_or};
+ghost use Rattle.sip_field.specs.FieldName.{is_length, is_list};
+ghost use Rattle.sip_text.specs.Lists.{cut};
 ghost use Rattle.sip_text.specs.Span.{part, IsWithin};
+ghost use Rattle.sip_view.specs.Piece.{bytes_of};
+ghost use Rattle.sip_view.specs.Slice.{IsPieceCutFrom};
 ghost use Rattle.sip_message.specs.Field.{pieces, kept};
+ghost use Rattle.sip_message.specs.Parts.{field_seen, fields_seen, IsKept, AreItemsKept, AreKept};
 ghost use Rattle.sip_message.specs.Reading.{Gives};
 ghost use Rattle.sip_form.specs.declared.error.ReadError.TheVariants.{NoMemory, BadField};
 
+use crate::part_field::PartField;
 use sip_form::{ViewError, ViewRefusal};
 use sip_text::{Span, TextError, cut_list};
-use sip_view::{ViewField, ViewFields};
 use std::alloc::{AllocError, Global};
 
 /// The field with this part of its value.
 fn with_part<'a>(
     alloc: Global,
-    field: &ViewField<'a>,
+    field: &PartField<'a>,
     span: Span,
-) -> Result<ViewField<'a>, AllocError>
-    requires { IsWithin span field.now.value }
-    ensures { IfOk result (λ f. f ≡ record field.now { value = part field.now.value span }) }
+) -> Result<PartField<'a>, AllocError>
+    requires { IsWithin span (bytes_of field.now.value) }
+    ensures seen { IfOk result (λ f. field_seen f ≡ record (field_seen field.now) { value = part (bytes_of field.now.value) span }) }
+    ensures cut { IfOk result (λ f. IsPieceCutFrom field.now.value f.value) }
 {
-    let name = field.name().clone()?;
-    let value = field.value().within(alloc, span)?;
-    Ok(ViewField::new(name, value))
+    let name = field.name.clone()?;
+    let value = field.value.within(alloc, span)?;
+    Ok(PartField { name, value })
+}
+
+/// Keeps a field for this part of its value.
+fn keep_part<'a>(
+    alloc: Global,
+    fields: &mut Vec<PartField<'a>>,
+    field: &PartField<'a>,
+    span: Span,
+) -> Result<(), AllocError>
+    requires { IsWithin span (bytes_of field.now.value) }
+    ensures { OnOk result (AreItemsKept fields.old.items field.now (span ∷ []) fields.new.items) }
+{
+    fields.push(with_part(alloc, field, span)?)?;
+    Ok(())
 }
 
 /// Keeps a field for each of these parts of its value.
 fn keep_parts<'a>(
     alloc: Global,
-    fields: &mut ViewFields<'a>,
-    field: &ViewField<'a>,
+    fields: &mut Vec<PartField<'a>>,
+    field: &PartField<'a>,
     spans: &[Span],
 ) -> Result<(), AllocError>
-    requires { All (λ span. IsWithin span field.now.value) spans.now }
-    ensures { OnOk result (fields.new ≡ fields.old ++ map (λ span. record field.now { value = part field.now.value span }) spans.now) }
+    requires { All (λ span. IsWithin span (bytes_of field.now.value)) spans.now }
+    ensures { OnOk result (AreItemsKept fields.old.items field.now spans.now fields.new.items) }
 {
     for span in spans {
-        fields.push(with_part(alloc, field, *span)?)?;
+        keep_part(alloc, fields, field, *span)?;
     }
+    Ok(())
+}
+
+/// The items of a list (RFC 3261 7.3.1).
+fn items_of<'a>(alloc: Global, value: &[u8]) -> Result<Vec<Span>, ViewError<'a>>
+    ensures items { Gives (λ spans. map (part value.now) spans.items) result (ok_or (cut value.now) BadField) }
+    ensures within { IfOk result (λ spans. All (λ span. IsWithin span value.now) spans.items) }
+{
+    match cut_list(alloc, value) {
+        Ok(spans) => Ok(spans),
+        Err(TextError::NoMemory) => Err(ViewError::new(ViewRefusal::NoMemory)),
+        Err(_) => Err(ViewError::new(ViewRefusal::BadField)),
+    }
+}
+
+/// Keeps a field for each item of a list.
+fn keep_items<'a>(
+    alloc: Global,
+    fields: &mut Vec<PartField<'a>>,
+    field: &PartField<'a>,
+) -> Result<(), ViewError<'a>>
+    requires not_length { is_length field.now.name ≡ false }
+    requires list { is_list field.now.name ≡ true }
+    ensures { MatchResult result (λ _. IsKept fields.old.items field.now fields.new.items) (λ e. (e ≡ NoMemory) ⊎ ((e ≡ BadField) × (pieces (field_seen field.now) ≡ None))) }
+{
+    let spans = items_of(alloc, field.value.as_slice())?;
+    keep_parts(alloc, fields, field, &spans)?;
     Ok(())
 }
 
 /// Keeps what is kept of a field.
 fn keep<'a>(
     alloc: Global,
-    fields: &mut ViewFields<'a>,
-    field: ViewField<'a>,
+    fields: &mut Vec<PartField<'a>>,
+    field: PartField<'a>,
 ) -> Result<(), ViewError<'a>>
-    ensures { MatchResult result (λ _. option_map (λ items. fields.old ++ items) (pieces field.entry) ≡ Some fields.new) (λ e. (e ≡ NoMemory) ⊎ ((e ≡ BadField) × (pieces field.entry ≡ None))) }
+    ensures { MatchResult result (λ _. IsKept fields.old.items field.entry fields.new.items) (λ e. (e ≡ NoMemory) ⊎ ((e ≡ BadField) × (pieces (field_seen field.entry) ≡ None))) }
 {
-    if field.name().is_content_length() {
+    if field.name.is_content_length() {
         return Ok(());
     }
-    if field.name().is_list() {
-        match cut_list(alloc, field.value().as_slice()) {
-            Ok(spans) => {
-                keep_parts(alloc, fields, &field, &spans)?;
-                return Ok(());
-            }
-            Err(TextError::NoMemory) => return Err(ViewError::new(ViewRefusal::NoMemory)),
-            Err(_) => return Err(ViewError::new(ViewRefusal::BadField)),
-        }
+    if field.name.is_list() {
+        return keep_items(alloc, fields, &field);
     }
     fields.push(field)?;
     Ok(())
@@ -68,12 +108,13 @@ fn keep<'a>(
 /// The fields that are kept. A field that isn't cut is moved.
 pub(crate) fn kept_of<'a>(
     alloc: Global,
-    entries: ViewFields<'a>,
-) -> Result<ViewFields<'a>, ViewError<'a>>
-    ensures { Gives (λ fields. fields) result (ok_or (kept entries.entry) BadField) }
+    entries: Vec<PartField<'a>>,
+) -> Result<Vec<PartField<'a>>, ViewError<'a>>
+    ensures fields { Gives (λ fields. fields_seen fields.items) result (ok_or (kept (fields_seen entries.entry.items)) BadField) }
+    ensures cut { IfOk result (λ fields. AreKept entries.entry.items fields.items) }
 {
-    let mut fields = ViewFields::new(alloc);
-    for field in entries.into_list() {
+    let mut fields = Vec::with_capacity(alloc, entries.len())?;
+    for field in entries {
         keep(alloc, &mut fields, field)?;
     }
     Ok(fields)

@@ -1,7 +1,7 @@
 ghost use Rattle.std.specs.Prelude.{◌≡◌, ◌<◌, ◌≤◌, ◌↔◌, List, ℕ, length, Option, Some, None};
 ghost use Rattle.sip_form.specs.Text.{text_of};
 ghost use Rattle.sip_message.specs.Says.{Says, IsWithinLimits, IsHead, IsContent};
-ghost use Rattle.sip_message.specs.Reading.{with_body, limited, reading_of, fault_of};
+ghost use Rattle.sip_message.specs.Reading.{with_body, limited, within_limits, reading_of, parts_of, fault_of};
 ghost use Rattle.sip_message.specs.Body.{is_short};
 ghost use Rattle.sip_field.specs.declared.field.Field.{Field};
 ghost use Rattle.sip_form.specs.declared.message.Start.{Start};
@@ -27,4 +27,9 @@ pub fn refusals()
     ensures not_sip { (bytes : List ℕ) → length bytes ≤ 65507 → (fault_of bytes ≡ Some NotSip) ↔ ((start : Start) (lines : List (List ℕ)) (rest : List ℕ) → ¬ IsHead bytes start lines rest) }
     ensures bad_field { (bytes : List ℕ) (start : Start) (lines : List (List ℕ)) (rest : List ℕ) → length bytes ≤ 65507 → IsHead bytes start lines rest → (fault_of bytes ≡ Some BadField) ↔ ((fields : List Field) (n : Option ℕ) → ¬ IsContent lines fields n) }
     ensures limits { (bytes : List ℕ) (start : Start) (lines : List (List ℕ)) (rest : List ℕ) (fields : List Field) (n : Option ℕ) → length bytes ≤ 65507 → IsHead bytes start lines rest → IsContent lines fields n → reading_of bytes ≡ limited (is_short n rest) (with_body start fields n rest) }
+{}
+
+/// What is read of bytes is what their parts say, within the last limits.
+pub fn limits_come_last()
+    ensures { (bytes : List ℕ) → reading_of bytes ≡ within_limits (parts_of bytes) }
 {}

@@ -4,21 +4,27 @@
 #![tactic(auto)]
 
 mod body;
+mod datagram_parts;
 mod entries;
 pub mod examples;
 mod keeping;
 pub mod laws;
 mod line;
 mod lines;
+mod part_field;
+mod parting;
 mod reading;
 mod start_line;
 mod viewing;
 
+pub use datagram_parts::Parts;
+pub use part_field::PartField;
+pub use parting::parts;
 pub use reading::read;
 pub use sip_field::{Field, FieldName, Fields};
 pub use sip_form::{
     Kept, Message, ReadError, Start, View, ViewError, ViewRefusal, ViewStart, write, write_view,
     written_length,
 };
-pub use sip_view::{Value, ViewField, ViewFields, ViewName};
+pub use sip_view::{Piece, Value, ViewField, ViewFields, ViewName};
 pub use viewing::view;

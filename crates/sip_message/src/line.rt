@@ -1,25 +1,25 @@
-ghost use Rattle.std.specs.Prelude.{◌≡◌, IfOk, OnOk, IfSome};
+ghost use Rattle.std.specs.Prelude.{◌≡◌, true, IfOk, OnOk};
 ghost use Rattle.sip_message.specs.Lines.{joined};
+ghost use Rattle.sip_message.specs.Line.{line_bytes, has_fold};
 
 use sip_text::{without_end_blanks, without_front_blanks};
 use std::alloc::{AllocError, Global};
-use std::marker::Model;
 
-/// A line of a head, seen as its bytes: a part of the datagram, and bytes of its own only once a fold was joined
-/// to it, so that a line without folds is not copied.
-#[derive(Drop)]
-pub(crate) struct Line<'a> {
-    part: &'a [u8],
-    unfolded: Option<Vec<u8>>,
+/// A line of a head: a part of the datagram, and bytes of its own only once a fold was joined to it, so that a line
+/// without folds is not copied.
+pub(crate) enum Line<'a> {
+    Part(&'a [u8]),
+    Unfolded(Vec<u8>),
 }
 
-impl<'a> Model for Line<'a> {
-    ghost use Rattle.std.specs.Prelude.{ℕ, List, option_map};
-    ghost use Rattle.std.specs.Option.{unwrap_or};
-
-    ghost Value = { List ℕ };
-
-    ghost view = { λ l. unwrap_or (option_map (λ u. u.items) l.unfolded) l.part.now };
+/// Written out, so that it is proved once and not wherever a line is dropped.
+impl<'a> Drop for Line<'a> {
+    fn drop(self) {
+        match self {
+            Line::Part(_) => {}
+            Line::Unfolded(_) => {}
+        }
+    }
 }
 
 /// Joins a fold to a line. Only the line's end and the fold are touched, so that many folds cost no more than their
@@ -34,49 +34,16 @@ fn join_fold(line: &mut Vec<u8>, fold: &[u8]) -> Result<(), AllocError>
 }
 
 impl<'a> Line<'a> {
-    /// The line that stands so in the datagram.
-    pub(crate) fn new(part: &'a [u8]) -> Self
-        ensures { result ≡ part.now }
-    {
-        Line {
-            part,
-            unfolded: None,
-        }
-    }
-
     /// The line with a fold of it.
     pub(crate) fn with_fold(self, alloc: Global, fold: &[u8]) -> Result<Self, AllocError>
-        ensures { IfOk result (λ both. both ≡ joined self.entry fold.now) }
+        ensures bytes { IfOk result (λ both. line_bytes both ≡ joined (line_bytes self.entry) fold.now) }
+        ensures fold { IfOk result (λ both. has_fold both ≡ true) }
     {
-        let Line { part, unfolded } = self;
-        let mut bytes = match unfolded {
-            Some(bytes) => bytes,
-            None => Vec::from_slice(alloc, part)?,
+        let mut bytes = match self {
+            Line::Part(part) => Vec::from_slice(alloc, part)?,
+            Line::Unfolded(bytes) => bytes,
         };
         join_fold(&mut bytes, fold)?;
-        Ok(Line {
-            part,
-            unfolded: Some(bytes),
-        })
-    }
-
-    /// The part of the datagram that it is, if it has no fold.
-    pub(crate) fn as_part(&self) -> Option<&'a [u8]>
-        ensures { IfSome result (λ part. part.now ≡ self.now) }
-    {
-        match &self.unfolded {
-            Some(_) => None,
-            None => Some(self.part),
-        }
-    }
-
-    /// The bytes of the line.
-    pub(crate) fn as_slice(&self) -> &[u8]
-        ensures { result.now ≡ self.now }
-    {
-        match &self.unfolded {
-            Some(bytes) => bytes.as_slice(),
-            None => self.part,
-        }
+        Ok(Line::Unfolded(bytes))
     }
 }

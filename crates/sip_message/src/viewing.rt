@@ -1,18 +1,16 @@
 ghost use Rattle.std.specs.Prelude.{◌≡◌, ◌⊎◌, IfOk, IfErr, Some, Ok};
 ghost use Rattle.sip_message.specs.Says.{Says, IsWithinLimits};
-ghost use Rattle.sip_message.specs.Reading.{Gives, limited, message_from, datagram_of, reading_of, fault_of};
-ghost use Rattle.sip_form.specs.ViewStart.{start_seen};
+ghost use Rattle.sip_message.specs.Reading.{Gives, limited, reading_of, fault_of};
+ghost use Rattle.sip_message.specs.Parts.{fields_seen, parts_seen};
 ghost use Rattle.sip_form.specs.declared.message.Message.{Message};
 ghost use Rattle.sip_form.specs.declared.error.ReadError.TheVariants.{NoMemory};
 
-use crate::body::{body_part, is_cut_short, length_of};
-use crate::entries::fields_of_lines;
-use crate::keeping::kept_of;
-use crate::line::Line;
-use crate::lines::{first_line, lines_of_head, without_blank_lines};
-use crate::start_line::start_of_line;
-use sip_form::{View, ViewError, ViewRefusal, ViewStart};
-use std::alloc::Global;
+use crate::datagram_parts::Parts;
+use crate::part_field::PartField;
+use crate::parting::parts;
+use sip_form::{View, ViewError, ViewRefusal};
+use sip_view::{Value, ViewField, ViewFields};
+use std::alloc::{AllocError, Global};
 
 /// The view, if it is within the limits and its body is whole.
 fn within_limits<'a>(short: bool, view: View<'a>) -> Result<View<'a>, ViewError<'a>>
@@ -30,45 +28,38 @@ fn within_limits<'a>(short: bool, view: View<'a>) -> Result<View<'a>, ViewError<
     Ok(view)
 }
 
-/// The view of a start line, lines of fields, and what follows them.
-#[tactic(auto, unfolding(crate::specs::Reading::message_from))]
-fn view_of<'a>(
-    alloc: Global,
-    start: ViewStart<'a>,
-    lines: &[Line<'a>],
-    rest: &'a [u8],
-) -> Result<View<'a>, ViewError<'a>>
-    ensures { Gives (λ m. m) result (message_from (start_seen start.entry) lines.now rest.now) }
+/// The fields of parts.
+fn view_fields<'a>(alloc: Global, fields: Vec<PartField<'a>>) -> Result<ViewFields<'a>, AllocError>
+    ensures { IfOk result (λ views. views ≡ fields_seen fields.entry.items) }
 {
-    let entries = fields_of_lines(alloc, lines)?;
-    let length = length_of(&entries)?;
-    let fields = kept_of(alloc, entries)?;
-    let view = View::new(start, fields, body_part(length, rest));
-    within_limits(is_cut_short(length, rest), view)
+    let mut views = ViewFields::with_room(alloc, fields.len())?;
+    for field in fields {
+        let PartField { name, value } = field;
+        views.push(ViewField::new(name, Value::of_piece(value)))?;
+    }
+    Ok(views)
 }
 
-/// The view of bytes that aren't too many.
-#[tactic(auto, unfolding(crate::specs::Reading::datagram_of))]
-fn view_datagram<'a>(alloc: Global, bytes: &'a [u8]) -> Result<View<'a>, ViewError<'a>>
-    ensures { Gives (λ m. m) result (datagram_of bytes.now) }
+/// The view of parts.
+fn view_of_parts<'a>(alloc: Global, parts: Parts<'a>) -> Result<View<'a>, AllocError>
+    ensures { IfOk result (λ view. view ≡ (parts_seen parts.entry).1) }
 {
-    let Some((line, head)) = first_line(without_blank_lines(bytes)) else {
-        return Err(ViewError::new(ViewRefusal::NotSip));
-    };
-    let start = start_of_line(alloc, line)?;
-    let (lines, rest) = lines_of_head(alloc, head)?;
-    view_of(alloc, start, &lines, rest)
+    let Parts {
+        start,
+        fields,
+        body,
+        is_short: _,
+    } = parts;
+    Ok(View::new(start, view_fields(alloc, fields)?, body))
 }
 
-/// The view of bytes.
-#[tactic(auto, unfolding(crate::specs::Reading::reading_of))]
+/// The view of bytes: their parts, within the limits.
 fn view_bytes<'a>(alloc: Global, bytes: &'a [u8]) -> Result<View<'a>, ViewError<'a>>
     ensures { Gives (λ m. m) result (reading_of bytes.now) }
 {
-    if bytes.len() > 65_507 {
-        return Err(ViewError::new(ViewRefusal::TooLong));
-    }
-    view_datagram(alloc, bytes)
+    let said = parts(alloc, bytes)?;
+    let is_short = said.is_short;
+    within_limits(is_short, view_of_parts(alloc, said)?)
 }
 
 /// The message that a datagram says (RFC 3261 7), as parts of the datagram. The refusals are those of `read`, in the

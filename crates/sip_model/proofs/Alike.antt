@@ -14,16 +14,19 @@ use Rattle.sip_nonces.specs.declared.nonces.Nonce.{Nonce}
 use Rattle.sip_nonces.specs.Nonces.{issued}
 use Rattle.sip_auth.specs.Proof.{used}
 use Rattle.sip_audit.specs.declared.record.Record.{Record}
-use Rattle.sip_state.specs.Server.{Server}
+use Rattle.sip_state.specs.declared.server.Server.{Server}
 use Rattle.sip_state.specs.declared.open_request.OpenRequest.{OpenRequest}
 use Rattle.sip_state.specs.declared.proxy_state.ProxyState.{ProxyState}
 use Rattle.sip_state.specs.SameState.{SameState}
 use Rattle.sip_state.proofs.Sameness.{after_request_same}
-use Rattle.sip_verdict.specs.Verdict.{Arrival, Question, Registered, Bound, Refused, Verdict, Drop, Respond, Copy, AckOn, Cancel, Answer, InDialog, Challenge, Deny, Send, Register, verdict_of}
+use Rattle.sip_state.specs.Arrival.{Arrival}
+use Rattle.sip_verdict.specs.declared.question.Question.{Question}
+use Rattle.sip_verdict.specs.Verdict.{Registered, Bound, Refused, Verdict, Drop, Respond, Copy, AckOn, Cancel, Answer, InDialog, Challenge, Deny, Send, Register, verdict_of}
 use Rattle.sip_verdict.specs.Sameness.{SameRegistered, SameVerdict, Alike, AlikeRegister, SameSaid}
 use Rattle.sip_verdict.proofs.Alike.{with_others, others_alone, verdicts_alike}
 use Rattle.sip_context.specs.Branches.{responded, cancelled, settled, acknowledged}
-use Rattle.sip_model.specs.Effect.{forking, branches_from, dialog_branch, counted, nothing, replaced, replied, registering, refused, sending, forked, tried, trying, copied, method_of, effect_of, datagram_effect, contact_fields}
+use Rattle.sip_context.specs.Opening.{forking, branches_from, dialog_branch, tried, trying}
+use Rattle.sip_model.specs.Effect.{counted, nothing, replaced, replied, registering, refused, sending, forked, copied, method_of, effect_of, datagram_effect, contact_fields}
 use Rattle.sip_model.specs.SameEffect.{SameEffect}
 use Rattle.sip_model.proofs.Sameness.{contact_fields_same, dialogs_after_same}
 

@@ -6,9 +6,11 @@ use Rattle.sip_message.specs.Reading.{reading_of}
 use Rattle.sip_header.specs.declared.core_fields.CoreFields.{CoreFields}
 use Rattle.sip_policy.specs.declared.decision.Decision.{Decision}
 use Rattle.sip_targets.specs.declared.targets.Targets.{Targets}
-use Rattle.sip_state.specs.Server.{Server}
+use Rattle.sip_state.specs.declared.server.Server.{Server}
 use Rattle.sip_state.specs.declared.proxy_state.ProxyState.{ProxyState}
-use Rattle.sip_verdict.specs.Verdict.{Arrival, Question, Registered, Verdict, Drop, Respond, Copy, AckOn, Cancel, Answer, InDialog, Challenge, Deny, Send, Register, is_register, question_of, answer_of, registration_by, request_targets, decided, message_verdict, message_in, verdict_in}
+use Rattle.sip_state.specs.Arrival.{Arrival}
+use Rattle.sip_verdict.specs.declared.question.Question.{Question}
+use Rattle.sip_verdict.specs.Verdict.{Registered, Verdict, Drop, Respond, Copy, AckOn, Cancel, Answer, InDialog, Challenge, Deny, Send, Register, is_register, question_of, answer_of, registration_by, request_targets, decided, message_verdict, message_in, verdict_in}
 use Rattle.sip_model.specs.Bindings.{Arrived, allowed_by, allowed_in}
 use Rattle.sip_model.specs.Access.{IsAllowedRegister, rule_of}
 use Rattle.sip_model.proofs.Judging.{is_by_policy, judged, judged_verdict, verdict_is}

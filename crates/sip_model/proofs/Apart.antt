@@ -4,7 +4,7 @@ use Rattle.std.proofs.lemmas.Bool.Decides.{nat_tests}
 use Rattle.sip_targets.specs.declared.target.Target.{Target}
 use Rattle.sip_state.specs.declared.branch.Branch.{Branch}
 use Rattle.sip_context.specs.Branches.{is_cancellable, cancel_branch, held_branch, with_cancel}
-use Rattle.sip_model.specs.Effect.{branch_to, branches_from}
+use Rattle.sip_context.specs.Opening.{branch_to, branches_from}
 use Rattle.sip_model.proofs.Places.{IsIn, count_cons, one_at, none_at, counts_in, same_number}
 
 -- whether a branch goes to the target of this number

@@ -13,10 +13,12 @@ use Rattle.sip_auth.specs.RightAnswer.{IsRightAnswer}
 use Rattle.sip_auth.proofs.RightAnswers.{right_rests}
 use Rattle.sip_event.specs.declared.event.StepOut.{StepOut}
 use Rattle.sip_event.specs.declared.event.Event.TheVariants.{Datagram, Time, Fault}
-use Rattle.sip_state.specs.Server.{Server}
+use Rattle.sip_state.specs.declared.server.Server.{Server}
 use Rattle.sip_state.specs.declared.proxy_state.ProxyState.{ProxyState}
 use Rattle.sip_state.specs.State.{first_state}
-use Rattle.sip_verdict.specs.Verdict.{Arrival, Question, Verdict, Drop, Respond, Copy, AckOn, Cancel, Answer, InDialog, Challenge, Deny, Send, Register, verdict_of}
+use Rattle.sip_state.specs.Arrival.{Arrival}
+use Rattle.sip_verdict.specs.declared.question.Question.{Question}
+use Rattle.sip_verdict.specs.Verdict.{Verdict, Drop, Respond, Copy, AckOn, Cancel, Answer, InDialog, Challenge, Deny, Send, Register, verdict_of}
 use Rattle.sip_model.specs.Step.{Act, Given, Passing, moment_of, arrival_of}
 use Rattle.sip_model.specs.Run.{Link, IsChain}
 use Rattle.sip_model.specs.Histories.{asked_in, Judged, judged_at, with_issued, nonces_by, nonces_after, WasChallenged}

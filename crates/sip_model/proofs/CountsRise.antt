@@ -20,11 +20,13 @@ use Rattle.sip_field.specs.declared.field.Field.{Field}
 use Rattle.sip_auth.specs.Proof as Proofs
 use Rattle.sip_auth.specs.Proof.{Proof, Claim, proof_of, proof_in, proof_from, proof_by, proof_with_key, key_of, claim_of, first_for_realm, credentials_field, is_equal_uri}
 use Rattle.sip_event.specs.declared.event.Event.TheVariants.{Datagram, Time, Fault}
-use Rattle.sip_state.specs.Server.{Server}
+use Rattle.sip_state.specs.declared.server.Server.{Server}
 use Rattle.sip_state.specs.declared.proxy_state.ProxyState.{ProxyState}
 use Rattle.sip_state.specs.State.{first_state}
 use Rattle.sip_targets.specs.declared.targets.Targets.{Targets}
-use Rattle.sip_verdict.specs.Verdict.{Arrival, Question, Registered, Verdict, Drop, Respond, Copy, AckOn, Cancel, Answer, InDialog, Challenge, Deny, Send, Register, is_register, question_of, answer_of, registration_by, request_targets, decided, message_verdict, message_in, verdict_in}
+use Rattle.sip_state.specs.Arrival.{Arrival}
+use Rattle.sip_verdict.specs.declared.question.Question.{Question}
+use Rattle.sip_verdict.specs.Verdict.{Registered, Verdict, Drop, Respond, Copy, AckOn, Cancel, Answer, InDialog, Challenge, Deny, Send, Register, is_register, question_of, answer_of, registration_by, request_targets, decided, message_verdict, message_in, verdict_in}
 use Rattle.sip_model.specs.Step.{Act, Given, Passing, arrival_of}
 use Rattle.sip_model.specs.Run.{Link, IsChain}
 use Rattle.sip_model.specs.Histories.{asked_in, Judged, judged_at, nonces_by, issues_by, issues_of, right_count, right_counts, AreFalling}

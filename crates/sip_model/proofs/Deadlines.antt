@@ -4,7 +4,7 @@ use Rattle.std.specs.List.{AllByRecursion, cons_option}
 use Rattle.sip_host.specs.declared.addr.Addr.{Addr}
 use Rattle.sip_event.specs.declared.event.StepOut.{StepOut}
 use Rattle.sip_event.specs.declared.event.Event.TheVariants.{Datagram, Time}
-use Rattle.sip_state.specs.Server.{Server}
+use Rattle.sip_state.specs.declared.server.Server.{Server}
 use Rattle.sip_state.specs.declared.open_request.Side.{Side}
 use Rattle.sip_state.specs.declared.branch.Branch.{Branch}
 use Rattle.sip_state.specs.declared.open_request.OpenRequest.{OpenRequest}

@@ -14,7 +14,7 @@ use Rattle.sip_location.specs.declared.binding.Binding.{Binding}
 use Rattle.sip_best.specs.declared.final_answer.Final.{Final}
 use Rattle.sip_best.specs.Best.{best_of, is_challenge_status, taking_along}
 use Rattle.sip_event.specs.declared.packet.Packet.{Packet}
-use Rattle.sip_state.specs.Server.{Server}
+use Rattle.sip_state.specs.declared.server.Server.{Server}
 use Rattle.sip_state.specs.declared.branch.Phase.{Phase}
 use Rattle.sip_state.specs.declared.branch.Branch.{Branch}
 use Rattle.sip_state.specs.declared.open_request.OpenRequest.{OpenRequest}
@@ -25,10 +25,11 @@ use Rattle.sip_state.specs.State.{is_invite, is_final, is_answering, has_left, i
 use Rattle.sip_context.specs.Sending.{made_answer, answer_to, to_branch, request_of, branch_packets, ack_packets}
 use Rattle.sip_state.specs.declared.open_request.Upward.{Upward}
 use Rattle.sip_context.specs.Branches.{Change, with_phase, upward_of, all_final, best_upward, is_ready, is_cancellable, cancel_branch, new_cancels, with_cancels, after_upward, upward_list, settled, heard, other_heard, relayed_from, relayed_provisional, is_accepted, relayed_success, final_of, with_answer, acks_of, further, target_responded, cancel_responded, responded, branch_overdue, overdue, side_overdue, given_up, send_failed, marked, cancelled}
-use Rattle.sip_model.specs.Effect.{replaced, upward_packets, change_packets}
+use Rattle.sip_model.specs.Effect.{upward_packets, change_packets, replaced}
 use Rattle.sip_model.specs.Step.{Act}
 use Rattle.sip_model.specs.Run.{Link}
-use Rattle.sip_verdict.specs.Verdict.{Arrival, responding}
+use Rattle.sip_state.specs.Arrival.{Arrival}
+use Rattle.sip_verdict.specs.Verdict.{responding}
 use Rattle.sip_model.specs.Access.{CameFor, IsTakenAlong, IsSaidAt, IsOpen, IsDenied, IsHeardNow, IsOwed, Answers, Forwards, Acknowledges, Cancels}
 use Rattle.sip_model.proofs.Places.{in_from_contains}
 use Rattle.sip_model.proofs.Apart.{TargetsDiffer, only_target}

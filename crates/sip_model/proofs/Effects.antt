@@ -19,7 +19,7 @@ use Rattle.sip_targets.specs.Targets.{target_list}
 use Rattle.sip_dialog.specs.declared.dialog.DialogId.{DialogId}
 use Rattle.sip_audit.specs.declared.record.Record.{Record}
 use Rattle.sip_event.specs.declared.packet.Packet.{Packet}
-use Rattle.sip_state.specs.Server.{Server}
+use Rattle.sip_state.specs.declared.server.Server.{Server}
 use Rattle.sip_state.specs.declared.branch.Branch.{Branch}
 use Rattle.sip_state.specs.declared.open_request.OpenRequest.{OpenRequest}
 use Rattle.sip_state.specs.declared.proxy_state.ProxyState.{ProxyState}
@@ -27,8 +27,11 @@ use Rattle.sip_state.specs.State.{is_invite}
 use Rattle.sip_context.specs.Sending.{made_answer, branch_packets, request_of, onward_as, begins_dialog}
 use Rattle.sip_state.specs.declared.open_request.Upward.{Upward}
 use Rattle.sip_context.specs.Branches.{Change, settled, answered, responded, cancelled, acknowledged, is_ready, is_cancellable, cancel_branch, new_cancels}
-use Rattle.sip_verdict.specs.Verdict.{Arrival, Question, Registered, Bound, Refused, Verdict, Drop, Respond, Copy, AckOn, Cancel, Answer, InDialog, Challenge, Deny, Send, Register, is_full, question_of, request_targets}
-use Rattle.sip_model.specs.Effect.{Effect, arriving, replaced, upward_packets, change_packets, changed, nothing, opened, replied, is_registration, challenge_status, registering, branches_from, unsent, forking, is_tried, trying, tried, forked, sent_to, sending, dialog_branch, renewing, copied, cancelling, counted, asked, issuing, method_of, effect_of}
+use Rattle.sip_state.specs.Arrival.{Arrival}
+use Rattle.sip_verdict.specs.declared.question.Question.{Question}
+use Rattle.sip_verdict.specs.Verdict.{Registered, Bound, Refused, Verdict, Drop, Respond, Copy, AckOn, Cancel, Answer, InDialog, Challenge, Deny, Send, Register, is_full, question_of, request_targets}
+use Rattle.sip_context.specs.Opening.{arriving, branches_from, unsent, forking, is_tried, trying, tried, dialog_branch}
+use Rattle.sip_model.specs.Effect.{upward_packets, change_packets, Effect, replaced, changed, nothing, opened, replied, is_registration, challenge_status, registering, forked, sent_to, sending, renewing, copied, cancelling, counted, asked, issuing, method_of, effect_of}
 use Rattle.sip_model.specs.Step.{Act}
 use Rattle.sip_model.specs.Run.{Link}
 use Rattle.sip_model.specs.Access.{CameFor, IsNewRequest, IsSaidAt, IsOpen, IsDenied, IsWithin, Brought, Before, ToTarget, Answers, InKnownDialog, decision_on, targets_on, requests_to}

@@ -5,7 +5,7 @@ use Rattle.sip_form.specs.declared.message.Message.{Message}
 use Rattle.sip_best.specs.declared.final_answer.Final.{Final}
 use Rattle.sip_event.specs.declared.packet.Packet.{Packet}
 use Rattle.sip_state.specs.declared.resend.Resend.{Resend}
-use Rattle.sip_state.specs.Server.{Server}
+use Rattle.sip_state.specs.declared.server.Server.{Server}
 use Rattle.sip_state.specs.declared.branch.Phase.{Phase}
 use Rattle.sip_state.specs.declared.open_request.Side.{Side}
 use Rattle.sip_state.specs.declared.branch.Branch.{Branch}
@@ -17,8 +17,8 @@ use Rattle.sip_state.specs.State.{first_state, is_invite, is_final, is_ended, is
 use Rattle.sip_state.specs.declared.open_request.Upward.{Upward}
 use Rattle.sip_retransmission.specs.Retransmission.{IsResent, OfAnswer, OfRequest, branch_next}
 use Rattle.sip_context.specs.Branches.{is_same_branch, all_final, best_upward, after_upward, settled, acknowledged, acknowledged_side, was_refused}
-use Rattle.sip_verdict.specs.Verdict.{Arrival}
-use Rattle.sip_model.specs.Effect.{forking, unsent, tried, trying}
+use Rattle.sip_state.specs.Arrival.{Arrival}
+use Rattle.sip_context.specs.Opening.{forking, unsent, tried, trying}
 use Rattle.sip_model.specs.Run.{Link, IsChain}
 use Rattle.sip_model.specs.Order.{CanEnd, FinalAnswer}
 use Rattle.sip_model.proofs.Places.{IsIn, all_in, all_push, all_weaker, all_replaced, contains_from_in}

@@ -32,7 +32,7 @@ use Rattle.sip_dialog.specs.Dialogs.{IsInDialog, is_in_dialog}
 use Rattle.std.proofs.lemmas.Slice.Eq.{bytes_eq-Decides}
 use Rattle.sip_dialog.specs.DialogId.{id_of}
 use Rattle.sip_dialog.proofs.Tests.{test_says}
-use Rattle.sip_state.specs.Server.{Server}
+use Rattle.sip_state.specs.declared.server.Server.{Server}
 use Rattle.sip_location.specs.Registering.{registration_of, to_aor}
 use Rattle.sip_state.specs.declared.branch.Branch.{Branch}
 use Rattle.sip_state.specs.declared.open_request.OpenRequest.{OpenRequest}
@@ -41,7 +41,9 @@ use Rattle.sip_state.specs.State.{has_key}
 use Rattle.sip_state.specs.Dialogs.{dialog_of}
 use Rattle.sip_context.specs.Branches.{is_accepted}
 use Rattle.sip_context.specs.FoundBranch.{is_branch, branch_in, found_branch}
-use Rattle.sip_verdict.specs.Verdict.{Arrival, Question, Registered, Bound, Refused, Verdict, Drop, Respond, Copy, AckOn, Cancel, Answer, InDialog, Challenge, Deny, Send, Register, is_many, response_verdict, top_branch, responding, next_address, within_at, within, ack_verdict, is_full, is_cancelled_by, found_for_cancel, cancel_verdict, is_register, question_of, registered_by, registration_by, is_own_uri, request_targets, decided, policy_verdict, is_outside, core_verdict, checked_verdict, new_verdict, by_open, by_key, by_start, message_verdict, message_in}
+use Rattle.sip_state.specs.Arrival.{Arrival}
+use Rattle.sip_verdict.specs.declared.question.Question.{Question}
+use Rattle.sip_verdict.specs.Verdict.{Registered, Bound, Refused, Verdict, Drop, Respond, Copy, AckOn, Cancel, Answer, InDialog, Challenge, Deny, Send, Register, is_many, response_verdict, top_branch, responding, next_address, within_at, within, ack_verdict, is_full, is_cancelled_by, found_for_cancel, cancel_verdict, is_register, question_of, registered_by, registration_by, is_own_uri, request_targets, decided, policy_verdict, is_outside, core_verdict, checked_verdict, new_verdict, by_open, by_key, by_start, message_verdict, message_in}
 use Rattle.sip_model.specs.Effect.{method_of}
 use Rattle.sip_model.specs.Access.{IsNewRequest, decision_on, rule_of}
 use Rattle.sip_model.proofs.Lists.{all_find, all_there}

@@ -12,17 +12,19 @@ use Rattle.sip_dialog.proofs.Sameness.{dialogs_self, dialogs_joined, dialogs_lat
 use Rattle.sip_event.specs.declared.packet.Ticket.{Ticket}
 use Rattle.sip_event.specs.declared.event.StepOut.{StepOut}
 use Rattle.sip_event.specs.declared.event.Event.TheVariants.{Datagram, Time, Fault}
-use Rattle.sip_state.specs.Server.{Server}
+use Rattle.sip_state.specs.declared.server.Server.{Server}
 use Rattle.sip_state.specs.declared.branch.Branch.{Branch}
 use Rattle.sip_state.specs.declared.open_request.OpenRequest.{OpenRequest}
 use Rattle.sip_state.specs.declared.proxy_state.ProxyState.{ProxyState}
 use Rattle.sip_state.specs.State.{first_state}
 use Rattle.sip_state.proofs.Sameness.{after_request_same}
-use Rattle.sip_verdict.specs.Verdict.{Arrival, Bound, Refused, Verdict, Drop, Respond, Copy, AckOn, Cancel, Answer, InDialog, Challenge, Deny, Send, Register, verdict_of}
+use Rattle.sip_state.specs.Arrival.{Arrival}
+use Rattle.sip_verdict.specs.Verdict.{Bound, Refused, Verdict, Drop, Respond, Copy, AckOn, Cancel, Answer, InDialog, Challenge, Deny, Send, Register, verdict_of}
 use Rattle.sip_state.specs.Dialogs.{after_request}
 use Rattle.sip_context.specs.Branches.{settled, responded, send_failed, cancelled}
 use Rattle.sip_targets.specs.Targets.{target_list}
-use Rattle.sip_model.specs.Effect.{Effect, counted, effect_of, nothing, forking, branches_from, dialog_branch, tried, trying}
+use Rattle.sip_context.specs.Opening.{forking, branches_from, dialog_branch, tried, trying}
+use Rattle.sip_model.specs.Effect.{Effect, counted, effect_of, nothing}
 use Rattle.sip_model.specs.Step.{Act, Given, Passing, IsStep, arrival_of, is_failed, failed_branch, failed_request, moment_of}
 use Rattle.sip_model.specs.Run.{Link, IsChain}
 use Rattle.sip_model.specs.Histories.{Judged, judged_at, nonces_by, nonces_after, records_of, records_at, verdict_dialogs, forking_dialogs, branch_dialogs, fault_dialogs, step_dialogs, history_dialogs}

@@ -9,13 +9,14 @@ use Rattle.sip_host.specs.declared.addr.Addr.{Addr}
 use Rattle.sip_targets.specs.declared.target.Target.{Target}
 use Rattle.sip_audit.specs.declared.record.Record.{Record}
 use Rattle.sip_event.specs.declared.packet.Packet.{Packet}
-use Rattle.sip_state.specs.Server.{Server}
+use Rattle.sip_state.specs.declared.server.Server.{Server}
 use Rattle.sip_state.specs.declared.proxy_state.ProxyState.{ProxyState}
 use Rattle.sip_state.specs.declared.open_request.OpenRequest.{OpenRequest}
 use Rattle.sip_context.specs.Sending.{branch_packets, sent_of}
 use Rattle.sip_state.specs.declared.open_request.Upward.{Upward}
 use Rattle.sip_context.specs.Branches.{Change, best_upward, is_cancellable, cancel_branch, new_cancels, after_upward, settled}
-use Rattle.sip_model.specs.Effect.{upward_packets, change_packets, branch_to, branches_from, trying, tried, forked}
+use Rattle.sip_context.specs.Opening.{branch_to, branches_from, trying, tried}
+use Rattle.sip_model.specs.Effect.{upward_packets, change_packets, forked}
 
 -- whether a packet is a branch's request
 abbrev pub is_of_branch : Packet → Bool

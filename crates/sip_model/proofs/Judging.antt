@@ -18,14 +18,15 @@ use Rattle.sip_host.specs.declared.addr.Addr.{Addr}
 use Rattle.sip_validate.specs.Refusal.{refusal, refusal_of, candidate_by, is_bad_request}
 use Rattle.sip_dialog.specs.declared.dialog.DialogId.{DialogId}
 use Rattle.sip_dialog.specs.Dialogs.{is_in_dialog}
-use Rattle.sip_state.specs.Server.{Server}
+use Rattle.sip_state.specs.declared.server.Server.{Server}
 use Rattle.sip_state.specs.declared.proxy_state.ProxyState.{ProxyState}
 use Rattle.sip_state.specs.declared.open_request.OpenRequest.{OpenRequest}
 use Rattle.sip_state.specs.declared.branch.Branch.{Branch}
 use Rattle.sip_state.specs.State.{has_key}
 use Rattle.sip_context.specs.Branches.{is_accepted}
 use Rattle.sip_state.specs.Dialogs.{dialog_of}
-use Rattle.sip_verdict.specs.Verdict.{Arrival, Verdict, Drop, Respond, Copy, AckOn, Cancel, Answer, InDialog, Challenge, Deny, Send, Register, response_verdict, responding, next_address, within_at, within, ack_verdict, is_full, found_for_cancel, cancel_verdict, policy_verdict, is_outside, core_verdict, checked_verdict, new_verdict, by_open, by_key, by_start, message_verdict, message_in}
+use Rattle.sip_state.specs.Arrival.{Arrival}
+use Rattle.sip_verdict.specs.Verdict.{Verdict, Drop, Respond, Copy, AckOn, Cancel, Answer, InDialog, Challenge, Deny, Send, Register, response_verdict, responding, next_address, within_at, within, ack_verdict, is_full, found_for_cancel, cancel_verdict, policy_verdict, is_outside, core_verdict, checked_verdict, new_verdict, by_open, by_key, by_start, message_verdict, message_in}
 use Rattle.sip_model.specs.Access.{IsNewRequest}
 
 -- whether a verdict is one that policy gives

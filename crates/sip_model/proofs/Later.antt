@@ -6,7 +6,7 @@ use Rattle.sip_form.specs.declared.message.Message.{Message}
 use Rattle.sip_best.specs.declared.final_answer.Final.{Final}
 use Rattle.sip_event.specs.declared.packet.Packet.{Packet}
 use Rattle.sip_state.specs.declared.resend.Resend.{Resend}
-use Rattle.sip_state.specs.Server.{Server}
+use Rattle.sip_state.specs.declared.server.Server.{Server}
 use Rattle.sip_state.specs.declared.branch.Phase.{Phase}
 use Rattle.sip_state.specs.declared.open_request.Side.{Side}
 use Rattle.sip_state.specs.declared.branch.Branch.{Branch}
@@ -20,7 +20,7 @@ use Rattle.sip_retransmission.specs.Retransmission.{IsResent, OfAnswer, OfReques
 use Rattle.sip_context.specs.Branches.{is_same_branch, with_phase, with_final, marked, given_up, answered, after_upward, is_ready, cancel_branch, with_cancels, search_ended, with_answer, final_of, linger, target_overdue, branch_overdue, acknowledged_side, was_refused, acknowledged, turned, told_to}
 use Rattle.sip_model.specs.Run.{Link}
 use Rattle.sip_model.specs.Step.{Act}
-use Rattle.sip_model.specs.Effect.{tried}
+use Rattle.sip_context.specs.Opening.{tried}
 use Rattle.sip_model.specs.Access.{WasHeard}
 use Rattle.sip_model.proofs.Lists.{all_append, all_map, all_weaker, all_contains, all_there}
 use Rattle.sip_model.proofs.Apart.{TargetsDiffer, goes_to, differ_edited, differ_with_cancels}

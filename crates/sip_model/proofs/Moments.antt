@@ -4,7 +4,7 @@ use Rattle.std.specs.List.{AllByRecursion}
 use Rattle.sip_event.specs.declared.packet.Packet.{Packet}
 use Rattle.sip_event.specs.declared.event.StepOut.{StepOut}
 use Rattle.sip_event.specs.declared.event.Event.TheVariants.{Datagram, Time, Fault}
-use Rattle.sip_state.specs.Server.{Server}
+use Rattle.sip_state.specs.declared.server.Server.{Server}
 use Rattle.sip_state.specs.declared.branch.Branch.{Branch}
 use Rattle.sip_state.specs.declared.open_request.OpenRequest.{OpenRequest}
 use Rattle.sip_state.specs.declared.proxy_state.ProxyState.{ProxyState}

@@ -3,15 +3,16 @@ use Rattle.std.proofs.Common.{◌≡◌, ℕ, ◌+◌, ◌≤◌, false, cond, L
 use Rattle.std.specs.List.{AllByRecursion}
 use Rattle.sip_form.specs.declared.message.Message.{Message}
 use Rattle.sip_event.specs.declared.packet.Packet.{Packet}
-use Rattle.sip_state.specs.Server.{Server}
+use Rattle.sip_state.specs.declared.server.Server.{Server}
 use Rattle.sip_state.specs.declared.branch.Branch.{Branch}
 use Rattle.sip_state.specs.declared.open_request.OpenRequest.{OpenRequest}
 use Rattle.sip_state.specs.declared.branch.Phase.TheVariants.{Unheard, Ended}
 use Rattle.sip_state.specs.State.{first_resend, has_key}
 use Rattle.sip_retransmission.specs.Retransmission.{IsResent}
 use Rattle.sip_context.specs.Branches.{Change, settled, acknowledged}
-use Rattle.sip_verdict.specs.Verdict.{Arrival}
-use Rattle.sip_model.specs.Effect.{replaced, closing, forking, tried, trying}
+use Rattle.sip_state.specs.Arrival.{Arrival}
+use Rattle.sip_context.specs.Opening.{closing, forking, tried, trying}
+use Rattle.sip_model.specs.Effect.{replaced}
 use Rattle.sip_model.specs.Order.{IsChangeOf, FinalAnswer, change_finals, reply_finals, forked_finals}
 use Rattle.sip_model.proofs.Places.{IsIn}
 

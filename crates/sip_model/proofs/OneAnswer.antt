@@ -5,7 +5,7 @@ use Rattle.std.proofs.lemmas.Bool.Decides.{nat_tests}
 use Rattle.sip_form.specs.declared.message.Message.{Message}
 use Rattle.sip_key.specs.declared.key.Key.{Key}
 use Rattle.sip_event.specs.declared.packet.Packet.{Packet}
-use Rattle.sip_state.specs.Server.{Server}
+use Rattle.sip_state.specs.declared.server.Server.{Server}
 use Rattle.sip_state.specs.declared.branch.Branch.{Branch}
 use Rattle.sip_state.specs.declared.open_request.OpenRequest.{OpenRequest}
 use Rattle.sip_state.specs.declared.proxy_state.ProxyState.{ProxyState}
@@ -13,8 +13,9 @@ use Rattle.sip_state.specs.State.{first_state, is_invite, is_answering, has_left
 use Rattle.sip_retransmission.specs.Retransmission.{IsResent, OfAnswer, OfRequest}
 use Rattle.sip_context.specs.Sending.{made_answer}
 use Rattle.sip_context.specs.Branches.{Change, settled, acknowledged, acknowledged_side, was_refused}
-use Rattle.sip_verdict.specs.Verdict.{Arrival}
-use Rattle.sip_model.specs.Effect.{replaced, arriving, closing, forking, is_tried, tried, trying}
+use Rattle.sip_state.specs.Arrival.{Arrival}
+use Rattle.sip_context.specs.Opening.{arriving, closing, forking, is_tried, tried, trying}
+use Rattle.sip_model.specs.Effect.{replaced}
 use Rattle.sip_model.specs.Run.{Link, IsChain}
 use Rattle.sip_model.specs.Order.{is_numbered, AreNumbered, FinalAnswer, finals_up, change_finals, reply_finals, forked_finals, step_finals, history_finals, finals_to, IsAccepting, AreOneAnswer}
 use Rattle.sip_model.proofs.Places.{same_number, IsIn, all_in, all_push, all_replaced, counts_in, count_cons, one_at}

@@ -2,7 +2,7 @@
 use Rattle.std.proofs.Common.{◌≡◌, ℕ, ◌+◌, ◌≤◌, Bool, true, false, cond, List, [], ◌∷◌, Option, Some, None, refl, sym, ap, subst, ◌∙◌, arith, is_some}
 use Rattle.std.specs.List.{AllByRecursion}
 use Rattle.sip_form.specs.declared.message.Message.{Message}
-use Rattle.sip_state.specs.Server.{Server}
+use Rattle.sip_state.specs.declared.server.Server.{Server}
 use Rattle.sip_state.specs.declared.branch.Phase.{Phase}
 use Rattle.sip_state.specs.declared.branch.Branch.{Branch}
 use Rattle.sip_state.specs.declared.open_request.OpenRequest.{OpenRequest}
@@ -13,8 +13,8 @@ use Rattle.sip_state.specs.declared.open_request.Upward.{Upward}
 use Rattle.sip_state.specs.declared.resend.Resend.{Resend}
 use Rattle.sip_context.specs.Branches.{after_upward}
 use Rattle.sip_retransmission.specs.Retransmission.{insists}
-use Rattle.sip_verdict.specs.Verdict.{Arrival}
-use Rattle.sip_model.specs.Effect.{closing, forking, is_tried, tried, trying}
+use Rattle.sip_state.specs.Arrival.{Arrival}
+use Rattle.sip_context.specs.Opening.{closing, forking, is_tried, tried, trying}
 use Rattle.sip_model.specs.Order.{FinalAnswer}
 use Rattle.sip_model.proofs.Moves.{IsStarted, sent_request, IsOpening, Answered, Sent}
 use Rattle.sip_model.proofs.Resending.{DueFrom, due_if, goes, IsBranchAgain, IsAgain, upward_again, settled_again}

@@ -13,7 +13,7 @@ use Rattle.sip_targets.specs.Targets.{target_list}
 use Rattle.sip_event.specs.declared.packet.Packet.{Packet}
 use Rattle.sip_event.specs.declared.packet.Ticket.{Ticket}
 use Rattle.sip_event.specs.declared.event.StepOut.{StepOut}
-use Rattle.sip_state.specs.Server.{Server}
+use Rattle.sip_state.specs.declared.server.Server.{Server}
 use Rattle.sip_state.specs.declared.branch.Phase.{Phase}
 use Rattle.sip_state.specs.declared.branch.Phase.TheVariants.{Unheard, Heard, Cancelled, Done, Ended}
 use Rattle.sip_state.specs.declared.branch.Branch.{Branch}
@@ -27,8 +27,11 @@ use Rattle.sip_state.proofs.Sameness.{state_self}
 use Rattle.sip_context.specs.Sending.{answer_to, to_branch, branch_packets, ack_packets, sent_of, ticket_branch, request_of}
 use Rattle.sip_context.specs.Branches.{Change, settled, after_upward, best_upward, new_cancels, responded, target_responded, cancel_responded, acks_of, relayed_provisional, relayed_success, further, with_phase, with_answer, heard, other_heard, marked, given_up, branch_overdue}
 use Rattle.sip_retransmission.specs.Retransmission.{answers_again, is_lasting, acks_again, IsResent, OfAnswer, OfRequest}
-use Rattle.sip_verdict.specs.Verdict.{Arrival, Question, Registered, Bound, Refused, Verdict, Drop, Respond, Copy, AckOn, Cancel, Answer, InDialog, Challenge, Deny, Send, Register, verdict_of}
-use Rattle.sip_model.specs.Effect.{Effect, upward_packets, change_packets, nothing, method_of, tried, trying, forking, branches_from, dialog_branch, sending, registering, counted, effect_of, datagram_effect}
+use Rattle.sip_state.specs.Arrival.{Arrival}
+use Rattle.sip_verdict.specs.declared.question.Question.{Question}
+use Rattle.sip_verdict.specs.Verdict.{Registered, Bound, Refused, Verdict, Drop, Respond, Copy, AckOn, Cancel, Answer, InDialog, Challenge, Deny, Send, Register, verdict_of}
+use Rattle.sip_context.specs.Opening.{tried, trying, forking, branches_from, dialog_branch}
+use Rattle.sip_model.specs.Effect.{upward_packets, change_packets, Effect, nothing, method_of, sending, registering, counted, effect_of, datagram_effect}
 use Rattle.sip_model.specs.Step.{originals, retransmissions, Does, IsOverdue, OfSide, OfBranch, is_failed, failed_branch, failed_request, fault_effect}
 use Rattle.sip_model.proofs.Lists.{all_append, all_flat_map, all_map, all_every}
 

@@ -11,13 +11,14 @@ use Rattle.sip_event.specs.declared.packet.Packet.{Packet}
 use Rattle.sip_event.specs.declared.packet.Ticket.{Ticket}
 use Rattle.sip_event.specs.declared.event.StepOut.{StepOut}
 use Rattle.sip_event.specs.declared.event.Event.TheVariants.{Datagram, Time, Fault}
-use Rattle.sip_state.specs.Server.{Server}
+use Rattle.sip_state.specs.declared.server.Server.{Server}
 use Rattle.sip_state.specs.declared.branch.Branch.{Branch}
 use Rattle.sip_state.specs.declared.open_request.OpenRequest.{OpenRequest}
 use Rattle.sip_state.specs.declared.proxy_state.ProxyState.{ProxyState}
 use Rattle.sip_state.specs.State.{first_state}
 use Rattle.sip_context.specs.Branches.{Change, send_failed}
-use Rattle.sip_verdict.specs.Verdict.{Arrival, message_verdict, message_in, verdict_in}
+use Rattle.sip_state.specs.Arrival.{Arrival}
+use Rattle.sip_verdict.specs.Verdict.{message_verdict, message_in, verdict_in}
 use Rattle.sip_model.specs.Effect.{Effect, counted, effect_of, datagram_effect, nothing}
 use Rattle.sip_model.specs.Step.{Act, Given, Passing, Does, IsOverdue, OfSide, OfBranch, IsQuiet, IsDeadline, IsResend, resent, IsStep, originals, moment_of, arrival_of, is_failed, failed_branch, failed_request, fault_effect}
 use Rattle.sip_model.specs.Run.{Link, IsChain}

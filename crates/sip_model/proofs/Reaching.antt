@@ -16,7 +16,7 @@ use Rattle.sip_targets.specs.declared.target.Target.{Target}
 use Rattle.sip_targets.specs.Target.{target_for}
 use Rattle.sip_targets.specs.declared.targets.Targets.{Targets}
 use Rattle.sip_targets.specs.Targets.{targets_at, target_by, target_list}
-use Rattle.sip_state.specs.Server.{Server}
+use Rattle.sip_state.specs.declared.server.Server.{Server}
 use Rattle.sip_location.specs.Registering.{to_aor, aor_or_nobody}
 use Rattle.sip_state.specs.declared.proxy_state.ProxyState.{ProxyState}
 use Rattle.sip_verdict.specs.Verdict.{is_register, targets_by}

@@ -10,14 +10,16 @@ use Rattle.sip_event.specs.declared.packet.Packet.{Packet}
 use Rattle.sip_event.specs.declared.packet.Ticket.{Ticket}
 use Rattle.sip_event.specs.declared.event.StepOut.{StepOut}
 use Rattle.sip_event.specs.declared.event.Event.TheVariants.{Datagram, Time, Fault}
-use Rattle.sip_state.specs.Server.{Server}
+use Rattle.sip_state.specs.declared.server.Server.{Server}
 use Rattle.sip_state.specs.declared.branch.Branch.{Branch}
 use Rattle.sip_state.specs.declared.open_request.OpenRequest.{OpenRequest}
 use Rattle.sip_state.specs.declared.proxy_state.ProxyState.{ProxyState}
 use Rattle.sip_state.specs.State.{is_failure}
 use Rattle.sip_context.specs.Sending.{branch_packets}
 use Rattle.sip_retransmission.specs.Retransmission.{answers_again, goes_again, acks_again, branch_again, retransmissions_of, IsRetransmission, IsResent, OfAnswer, OfRequest}
-use Rattle.sip_verdict.specs.Verdict.{Arrival, Question, Registered, Bound, Refused, Verdict, Drop, Respond, Copy, AckOn, Cancel, Answer, InDialog, Challenge, Deny, Send, Register, message_verdict, message_in, verdict_in}
+use Rattle.sip_state.specs.Arrival.{Arrival}
+use Rattle.sip_verdict.specs.declared.question.Question.{Question}
+use Rattle.sip_verdict.specs.Verdict.{Registered, Bound, Refused, Verdict, Drop, Respond, Copy, AckOn, Cancel, Answer, InDialog, Challenge, Deny, Send, Register, message_verdict, message_in, verdict_in}
 use Rattle.sip_model.specs.Effect.{counted, registering, sending, nothing, effect_of}
 use Rattle.sip_model.specs.Step.{Act, Given, Passing, IsStep, retransmissions, is_failed, failed_branch, failed_request, moment_of, arrival_of}
 use Rattle.sip_model.proofs.Lists.{all_weaker, all_there}

@@ -4,7 +4,7 @@ use Rattle.std.proofs.Math.Nat.{le-min}
 use Rattle.std.specs.List.{AllByRecursion}
 use Rattle.sip_event.specs.declared.packet.Packet.{Packet}
 use Rattle.sip_best.specs.declared.final_answer.Final.{Final}
-use Rattle.sip_state.specs.Server.{Server}
+use Rattle.sip_state.specs.declared.server.Server.{Server}
 use Rattle.sip_state.specs.declared.resend.Resend.{Resend}
 use Rattle.sip_state.specs.declared.branch.Phase.{Phase}
 use Rattle.sip_state.specs.declared.branch.Branch.{Branch}

@@ -17,11 +17,12 @@ use Rattle.sip_dialog.specs.Sameness.{SameDialogs}
 use Rattle.sip_event.specs.declared.packet.Packet.{Packet}
 use Rattle.sip_event.specs.declared.event.StepOut.{StepOut}
 use Rattle.sip_event.specs.declared.event.Event.TheVariants.{Datagram, Time, Fault}
-use Rattle.sip_state.specs.Server.{Server}
+use Rattle.sip_state.specs.declared.server.Server.{Server}
 use Rattle.sip_state.specs.declared.proxy_state.ProxyState.{ProxyState}
 use Rattle.sip_context.specs.Branches.{Change}
 use Rattle.sip_state.proofs.Sameness.{after_answers_same, after_leaving_same}
-use Rattle.sip_verdict.specs.Verdict.{Arrival, Registered, Bound, Refused, is_register, question_of, registration_by}
+use Rattle.sip_state.specs.Arrival.{Arrival}
+use Rattle.sip_verdict.specs.Verdict.{Registered, Bound, Refused, is_register, question_of, registration_by}
 use Rattle.sip_verdict.specs.Sameness.{SameRegistered}
 use Rattle.sip_verdict.proofs.Sameness.{request_targets_same, registration_same, bound_back, refused_back}
 use Rattle.sip_model.specs.Effect.{contact_field, contact_fields, dialogs_after}

@@ -17,11 +17,14 @@ use Rattle.sip_audit.specs.declared.record.Outcome.{Outcome}
 use Rattle.sip_event.specs.declared.event.StepOut.{StepOut}
 use Rattle.sip_event.specs.declared.event.Event.TheVariants.{Datagram, Time, Fault}
 use Rattle.sip_event.specs.declared.packet.Packet.{Packet}
-use Rattle.sip_state.specs.Server.{Server}
+use Rattle.sip_state.specs.declared.server.Server.{Server}
 use Rattle.sip_location.specs.Registering.{to_aor, aor_or_nobody}
 use Rattle.sip_state.specs.declared.proxy_state.ProxyState.{ProxyState}
-use Rattle.sip_verdict.specs.Verdict.{Arrival, Question, Registered, Bound, Refused, Send, Register, is_register, question_of, answer_of, registration_by, targets_by, request_targets, let_through, decided, policy_verdict, verdict_in}
-use Rattle.sip_model.specs.Effect.{Effect, forking, branches_from, registering, sending, sent_to, record_of, contact_fields, counted, asked, effect_of, datagram_effect, nothing}
+use Rattle.sip_state.specs.Arrival.{Arrival}
+use Rattle.sip_verdict.specs.declared.question.Question.{Question}
+use Rattle.sip_verdict.specs.Verdict.{Registered, Bound, Refused, Send, Register, is_register, question_of, answer_of, registration_by, targets_by, request_targets, let_through, decided, policy_verdict, verdict_in}
+use Rattle.sip_context.specs.Opening.{forking, branches_from}
+use Rattle.sip_model.specs.Effect.{Effect, registering, sending, sent_to, record_of, contact_fields, counted, asked, effect_of, datagram_effect, nothing}
 use Rattle.sip_model.specs.Step.{Act, Given, Passing, IsStep, originals, arrival_of}
 use Rattle.sip_model.specs.Access.{IsNewRequest, requests_to, rule_of, answer_alone, IsServed, Serves}
 use Rattle.sip_model.proofs.Judging.{verdict_is}

@@ -26,11 +26,12 @@ use Rattle.sip_targets.specs.declared.target.Target.{Target}
 use Rattle.sip_targets.specs.declared.targets.Targets.{Targets}
 use Rattle.sip_targets.specs.Target.{target_for}
 use Rattle.sip_targets.specs.Targets.{targets_at, target_by, target_list}
-use Rattle.sip_state.specs.Server.{Server}
+use Rattle.sip_state.specs.declared.server.Server.{Server}
 use Rattle.sip_state.specs.declared.proxy_state.ProxyState.{ProxyState}
 use Rattle.sip_state.specs.State.{first_state}
-use Rattle.sip_verdict.specs.Verdict.{Question, Refused, registered_by, is_own_uri, registration_by, targets_by, request_targets}
-use Rattle.sip_model.specs.Effect.{branches_from}
+use Rattle.sip_verdict.specs.declared.question.Question.{Question}
+use Rattle.sip_verdict.specs.Verdict.{Refused, registered_by, is_own_uri, registration_by, targets_by, request_targets}
+use Rattle.sip_context.specs.Opening.{branches_from}
 use Rattle.sip_model.specs.Run.{Link, IsChain}
 use Rattle.sip_model.specs.Bindings.{Arrived, rows_after, bindings_by, allowed_registers}
 use Rattle.sip_model.proofs.Finals.{IsOfSixteen}

@@ -27,7 +27,7 @@ use Rattle.sip_validate.specs.Refusal.{refusal_of, is_bad_request}
 use Rattle.sip_dialog.specs.declared.dialog.DialogId.{DialogId}
 use Rattle.sip_dialog.specs.Dialogs.{is_in_dialog}
 use Rattle.sip_policy.specs.User.{is_users_address}
-use Rattle.sip_state.specs.Server.{Server}
+use Rattle.sip_state.specs.declared.server.Server.{Server}
 use Rattle.sip_state.specs.declared.proxy_state.ProxyState.{ProxyState}
 use Rattle.sip_state.specs.declared.open_request.OpenRequest.{OpenRequest}
 use Rattle.sip_state.specs.declared.branch.Branch.{Branch}
@@ -35,8 +35,10 @@ use Rattle.sip_state.specs.State.{has_key}
 use Rattle.sip_state.specs.Dialogs.{dialog_of}
 use Rattle.sip_context.specs.Branches.{is_accepted}
 use Rattle.sip_context.specs.FoundBranch.{is_branch, branch_in, found_branch}
-use Rattle.sip_verdict.specs.Verdict.{Arrival, Question, Verdict, Drop, Respond, Copy, AckOn, Cancel, Answer, InDialog, Challenge, Deny, Send, Register, response_verdict, responding, within_at, within, ack_verdict, is_full, is_cancelled_by, found_for_cancel, cancel_verdict, targets_by, request_targets, let_through, decided, policy_verdict, question_of, answer_of, is_register, is_outside, registration_by, core_verdict, checked_verdict, new_verdict, by_open, by_key, by_start, message_verdict, top_branch, next_address}
-use Rattle.sip_model.specs.Effect.{request_key}
+use Rattle.sip_state.specs.Arrival.{Arrival}
+use Rattle.sip_verdict.specs.declared.question.Question.{Question}
+use Rattle.sip_verdict.specs.Verdict.{Verdict, Drop, Respond, Copy, AckOn, Cancel, Answer, InDialog, Challenge, Deny, Send, Register, response_verdict, responding, within_at, within, ack_verdict, is_full, is_cancelled_by, found_for_cancel, cancel_verdict, targets_by, request_targets, let_through, decided, policy_verdict, question_of, answer_of, is_register, is_outside, registration_by, core_verdict, checked_verdict, new_verdict, by_open, by_key, by_start, message_verdict, top_branch, next_address}
+use Rattle.sip_context.specs.Opening.{request_key}
 use Rattle.sip_model.proofs.Places.{IsIn, found_in, none_found}
 
 -- ---- what is said of a verdict

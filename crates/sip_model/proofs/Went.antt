@@ -19,7 +19,7 @@ use Rattle.sip_event.specs.declared.packet.Packet.{Packet}
 use Rattle.sip_event.specs.declared.packet.Ticket.{Ticket}
 use Rattle.sip_event.specs.declared.event.StepOut.{StepOut}
 use Rattle.sip_event.specs.declared.event.Event.TheVariants.{Datagram, Time, Fault}
-use Rattle.sip_state.specs.Server.{Server}
+use Rattle.sip_state.specs.declared.server.Server.{Server}
 use Rattle.sip_state.specs.declared.branch.Phase.{Phase}
 use Rattle.sip_state.specs.declared.branch.Phase.TheVariants.{Unheard, Heard, Cancelled, Done, Ended}
 use Rattle.sip_state.specs.declared.branch.Branch.{Branch}
@@ -32,8 +32,11 @@ use Rattle.sip_state.specs.State.{first_state, is_invite, is_final, is_success, 
 use Rattle.sip_context.specs.Sending.{answer_to, to_branch, request_of, branch_packets, ack_packets}
 use Rattle.sip_context.specs.Branches.{Change, is_same_branch, turned, with_phase, with_final, marked, given_up, best_upward, is_cancellable, cancel_branch, new_cancels, held_branch, with_cancel, with_cancels, after_upward, upward_list, settled, heard, invite_heard, other_heard, relayed_provisional, relayed_success, final_of, linger, told_to, with_answer, acks_of, further, target_responded, cancel_responded, responded, target_overdue, branch_overdue, send_failed, cancelled, acknowledged_side, was_refused, acknowledged}
 use Rattle.sip_retransmission.specs.Retransmission.{is_lasting, answers_again, goes_again, acks_again, branch_next, IsResent, OfAnswer, OfRequest, branch_again, retransmissions_of, IsRetransmission}
-use Rattle.sip_verdict.specs.Verdict.{Arrival, Question, Registered, Bound, Refused, Verdict, Drop, Respond, Copy, AckOn, Cancel, Answer, InDialog, Challenge, Deny, Send, Register, is_full, message_verdict, message_in, verdict_in}
-use Rattle.sip_model.specs.Effect.{Effect, replaced, upward_packets, change_packets, changed, nothing, opened, replied, asked, issuing, registering, branches_from, forking, is_tried, trying, tried, forked, sending, dialog_branch, renewing, counted, method_of, effect_of}
+use Rattle.sip_state.specs.Arrival.{Arrival}
+use Rattle.sip_verdict.specs.declared.question.Question.{Question}
+use Rattle.sip_verdict.specs.Verdict.{Registered, Bound, Refused, Verdict, Drop, Respond, Copy, AckOn, Cancel, Answer, InDialog, Challenge, Deny, Send, Register, is_full, message_verdict, message_in, verdict_in}
+use Rattle.sip_context.specs.Opening.{branches_from, forking, is_tried, trying, tried, dialog_branch}
+use Rattle.sip_model.specs.Effect.{upward_packets, change_packets, Effect, replaced, changed, nothing, opened, replied, asked, issuing, registering, forked, sending, renewing, counted, method_of, effect_of}
 use Rattle.sip_model.specs.Step.{Act, Given, Passing, Does, IsOverdue, OfSide, OfBranch, IsStep, originals, retransmissions, moment_of, arrival_of, is_failed, failed_branch, failed_request}
 use Rattle.sip_model.specs.Run.{Link, IsChain}
 use Rattle.sip_model.specs.Lives.{first_sending, sent_first}

@@ -32,7 +32,7 @@ use Rattle.sip_dialog.specs.Dialogs.{IsInDialog}
 use Rattle.sip_event.specs.declared.packet.Packet.{Packet}
 use Rattle.sip_event.specs.declared.event.StepOut.{StepOut}
 use Rattle.sip_event.specs.declared.event.Event.TheVariants.{Datagram, Time, Fault}
-use Rattle.sip_state.specs.Server.{Server}
+use Rattle.sip_state.specs.declared.server.Server.{Server}
 use Rattle.sip_location.specs.Registering.{to_aor}
 use Rattle.sip_state.specs.declared.proxy_state.ProxyState.{ProxyState}
 use Rattle.sip_state.specs.declared.open_request.OpenRequest.{OpenRequest}
@@ -41,8 +41,10 @@ use Rattle.sip_state.specs.State.{is_invite, has_key, is_failure, is_provisional
 use Rattle.sip_state.specs.Dialogs.{dialog_of}
 use Rattle.sip_context.specs.Sending.{made_answer, answer_packet, answer_to, to_branch, ack_packets, branch_packets, onward_as, request_of}
 use Rattle.sip_context.specs.Branches.{is_ready}
-use Rattle.sip_verdict.specs.Verdict.{Arrival, Bound, Refused, has_contact, is_full, is_register, is_outside, question_of, answer_of, request_targets, registration_by, next_address, responding, message_in}
-use Rattle.sip_model.specs.Effect.{arriving, branches_from, contact_fields, challenge_status, challenges_to, method_of}
+use Rattle.sip_state.specs.Arrival.{Arrival}
+use Rattle.sip_verdict.specs.Verdict.{Bound, Refused, has_contact, is_full, is_register, is_outside, question_of, answer_of, request_targets, registration_by, next_address, responding, message_in}
+use Rattle.sip_context.specs.Opening.{arriving, branches_from}
+use Rattle.sip_model.specs.Effect.{contact_fields, challenge_status, challenges_to, method_of}
 use Rattle.sip_model.specs.Step.{Act, Given, Passing, originals, arrival_of}
 use Rattle.sip_model.specs.Run.{Link}
 use Rattle.sip_model.specs.Bindings.{Arrived, bindings_after}

@@ -11,7 +11,7 @@ use Rattle.sip_policy.specs.Examples.{user_of, mufasas_a1, alices_a1, rules_with
 use Rattle.sip_settings.specs.Sample as Settings
 use Rattle.sip_state.specs.declared.proxy_state.ProxyState.{ProxyState}
 use Rattle.sip_state.specs.State.{first_state}
-use Rattle.sip_state.specs.Server.{Server}
+use Rattle.sip_state.specs.declared.server.Server.{Server}
 use Rattle.sip_verdict.specs.Verdict.{message_verdict}
 use Rattle.sip_model.specs.Effect.{Effect, counted, effect_of}
 use Rattle.sip_model.specs.Examples.{arriving_at, authorized}

@@ -1,7 +1,7 @@
 -- What a verdict on a datagram, or a change of an open request, does: what is sent, what is recorded, and the state after it (RFC 3261 16, 17).
-use Rattle.std.specs.Prelude.{ℕ, ◌+◌, Bool, true, false, not, ◌&&◌, ◌==◌, is_some, if◌then◌else◌, List, [], ◌∷◌, ◌++◌, length, map, filter, codes, Option, Some, None}
-use Rattle.std.specs.Option.{option_map_or, unwrap_or}
-use Rattle.std.specs.List.{flat_map, list_any}
+use Rattle.std.specs.Prelude.{ℕ, ◌+◌, Bool, true, false, ◌==◌, if◌then◌else◌, List, [], ◌∷◌, ◌++◌, length, map, codes, Option, Some, None}
+use Rattle.std.specs.Option.{option_map_or}
+use Rattle.std.specs.List.{flat_map}
 use Rattle.std.specs.Str.{bytes_eq}
 use Rattle.sip_nonces.specs.NonceText.{nonce_text}
 use Rattle.sip_nonces.specs.Nonces.{issued}
@@ -14,8 +14,6 @@ use Rattle.sip_form.specs.declared.message.Start.{Start}
 use Rattle.sip_form.specs.declared.message.Start.TheVariants.{Request, Status}
 use Rattle.sip_form.specs.declared.message.Message.{Message}
 use Rattle.sip_form.specs.Text.{text_of}
-use Rattle.sip_key.specs.declared.key.Key.{Key}
-use Rattle.sip_key.specs.Key.{key_of}
 use Rattle.sip_host.specs.declared.addr.Addr.{Addr}
 use Rattle.sip_reply.specs.Challenges.{challenge_fields}
 use Rattle.sip_auth.specs.Offer.{offers_sha256}
@@ -28,7 +26,6 @@ use Rattle.sip_location.specs.Binding.{live, seconds_left}
 use Rattle.sip_targets.specs.declared.target.Target.{Target}
 use Rattle.sip_targets.specs.declared.targets.Targets.{Targets}
 use Rattle.sip_targets.specs.Targets.{target_list}
-use Rattle.sip_best.specs.declared.final_answer.Final.{Final}
 use Rattle.sip_dialog.specs.declared.dialog.DialogId.{DialogId}
 use Rattle.sip_dialog.specs.declared.dialog.Dialog.{Dialog}
 use Rattle.sip_audit.specs.declared.record.Record.{Record}
@@ -36,20 +33,20 @@ use Rattle.sip_audit.specs.declared.record.Operation.TheVariants as RecordedAs
 use Rattle.sip_audit.specs.declared.record.Operation as AuditOperation
 use Rattle.sip_audit.specs.declared.record.Outcome.{Outcome}
 use Rattle.sip_event.specs.declared.packet.Packet.{Packet}
-use Rattle.sip_state.specs.Server.{Server}
+use Rattle.sip_state.specs.declared.server.Server.{Server}
 use Rattle.sip_auth.specs.Proof.{proven, is_stale, used}
-use Rattle.sip_state.specs.declared.branch.Branch.{Branch}
 use Rattle.sip_state.specs.declared.open_request.OpenRequest.{OpenRequest}
 use Rattle.sip_state.specs.declared.proxy_state.ProxyState.{ProxyState}
-use Rattle.sip_state.specs.declared.branch.Phase.TheVariants.{Unheard, Ended}
-use Rattle.sip_state.specs.declared.open_request.Side.TheVariants.{Answering, Closing}
-use Rattle.sip_state.specs.State.{first_resend, is_invite, has_left, with_one_more}
+use Rattle.sip_state.specs.State.{has_left, with_one_more}
 use Rattle.sip_context.specs.Sending.{made_answer, answer_packet, answer_to, onward_as, branch_packets}
 use Rattle.sip_state.specs.declared.open_request.Upward.{Upward}
 use Rattle.sip_state.specs.Dialogs.{after_request, after_answers, after_leaving}
-use Rattle.sip_context.specs.Branches.{Change, settled, responded, cancelled, acknowledged, answered}
+use Rattle.sip_context.specs.Branches.{Change, responded, cancelled, acknowledged}
+use Rattle.sip_context.specs.Opening.{closing, branches_from, dialog_branch, forking, trying, opening}
 use Rattle.sip_retransmission.specs.Retransmission.{answers_again, acked_again}
-use Rattle.sip_verdict.specs.Verdict.{Arrival, Question, Registered, Bound, Refused, Verdict, Drop, Respond, Copy, AckOn, Cancel, Answer, InDialog, Challenge, Deny, Send, Register, is_full, minute_on, verdict_of}
+use Rattle.sip_state.specs.Arrival.{Arrival}
+use Rattle.sip_verdict.specs.declared.question.Question.{Question}
+use Rattle.sip_verdict.specs.Verdict.{Registered, Bound, Refused, Verdict, Drop, Respond, Copy, AckOn, Cancel, Answer, InDialog, Challenge, Deny, Send, Register, is_full, minute_on, verdict_of}
 
 -- what is sent for the first time, in its order; what goes again; what is recorded; and the state after it
 pub record Effect : Type 0 where
@@ -92,19 +89,6 @@ abbrev pub nothing : ProxyState → Effect
 nothing state = record { originals = []; again = []; records = []; state = state }
 
 -- ---- a request is answered at once
-
--- the key of a request; each one that is opened has one
-abbrev pub request_key : Message → Key
-request_key m = unwrap_or (key_of m) (record { branch = []; host = []; port = 0; method = [] })
-
--- a request that comes, before anything was sent for it
-abbrev pub arriving : Arrival → Message → OpenRequest
-arriving a m =
-    record { key = request_key m; request = m; source = a.from; number = a.number; arrived_at = a.now; answer = None; side = Answering; again = first_resend a.now; finals = []; branches = [] }
-
--- the same, with its final answer
-abbrev pub closing : Arrival → Message → ℕ → List ℕ → OpenRequest
-closing a m status text = record (arriving a m) { answer = Some (record { status = status; text = text }); side = Closing (a.now + 32000) }
 
 -- the open requests with one more, while there is room
 abbrev pub opened : OpenRequest → ProxyState → List OpenRequest
@@ -207,55 +191,18 @@ registering server a m q id (Refused status extras) state = refused server a m q
 
 -- ---- a request is sent on
 
--- the branch to a target; one without an address has ended
-abbrev pub branch_to : ℕ → ℕ → Target → Branch
-branch_to now number t =
-    record {
-      number = number;
-      is_cancel = false;
-      uri = UriText.text_of t.uri;
-      address = t.address;
-      wants_cancel = false;
-      phase = if is_some t.address then Unheard (now + 32000) else Ended;
-      final_to = None;
-      again = first_resend now;
-    }
-
--- the branches to targets, numbered from a number
-abbrev pub branches_from : ℕ → ℕ → List Target → List Branch
-branches_from now number [] = []
-branches_from now number (t ∷ ts) = branch_to now number t ∷ branches_from now (number + 1) ts
-
--- a branch without an address has answered 503 (RFC 3261 16.9)
-abbrev pub unsent : List Branch → List Final
-unsent branches = map (λ (b : Branch). record { status = 503; message = None }) (filter (λ (b : Branch). not (is_some b.address)) branches)
-
--- an open request with its branches
-abbrev pub forking : Arrival → Message → List Branch → OpenRequest
-forking a m branches = record (arriving a m) { branches = branches; finals = unsent branches }
-
--- an INVITE that is sent to anybody gets a 100 first (RFC 3261 16.2)
-abbrev pub is_tried : OpenRequest → Bool
-is_tried r = is_invite r && list_any (λ (b : Branch). is_some b.address) r.branches
-
--- the 100 of a request, if it gets one
-abbrev pub trying : Server → OpenRequest → List Upward
-trying server r = if is_tried r then record { status = 100; message = made_answer server r.number r.request r.source 100 []; target = None } ∷ [] else []
-
--- the request after it
-abbrev pub tried : ℕ → List Upward → OpenRequest → OpenRequest
-tried now [] r = r
-tried now (u ∷ us) r = tried now us (answered now u r)
+-- the 100 goes first, then the answer where none of the branches can be sent to, then the requests to the branches that can (this project's profile)
+abbrev pub opening_packets : Server → ℕ → OpenRequest → List Packet
+opening_packets server now r = upward_packets r (trying server r) ++ change_packets (opening server now r) ++ flat_map (branch_packets server false r) r.branches
 
 -- a request is sent to its branches, and is open from now on (RFC 3261 16.6)
 abbrev pub forked : Server → ℕ → OpenRequest → List Record → ProxyState → Effect
 forked server now r records state =
-    let change : Change = settled server now [] None (tried now (trying server r) r) in
     record {
-      originals = upward_packets r (trying server r) ++ change_packets change ++ flat_map (branch_packets server false r) r.branches;
+      originals = opening_packets server now r;
       again = [];
       records = records;
-      state = record state { requests = opened change.request state; dialogs = dialogs_after server now change state.dialogs };
+      state = record state { requests = opened (opening server now r).request state; dialogs = dialogs_after server now (opening server now r) state.dialogs };
     }
 
 -- a request that was let through gets one branch for each of its targets, in their order
@@ -271,11 +218,6 @@ sending server a m q id (Targets.Bindings targets) state = sent_to server a m q 
 sending server a m q id (Targets.Hop uri address) state = sent_to server a m q id (target_list (Targets.Hop uri address)) state
 
 -- ---- in a dialog
-
--- the branch of a request in a dialog: its own Request-URI, to the address that the dialog holds (RFC 3261 16.12)
-abbrev pub dialog_branch : Server → ℕ → Message → Addr → Branch
-dialog_branch server now m address =
-    record { number = 1; is_cancel = false; uri = onward_uri server.config.own m; address = Some address; wants_cancel = false; phase = Unheard (now + 32000); final_to = None; again = first_resend now }
 
 -- the dialog of a request that is sent on is renewed
 abbrev pub renewing : Server → Arrival → Message → DialogId → ProxyState → ProxyState

@@ -20,13 +20,14 @@ use Rattle.sip_settings.specs.Sample as Settings
 use Rattle.sip_auth.specs.Examples.{credential}
 use Rattle.sip_location.specs.declared.binding.Binding.{Binding}
 use Rattle.sip_event.specs.declared.packet.Packet.{Packet}
-use Rattle.sip_state.specs.Server.{Server}
+use Rattle.sip_state.specs.declared.server.Server.{Server}
 use Rattle.sip_state.specs.declared.proxy_state.ProxyState.{ProxyState}
 use Rattle.sip_state.specs.declared.open_request.OpenRequest.{OpenRequest}
 use Rattle.sip_state.specs.declared.branch.Branch.{Branch}
 use Rattle.sip_state.specs.State.{first_state, phase_deadline}
 use Rattle.sip_context.specs.Branches.{overdue, side_overdue}
-use Rattle.sip_verdict.specs.Verdict.{Arrival, message_verdict}
+use Rattle.sip_state.specs.Arrival.{Arrival}
+use Rattle.sip_verdict.specs.Verdict.{message_verdict}
 use Rattle.sip_model.specs.Effect.{Effect, counted, effect_of, changed, nothing}
 use Rattle.sip_model.specs.Step.{fault_effect}
 

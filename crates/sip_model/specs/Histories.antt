@@ -17,14 +17,17 @@ use Rattle.sip_dialog.specs.declared.dialog.Dialog.{Dialog}
 use Rattle.sip_event.specs.declared.packet.Ticket.{Ticket}
 use Rattle.sip_event.specs.declared.event.StepOut.{StepOut}
 use Rattle.sip_event.specs.declared.event.Event.TheVariants.{Datagram, Time, Fault}
-use Rattle.sip_state.specs.Server.{Server}
+use Rattle.sip_state.specs.declared.server.Server.{Server}
 use Rattle.sip_state.specs.declared.branch.Branch.{Branch}
 use Rattle.sip_state.specs.declared.open_request.OpenRequest.{OpenRequest}
 use Rattle.sip_state.specs.declared.proxy_state.ProxyState.{ProxyState}
 use Rattle.sip_state.specs.Dialogs.{after_request}
 use Rattle.sip_context.specs.Branches.{settled, responded, send_failed, cancelled}
-use Rattle.sip_verdict.specs.Verdict.{Arrival, Question, Registered, Bound, Refused, Verdict, Drop, Respond, Copy, AckOn, Cancel, Answer, InDialog, Challenge, Deny, Send, Register, verdict_of}
-use Rattle.sip_model.specs.Effect.{forking, branches_from, dialog_branch, tried, trying, challenge_status, record_of, dialogs_after}
+use Rattle.sip_state.specs.Arrival.{Arrival}
+use Rattle.sip_verdict.specs.declared.question.Question.{Question}
+use Rattle.sip_verdict.specs.Verdict.{Registered, Bound, Refused, Verdict, Drop, Respond, Copy, AckOn, Cancel, Answer, InDialog, Challenge, Deny, Send, Register, verdict_of}
+use Rattle.sip_context.specs.Opening.{forking, branches_from, dialog_branch, tried, trying}
+use Rattle.sip_model.specs.Effect.{challenge_status, record_of, dialogs_after}
 use Rattle.sip_model.specs.Step.{Act, Given, Passing, IsStep, is_failed, moment_of, arrival_of}
 use Rattle.sip_model.specs.Run.{Link, IsChain}
 

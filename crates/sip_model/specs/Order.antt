@@ -10,7 +10,7 @@ use Rattle.sip_targets.specs.Targets.{target_list}
 use Rattle.sip_event.specs.declared.packet.Ticket.{Ticket}
 use Rattle.sip_event.specs.declared.event.StepOut.{StepOut}
 use Rattle.sip_event.specs.declared.event.Event.TheVariants.{Datagram, Time, Fault}
-use Rattle.sip_state.specs.Server.{Server}
+use Rattle.sip_state.specs.declared.server.Server.{Server}
 use Rattle.sip_state.specs.declared.branch.Phase.{Phase}
 use Rattle.sip_state.specs.declared.open_request.Side.{Side}
 use Rattle.sip_state.specs.declared.branch.Branch.{Branch}
@@ -21,8 +21,10 @@ use Rattle.sip_state.specs.declared.open_request.Side.TheVariants.{Answering, Cl
 use Rattle.sip_state.specs.State.{is_invite, is_answering, deadlines_of, has_left, has_key, is_success, is_provisional}
 use Rattle.sip_state.specs.declared.open_request.Upward.{Upward}
 use Rattle.sip_context.specs.Branches.{Change, settled, responded, send_failed, cancelled, has_success}
-use Rattle.sip_verdict.specs.Verdict.{Arrival, Registered, Bound, Refused, Verdict, Drop, Respond, Copy, AckOn, Cancel, Answer, InDialog, Challenge, Deny, Send, Register, verdict_of}
-use Rattle.sip_model.specs.Effect.{arriving, forking, branches_from, dialog_branch, tried, trying, challenge_status}
+use Rattle.sip_state.specs.Arrival.{Arrival}
+use Rattle.sip_verdict.specs.Verdict.{Registered, Bound, Refused, Verdict, Drop, Respond, Copy, AckOn, Cancel, Answer, InDialog, Challenge, Deny, Send, Register, verdict_of}
+use Rattle.sip_context.specs.Opening.{arriving, forking, branches_from, dialog_branch, tried, trying}
+use Rattle.sip_model.specs.Effect.{challenge_status}
 use Rattle.sip_model.specs.Step.{Act, Given, Passing, IsStep, IsOverdue, NoneBy, NoneAgainBy, is_failed, moment_of, arrival_of}
 use Rattle.sip_model.specs.Run.{Link, IsChain}
 

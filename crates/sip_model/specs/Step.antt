@@ -7,7 +7,7 @@ use Rattle.sip_event.specs.declared.packet.Ticket.{Ticket}
 use Rattle.sip_event.specs.declared.event.StepOut.{StepOut}
 use Rattle.sip_event.specs.declared.event.Event.{Event}
 use Rattle.sip_event.specs.declared.event.Event.TheVariants.{Datagram, Time, Fault}
-use Rattle.sip_state.specs.Server.{Server}
+use Rattle.sip_state.specs.declared.server.Server.{Server}
 use Rattle.sip_state.specs.declared.branch.Branch.{Branch}
 use Rattle.sip_state.specs.declared.open_request.OpenRequest.{OpenRequest}
 use Rattle.sip_state.specs.declared.proxy_state.ProxyState.{ProxyState}
@@ -15,7 +15,7 @@ use Rattle.sip_state.specs.SameState.{SameState}
 use Rattle.sip_state.specs.State.{deadlines, phase_deadline, side_deadline}
 use Rattle.sip_context.specs.Branches.{Change, overdue, side_overdue, send_failed, is_unheard}
 use Rattle.sip_model.specs.Effect.{Effect, replaced, changed, nothing, datagram_effect}
-use Rattle.sip_verdict.specs.Verdict.{Arrival}
+use Rattle.sip_state.specs.Arrival.{Arrival}
 use Rattle.sip_retransmission.specs.Retransmission.{resends, IsResent}
 
 -- ---- what is sent

@@ -6,7 +6,7 @@ ghost use Rattle.sip_uri.specs.declared.aor.Aor.{Aor};
 ghost use Rattle.sip_location.specs.Binding.{live};
 ghost use Rattle.sip_context.specs.FoundBranch.{found_branch};
 ghost use Rattle.sip_context.specs.BranchById.{branch_by_id, HasNumbers};
-ghost use Rattle.sip_state.specs.Server.{Server};
+ghost use Rattle.sip_state.specs.declared.server.Server.{Server};
 ghost use Rattle.sip_state.specs.declared.open_request.OpenRequest.{OpenRequest};
 ghost use Rattle.sip_state.specs.declared.proxy_state.ProxyState.{ProxyState};
 ghost use Rattle.sip_state.specs.State.{first_state, is_answering};

@@ -6,6 +6,7 @@
 mod challenges;
 mod contacts;
 pub mod examples;
+mod extras;
 pub mod laws;
 mod reasons;
 mod reply;
@@ -13,6 +14,7 @@ mod tags;
 
 pub use challenges::{challenge, challenge_fields};
 pub use contacts::contact_value;
+pub use extras::{denial_warning, min_expires, unsupported_field};
 pub use reasons::reason_of;
-pub use reply::respond;
+pub use reply::{reply_view, respond};
 pub use tags::to_tag;

@@ -116,9 +116,27 @@ fn reply_fields<'v>(
     Ok(fields)
 }
 
-/// The text of the response to a request, whose top Via names its source, with this status, this To tag where the
-/// request has none, and further fields behind those that it copies; it has no body (RFC 3261 8.2.6). It is written
-/// once, into a buffer of its length. `AllocError` is the only refusal.
+/// The response to a request, whose top Via names its source, with this status, this To tag where the request has
+/// none, and further fields behind those that it copies; it has no body (RFC 3261 8.2.6). Of what the request has no
+/// byte is copied but a To that gets a tag. `AllocError` is the only refusal.
+pub fn reply_view<'v>(
+    alloc: Global,
+    request: &'v View<'_>,
+    status: u16,
+    to_tag: &[u8],
+    extras: &'v Fields,
+) -> Result<View<'v>, AllocError>
+    ensures { IfOk result (λ answer. answer ≡ Reply.reply_of request.now status to_tag.now extras.now) }
+{
+    let fields = reply_fields(alloc, request.fields(), status, to_tag, extras)?;
+    let start = ViewStart::Status {
+        code: status,
+        reason: reason_of(status),
+    };
+    Ok(View::new(start, fields, b""))
+}
+
+/// The text of that response. It is written once, into a buffer of its length. `AllocError` is the only refusal.
 pub fn respond(
     alloc: Global,
     request: &View<'_>,
@@ -128,10 +146,6 @@ pub fn respond(
 ) -> Result<Bytes, AllocError>
     ensures { IfOk result (λ text. text ≡ text_of (Reply.reply_of request.now status to_tag.now extras.now)) }
 {
-    let fields = reply_fields(alloc, request.fields(), status, to_tag, extras)?;
-    let start = ViewStart::Status {
-        code: status,
-        reason: reason_of(status),
-    };
-    write_view(alloc, &View::new(start, fields, b""))
+    let answer = reply_view(alloc, request, status, to_tag, extras)?;
+    write_view(alloc, &answer)
 }

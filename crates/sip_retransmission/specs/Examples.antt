@@ -8,7 +8,7 @@ use Rattle.sip_hops.specs.Examples as Places
 use Rattle.sip_edit.specs.OnwardExamples as Onward
 use Rattle.sip_settings.specs.Sample as Settings
 use Rattle.sip_event.specs.declared.packet.Packet.{Packet}
-use Rattle.sip_state.specs.Server.{Server}
+use Rattle.sip_state.specs.declared.server.Server.{Server}
 use Rattle.sip_state.specs.declared.branch.Branch.{Branch}
 use Rattle.sip_state.specs.declared.open_request.OpenRequest.{OpenRequest}
 use Rattle.sip_state.specs.declared.branch.Phase.TheVariants.{Unheard}

@@ -3,7 +3,7 @@ use Rattle.std.specs.Prelude.{◌≡◌, ℕ, ◌+◌, ◌*◌, min, Bool, true,
 use Rattle.std.specs.Option.{option_to_list}
 use Rattle.std.specs.List.{flat_map, filter_map}
 use Rattle.sip_event.specs.declared.packet.Packet.{Packet}
-use Rattle.sip_state.specs.Server.{Server}
+use Rattle.sip_state.specs.declared.server.Server.{Server}
 use Rattle.sip_state.specs.declared.branch.Phase.{Phase}
 use Rattle.sip_state.specs.declared.open_request.Side.{Side}
 use Rattle.sip_state.specs.declared.open_request.LastAnswer.{LastAnswer}

@@ -1,10 +1,10 @@
 use sip_hops::{Hop, HostAddress};
-use sip_policy::{Rule, User};
+use sip_policy::{Rule, Users};
 use sip_text::{Bytes, Items};
 use sip_way::Own;
 
 /// What a server is told before it starts.
-#[derive(Debug, Drop)]
+#[derive(Drop)]
 pub struct Config {
     /// Where it is.
     pub own: Own,
@@ -13,7 +13,8 @@ pub struct Config {
     pub bound_port: u16,
     /// The realm of its challenges (RFC 2617 1.2).
     pub realm: Bytes,
-    pub users: Items<User>,
+    /// No two have one name.
+    pub users: Users,
     /// The first that holds at the minute of a request and matches it decides.
     pub rules: Items<Rule>,
     /// How many minutes the time of day of the rules' windows is ahead of UTC, -720 to 840.

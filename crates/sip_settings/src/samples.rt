@@ -11,7 +11,7 @@ ghost use Rattle.sip_settings.specs.Sample;
 use crate::config::Config;
 use sip_hops::{Hop, HostAddress};
 use sip_host::Addr;
-use sip_policy::{OperationPattern, Rule, RuleVerdict, TargetPattern, User, Who};
+use sip_policy::{OperationPattern, Rule, RuleVerdict, TargetPattern, User, Users, Who};
 use sip_text::{Bytes, Items};
 use sip_way::Own;
 use std::alloc::{AllocError, Global};
@@ -58,7 +58,7 @@ fn staff(alloc: Global) -> Result<Items<Bytes>, AllocError>
     Ok(groups)
 }
 
-fn users(alloc: Global) -> Result<Items<User>, AllocError>
+fn listed_users(alloc: Global) -> Result<Items<User>, AllocError>
     ensures { IfOk result (λ users. users ≡ Policy.sample_users) }
 {
     let mut users = Items::new(alloc);
@@ -84,6 +84,16 @@ fn users(alloc: Global) -> Result<Items<User>, AllocError>
         Items::new(alloc),
     )?;
     Ok(users)
+}
+
+/// The users, found by their names. These differ, so want of memory is the only refusal.
+fn users(alloc: Global) -> Result<Users, AllocError>
+    ensures { IfOk result (λ users. users ≡ Policy.sample_users) }
+{
+    match Users::new(alloc, listed_users(alloc)?) {
+        Ok(users) => Ok(users),
+        Err(_) => Err(AllocError),
+    }
 }
 
 /// Proven users may do this with the bindings of their own addresses.

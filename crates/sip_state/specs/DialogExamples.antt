@@ -1,5 +1,5 @@
 -- A call of x's to help, as its dialogs see it, for the worked examples.
-use Rattle.std.specs.Prelude.{ℕ, false, List, [], ◌∷◌, ◌++◌, codes, Option, Some, None}
+use Rattle.std.specs.Prelude.{ℕ, List, [], ◌∷◌, ◌++◌, codes, Some, None}
 use Rattle.sip_field.specs.declared.field_name.FieldName.TheVariants as Name
 use Rattle.sip_field.specs.declared.field.Field.{Field}
 use Rattle.sip_form.specs.declared.message.Start.TheVariants.{Request, Status}
@@ -11,9 +11,9 @@ use Rattle.sip_dialog.specs.declared.dialog.Dialog.{Dialog}
 use Rattle.sip_state.specs.declared.open_request.Side.TheVariants.{Answering, Closed}
 use Rattle.sip_state.specs.declared.open_request.OpenRequest.{OpenRequest}
 use Rattle.sip_state.specs.declared.open_request.Upward.{Upward}
-use Rattle.sip_state.specs.Server.{Server}
+use Rattle.sip_state.specs.declared.server.Server.{Server}
 use Rattle.sip_state.specs.State.{first_resend}
-use Rattle.sip_state.specs.Dialogs.{after_answer, after_request, after_leaving}
+use Rattle.sip_state.specs.Dialogs.{after_answer}
 
 -- a server of the sample configuration, started with the word 0
 abbrev pub sample : Server

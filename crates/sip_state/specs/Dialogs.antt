@@ -13,7 +13,7 @@ use Rattle.sip_dialog.specs.declared.dialog.InviteAnswer.{InviteAnswer}
 use Rattle.sip_dialog.specs.DialogId.{id_of, answer_id}
 use Rattle.sip_dialog.specs.Addresses.{addresses_in}
 use Rattle.sip_dialog.specs.Dialogs.{learnt, taught, renewed, without_dialog, after_invite}
-use Rattle.sip_state.specs.Server.{Server}
+use Rattle.sip_state.specs.declared.server.Server.{Server}
 use Rattle.sip_state.specs.declared.open_request.OpenRequest.{OpenRequest}
 use Rattle.sip_state.specs.declared.open_request.Upward.{Upward}
 use Rattle.sip_state.specs.State.{is_invite, has_left, is_success}

@@ -1,4 +1,4 @@
-pub mod Server
+pub mod Arrival
 pub mod State
 pub mod Dialogs
 pub mod DialogExamples

@@ -1,5 +1,6 @@
 use crate::resend::Resend;
 use sip_host::Addr;
+use sip_shared::Shared;
 use sip_text::Bytes;
 
 /// How far a branch is, with its deadline in milliseconds.
@@ -18,21 +19,21 @@ pub enum Phase {
 }
 
 /// A branch of an open request (RFC 3261 16.6).
-#[derive(Drop)]
+#[derive(Clone, Drop)]
 pub struct Branch {
     /// The number of its target, from 1.
     pub number: u32,
     /// Whether it is the CANCEL of the branch of that number (RFC 3261 9.1: a transaction of its own).
     pub is_cancel: bool,
     /// The Request-URI of its request.
-    pub uri: Bytes,
+    pub uri: Shared<Bytes>,
     /// Where its request goes, if it can go anywhere.
     pub address: Option<Addr>,
     /// Whether it is to be cancelled.
     pub wants_cancel: bool,
     pub phase: Phase,
     /// To of its final answer, if that had one: its ACK is made with it (RFC 3261 17.1.1.3).
-    pub final_to: Option<Bytes>,
+    pub final_to: Option<Shared<Bytes>>,
     /// When what it sends goes again, while it does.
     pub again: Resend,
 }

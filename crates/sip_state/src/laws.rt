@@ -10,7 +10,7 @@ ghost use Rattle.sip_dialog.specs.declared.dialog.Dialog.{Dialog};
 ghost use Rattle.sip_dialog.specs.declared.dialog.DialogId.{DialogId};
 ghost use Rattle.sip_dialog.specs.Sameness.{SameDialogs};
 ghost use Rattle.sip_form.specs.declared.message.Message.{Message};
-ghost use Rattle.sip_state.specs.Server.{Server};
+ghost use Rattle.sip_state.specs.declared.server.Server.{Server};
 ghost use Rattle.sip_state.specs.declared.open_request.OpenRequest.{OpenRequest};
 ghost use Rattle.sip_state.specs.declared.open_request.Upward.{Upward};
 ghost use Rattle.sip_state.specs.declared.proxy_state.ProxyState.{ProxyState};

@@ -9,8 +9,10 @@ pub mod laws;
 mod open_request;
 mod proxy_state;
 mod resend;
+mod server;
 
 pub use branch::{Branch, Phase};
 pub use open_request::{LastAnswer, OpenRequest, Side, Upward};
 pub use proxy_state::ProxyState;
 pub use resend::Resend;
+pub use server::Server;

@@ -1,9 +1,10 @@
 use crate::branch::Branch;
 use crate::resend::Resend;
 use sip_best::Final;
+use sip_form::Kept;
 use sip_host::Addr;
 use sip_key::Key;
-use sip_message::Message;
+use sip_shared::Shared;
 use sip_text::{Bytes, Items};
 
 /// How far the answering side of a request is, with its deadline in milliseconds.
@@ -20,18 +21,18 @@ pub enum Side {
 }
 
 /// The answer that was sent last: its status and its bytes.
-#[derive(Drop)]
+#[derive(Clone, Drop)]
 pub struct LastAnswer {
     pub status: u16,
-    pub text: Bytes,
+    pub text: Shared<Bytes>,
 }
 
-/// An open request.
-#[derive(Drop)]
+/// An open request. What many of its states have in common is shared: a clone copies its branches and its numbers, and no text.
+#[derive(Clone, Drop)]
 pub struct OpenRequest {
-    pub key: Key,
+    pub key: Shared<Key>,
     /// The request as it came.
-    pub request: Message,
+    pub request: Shared<Kept>,
     /// Where it came from.
     pub source: Addr,
     /// The number of the datagram that brought it.
@@ -53,6 +54,6 @@ pub struct OpenRequest {
 #[derive(Drop)]
 pub struct Upward {
     pub status: u16,
-    pub message: Message,
+    pub message: Shared<Kept>,
     pub target: Option<Addr>,
 }

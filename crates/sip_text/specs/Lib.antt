@@ -11,3 +11,4 @@ pub mod Splits
 pub mod Cuts
 pub mod Numbers
 pub mod TextError
+pub mod Items

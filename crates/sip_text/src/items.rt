@@ -1,4 +1,7 @@
-ghost use Rattle.std.specs.Prelude.{◌≡◌, ◌++◌, [], ◌∷◌, OnOk, OnErr};
+ghost use Rattle.std.specs.Prelude.{◌≡◌, ◌++◌, [], ◌∷◌, IfOk, OnOk, OnErr};
+ghost use Rattle.std.specs.Borrow.{Lends, sem, Array};
+ghost use Rattle.sip_text.specs.contracts.items.Items.{the_row};
+ghost use Rattle.sip_text.specs.Items.{written};
 
 use std::alloc::{AllocError, Global};
 use std::marker::Model;
@@ -27,6 +30,15 @@ impl<T: Drop> Items<T> {
         }
     }
 
+    /// No item, and room for so many.
+    pub fn with_room(alloc: Global, room: usize) -> Result<Self, AllocError>
+        ensures { IfOk result (λ items. items ≡ []) }
+    {
+        Ok(Items {
+            list: Vec::with_capacity(alloc, room)?,
+        })
+    }
+
     /// Adds an item at the end.
     pub fn push(&mut self, item: T) -> Result<(), AllocError>
         ensures ok { OnOk result (self.new ≡ self.old ++ item ∷ []) }
@@ -41,5 +53,13 @@ impl<T: Drop> Items<T> {
         ensures { result.now ≡ self.now }
     {
         self.list.as_slice()
+    }
+
+    /// The items, each of which may be changed.
+    pub fn as_mut_slice(&mut self) -> &mut [T]
+        ensures* writes_back { sem 𝓛 (Lends (the_row T.row) (Array T.row 0) self.entry result (written self.old)) }
+        ensures value { result.now ≡ self.old }
+    {
+        self.list.as_mut_slice()
     }
 }

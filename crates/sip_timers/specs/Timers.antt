@@ -1,6 +1,7 @@
 -- Timers as the list of those that stand, in the order in which they fire: by the moment at which they are
 -- due, and at one moment in the order in which they were set.
 use Rattle.std.specs.Prelude.{ℕ, ◌≡◌, ◌≤◌, ◌+◌, ◌^◌, ◌==◌, nat_lt, nat_le, Bool, true, not, List, [], ◌∷◌, Option, Some, None, filter, count_by, if◌then◌else◌}
+use Rattle.sip_timers.specs.declared.timer.Name.{Name}
 use Rattle.sip_timers.specs.declared.timer.Timer.{Timer}
 
 -- a timer that is set goes behind all that are due no later
@@ -16,6 +17,11 @@ without key ts = filter (λ t. not (t.key == key)) ts
 abbrev pub first_due : List Timer → Option ℕ
 first_due [] = None
 first_due (t ∷ ts) = Some t.due
+
+-- when the first one is due, and its name
+abbrev pub first_named : List Timer → Option (ℕ × Name)
+first_named [] = None
+first_named (t ∷ ts) = Some (t.due, t.name)
 
 -- the first one if it is due by a moment, and those that are left
 abbrev pub popped : ℕ → List Timer → Option Timer × List Timer

@@ -1,11 +1,12 @@
 ghost use Rattle.std.specs.Prelude.{◌≡◌, ◌+◌, ◌^◌, [], ◌∷◌, Some, None};
-ghost use Rattle.sip_timers.specs.Timers.{first_due, popped, without, IsTooFar};
+ghost use Rattle.sip_timers.specs.Timers.{first_due, first_named, popped, without, IsTooFar};
 ghost use Rattle.sip_timers.specs.Examples.{timer_a, timer_b, timer_c, three_timers};
 
 /// Of timers that are set for 10, 5 and 5, the second and the third fire at 5, in this order, and then
 /// none; when the first is cancelled, none stands. After `pop_due` at 5 none is set for 2^30 ms later.
 pub fn timer_order()
     ensures next { first_due three_timers ≡ Some 5 }
+    ensures named { first_named three_timers ≡ Some (timer_b.due, timer_b.name) }
     ensures first { popped 5 three_timers ≡ (Some timer_b, timer_c ∷ timer_a ∷ []) }
     ensures second { popped 5 (timer_c ∷ timer_a ∷ []) ≡ (Some timer_c, timer_a ∷ []) }
     ensures none_due { popped 5 (timer_a ∷ []) ≡ (None, timer_a ∷ []) }

@@ -1,5 +1,5 @@
-ghost use Rattle.std.specs.Prelude.{◌≡◌, ◌≤◌, ◌<◌, ◌+◌, ◌-◌, ℕ, ◌∷◌, Some, OnOk, OnErr, IfSome, IfNone, vec_len, vec_capacity};
-ghost use Rattle.sip_timers.specs.Timers.{placed, without, first_due, place_at, popped};
+ghost use Rattle.std.specs.Prelude.{◌≡◌, ◌≤◌, ◌<◌, ◌+◌, ◌-◌, ℕ, ◌∷◌, Some, None, OnOk, OnErr, IfSome, IfNone, MatchOption, vec_len, vec_capacity};
+ghost use Rattle.sip_timers.specs.Timers.{placed, without, first_due, first_named, place_at, popped};
 
 use crate::error::TimerError;
 use crate::timer::{Name, Timer};
@@ -73,8 +73,8 @@ impl Timers for ListTimers {
         remove_key(&mut self.rows, key);
     }
 
-    fn next(&self) -> Option<u64> {
-        due_of_first(&self.rows)
+    fn next(&self) -> Option<(u64, Name)> {
+        first_of(&self.rows)
     }
 
     fn pop_due(&mut self, now: u64) -> Option<Timer> {
@@ -115,13 +115,12 @@ fn remove_key(rows: &mut Vec<Timer>, key: usize)
     rows.retain(|row| row.key != key);
 }
 
-fn due_of_first(rows: &[Timer]) -> Option<u64>
-    ensures { result ≡ first_due rows.now }
+/// When the first timer is due, and its name.
+fn first_of(rows: &[Timer]) -> Option<(u64, Name)>
+    ensures first { result ≡ first_named rows.now }
+    ensures due { MatchOption result (first_due rows.now ≡ None) (λ first. first_due rows.now ≡ Some first.0) }
 {
-    match rows.first() {
-        Some(row) => Some(row.due),
-        None => None,
-    }
+    rows.first().map(|row| (row.due, row.name))
 }
 
 /// The first timer, if it is due.

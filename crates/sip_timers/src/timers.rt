@@ -1,5 +1,5 @@
-ghost use Rattle.std.specs.Prelude.{◌≡◌, ◌≤◌, ◌<◌, ◌+◌, ◌↔◌, ℕ, List, [], ◌∷◌, Some, Err, IfOk, IfErr, OnOk, OnErr, IfSome, IfNone, max};
-ghost use Rattle.sip_timers.specs.Timers.{placed, without, keys_with, first_due, popped, IsTooFar};
+ghost use Rattle.std.specs.Prelude.{◌≡◌, ◌≤◌, ◌<◌, ◌+◌, ◌↔◌, ℕ, List, [], ◌∷◌, Some, Err, IfOk, IfErr, OnOk, OnErr, IfSome, IfNone, MatchOption, None, max};
+ghost use Rattle.sip_timers.specs.Timers.{placed, without, keys_with, first_due, first_named, popped, IsTooFar};
 ghost use Rattle.sip_timers.specs.declared.timer.Timer.{Timer};
 ghost use Rattle.sip_timers.specs.declared.error.TimerError.TheVariants.{NoMemory, TooFar};
 
@@ -42,6 +42,7 @@ pub trait Timers: Drop {
         ensures too_far { (result ≡ Err TooFar) ↔ IsTooFar (reached self.old) due }
         ensures memory { (result ≡ Err NoMemory) → room self.old ≡ 0 }
         ensures left { room self.old ≤ room self.new + 1 }
+        ensures spared { OnErr result (room self.old ≤ room self.new) }
         ensures still { reached self.new ≡ reached self.old };
 
     /// Takes a timer out that stands.
@@ -51,9 +52,10 @@ pub trait Timers: Drop {
         ensures left { room self.old ≤ room self.new }
         ensures still { reached self.new ≡ reached self.old };
 
-    /// When the first timer is due.
-    fn next(&self) -> Option<u64>
-        ensures { result ≡ first_due (pending self.now) };
+    /// When the first timer is due, in milliseconds, and its name.
+    fn next(&self) -> Option<(u64, Name)>
+        ensures first { result ≡ first_named (pending self.now) }
+        ensures due { MatchOption result (first_due (pending self.now) ≡ None) (λ first. first_due (pending self.now) ≡ Some first.0) };
 
     /// Takes the first timer out, if it is due.
     fn pop_due(&mut self, now: u64) -> Option<Timer>

@@ -1,1 +1,3 @@
-pub mod Validation
+pub mod Serving
+pub mod Bad
+pub mod Rows

@@ -1,15 +1,15 @@
 -- A request that is checked.
-use Rattle.std.specs.Prelude.{ℕ, Bool, List, codes, Option}
-use Rattle.std.specs.Result.{result_ok}
+use Rattle.std.specs.Prelude.{ℕ, Bool, true, false, List, codes, Option, Some, None}
 use Rattle.std.specs.Str.{bytes_eq}
 use Rattle.sip_field.specs.declared.field.Field.{Field}
+use Rattle.sip_form.specs.declared.message.Start.{Start}
+use Rattle.sip_form.specs.declared.message.Start.TheVariants.{Request, Status}
 use Rattle.sip_way.specs.declared.own.Own.{Own}
 use Rattle.sip_header.specs.declared.core_fields.CoreFields.{CoreFields}
 use Rattle.sip_way.specs.declared.way.Way.{Way}
-use Rattle.sip_header.specs.CoreFields.{core_in}
 use Rattle.sip_way.specs.Way.{way_from}
 
--- where it is checked, its parts, and whether fewer bytes of its body came than its length says
+-- where it is checked, its parts, whether fewer bytes of its body came than its length says, and what is read of it
 pub record Candidate : Type 0 where
   pub own : Own
   pub method : List ℕ
@@ -17,15 +17,28 @@ pub record Candidate : Type 0 where
   pub version : List ℕ
   pub fields : List Field
   pub short : Bool
+  -- its From, To, Call-ID and CSeq, if each stands there once and can be read
+  pub core : Option CoreFields
+  -- where it goes, without this server's own part of the way (RFC 3261 16.4)
+  pub way : Way
 
 -- whether it is a REGISTER
 abbrev pub is_register : Candidate → Bool
 is_register r = bytes_eq r.method (codes "REGISTER")
 
--- its From, To, Call-ID and CSeq, if each stands there once and can be read
-abbrev pub core : Candidate → Option CoreFields
-core r = result_ok (core_in r.fields)
+-- the same request with another way
+abbrev pub on_way : Way → Candidate → Candidate
+on_way way r = record r { way = way }
 
--- where it goes, without this server's own part of the way (RFC 3261 16.4)
-abbrev pub way : Candidate → Way
-way r = way_from r.own r.uri r.fields
+-- ---- a message
+
+-- a request line and fields as a request that is checked, with these core fields; a response is none
+abbrev pub candidate_with : Option CoreFields → Own → List Field → Bool → Start → Option Candidate
+candidate_with core own fields short (Request method uri version) =
+    Some (record { own = own; method = method; uri = uri; version = version; fields = fields; short = short; core = core; way = way_from own uri fields })
+candidate_with core own fields short (Status code reason) = None
+
+-- whether a message with this first line is a request
+abbrev pub is_request : Start → Bool
+is_request (Request method uri version) = true
+is_request (Status code reason) = false

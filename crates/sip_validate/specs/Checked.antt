@@ -1,5 +1,5 @@
 -- What validation gives of a request: why it isn't served, or what was read of it.
-use Rattle.std.specs.Prelude.{ℕ, Bool, List, [], Option, Some, None, option_map, Result, Err}
+use Rattle.std.specs.Prelude.{◌≡◌, ◌⊎◌, ℕ, Bool, List, [], Option, Some, None, option_map, Result, Ok, Err}
 use Rattle.std.specs.Option.{ok_or}
 use Rattle.std.specs.Result.{result_ok}
 use Rattle.sip_form.specs.declared.message.Message.{Message}
@@ -27,3 +27,8 @@ validation_by checked None = ok_or checked (Refused.Status 400 [])
 -- What validation gives: the status of the first row of the table that applies, with the value of Unsupported; else what was read (RFC 3261 16.3).
 abbrev pub validation_of : Own → Message → Bool → Result Checked Refused
 validation_of own m short = validation_by (checked_of own m) (refusal_of own m short)
+
+-- What validation returned is what the definition says, unless memory ran out.
+abbrev pub Validates : Result Checked Refused → Result Checked Refused → Type 0
+Validates (Ok checked) validation = validation ≡ Ok checked
+Validates (Err e) validation = (e ≡ Refused.NoMemory) ⊎ (validation ≡ Err e)

@@ -19,7 +19,7 @@ use Rattle.sip_header.specs.Via.{via_of}
 use Rattle.sip_header.specs.Route.{route_of}
 use Rattle.sip_header.specs.ContactItem.{contact_of}
 use Rattle.sip_header.specs.MaxForwards.{max_forwards_of}
-use Rattle.sip_validate.specs.Candidate.{Candidate, is_register, core}
+use Rattle.sip_validate.specs.Candidate.{Candidate, is_register}
 
 -- fewer bytes of the body came than Content-Length says (RFC 3261 18.3)
 abbrev pub has_short_body : Candidate → Bool
@@ -27,11 +27,11 @@ has_short_body r = r.short
 
 -- From, To, Call-ID or CSeq is missing, repeated or malformed; a CSeq of 2 ^ 31 or more is malformed (RFC 3261 8.1.1, 20.16)
 abbrev pub lacks_core_field : Candidate → Bool
-lacks_core_field r = not (is_some (core r))
+lacks_core_field r = not (is_some r.core)
 
 -- the method of CSeq is another than the request's (RFC 3261 8.1.1.5)
 abbrev pub has_other_cseq_method : Candidate → Bool
-has_other_cseq_method r = option_map_or (λ c. not (bytes_eq c.cseq.method r.method)) (core r) false
+has_other_cseq_method r = option_map_or (λ c. not (bytes_eq c.cseq.method r.method)) r.core false
 
 -- whether a Max-Forwards is malformed
 abbrev pub is_malformed : MaxForwards → Bool
@@ -67,7 +67,7 @@ is_sip (Other text) = false
 
 -- in a REGISTER, To is neither a SIP nor a SIPS URI (RFC 3261 10.2, 10.3 step 5)
 abbrev pub registers_other_scheme : Candidate → Bool
-registers_other_scheme r = is_register r && option_map_or (λ c. not (is_sip c.to.uri)) (core r) false
+registers_other_scheme r = is_register r && option_map_or (λ c. not (is_sip c.to.uri)) r.core false
 
 -- a SIP or SIPS URI of at most 512 bytes (the limit is this project's profile)
 abbrev pub may_be_bound : AnyUri → Bool

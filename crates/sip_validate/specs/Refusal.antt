@@ -1,23 +1,24 @@
 -- The checks that a request has to pass, in their order, and the status of the first that it doesn't (RFC 3261 16.3, 8.2.2, 10.3).
-use Rattle.std.specs.Prelude.{ℕ, Bool, false, ◌&&◌, ◌==◌, not, nat_lt, if◌then◌else◌, List, [], ◌∷◌, length, find, codes, is_some, Option, Some, None, option_map}
+use Rattle.std.specs.Prelude.{ℕ, Bool, false, ◌&&◌, ◌==◌, not, nat_lt, if◌then◌else◌, List, [], ◌∷◌, length, find, codes, is_some, Option, None, option_map}
 use Rattle.std.specs.Option.{option_map_or}
+use Rattle.std.specs.Result.{result_ok}
 use Rattle.std.specs.List.{list_any, join_by}
 use Rattle.std.specs.Str.{bytes_eq}
 use Rattle.sip_field.specs.declared.field_name.FieldName.{FieldName}
 use Rattle.sip_field.specs.declared.field_name.FieldName.TheVariants as Name
 use Rattle.sip_field.specs.declared.field.Field.{Field}
 use Rattle.sip_form.specs.declared.message.Start.{Start}
-use Rattle.sip_form.specs.declared.message.Start.TheVariants.{Request, Status}
 use Rattle.sip_form.specs.declared.message.Message.{Message}
 use Rattle.sip_header.specs.declared.max_forwards.MaxForwards.{MaxForwards}
 use Rattle.sip_header.specs.declared.max_forwards.MaxForwards.TheVariants.{Absent, Hops, Malformed}
 use Rattle.sip_way.specs.declared.own.Own.{Own}
 use Rattle.sip_field.specs.Values.{values_of, first_value}
+use Rattle.sip_header.specs.CoreFields.{core_in}
 use Rattle.sip_header.specs.Parameters.{tag_of}
 use Rattle.sip_header.specs.Via.{via_of}
 use Rattle.sip_header.specs.MaxForwards.{max_forwards_of}
 use Rattle.sip_way.specs.Own.{is_own_via}
-use Rattle.sip_validate.specs.Candidate.{Candidate, is_register, core, way}
+use Rattle.sip_validate.specs.Candidate.{Candidate, is_register, candidate_with}
 use Rattle.sip_validate.specs.Faults.{has_sip_scheme, is_bad}
 
 -- ---- the tests behind those of a bad request
@@ -28,7 +29,7 @@ has_other_version r = not (bytes_eq r.version (codes "SIP/2.0"))
 
 -- the Request-URI, without this server's own part of the way, isn't `sip:` (RFC 3261 16.3 step 2)
 abbrev pub has_other_scheme : Candidate → Bool
-has_other_scheme r = not (has_sip_scheme (way r).uri)
+has_other_scheme r = not (has_sip_scheme r.way.uri)
 
 -- whether a Max-Forwards is 0
 abbrev pub is_zero : MaxForwards → Bool
@@ -58,11 +59,11 @@ unsupported r = join_by (λ item. item) (codes ", ") (values_of (required_by r) 
 
 -- whether To has a tag
 abbrev pub is_in_dialog : Candidate → Bool
-is_in_dialog r = option_map_or (λ c. is_some (tag_of c.to.parameters)) (core r) false
+is_in_dialog r = option_map_or (λ c. is_some (tag_of c.to.parameters)) r.core false
 
 -- a request outside a dialog wants to go by another place: a Route is left without this server's own (this project's profile)
 abbrev pub has_other_route : Candidate → Bool
-has_other_route r = not (is_register r) && not (is_in_dialog r) && nat_lt 0 (length (way r).routes)
+has_other_route r = not (is_register r) && not (is_in_dialog r) && nat_lt 0 (length r.way.routes)
 
 -- ---- the table
 
@@ -94,11 +95,9 @@ refusal r = option_map (λ row. (row.status, row.extra r)) (find (λ row. row.ap
 
 -- ---- a message
 
--- a request line and fields as a request that is checked; a response is none
+-- a request line and fields as a request that is checked, with the core fields that are read; a response is none
 abbrev pub candidate_by : Own → List Field → Bool → Start → Option Candidate
-candidate_by own fields short (Request method uri version) =
-    Some (record { own = own; method = method; uri = uri; version = version; fields = fields; short = short })
-candidate_by own fields short (Status code reason) = None
+candidate_by own fields short start = candidate_with (result_ok (core_in fields)) own fields short start
 
 -- the request that a message is
 abbrev pub candidate_of : Own → Message → Bool → Option Candidate

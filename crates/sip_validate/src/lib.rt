@@ -2,10 +2,15 @@
 //! doesn't pass names the status that refuses it.
 #![tactic(auto)]
 
+mod candidate;
 mod checked;
 pub mod examples;
+mod faults;
 pub mod laws;
+mod refusal;
 mod refused;
+mod validation;
 
 pub use checked::Checked;
 pub use refused::Refused;
+pub use validation::{is_bad_request, validate};

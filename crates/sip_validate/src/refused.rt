@@ -1,8 +1,8 @@
-ghost use Rattle.std.specs.Prelude.{◌≡◌};
-ghost use Rattle.sip_validate.specs.declared.refused.Refused.TheVariants.{NoMemory};
+ghost use Rattle.std.specs.Prelude.{◌≡◌, []};
+ghost use Rattle.sip_validate.specs.declared.refused.Refused.TheVariants.{NoMemory, Status};
 
 use sip_text::Bytes;
-use std::alloc::{AllocError, AllocFailed};
+use std::alloc::{AllocError, AllocFailed, Global};
 use std::error::Error;
 use std::fmt;
 
@@ -13,6 +13,15 @@ pub enum Refused {
     NoMemory,
     /// It is answered with this status, and with this value of Unsupported, which isn't empty in a 420 alone.
     Status(u16, Bytes),
+}
+
+impl Refused {
+    /// This status, without a value of Unsupported. Takes no memory.
+    pub(crate) fn of(alloc: Global, status: u16) -> Self
+        ensures { result ≡ Status status [] }
+    {
+        Refused::Status(status, Bytes::new(alloc))
+    }
 }
 
 impl fmt::Display for Refused {

@@ -22,14 +22,16 @@ use Rattle.sip_dialog.specs.declared.dialog.DialogId.{DialogId}
 use Rattle.sip_dialog.specs.declared.dialog.Dialog.{Dialog}
 use Rattle.sip_dialog.specs.Sameness.{SameDialogs}
 use Rattle.sip_dialog.proofs.Sameness.{in_dialog_same, dialogs_later}
-use Rattle.sip_state.specs.Server.{Server}
+use Rattle.sip_state.specs.declared.server.Server.{Server}
 use Rattle.sip_state.specs.declared.open_request.OpenRequest.{OpenRequest}
 use Rattle.sip_state.specs.declared.proxy_state.ProxyState.{ProxyState}
 use Rattle.sip_state.specs.State.{has_key}
 use Rattle.sip_state.specs.SameState.{SameState}
 use Rattle.sip_state.specs.Dialogs.{dialog_of}
 use Rattle.sip_context.specs.Branches.{is_accepted}
-use Rattle.sip_verdict.specs.Verdict.{Arrival, Question, Verdict, Drop, Copy, AckOn, Answer, InDialog, Challenge, Deny, Send, next_address, within_at, within, ack_verdict, is_full, cancel_verdict, is_register, question_of, answer_of, registration_by, let_through, decided, is_outside, core_verdict, refusal_fields, checked_verdict, new_verdict, by_open, by_key, by_start, response_verdict, responding, message_verdict, message_in, verdict_in, verdict_of}
+use Rattle.sip_state.specs.Arrival.{Arrival}
+use Rattle.sip_verdict.specs.declared.question.Question.{Question}
+use Rattle.sip_verdict.specs.Verdict.{Verdict, Drop, Copy, AckOn, Answer, InDialog, Challenge, Deny, Send, next_address, within_at, within, ack_verdict, is_full, cancel_verdict, is_register, question_of, answer_of, registration_by, let_through, decided, is_outside, core_verdict, refusal_fields, checked_verdict, new_verdict, by_open, by_key, by_start, response_verdict, responding, message_verdict, message_in, verdict_in, verdict_of}
 use Rattle.sip_verdict.specs.Sameness.{SameVerdict, Alike, AlikeRegister, SameSaid}
 use Rattle.sip_verdict.proofs.Sameness.{request_targets_same, registration_same}
 

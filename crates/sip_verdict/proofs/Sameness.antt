@@ -18,8 +18,9 @@ use Rattle.sip_location.specs.Registering.{to_aor, registration_of}
 use Rattle.sip_location.specs.Sameness.{SameBindings, SameOutcome}
 use Rattle.sip_location.proofs.Sameness.{registered_same}
 use Rattle.sip_targets.specs.Targets.{targets_of}
-use Rattle.sip_state.specs.Server.{Server}
-use Rattle.sip_verdict.specs.Verdict.{Question, Registered, Bound, Refused, refused_by, registered_by, is_own_uri, registration_by, targets_by, request_targets}
+use Rattle.sip_state.specs.declared.server.Server.{Server}
+use Rattle.sip_verdict.specs.declared.question.Question.{Question}
+use Rattle.sip_verdict.specs.Verdict.{Registered, Bound, Refused, refused_by, registered_by, is_own_uri, registration_by, targets_by, request_targets}
 use Rattle.sip_verdict.specs.Sameness.{SameRegistered}
 
 -- ---- targets

@@ -19,7 +19,7 @@ use Rattle.sip_auth.specs.Proof.{Wrong}
 use Rattle.sip_auth.specs.Examples.{credential, used_often}
 use Rattle.sip_dialog.specs.declared.dialog.Dialog.{Dialog}
 use Rattle.sip_dialog.specs.Examples as Dialogs
-use Rattle.sip_state.specs.Server.{Server}
+use Rattle.sip_state.specs.declared.server.Server.{Server}
 use Rattle.sip_state.specs.declared.branch.Branch.{Branch}
 use Rattle.sip_state.specs.declared.branch.Phase.TheVariants.{Unheard, Cancelled}
 use Rattle.sip_state.specs.declared.open_request.Side.TheVariants.{Closing}
@@ -27,7 +27,9 @@ use Rattle.sip_state.specs.declared.open_request.OpenRequest.{OpenRequest}
 use Rattle.sip_state.specs.declared.proxy_state.ProxyState.{ProxyState}
 use Rattle.sip_state.specs.State.{first_state}
 use Rattle.sip_context.specs.Calls as Calls
-use Rattle.sip_verdict.specs.Verdict.{Arrival, Question, Registered, Bound, Refused, Verdict, Register, message_verdict}
+use Rattle.sip_state.specs.Arrival.{Arrival}
+use Rattle.sip_verdict.specs.declared.question.Question.{Question}
+use Rattle.sip_verdict.specs.Verdict.{Registered, Bound, Refused, Verdict, Register, message_verdict}
 
 -- ---- what the server knows
 

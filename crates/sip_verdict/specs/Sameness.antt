@@ -2,7 +2,8 @@
 use Rattle.std.specs.Prelude.{◌≡◌, ℕ, Option, Some, None}
 use Rattle.sip_form.specs.declared.message.Message.{Message}
 use Rattle.sip_location.specs.Sameness.{SameBindings}
-use Rattle.sip_verdict.specs.Verdict.{Question, Registered, Bound, Refused, Verdict, Register}
+use Rattle.sip_verdict.specs.declared.question.Question.{Question}
+use Rattle.sip_verdict.specs.Verdict.{Registered, Bound, Refused, Verdict, Register}
 
 -- A REGISTER comes to the same: the same refusal, or rows that say the same from its moment on.
 abbrev pub SameRegistered : ℕ → Registered → Registered → Type 0

@@ -27,7 +27,6 @@ use Rattle.sip_nonces.specs.declared.nonces.Nonce.{Nonce}
 use Rattle.sip_host.specs.declared.addr.Addr.{Addr}
 use Rattle.sip_hops.specs.HostAddress.{address_of}
 use Rattle.sip_reply.specs.Extras.{unsupported_field, min_expires}
-use Rattle.sip_policy.specs.declared.operation.Operation.{Operation}
 use Rattle.sip_policy.specs.declared.decision.Decision.{Decision}
 use Rattle.sip_policy.specs.Operation.{operation_of}
 use Rattle.sip_policy.specs.User.{is_users_address, is_own_domain}
@@ -44,30 +43,18 @@ use Rattle.sip_validate.specs.Refusal.{refusal_of, is_bad_request}
 use Rattle.sip_dialog.specs.declared.dialog.DialogId.{DialogId}
 use Rattle.sip_dialog.specs.DialogId.{id_of}
 use Rattle.sip_dialog.specs.Dialogs.{is_in_dialog}
-use Rattle.sip_state.specs.Server.{Server}
-use Rattle.sip_auth.specs.Proof.{Proof, proof_of, proven}
+use Rattle.sip_state.specs.declared.server.Server.{Server}
+use Rattle.sip_auth.specs.Proof.{proof_of, proven}
+use Rattle.sip_verdict.specs.declared.question.Question.{Question}
 use Rattle.sip_location.specs.Registering.{aor_or_nobody, to_aor, registration_of}
 use Rattle.sip_state.specs.declared.proxy_state.ProxyState.{ProxyState}
 use Rattle.sip_state.specs.declared.open_request.OpenRequest.{OpenRequest}
 use Rattle.sip_state.specs.declared.branch.Branch.{Branch}
+use Rattle.sip_state.specs.Arrival.{Arrival}
 use Rattle.sip_state.specs.State.{has_key}
 use Rattle.sip_context.specs.Branches.{is_accepted}
 use Rattle.sip_context.specs.FoundBranch.{found_branch}
 use Rattle.sip_state.specs.Dialogs.{dialog_of}
-
--- A datagram that comes: its number, the moment, the word that makes the nonce of a challenge, and its source.
-pub record Arrival : Type 0 where
-  pub number : ℕ
-  pub now : ℕ
-  pub word : ℕ
-  pub from : Addr
-
--- What policy is asked about a request: what it proves, what it asks for, the address of record that it is for, and the minute of the day.
-pub record Question : Type 0 where
-  pub proof : Proof
-  pub operation : Operation
-  pub target : Aor
-  pub minute : ℕ
 
 -- What a REGISTER that was let through comes to: the bindings after it, or the status that refuses it, with its extra fields.
 pub data Registered : Type 0 where

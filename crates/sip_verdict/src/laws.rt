@@ -1,5 +1,5 @@
 ghost use Rattle.std.specs.Prelude.{◌≡◌, ◌≤◌, ℕ, List};
-ghost use Rattle.sip_state.specs.Server.{Server};
+ghost use Rattle.sip_state.specs.declared.server.Server.{Server};
 ghost use Rattle.sip_form.specs.declared.message.Message.{Message};
 ghost use Rattle.sip_header.specs.declared.core_fields.CoreFields.{CoreFields};
 ghost use Rattle.sip_policy.specs.declared.decision.Decision.{Decision};
@@ -8,7 +8,9 @@ ghost use Rattle.sip_location.specs.Sameness.{SameBindings};
 ghost use Rattle.sip_state.specs.declared.proxy_state.ProxyState.{ProxyState};
 ghost use Rattle.sip_state.specs.SameState.{SameState};
 ghost use Rattle.sip_verdict.specs.Sameness.{SameRegistered, SameSaid};
-ghost use Rattle.sip_verdict.specs.Verdict.{Arrival, Question, request_targets, registration_by, verdict_of};
+ghost use Rattle.sip_state.specs.Arrival.{Arrival};
+ghost use Rattle.sip_verdict.specs.declared.question.Question.{Question};
+ghost use Rattle.sip_verdict.specs.Verdict.{request_targets, registration_by, verdict_of};
 
 /// A request has the same targets over rows that say the same (RFC 3261 16.5).
 pub fn request_targets_same()

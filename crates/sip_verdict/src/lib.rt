@@ -4,3 +4,6 @@
 
 pub mod examples;
 pub mod laws;
+mod question;
+
+pub use question::Question;

@@ -1,5 +1,5 @@
 -- Fields whose bytes stand in one store.
-use Rattle.std.specs.Prelude.{◌≡◌, ℕ, List, ◌++◌, length}
+use Rattle.std.specs.Prelude.{◌≡◌, ℕ, List, map, All}
 use Rattle.std.specs.Option.{unwrap_or}
 use Rattle.sip_text.specs.declared.span.Span.{Span}
 use Rattle.sip_text.specs.Span.{part, IsWithin}
@@ -16,16 +16,25 @@ pub record IsStored (bytes : List ℕ) (kept : KeptField) : Type 0 where
   pub spelling : IsWithin kept.spelling bytes
   pub value : IsWithin kept.value bytes
 
--- bytes were put at the end of a store, and the span names them
-pub record IsAdded (old more new : List ℕ) (span : Span) : Type 0 where
-  pub grown : new ≡ old ++ more
-  pub begins : span.start ≡ length old
-  pub ends : span.end ≡ length new
+-- what stood in a store stays where it is
+pub record Keeps (old new : List ℕ) : Type 0 where
+  pub within : (span : Span) → IsWithin span old → IsWithin span new
+  pub bytes : (span : Span) → IsWithin span old → part new span ≡ part old span
 
--- a field was put at the end of a store
-pub record IsFieldAdded (old : List ℕ) (field : Field) (new : List ℕ) (kept : KeptField) : Type 0 where
-  pub written : List ℕ
-  pub middle : List ℕ
-  pub name : unwrap_or kept.known (Other written) ≡ field.name
-  pub spelling : IsAdded old written middle kept.spelling
-  pub value : IsAdded middle field.value new kept.value
+-- bytes were put into a store, and the span names them
+pub record IsPut (old more new : List ℕ) (span : Span) : Type 0 where
+  pub bytes : part new span ≡ more
+  pub within : IsWithin span new
+  pub keeps : Keeps old new
+
+-- a field was put into a store
+pub record IsFieldPut (old : List ℕ) (field : Field) (new : List ℕ) (kept : KeptField) : Type 0 where
+  pub same : field_kept new kept ≡ field
+  pub within : IsStored new kept
+  pub keeps : Keeps old new
+
+-- fields were put into a store
+pub record AreFieldsPut (old : List ℕ) (fields : List Field) (new : List ℕ) (list : List KeptField) : Type 0 where
+  pub same : map (field_kept new) list ≡ fields
+  pub within : All (IsStored new) list
+  pub keeps : Keeps old new

@@ -23,6 +23,7 @@ impl<'a> Model for Value<'a> {
 
 impl<'a> Value<'a> {
     ghost use Rattle.sip_text.specs.Span.{part, IsWithin};
+    ghost use Rattle.sip_view.specs.Piece.{bytes_of};
 
     /// A part of what was read. Takes no memory.
     pub fn of_part(part: &'a [u8]) -> Self
@@ -42,14 +43,18 @@ impl<'a> Value<'a> {
         }
     }
 
+    /// The bytes of a piece.
+    pub fn of_piece(piece: Piece<'a>) -> Self
+        ensures { result ≡ bytes_of piece.entry }
+    {
+        Value { piece }
+    }
+
     /// The bytes, wherever they stand.
     pub fn as_slice(&self) -> &[u8]
         ensures { result.now ≡ self.now }
     {
-        match &self.piece {
-            Piece::Part(part) => part,
-            Piece::Joined(bytes) => bytes.as_slice(),
-        }
+        self.piece.as_slice()
     }
 
     /// The part of what was read that it is, if it is one.
@@ -67,12 +72,7 @@ impl<'a> Value<'a> {
         requires { IsWithin span self.now }
         ensures { IfOk result (λ value. value ≡ part self.now span) }
     {
-        match &self.piece {
-            Piece::Part(part) => Ok(Value::of_part(span.of(part))),
-            Piece::Joined(bytes) => {
-                let bytes = Bytes::copy(alloc, span.of(bytes.as_slice()))?;
-                Ok(Value::of_bytes(bytes))
-            }
-        }
+        let piece = self.piece.within(alloc, span)?;
+        Ok(Value::of_piece(piece))
     }
 }

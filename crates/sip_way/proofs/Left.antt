@@ -36,7 +36,7 @@ turned_one name field = by_test (is_same_name field.name name)
     by_test true = refl
     by_test false = refl
 
-turned : (name : FieldName) (fields : List Field) → values_of name (reverse fields) ≡ reverse (values_of name fields)
+pub turned : (name : FieldName) (fields : List Field) → values_of name (reverse fields) ≡ reverse (values_of name fields)
 turned name [] = refl
 turned name (field ∷ fields) =
     ap (values_of name) (reverse-append (field ∷ []) fields) ∙ appended name (reverse fields) (field ∷ [])
@@ -58,7 +58,7 @@ own_off own fields = by_test (begins_with_own own (values_of Name.Route fields))
     by_test true = first_off Name.Route fields
     by_test false = refl
 
-restored_off : (own : Own) (uri : List ℕ) (fields : List Field) → values_of Name.Route (without_restored own uri fields) ≡ others_than (restored_route own uri fields) (values_of Name.Route fields)
+pub restored_off : (own : Own) (uri : List ℕ) (fields : List Field) → values_of Name.Route (without_restored own uri fields) ≡ others_than (restored_route own uri fields) (values_of Name.Route fields)
 restored_off own uri fields = by_test (is_some (restored_route own uri fields))
   where
     by_test : (t : Bool) → values_of Name.Route (cond t (without_last Name.Route fields) fields) ≡ cond t (all_but_last (values_of Name.Route fields)) (values_of Name.Route fields)

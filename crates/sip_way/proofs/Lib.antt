@@ -1,3 +1,4 @@
 pub mod Address
 pub mod Last
 pub mod Left
+pub mod Kept

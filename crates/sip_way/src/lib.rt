@@ -6,7 +6,9 @@ pub mod examples;
 pub mod laws;
 mod own;
 mod routes;
+mod routes_kept;
 mod way;
 
 pub use own::Own;
+pub use routes_kept::{RoutesKept, kept_routes};
 pub use way::{Way, way_of};

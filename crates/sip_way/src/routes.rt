@@ -18,7 +18,7 @@ fn names_own_place(own: &Own, uri: &AnyUri<'_>) -> bool
 }
 
 /// Whether an item of Route names this server.
-fn is_own_route(alloc: Global, own: &Own, value: &[u8]) -> Result<bool, AllocError>
+pub(crate) fn is_own_route(alloc: Global, own: &Own, value: &[u8]) -> Result<bool, AllocError>
     ensures { IfOk result (λ is_own. is_own ≡ Ways.begins_with_own own.now (value.now ∷ [])) }
 {
     match route_of(alloc, value)? {

@@ -101,7 +101,7 @@ fn came_strictly(alloc: Global, own: &Own, uri: &[u8]) -> Result<bool, AllocErro
 }
 
 /// The Route that takes the place of a Request-URI.
-fn restored_of<'v>(
+pub(crate) fn restored_of<'v>(
     alloc: Global,
     own: &Own,
     uri: &[u8],
@@ -150,7 +150,7 @@ fn way_by<'v>(
 }
 
 /// The Request-URI as it came; a response has none.
-fn request_uri<'v>(start: &ViewStart<'v>) -> &'v [u8]
+pub(crate) fn request_uri<'v>(start: &ViewStart<'v>) -> &'v [u8]
     ensures { result.now ≡ Ways.request_uri (start_seen start.now) }
 {
     match start {

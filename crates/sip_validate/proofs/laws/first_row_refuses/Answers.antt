@@ -1,4 +1,4 @@
-use Rattle.sip_validate.proofs.Validation.{served_is, refused_is}
+use Rattle.sip_validate.proofs.Serving.{served_is, refused_is}
 use Rattle.sip_validate.proofs.laws.first_row_refuses.Goals as goal
 
 pub returns-clause-served : goal.returns-clause-served

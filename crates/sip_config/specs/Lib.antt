@@ -1,0 +1,9 @@
+pub mod Head
+pub mod Users
+pub mod Hops
+pub mod HostAddresses
+pub mod Keys
+pub mod Limits
+pub mod Configuration
+pub mod Examples
+pub mod Configured

@@ -1,0 +1,112 @@
+ghost use Rattle.std.specs.Prelude.{◌≡◌};
+ghost use Rattle.toml.specs.View.{table_view};
+ghost use Rattle.sip_values.specs.Refusals.{Reads};
+ghost use Rattle.sip_config.specs.Configuration as Definitions;
+
+use crate::head::{Head, head_of};
+use crate::hops::hops_at;
+use crate::host_addresses::host_addresses_at;
+use crate::keys::knows_all;
+use crate::limits::has_too_many;
+use crate::users::users_at;
+use sip_hops::{Hop, HostAddress};
+use sip_host::Addr;
+use sip_policy::{Rule, Users};
+use sip_rulebook::{check_rules, rules_of};
+use sip_settings::Config;
+use sip_text::Items;
+use sip_values::{ConfigError, confirm, items_at};
+use sip_way::Own;
+use std::alloc::Global;
+use toml::Table;
+
+/// What a server is told, of the parts of a file.
+fn config_of(
+    head: Head,
+    users: Users,
+    hops: Items<Hop>,
+    addresses: Items<HostAddress>,
+    rules: Items<Rule>,
+) -> Config
+    ensures { result ≡ Definitions.config_of head users hops addresses rules }
+{
+    let Head {
+        version: _,
+        offset,
+        realm,
+        host,
+        port,
+        address,
+        domains,
+    } = head;
+    let Addr {
+        ip,
+        port: bound_port,
+    } = address;
+    let own = Own {
+        host,
+        port,
+        domains,
+        ip,
+    };
+    Config {
+        own,
+        bound_port,
+        realm,
+        users,
+        rules,
+        offset,
+        hops,
+        addresses,
+    }
+}
+
+/// What the rules of a file say: each of their lines, then no unknown key in the whole file, then what they
+/// name.
+fn rules_at(
+    alloc: Global,
+    version: u32,
+    users: &Users,
+    hops: &[Hop],
+    table: &Table,
+) -> Result<Items<Rule>, ConfigError>
+    ensures { Reads (λ rules. rules) result (Definitions.rules_at version users.now hops.now (table_view table.now)) }
+{
+    let items = items_at(table, "rule")?;
+    check_rules(alloc, version, users, items)?;
+    confirm(knows_all(version, table), ConfigError::BadValue)?;
+    rules_of(alloc, version, users, hops, items)
+}
+
+/// What the keys of a file state.
+fn stated_by(alloc: Global, table: &Table) -> Result<Config, ConfigError>
+    ensures { Reads (λ config. config) result (Definitions.stated_by (table_view table.now)) }
+{
+    confirm(!has_too_many(table), ConfigError::TooMany)?;
+    let head = head_of(alloc, table)?;
+    let users = users_at(alloc, table)?;
+    let hops = hops_at(alloc, table)?;
+    let addresses = host_addresses_at(alloc, table)?;
+    let rules = rules_at(alloc, head.version, &users, hops.as_slice(), table)?;
+    Ok(config_of(head, users, hops, addresses, rules))
+}
+
+/// Reads a configuration: TOML of version 1 or 2.
+///
+/// Refuses, in this order: BadToml; TooMany for a list over its limit; then, by the lines of the table of
+/// keys and in the order of the file within a line, MissingKey and BadValue; BadValue for a key that isn't
+/// known; DuplicateRule; UnknownHop; UnknownGroup. NoMemory may come at any point.
+pub fn read_config(alloc: Global, text: &str) -> Result<Config, ConfigError>
+    ensures { Reads (λ config. config) result (Definitions.stated_in text.now) }
+{
+    match toml::table_from_str(alloc, text) {
+        Ok(table) => stated_by(alloc, &table),
+        Err(e) => {
+            if e.is_memory() {
+                Err(ConfigError::NoMemory)
+            } else {
+                Err(ConfigError::BadToml)
+            }
+        }
+    }
+}

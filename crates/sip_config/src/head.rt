@@ -1,0 +1,96 @@
+ghost use Rattle.std.specs.Prelude.{◌≡◌};
+ghost use Rattle.toml.specs.View.{view, table_view, items_view};
+ghost use Rattle.sip_values.specs.Refusals.{Reads};
+ghost use Rattle.sip_config.specs.Head as Definitions;
+
+use sip_host::Addr;
+use sip_text::{Bytes, Items};
+use sip_values::{
+    ConfigError, Grammar, address_of, find, needed, number_between, number_of, port_of,
+    some_items_at, text_at, texts_of,
+};
+use std::alloc::Global;
+use toml::{Table, Value};
+
+/// What the keys before all tables say.
+#[derive(Drop)]
+pub(crate) struct Head {
+    pub(crate) version: u32,
+    pub(crate) offset: i16,
+    pub(crate) realm: Bytes,
+    pub(crate) host: Bytes,
+    pub(crate) port: u16,
+    pub(crate) address: Addr,
+    pub(crate) domains: Items<Bytes>,
+}
+
+fn version_at(table: &Table) -> Result<u32, ConfigError>
+    ensures { Reads (λ version. version) result (Definitions.version_at (table_view table.now)) }
+{
+    number_between(needed(table, "version")?, 1, 2)
+}
+
+/// Minutes ahead of UTC.
+fn offset_within(number: i64) -> Result<i16, ConfigError>
+    ensures { Reads (λ offset. offset) result (Definitions.offset_within number) }
+{
+    match i16::try_from(number) {
+        Ok(offset) if -720 <= offset && offset <= 840 => Ok(offset),
+        _ => Err(ConfigError::BadValue),
+    }
+}
+
+/// The offset, which version 1 doesn't know.
+fn offset_at(version: u32, table: &Table) -> Result<i16, ConfigError>
+    ensures { Reads (λ offset. offset) result (Definitions.offset_at version (table_view table.now)) }
+{
+    if version == 1 {
+        return Ok(0);
+    }
+    match find(table, "offset") {
+        Some(value) => offset_within(number_of(value)?),
+        None => Ok(0),
+    }
+}
+
+fn domains_at(alloc: Global, table: &Table) -> Result<Items<Bytes>, ConfigError>
+    ensures { Reads (λ domains. domains) result (Definitions.domains_at (table_view table.now)) }
+{
+    texts_of(alloc, some_items_at(table, "domains")?, Grammar::HostName)
+}
+
+fn port_at(table: &Table) -> Result<u16, ConfigError>
+    ensures { Reads (λ port. port) result (Definitions.port_at (table_view table.now)) }
+{
+    port_of(needed(table, "port")?)
+}
+
+fn address_at(table: &Table) -> Result<Addr, ConfigError>
+    ensures { Reads (λ address. address) result (Definitions.address_at (table_view table.now)) }
+{
+    address_of(needed(table, "address")?)
+}
+
+/// What the keys before all tables say, refused in this order.
+pub(crate) fn head_of(alloc: Global, table: &Table) -> Result<Head, ConfigError>
+    ensures { Reads (λ head. head) result (Definitions.head_of (table_view table.now)) }
+{
+    let version = version_at(table)?;
+    let offset = offset_at(version, table)?;
+    let realm = text_at(table, "realm", Grammar::Realm)?;
+    let host = text_at(table, "host", Grammar::OwnHost)?;
+    let port = port_at(table)?;
+    let address = address_at(table)?;
+    let domains = domains_at(alloc, table)?;
+    let realm = Bytes::copy(alloc, realm)?;
+    let host = Bytes::copy(alloc, host)?;
+    Ok(Head {
+        version,
+        offset,
+        realm,
+        host,
+        port,
+        address,
+        domains,
+    })
+}

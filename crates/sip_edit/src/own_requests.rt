@@ -1,0 +1,186 @@
+ghost use Rattle.std.specs.Prelude.{◌≡◌, ◌++◌, ◌∷◌, [], decimal, codes, option_map, IfOk, OnOk};
+ghost use Rattle.std.specs.Option.{option_and_then, option_to_list};
+ghost use Rattle.sip_field.specs.declared.field_name.FieldName.TheVariants as Name;
+ghost use Rattle.sip_field.specs.Named.{all_named};
+ghost use Rattle.sip_field.specs.Values.{first_value};
+ghost use Rattle.sip_form.specs.ViewStart.{start_seen};
+ghost use Rattle.sip_header.specs.CSeq as CSeqs;
+ghost use Rattle.sip_way.specs.Way as Ways;
+ghost use Rattle.sip_edit.specs.FirstField.{first_of};
+ghost use Rattle.sip_edit.specs.Onward.{seventy};
+ghost use Rattle.sip_edit.specs.OwnRequests;
+
+use sip_header::cseq_of;
+use sip_message::{FieldName, Value, View, ViewField, ViewFields, ViewName, ViewStart};
+use sip_text::Bytes;
+use std::alloc::{AllocError, Global};
+
+/// The most fields that stand once: Via, Max-Forwards, From, To, Call-ID and CSeq.
+const SINGLE_FIELDS: usize = 6;
+
+/// Adds the first field of a name, if there is one.
+fn put_first<'v>(
+    out: &mut ViewFields<'v>,
+    name: &FieldName,
+    fields: &'v ViewFields<'_>,
+) -> Result<(), AllocError>
+    ensures { OnOk result (out.new ≡ out.old ++ first_of name.now fields.now) }
+{
+    let Some(field) = fields.first_field(name) else {
+        return Ok(());
+    };
+    out.push(field.lent()?)
+}
+
+/// Adds a field, if there is one.
+fn put_given<'v>(out: &mut ViewFields<'v>, field: Option<ViewField<'v>>) -> Result<(), AllocError>
+    ensures { OnOk result (out.new ≡ out.old ++ option_to_list field.entry) }
+{
+    match field {
+        Some(field) => out.push(field),
+        None => Ok(()),
+    }
+}
+
+/// Adds the Max-Forwards of a new request (RFC 3261 8.1.1.6).
+fn put_seventy(out: &mut ViewFields<'_>) -> Result<(), AllocError>
+    ensures { OnOk result (out.new ≡ out.old ++ seventy ∷ []) }
+{
+    let name = ViewName::of_name(FieldName::MaxForwards);
+    out.push(ViewField::new(name, Value::of_part(b"70")))
+}
+
+/// The value of a CSeq.
+fn cseq_text(alloc: Global, number: u32, method: &[u8]) -> Result<Bytes, AllocError>
+    ensures { IfOk result (λ text. text ≡ decimal number ++ codes " " ++ method.now) }
+{
+    let mut text = Bytes::new(alloc);
+    text.push_decimal(u64::from(number))?;
+    text.extend(b" ")?;
+    text.extend(method)?;
+    Ok(text)
+}
+
+/// Adds a CSeq with a method and the number of the first among some fields, if that can be read.
+fn put_cseq(
+    alloc: Global,
+    out: &mut ViewFields<'_>,
+    method: &[u8],
+    fields: &ViewFields<'_>,
+) -> Result<(), AllocError>
+    ensures { OnOk result (out.new ≡ out.old ++ OwnRequests.cseq_with method.now (option_and_then CSeqs.cseq_of (first_value Name.CSeq fields.now))) }
+{
+    let Some(value) = fields.first(&FieldName::CSeq) else {
+        return Ok(());
+    };
+    let Some(cseq) = cseq_of(value) else {
+        return Ok(());
+    };
+    let text = cseq_text(alloc, cseq.number, method)?;
+    let name = ViewName::of_name(FieldName::CSeq);
+    out.push(ViewField::new(name, Value::of_bytes(text)))
+}
+
+/// The fields of a request that belongs to one that was sent, with a To.
+fn fields_like<'v>(
+    alloc: Global,
+    method: &[u8],
+    to: Option<ViewField<'v>>,
+    sent: &'v ViewFields<'_>,
+) -> Result<ViewFields<'v>, AllocError>
+    ensures { IfOk result (λ fields. fields ≡ OwnRequests.fields_like method.now (option_to_list to.entry) sent.now) }
+{
+    let room = sent.count(&FieldName::Route).saturating_add(SINGLE_FIELDS);
+    let mut fields = ViewFields::with_room(alloc, room)?;
+    put_first(&mut fields, &FieldName::Via, sent)?;
+    put_seventy(&mut fields)?;
+    put_first(&mut fields, &FieldName::From, sent)?;
+    put_given(&mut fields, to)?;
+    put_first(&mut fields, &FieldName::CallId, sent)?;
+    put_cseq(alloc, &mut fields, method, sent)?;
+    fields.extend_named(&FieldName::Route, sent)?;
+    Ok(fields)
+}
+
+/// The Request-URI of a request; a response has none.
+fn request_uri<'v>(start: &'v ViewStart<'_>) -> &'v [u8]
+    ensures { result.now ≡ Ways.request_uri (start_seen start.now) }
+{
+    match start {
+        ViewStart::Request {
+            method: _,
+            uri,
+            version: _,
+        } => uri,
+        ViewStart::Status { code: _, reason: _ } => b"",
+    }
+}
+
+/// The request of a method that belongs to one that was sent, with a To.
+fn request_like<'v>(
+    alloc: Global,
+    method: &'v [u8],
+    to: Option<ViewField<'v>>,
+    sent: &'v View<'_>,
+) -> Result<View<'v>, AllocError>
+    ensures { IfOk result (λ request. request ≡ OwnRequests.request_like method.now (option_to_list to.entry) sent.now) }
+{
+    let fields = fields_like(alloc, method, to, sent.fields())?;
+    let start = ViewStart::Request {
+        method,
+        uri: request_uri(sent.start()),
+        version: Value::of_part(b"SIP/2.0"),
+    };
+    Ok(View::new(start, fields, b""))
+}
+
+/// The field of a To with this value, if there is one.
+fn to_field(to: Option<&[u8]>) -> Option<ViewField<'_>>
+    ensures { option_to_list result ≡ OwnRequests.to_field (option_map (λ value. value.now) to.entry) }
+{
+    let value = to?;
+    Some(ViewField::new(ViewName::of_name(FieldName::To), Value::of_part(value)))
+}
+
+/// The ACK of a final answer with this To, if that had one, to an INVITE that was sent (RFC 3261 17.1.1.3). No byte is
+/// copied but its CSeq, which is written anew. `AllocError` is the only refusal.
+pub fn ack_with<'v>(
+    alloc: Global,
+    to: Option<&'v [u8]>,
+    sent: &'v View<'_>,
+) -> Result<View<'v>, AllocError>
+    ensures { IfOk result (λ ack. ack ≡ OwnRequests.ack_with (option_map (λ value. value.now) to.entry) sent.now) }
+{
+    request_like(alloc, b"ACK", to_field(to), sent)
+}
+
+/// The ACK of a response to an INVITE that was sent: its To is the response's, if that has one (RFC 3261 17.1.1.3). No
+/// byte is copied but its CSeq, which is written anew. `AllocError` is the only refusal.
+pub fn ack_of<'v>(
+    alloc: Global,
+    sent: &'v View<'_>,
+    response: &'v View<'_>,
+) -> Result<View<'v>, AllocError>
+    ensures { IfOk result (λ ack. ack ≡ OwnRequests.ack_of sent.now response.now) }
+{
+    ack_with(alloc, response.fields().first(&FieldName::To), sent)
+}
+
+/// The first To among some fields, of which no byte is copied.
+fn first_to<'v>(fields: &'v ViewFields<'_>) -> Result<Option<ViewField<'v>>, AllocError>
+    ensures { IfOk result (λ to. option_to_list to ≡ first_of Name.To fields.now) }
+{
+    match fields.first_field(&FieldName::To) {
+        Some(field) => Ok(Some(field.lent()?)),
+        None => Ok(None),
+    }
+}
+
+/// The CANCEL of a request that was sent (RFC 3261 9.1). No byte is copied but its CSeq, which is written anew.
+/// `AllocError` is the only refusal.
+pub fn cancel_of<'v>(alloc: Global, sent: &'v View<'_>) -> Result<View<'v>, AllocError>
+    ensures { IfOk result (λ cancel. cancel ≡ OwnRequests.cancel_of sent.now) }
+{
+    let to = first_to(sent.fields())?;
+    request_like(alloc, b"CANCEL", to, sent)
+}

@@ -1,0 +1,9 @@
+use sip_view::{Piece, ViewName};
+
+/// A field as it stands in a datagram: its name, and its value as a part of the datagram, or joined where its line
+/// has a fold.
+#[derive(Debug, Drop)]
+pub struct PartField<'a> {
+    pub name: ViewName<'a>,
+    pub value: Piece<'a>,
+}

@@ -1,0 +1,10 @@
+//! A request as it goes on to its targets (RFC 3261 16.4, 16.6): what is the same for all of them, the request to one of
+//! them, this server's Record-Route, and the Request-URI with which a request goes on that is its own target. The
+//! definitions stand in `sip_edit`.
+#![tactic(auto)]
+
+mod onward;
+mod record_route;
+
+pub use onward::{onward_base, onward_uri, to_target};
+pub use record_route::push_record_route;

@@ -1,0 +1,36 @@
+-- What follows an event, told of equal parts.
+use Rattle.std.proofs.Common.{◌≡◌, ℕ, ◌+◌, List, ◌∙◌, ap, refl, Bool, true, false, cond, Some, None}
+use Rattle.std.specs.Prelude.{Option, ◌&&◌, ◌||◌}
+use Rattle.sip_form.specs.declared.message.Message.{Message}
+use Rattle.sip_edit.specs.OwnVia.{without_top_via}
+use Rattle.sip_event.specs.declared.packet.Packet.{Packet}
+use Rattle.sip_state.specs.declared.server.Server.{Server}
+use Rattle.sip_state.specs.declared.open_request.OpenRequest.{OpenRequest}
+use Rattle.sip_state.specs.declared.open_request.Upward.{Upward}
+use Rattle.sip_state.specs.declared.branch.Branch.{Branch}
+use Rattle.sip_state.specs.declared.branch.Phase.TheVariants.{Done}
+use Rattle.sip_state.specs.State.{is_answering, is_success}
+use Rattle.sip_context.specs.Branches.{Change, settled, cancel_responded, target_responded, responded, acks_of, is_accepted, relayed_success, told_to, linger, with_phase, with_final, search_ended, with_answer}
+
+pub settled_alike : (server : Server) (now : ℕ) (acks acks' : List Packet) (up up' : Option Upward) (r r' : OpenRequest) (change : Change)
+    → change ≡ settled server now acks up r → acks ≡ acks' → up ≡ up' → r ≡ r' → change ≡ settled server now acks' up' r'
+settled_alike server now acks acks' up up' r r' change e p q s =
+    e ∙ ap (λ (a : List Packet). settled server now a up r) p ∙ ap (λ (u : Option Upward). settled server now acks' u r) q ∙ ap (λ (x : OpenRequest). settled server now acks' up' x) s
+
+-- the same after the first final answer of a branch, which was kept once
+pub final_settled : (server : Server) (now : ℕ) (r after : OpenRequest) (b : Branch) (status : ℕ) (m kept : Message) (acks : List Packet) (relayed : Option Upward) (change : Change)
+    → change ≡ settled server now acks relayed after → acks ≡ acks_of server r b status m → kept ≡ without_top_via m
+    → relayed ≡ cond (is_success status && (is_answering r.side || is_accepted r)) (Some (record { status = status; message = kept; target = b.address })) None
+    → after ≡ search_ended r status (with_final (record { status = status; message = Some kept }) (with_phase (told_to r b status m) (Done (now + linger r) status) r))
+    → change ≡ settled server now (acks_of server r b status m) (relayed_success r b status m) (with_answer r b now status m)
+final_settled server now r after b status m kept acks relayed change is acks_are kept_is relayed_is after_is =
+    let up : Message → Option Upward = λ k. cond (is_success status && (is_answering r.side || is_accepted r)) (Some (record { status = status; message = k; target = b.address })) None in
+    let left : Message → OpenRequest = λ k. search_ended r status (with_final (record { status = status; message = Some k }) (with_phase (told_to r b status m) (Done (now + linger r) status) r)) in
+    settled_alike server now acks (acks_of server r b status m) relayed (relayed_success r b status m) after (with_answer r b now status m) change is acks_are (relayed_is ∙ ap up kept_is) (after_is ∙ ap left kept_is)
+
+-- a response to a CANCEL
+pub cancel_is : (server : Server) (now : ℕ) (r : OpenRequest) (b : Branch) (status : ℕ) (m : Message) → b.is_cancel ≡ true → cancel_responded server now r b status m ≡ responded server now r b status m
+cancel_is server now r b status m is = by_test b.is_cancel is where
+  by_test : (t : Bool) → t ≡ true → cancel_responded server now r b status m ≡ cond t (cancel_responded server now r b status m) (target_responded server now r b status m)
+  by_test true e = refl
+  by_test false e = absurd (cc)

@@ -1,0 +1,131 @@
+ghost use Rattle.std.specs.Prelude.{◌≡◌, ◌<◌, ◌+◌, ◌^◌, ◌++◌, ◌&&◌, IfOk, OnOk};
+ghost use Rattle.sip_form.specs.Text.{text_of};
+ghost use Rattle.sip_state.specs.State as States;
+ghost use Rattle.sip_context.specs.Branches as Contexts;
+
+use crate::side::{first_resend, is_answering, side_after};
+use crate::status::{is_invite, is_provisional, is_success};
+use sip_best::{Final, best};
+use sip_branches::all_final;
+use sip_form::{Kept, write_view};
+use sip_sending::kept_answer;
+use sip_shared::Shared;
+use sip_state::{LastAnswer, OpenRequest, Server, Upward};
+use sip_text::{Bytes, Items};
+use std::alloc::{AllocError, Global};
+
+/// The message of an answer, which is made here if none came.
+fn message_of(
+    alloc: Global,
+    server: &Server,
+    call: &OpenRequest,
+    answer: Final,
+) -> Result<Shared<Kept>, AllocError>
+    ensures { IfOk result (λ message. message ≡ (Contexts.upward_of server.now call.now answer).message) }
+{
+    match answer.message {
+        Some(message) => Ok(message),
+        None => Shared::new(alloc, kept_answer(alloc, server, call, answer.status)?),
+    }
+}
+
+/// The best answer, as it goes to the caller: one that came, or one that is made here.
+fn upward_of(
+    alloc: Global,
+    server: &Server,
+    call: &OpenRequest,
+    answer: Final,
+) -> Result<Upward, AllocError>
+    ensures { IfOk result (λ up. up ≡ Contexts.upward_of server.now call.now answer) }
+{
+    let status = answer.status;
+    let message = message_of(alloc, server, call, answer)?;
+    Ok(Upward {
+        status,
+        message,
+        target: None,
+    })
+}
+
+/// Whether the best answer goes to the caller now: every branch has a final one, and none went before (RFC 3261 16.7
+/// steps 5 and 6).
+fn is_time(call: &OpenRequest) -> bool
+    ensures { result ≡ (States.is_answering call.now.side && Contexts.all_final call.now) }
+{
+    is_answering(call.side) && all_final(call.branches.as_slice())
+}
+
+/// The best answer, if it goes to the caller now.
+pub(crate) fn best_upward(
+    alloc: Global,
+    server: &Server,
+    call: &OpenRequest,
+) -> Result<Option<Upward>, AllocError>
+    ensures { IfOk result (λ up. up ≡ Contexts.best_upward server.now call.now) }
+{
+    if !is_time(call) {
+        return Ok(None);
+    }
+    match best(alloc, call.finals.as_slice())? {
+        None => Ok(None),
+        Some(answer) => Ok(Some(upward_of(alloc, server, call, answer)?)),
+    }
+}
+
+/// The bytes of an answer that are kept, to be sent again: none of a 2xx to an INVITE (RFC 3261 13.3.1.4, RFC 6026
+/// 7.1).
+fn kept_text(alloc: Global, call: &OpenRequest, up: &Upward) -> Result<Bytes, AllocError>
+    ensures { IfOk result (λ text. text ≡ (Contexts.last_answer call.now up.now.status (text_of up.now.message)).text) }
+{
+    if is_invite(call) && is_success(up.status) {
+        return Ok(Bytes::new(alloc));
+    }
+    let view = up.message.get().view(alloc)?;
+    write_view(alloc, &view)
+}
+
+/// The answer that was sent last.
+fn last_answer(alloc: Global, call: &OpenRequest, up: &Upward) -> Result<LastAnswer, AllocError>
+    ensures { IfOk result (λ answer. answer ≡ Contexts.last_answer call.now up.now.status (text_of up.now.message)) }
+{
+    let text = kept_text(alloc, call, up)?;
+    Ok(LastAnswer {
+        status: up.status,
+        text: Shared::new(alloc, text)?,
+    })
+}
+
+/// An answer goes to the caller: it is the last one, and the first final one begins to close the request.
+fn answered(alloc: Global, now: u64, call: &mut OpenRequest, up: &Upward) -> Result<(), AllocError>
+    requires { now + 32000 < 2 ^ 64 }
+    ensures { OnOk result (call.new ≡ Contexts.answered now up.now call.old) }
+{
+    call.answer = Some(last_answer(alloc, call, up)?);
+    call.side = side_after(now, call.side, up.status);
+    call.again = first_resend(now);
+    if !is_provisional(up.status) {
+        call.finals = Items::new(alloc);
+    }
+    Ok(())
+}
+
+/// What goes to the caller, if anything does.
+pub(crate) fn tell(
+    alloc: Global,
+    now: u64,
+    call: &mut OpenRequest,
+    told: &mut Items<Upward>,
+    up: Option<Upward>,
+) -> Result<(), AllocError>
+    requires { now + 32000 < 2 ^ 64 }
+    ensures request { OnOk result (call.new ≡ Contexts.after_upward now up call.old) }
+    ensures told { OnOk result (told.new ≡ told.old ++ Contexts.upward_list up) }
+{
+    match up {
+        None => Ok(()),
+        Some(up) => {
+            answered(alloc, now, call, &up)?;
+            told.push(up)
+        }
+    }
+}

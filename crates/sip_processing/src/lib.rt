@@ -1,0 +1,24 @@
+//! One open request, its response context: what a response, a deadline, a packet that could not be sent, and the
+//! caller's CANCEL and ACK change of it, and what it sends then (RFC 3261 16.7 to 16.10, 17; RFC 6026). Nothing here
+//! waits or reads a clock. A refusal says nothing of the request: its caller works on a clone of it.
+#![tactic(auto)]
+
+mod acknowledging;
+mod answers;
+mod cancelling;
+mod deadlines;
+mod faults;
+mod finals;
+mod relayed;
+mod responses;
+mod sent;
+mod settling;
+mod side;
+mod status;
+
+pub use acknowledging::take_ack;
+pub use cancelling::take_cancel;
+pub use deadlines::{pass_branch, pass_side};
+pub use faults::take_fault;
+pub use responses::take_response;
+pub use sent::Sent;

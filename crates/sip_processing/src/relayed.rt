@@ -1,0 +1,121 @@
+ghost use Rattle.std.specs.Prelude.{◌≡◌, ◌&&◌, ◌||◌, ◌==◌, not, Some, None, if◌then◌else◌, IfOk};
+ghost use Rattle.sip_edit.specs.OwnVia.{without_top_via};
+ghost use Rattle.sip_state.specs.State as States;
+ghost use Rattle.sip_context.specs.Branches as Contexts;
+
+use crate::side::{is_accepted, is_answering};
+use crate::status::{is_invite, is_success};
+use sip_branches::is_final;
+use sip_edit::pop_via;
+use sip_form::{Kept, View};
+use sip_shared::Shared;
+use sip_state::{Branch, OpenRequest, Phase, Upward};
+use std::alloc::{AllocError, Global};
+
+/// A response without its top Via, which is kept once however many have it.
+pub(crate) fn kept_response(alloc: Global, response: &View<'_>) -> Result<Shared<Kept>, AllocError>
+    ensures { IfOk result (λ answer. answer ≡ without_top_via response.now) }
+{
+    let popped = pop_via(alloc, response)?;
+    Shared::new(alloc, Kept::of(alloc, &popped)?)
+}
+
+/// An answer from a branch, as it goes to the caller (RFC 3261 16.7 step 3).
+fn relayed_from(branch: &Branch, status: u16, message: Shared<Kept>) -> Upward
+    ensures { result ≡ record { status = status; message = message; target = branch.now.address } }
+{
+    Upward {
+        status,
+        message,
+        target: branch.address,
+    }
+}
+
+/// Whether a provisional response goes to the caller: no 100 does, and none after the final answer of its branch or of
+/// the request (RFC 3261 16.7 step 5).
+fn relays_provisional(call: &OpenRequest, branch: &Branch, status: u16) -> bool
+    ensures { result ≡ (not (status == 100) && not (States.is_final branch.now.phase) && States.is_answering call.now.side) }
+{
+    status != 100 && !is_final(branch.phase) && is_answering(call.side)
+}
+
+/// A provisional response from a branch as it goes to the caller, if it does.
+pub(crate) fn relayed_provisional(
+    alloc: Global,
+    call: &OpenRequest,
+    branch: &Branch,
+    status: u16,
+    response: &View<'_>,
+) -> Result<Option<Upward>, AllocError>
+    ensures { IfOk result (λ up. up ≡ Contexts.relayed_provisional call.now branch.now status response.now) }
+{
+    if !relays_provisional(call, branch, status) {
+        return Ok(None);
+    }
+    let message = kept_response(alloc, response)?;
+    Ok(Some(relayed_from(branch, status, message)))
+}
+
+/// Whether a final response goes to the caller at once: the first 2xx, and each further one of an INVITE while its
+/// transaction lives (RFC 3261 16.7 step 5, RFC 6026 7.1).
+fn relays_success(call: &OpenRequest, status: u16) -> bool
+    ensures { result ≡ (States.is_success status && (States.is_answering call.now.side || Contexts.is_accepted call.now)) }
+{
+    is_success(status) && (is_answering(call.side) || is_accepted(call))
+}
+
+/// The first final answer of a branch as it goes to the caller at once, if it does.
+pub(crate) fn relayed_answer(
+    call: &OpenRequest,
+    branch: &Branch,
+    status: u16,
+    answer: &Shared<Kept>,
+) -> Result<Option<Upward>, AllocError>
+    ensures { IfOk result (λ up. up ≡ (if States.is_success status && (States.is_answering call.now.side || Contexts.is_accepted call.now) then Some (record { status = status; message = answer.now; target = branch.now.address }) else None)) }
+{
+    if !relays_success(call, status) {
+        return Ok(None);
+    }
+    let message = answer.clone()?;
+    Ok(Some(relayed_from(branch, status, message)))
+}
+
+/// A 2xx from a branch as it goes to the caller, if it does.
+fn relayed_success(
+    alloc: Global,
+    call: &OpenRequest,
+    branch: &Branch,
+    status: u16,
+    response: &View<'_>,
+) -> Result<Option<Upward>, AllocError>
+    ensures { IfOk result (λ up. up ≡ Contexts.relayed_success call.now branch.now status response.now) }
+{
+    if !relays_success(call, status) {
+        return Ok(None);
+    }
+    let message = kept_response(alloc, response)?;
+    Ok(Some(relayed_from(branch, status, message)))
+}
+
+/// A further final response of a branch as it goes to the caller, if it does: a 2xx of an INVITE whose branch gave one
+/// before.
+pub(crate) fn further(
+    alloc: Global,
+    call: &OpenRequest,
+    branch: &Branch,
+    status: u16,
+    response: &View<'_>,
+) -> Result<Option<Upward>, AllocError>
+    ensures { IfOk result (λ up. up ≡ Contexts.further call.now branch.now branch.now.phase status response.now) }
+{
+    match branch.phase {
+        Phase::Done { status: first, .. } => {
+            if is_invite(call) && is_success(first) {
+                relayed_success(alloc, call, branch, status, response)
+            } else {
+                Ok(None)
+            }
+        }
+        _ => Ok(None),
+    }
+}

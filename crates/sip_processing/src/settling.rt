@@ -1,0 +1,87 @@
+ghost use Rattle.std.specs.Prelude.{◌≡◌, ◌<◌, ◌+◌, ◌^◌, false, [], None, IfOk, OnOk};
+ghost use Rattle.std.specs.List.{flat_map};
+ghost use Rattle.sip_context.specs.Sending as Sendings;
+ghost use Rattle.sip_context.specs.Branches as Contexts;
+ghost use Rattle.sip_processing.specs.Sent.{change_of};
+
+use crate::answers::{best_upward, tell};
+use crate::sent::Sent;
+use sip_branches::{add_cancels, new_cancels};
+use sip_event::Packet;
+use sip_sending::packets_of_branches;
+use sip_state::{OpenRequest, Server, Upward};
+use sip_text::Items;
+use std::alloc::{AllocError, Global};
+
+/// The packets of the CANCELs that are sent now.
+fn cancel_packets(
+    alloc: Global,
+    server: &Server,
+    now: u64,
+    call: &OpenRequest,
+) -> Result<Items<Packet>, AllocError>
+    requires { now + 32000 < 2 ^ 64 }
+    ensures { IfOk result (λ packets. packets ≡ flat_map (Sendings.branch_packets server.now false call.now) (Contexts.new_cancels now call.now)) }
+{
+    let cancels = new_cancels(alloc, now, call.branches.as_slice())?;
+    let mut packets = Items::new(alloc);
+    if !cancels.as_slice().is_empty() {
+        packets_of_branches(alloc, &mut packets, server, false, call, cancels.as_slice())?;
+    }
+    Ok(packets)
+}
+
+/// The branches that are ready for it are sent their CANCELs.
+fn send_cancels(
+    alloc: Global,
+    server: &Server,
+    now: u64,
+    call: &mut OpenRequest,
+) -> Result<Items<Packet>, AllocError>
+    requires { now + 32000 < 2 ^ 64 }
+    ensures request { OnOk result (call.new ≡ Contexts.with_cancels now call.old) }
+    ensures packets { IfOk result (λ packets. packets ≡ flat_map (Sendings.branch_packets server.now false call.old) (Contexts.new_cancels now call.old)) }
+{
+    let packets = cancel_packets(alloc, server, now, call)?;
+    add_cancels(alloc, now, &mut call.branches)?;
+    Ok(packets)
+}
+
+/// What follows every event: what goes to the caller at once, then the best answer if it is time for it, then the
+/// CANCELs of the branches that are ready for one (RFC 3261 16.7 steps 5 to 10).
+pub(crate) fn settle(
+    alloc: Global,
+    server: &Server,
+    now: u64,
+    acks: Items<Packet>,
+    relayed: Option<Upward>,
+    call: &mut OpenRequest,
+) -> Result<Sent, AllocError>
+    requires { now + 32000 < 2 ^ 64 }
+    ensures { IfOk result (λ sent. change_of call.new sent ≡ Contexts.settled server.now now acks relayed call.old) }
+{
+    let mut upward = Items::new(alloc);
+    tell(alloc, now, call, &mut upward, relayed)?;
+    let best = best_upward(alloc, server, call)?;
+    tell(alloc, now, call, &mut upward, best)?;
+    let cancels = send_cancels(alloc, server, now, call)?;
+    Ok(Sent {
+        acks,
+        upward,
+        cancels,
+    })
+}
+
+/// The same where an event alone has nothing to acknowledge or to relay.
+pub(crate) fn settle_alone(
+    alloc: Global,
+    server: &Server,
+    now: u64,
+    call: &mut OpenRequest,
+) -> Result<Sent, AllocError>
+    requires { now + 32000 < 2 ^ 64 }
+    ensures { IfOk result (λ sent. change_of call.new sent ≡ Contexts.settled server.now now [] None call.old) }
+{
+    let sent = settle(alloc, server, now, Items::new(alloc), None, call)?;
+    Ok(sent)
+}

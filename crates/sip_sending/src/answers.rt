@@ -1,0 +1,115 @@
+ghost use Rattle.std.specs.Prelude.{◌≡◌, [], IfOk};
+ghost use Rattle.sip_form.specs.Text.{text_of};
+ghost use Rattle.sip_edit.specs.ReceivedRequest.{response_address};
+ghost use Rattle.sip_reply.specs.Reply.{reply_of};
+ghost use Rattle.sip_context.specs.Sending as Spec;
+
+use crate::received::received_value;
+use sip_edit::with_top_via;
+use sip_event::{Packet, Ticket};
+use sip_form::Kept;
+use sip_header::via_of;
+use sip_host::Addr;
+use sip_message::{FieldName, Fields, View, write_view};
+use sip_reply::{reply_view, respond, to_tag};
+use sip_state::{OpenRequest, Server};
+use sip_text::Bytes;
+use std::alloc::{AllocError, Global};
+
+/// Where the answers to a request go that came from an address.
+fn response_address(alloc: Global, request: &View<'_>, from: Addr) -> Result<Addr, AllocError>
+    ensures { IfOk result (λ address. address ≡ response_address request.now from) }
+{
+    let Some(value) = request.fields().first(&FieldName::Via) else {
+        return Ok(from);
+    };
+    let via = via_of(alloc, value)?;
+    Ok(sip_edit::response_address(via.as_ref(), from))
+}
+
+/// The packet of an answer, of which this is the text, to a request that came from an address in the datagram of a number
+/// (RFC 3261 18.2.2). `AllocError` is the only refusal.
+pub fn answer_packet(
+    alloc: Global,
+    again: bool,
+    number: u64,
+    request: &View<'_>,
+    from: Addr,
+    text: Bytes,
+) -> Result<Packet, AllocError>
+    ensures { IfOk result (λ packet. packet ≡ Spec.answer_packet again number request.now from text) }
+{
+    let to = response_address(alloc, request, from)?;
+    Ok(Packet {
+        to,
+        bytes: text,
+        ticket: Ticket {
+            datagram: number,
+            branch: 0,
+        },
+        again,
+    })
+}
+
+/// The packet of an answer to an open request, of which this is the text. `AllocError` is the only refusal.
+pub fn answer_to(
+    alloc: Global,
+    again: bool,
+    context: &OpenRequest,
+    text: Bytes,
+) -> Result<Packet, AllocError>
+    ensures { IfOk result (λ packet. packet ≡ Spec.answer_to again context.now text) }
+{
+    let request = context.request.get().view(alloc)?;
+    answer_packet(alloc, again, context.number, &request, context.source, text)
+}
+
+/// The text of an answer that is made here to a request that came from an address in the datagram of a number (RFC 3261
+/// 8.2.6): with this status and these further fields. `AllocError` is the only refusal.
+pub fn made_answer(
+    alloc: Global,
+    server: &Server,
+    number: u64,
+    request: &View<'_>,
+    from: Addr,
+    status: u16,
+    extras: &Fields,
+) -> Result<Bytes, AllocError>
+    ensures { IfOk result (λ text. text ≡ text_of (Spec.made_answer server.now number request.now from status extras.now)) }
+{
+    let via = received_value(alloc, request, from)?;
+    let received = with_top_via(alloc, request, via.as_slice())?;
+    let tag = to_tag(alloc, server.word, number)?;
+    respond(alloc, &received, status, tag.as_slice(), extras)
+}
+
+/// A response to a request without further fields, kept.
+fn kept_reply(
+    alloc: Global,
+    request: &View<'_>,
+    status: u16,
+    to_tag: &[u8],
+) -> Result<Kept, AllocError>
+    ensures { IfOk result (λ kept. kept ≡ reply_of request.now status to_tag.now []) }
+{
+    let extras = Fields::new(alloc);
+    let answer = reply_view(alloc, request, status, to_tag, &extras)?;
+    Kept::of(alloc, &answer)
+}
+
+/// The answer of a status that is made here to an open request, as a message that is kept. `AllocError` is the only
+/// refusal.
+pub fn kept_answer(
+    alloc: Global,
+    server: &Server,
+    context: &OpenRequest,
+    status: u16,
+) -> Result<Kept, AllocError>
+    ensures { IfOk result (λ kept. kept ≡ Spec.made_answer server.now context.now.number context.now.request context.now.source status []) }
+{
+    let request = context.request.get().view(alloc)?;
+    let via = received_value(alloc, &request, context.source)?;
+    let received = with_top_via(alloc, &request, via.as_slice())?;
+    let tag = to_tag(alloc, server.word, context.number)?;
+    kept_reply(alloc, &received, status, tag.as_slice())
+}

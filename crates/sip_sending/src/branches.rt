@@ -1,0 +1,279 @@
+ghost use Rattle.std.specs.Prelude.{◌≡◌, ◌++◌, IfOk, OnOk, is_some, not, ◌&&◌, if◌then◌else◌, option_map};
+ghost use Rattle.std.specs.List.{flat_map};
+ghost use Rattle.sip_form.specs.Text.{text_of};
+ghost use Rattle.sip_edit.specs.OwnRequests;
+ghost use Rattle.sip_state.specs.State.{is_invite};
+ghost use Rattle.sip_state.specs.Dialogs.{dialog_of};
+ghost use Rattle.sip_context.specs.Sending as Spec;
+ghost use Rattle.sip_sending.specs.Base;
+
+use crate::received::received_value;
+use sip_edit::{ack_with, branch_text, cancel_of, own_via_value, with_top_via};
+use sip_event::{Packet, Ticket};
+use sip_header::{HeaderError, core_of, tag_of};
+use sip_message::{View, write_view};
+use sip_onward::{onward_base, to_target};
+use sip_state::{Branch, OpenRequest, Server};
+use sip_text::{Bytes, Items};
+use std::alloc::{AllocError, Global};
+
+/// Whether a request names a dialog.
+fn names_dialog(alloc: Global, request: &View<'_>) -> Result<bool, AllocError>
+    ensures { IfOk result (λ names. names ≡ is_some (dialog_of request.now)) }
+{
+    match core_of(alloc, request) {
+        Ok(core) => Ok(tag_of(core.to.parameters.as_slice()).is_some()),
+        Err(HeaderError::NoMemory) => Err(AllocError),
+        Err(_) => Ok(false),
+    }
+}
+
+/// Whether an open request is an INVITE.
+fn is_invite(context: &OpenRequest) -> bool
+    ensures { result ≡ is_invite context.now }
+{
+    context.key.get().method.as_slice() == b"INVITE".as_slice()
+}
+
+/// Whether an open request is an INVITE that begins a dialog: this is the request that it keeps.
+fn begins_dialog(
+    alloc: Global,
+    context: &OpenRequest,
+    request: &View<'_>,
+) -> Result<bool, AllocError>
+    ensures { IfOk result (λ begins. begins ≡ (is_invite context.now && not (is_some (dialog_of request.now)))) }
+{
+    if !is_invite(context) {
+        return Ok(false);
+    }
+    let names = names_dialog(alloc, request)?;
+    Ok(!names)
+}
+
+/// The value of this server's Via on the request to a target.
+fn via_value(alloc: Global, server: &Server, number: u64, target: u32) -> Result<Bytes, AllocError>
+    ensures { IfOk result (λ value. value ≡ Base.via_value server.now number target) }
+{
+    let branch = branch_text(alloc, server.word, number, target)?;
+    own_via_value(alloc, &server.config.own, branch.as_slice())
+}
+
+/// The text of what a branch sends: of its request, or of the CANCEL of that (RFC 3261 9.1).
+fn sent_text(alloc: Global, request: &View<'_>, is_cancel: bool) -> Result<Bytes, AllocError>
+    ensures { IfOk result (λ text. text ≡ text_of (if is_cancel then OwnRequests.cancel_of request.now else request.now)) }
+{
+    if !is_cancel {
+        return write_view(alloc, request);
+    }
+    let cancel = cancel_of(alloc, request)?;
+    write_view(alloc, &cancel)
+}
+
+/// The request of a branch, by what is the same for all branches.
+#[tactic(auto, unfolding(crate::specs::Base::request_by))]
+fn request_to<'v>(
+    alloc: Global,
+    server: &Server,
+    number: u64,
+    base: &'v View<'_>,
+    branch: &'v Branch,
+) -> Result<View<'v>, AllocError>
+    ensures { IfOk result (λ request. request ≡ Base.request_by server.now number base.now branch.now) }
+{
+    let via = via_value(alloc, server, number, branch.number)?;
+    to_target(alloc, base, branch.uri.get().as_slice(), via)
+}
+
+/// The text of what a branch sends, by what is the same of the request for all branches.
+fn branch_bytes(
+    alloc: Global,
+    server: &Server,
+    number: u64,
+    base: &View<'_>,
+    branch: &Branch,
+) -> Result<Bytes, AllocError>
+    ensures { IfOk result (λ text. text ≡ text_of (Base.sent_by server.now number base.now branch.now)) }
+{
+    let request = request_to(alloc, server, number, base, branch)?;
+    sent_text(alloc, &request, branch.is_cancel)
+}
+
+/// The number of a branch on its tickets.
+fn ticket_branch(branch: &Branch) -> u32
+    ensures { result ≡ Spec.ticket_branch branch.now }
+{
+    if branch.is_cancel { 0 } else { branch.number }
+}
+
+/// Adds what a branch sends, by what is the same of the request for all branches.
+#[tactic(auto, unfolding(crate::specs::Base::packets_by))]
+fn put_branch(
+    alloc: Global,
+    out: &mut Items<Packet>,
+    server: &Server,
+    again: bool,
+    number: u64,
+    base: &View<'_>,
+    branch: &Branch,
+) -> Result<(), AllocError>
+    ensures { OnOk result (out.new ≡ out.old ++ Base.packets_by server.now again number base.now branch.now) }
+{
+    let Some(address) = branch.address else {
+        return Ok(());
+    };
+    let bytes = branch_bytes(alloc, server, number, base, branch)?;
+    let ticket = Ticket {
+        datagram: number,
+        branch: ticket_branch(branch),
+    };
+    out.push(Packet {
+        to: address,
+        bytes,
+        ticket,
+        again,
+    })
+}
+
+/// Adds what some branches send, by what is the same of the request for all branches.
+fn put_branches(
+    alloc: Global,
+    out: &mut Items<Packet>,
+    server: &Server,
+    again: bool,
+    number: u64,
+    base: &View<'_>,
+    branches: &[Branch],
+) -> Result<(), AllocError>
+    ensures { OnOk result (out.new ≡ out.old ++ flat_map (Base.packets_by server.now again number base.now) branches.now) }
+{
+    for branch in branches {
+        put_branch(alloc, out, server, again, number, base, branch)?;
+    }
+    Ok(())
+}
+
+/// What is the same of an open request for all branches, made of the request with the value that its top Via gets.
+#[tactic(auto, unfolding(crate::specs::Base::base_by))]
+fn base_of<'v>(
+    alloc: Global,
+    server: &Server,
+    begins_dialog: bool,
+    received: &'v View<'_>,
+) -> Result<View<'v>, AllocError>
+    ensures { IfOk result (λ base. base ≡ Base.base_by server.now begins_dialog received.now) }
+{
+    onward_base(
+        alloc,
+        &server.config.own,
+        server.config.realm.as_slice(),
+        begins_dialog,
+        received,
+    )
+}
+
+/// Adds what a branch of an open request sends: its request, or the CANCEL of that (RFC 3261 9.1, 16.6). It is written
+/// once. `AllocError` is the only refusal.
+pub fn branch_packets(
+    alloc: Global,
+    out: &mut Items<Packet>,
+    server: &Server,
+    again: bool,
+    context: &OpenRequest,
+    branch: &Branch,
+) -> Result<(), AllocError>
+    ensures { OnOk result (out.new ≡ out.old ++ Spec.branch_packets server.now again context.now branch.now) }
+{
+    let request = context.request.get().view(alloc)?;
+    let begins = begins_dialog(alloc, context, &request)?;
+    let via = received_value(alloc, &request, context.source)?;
+    let received = with_top_via(alloc, &request, via.as_slice())?;
+    let base = base_of(alloc, server, begins, &received)?;
+    put_branch(alloc, out, server, again, context.number, &base, branch)
+}
+
+/// Adds what some branches of an open request send, in their order. What is the same for all is made once, and each packet
+/// is written once. `AllocError` is the only refusal.
+pub fn packets_of_branches(
+    alloc: Global,
+    out: &mut Items<Packet>,
+    server: &Server,
+    again: bool,
+    context: &OpenRequest,
+    branches: &[Branch],
+) -> Result<(), AllocError>
+    ensures { OnOk result (out.new ≡ out.old ++ flat_map (Spec.branch_packets server.now again context.now) branches.now) }
+{
+    let request = context.request.get().view(alloc)?;
+    let begins = begins_dialog(alloc, context, &request)?;
+    let via = received_value(alloc, &request, context.source)?;
+    let received = with_top_via(alloc, &request, via.as_slice())?;
+    let base = base_of(alloc, server, begins, &received)?;
+    put_branches(alloc, out, server, again, context.number, &base, branches)
+}
+
+/// The text of the ACK of a branch, by what is the same of the request for all branches.
+fn ack_bytes(
+    alloc: Global,
+    server: &Server,
+    number: u64,
+    base: &View<'_>,
+    branch: &Branch,
+    to: Option<&[u8]>,
+) -> Result<Bytes, AllocError>
+    ensures { IfOk result (λ text. text ≡ text_of (OwnRequests.ack_with (option_map (λ value. value.now) to.entry) (Base.request_by server.now number base.now branch.now))) }
+{
+    let request = request_to(alloc, server, number, base, branch)?;
+    let ack = ack_with(alloc, to, &request)?;
+    write_view(alloc, &ack)
+}
+
+/// Adds the ACK of a branch, by what is the same of the request for all branches.
+#[tactic(auto, unfolding(crate::specs::Base::acks_by))]
+fn put_ack(
+    alloc: Global,
+    out: &mut Items<Packet>,
+    server: &Server,
+    again: bool,
+    number: u64,
+    base: &View<'_>,
+    branch: &Branch,
+    to: Option<&[u8]>,
+) -> Result<(), AllocError>
+    ensures { OnOk result (out.new ≡ out.old ++ Base.acks_by server.now again number base.now branch.now (option_map (λ value. value.now) to.entry)) }
+{
+    let Some(address) = branch.address else {
+        return Ok(());
+    };
+    let bytes = ack_bytes(alloc, server, number, base, branch, to)?;
+    let ticket = Ticket {
+        datagram: number,
+        branch: 0,
+    };
+    out.push(Packet {
+        to: address,
+        bytes,
+        ticket,
+        again,
+    })
+}
+
+/// Adds the ACK of a final answer of an INVITE that is no 2xx, which a branch sends, with this To if that had one (RFC 3261
+/// 17.1.1.3). `AllocError` is the only refusal.
+pub fn ack_packets(
+    alloc: Global,
+    out: &mut Items<Packet>,
+    server: &Server,
+    again: bool,
+    context: &OpenRequest,
+    branch: &Branch,
+    to: Option<&[u8]>,
+) -> Result<(), AllocError>
+    ensures { OnOk result (out.new ≡ out.old ++ Spec.ack_packets server.now again context.now branch.now (option_map (λ value. value.now) to.entry)) }
+{
+    let request = context.request.get().view(alloc)?;
+    let begins = begins_dialog(alloc, context, &request)?;
+    let via = received_value(alloc, &request, context.source)?;
+    let received = with_top_via(alloc, &request, via.as_slice())?;
+    let base = base_of(alloc, server, begins, &received)?;
+    put_ack(alloc, out, server, again, context.number, &base, branch, to)
+}

@@ -1,0 +1,4 @@
+pub mod Counted
+pub mod Sendings
+pub mod CopiesLeft
+pub mod Names

@@ -1,0 +1,260 @@
+ghost use Rattle.std.specs.Prelude.{◌≡◌, IfOk, is_some, is_ok, false};
+ghost use Rattle.std.specs.List.{list_all};
+ghost use Rattle.sip_field.specs.Values.{values_of};
+ghost use Rattle.sip_uri.specs.Reading.{reading_of};
+ghost use Rattle.sip_header.specs.Via as Vias;
+ghost use Rattle.sip_header.specs.Route as Routes;
+ghost use Rattle.sip_header.specs.ContactItem as Contacts;
+ghost use Rattle.sip_validate.specs.Faults as Definition;
+
+use crate::candidate::Candidate;
+use sip_field::FieldName;
+use sip_header::{AnyUri, ContactItem, MaxForwards, contact_of, max_forwards_of, route_of, via_of};
+use sip_text::{same_bytes, same_no_case, split_once};
+use sip_uri::{UriError, parse_uri, write_uri};
+use sip_view::ViewField;
+use std::alloc::{AllocError, Global};
+
+/// The most bytes of a contact's URI.
+const LONGEST_CONTACT: usize = 512;
+
+/// Whether what stands before the first `:` is `sip`, in any case.
+pub(crate) fn has_sip_scheme(uri: &[u8]) -> bool
+    ensures { result ≡ Definition.has_sip_scheme uri.now }
+{
+    match split_once(uri, b':') {
+        Some((scheme, _)) => same_no_case(scheme, b"sip"),
+        None => false,
+    }
+}
+
+/// Whether bytes are a SIP or SIPS URI.
+fn is_uri(alloc: Global, uri: &[u8]) -> Result<bool, AllocError>
+    ensures { IfOk result (λ is_uri. is_uri ≡ is_ok (reading_of uri.now)) }
+{
+    match parse_uri(alloc, uri) {
+        Ok(_) => Ok(true),
+        Err(UriError::NoMemory) => Err(AllocError),
+        Err(_) => Ok(false),
+    }
+}
+
+/// Whether a value is a Via.
+fn is_via(alloc: Global, value: &[u8]) -> Result<bool, AllocError>
+    ensures { IfOk result (λ is_via. is_via ≡ is_some (Vias.via_of value.now)) }
+{
+    Ok(via_of(alloc, value)?.is_some())
+}
+
+/// Whether a value is an item of Route or Record-Route.
+fn is_route(alloc: Global, value: &[u8]) -> Result<bool, AllocError>
+    ensures { IfOk result (λ is_route. is_route ≡ is_some (Routes.route_of value.now)) }
+{
+    Ok(route_of(alloc, value)?.is_some())
+}
+
+/// Whether a value is an item of Contact.
+fn is_contact(alloc: Global, value: &[u8]) -> Result<bool, AllocError>
+    ensures { IfOk result (λ is_contact. is_contact ≡ is_some (Contacts.contact_of value.now)) }
+{
+    Ok(contact_of(alloc, value)?.is_some())
+}
+
+/// Whether each value of a name is a Via.
+fn are_vias(alloc: Global, fields: &[ViewField<'_>], name: &FieldName) -> Result<bool, AllocError>
+    ensures { IfOk result (λ all. all ≡ list_all (λ value. is_some (Vias.via_of value)) (values_of name.now fields.now)) }
+{
+    for field in fields {
+        if field.name().is_same(name) {
+            if !is_via(alloc, field.value().as_slice())? {
+                return Ok(false);
+            }
+        }
+    }
+    Ok(true)
+}
+
+/// Whether each value of a name is an item of Route or Record-Route.
+fn are_routes(alloc: Global, fields: &[ViewField<'_>], name: &FieldName) -> Result<bool, AllocError>
+    ensures { IfOk result (λ all. all ≡ list_all (λ value. is_some (Routes.route_of value)) (values_of name.now fields.now)) }
+{
+    for field in fields {
+        if field.name().is_same(name) {
+            if !is_route(alloc, field.value().as_slice())? {
+                return Ok(false);
+            }
+        }
+    }
+    Ok(true)
+}
+
+/// Whether each value of a name is an item of Contact.
+fn are_contacts(
+    alloc: Global,
+    fields: &[ViewField<'_>],
+    name: &FieldName,
+) -> Result<bool, AllocError>
+    ensures { IfOk result (λ all. all ≡ list_all (λ value. is_some (Contacts.contact_of value)) (values_of name.now fields.now)) }
+{
+    for field in fields {
+        if field.name().is_same(name) {
+            if !is_contact(alloc, field.value().as_slice())? {
+                return Ok(false);
+            }
+        }
+    }
+    Ok(true)
+}
+
+/// Whether a URI is a SIP or SIPS URI.
+fn is_sip(uri: &AnyUri<'_>) -> bool
+    ensures { result ≡ Definition.is_sip uri.now }
+{
+    match uri {
+        AnyUri::Sip(_) => true,
+        AnyUri::Other(_) => false,
+    }
+}
+
+/// Whether it is a SIP or SIPS URI of at most 512 bytes.
+fn may_be_bound(alloc: Global, uri: &AnyUri<'_>) -> Result<bool, AllocError>
+    ensures { IfOk result (λ may. may ≡ Definition.may_be_bound uri.now) }
+{
+    match uri {
+        AnyUri::Sip(uri) => {
+            let text = write_uri(alloc, uri)?;
+            Ok(text.as_slice().len() <= LONGEST_CONTACT)
+        }
+        AnyUri::Other(_) => Ok(false),
+    }
+}
+
+/// Whether a value of Contact is `*` or may be bound; what can't be read is a fault of its own.
+fn is_bindable(alloc: Global, value: &[u8]) -> Result<bool, AllocError>
+    ensures { IfOk result (λ may. may ≡ Definition.is_bindable (Contacts.contact_of value.now)) }
+{
+    let Some(contact) = contact_of(alloc, value)? else {
+        return Ok(true);
+    };
+    match &contact {
+        ContactItem::Star => Ok(true),
+        ContactItem::Address(address) => may_be_bound(alloc, &address.uri),
+    }
+}
+
+/// Whether each value of a name may be bound.
+fn are_bindable(
+    alloc: Global,
+    fields: &[ViewField<'_>],
+    name: &FieldName,
+) -> Result<bool, AllocError>
+    ensures { IfOk result (λ all. all ≡ list_all (λ value. Definition.is_bindable (Contacts.contact_of value)) (values_of name.now fields.now)) }
+{
+    for field in fields {
+        if field.name().is_same(name) {
+            if !is_bindable(alloc, field.value().as_slice())? {
+                return Ok(false);
+            }
+        }
+    }
+    Ok(true)
+}
+
+impl<'a> Candidate<'a> {
+    /// Whether fewer bytes of the body came than Content-Length says (RFC 3261 18.3).
+    fn has_short_body(&self) -> bool
+        ensures { result ≡ Definition.has_short_body self.now }
+    {
+        self.short
+    }
+
+    /// Whether the method of CSeq is another than the request's (RFC 3261 8.1.1.5).
+    fn has_other_cseq_method(&self) -> bool
+        ensures value { result ≡ Definition.has_other_cseq_method self.now }
+        // Its core fields were read.
+        ensures read { Definition.lacks_core_field self.now ≡ false }
+    {
+        !same_bytes(self.core.cseq.method.as_slice(), self.method)
+    }
+
+    /// Whether Max-Forwards is repeated, or isn't 0 to 255 (RFC 3261 16.3 step 3).
+    fn has_bad_max_forwards(&self) -> bool
+        ensures { result ≡ Definition.has_bad_max_forwards self.now }
+    {
+        match max_forwards_of(self.fields) {
+            MaxForwards::Malformed => true,
+            MaxForwards::Absent | MaxForwards::Hops(_) => false,
+        }
+    }
+
+    /// Whether the Request-URI, as it came, begins with `sip:` and isn't a SIP URI (RFC 3261 16.3 step 1).
+    fn has_bad_uri(&self, alloc: Global) -> Result<bool, AllocError>
+        ensures { IfOk result (λ bad. bad ≡ Definition.has_bad_uri self.now) }
+    {
+        if !has_sip_scheme(self.uri) {
+            return Ok(false);
+        }
+        Ok(!is_uri(alloc, self.uri)?)
+    }
+
+    /// Whether an item of Via, Route, Record-Route or Contact is malformed (RFC 3261 20.42, 20.34, 20.30, 20.10).
+    fn has_bad_item(&self, alloc: Global) -> Result<bool, AllocError>
+        ensures { IfOk result (λ bad. bad ≡ Definition.has_bad_item self.now) }
+    {
+        let fields = self.fields.as_slice();
+        if !are_vias(alloc, fields, &FieldName::Via)? {
+            return Ok(true);
+        }
+        if !are_routes(alloc, fields, &FieldName::Route)? {
+            return Ok(true);
+        }
+        if !are_routes(alloc, fields, &FieldName::RecordRoute)? {
+            return Ok(true);
+        }
+        Ok(!are_contacts(alloc, fields, &FieldName::Contact)?)
+    }
+
+    /// Whether, in a REGISTER, To is neither a SIP nor a SIPS URI (RFC 3261 10.2, 10.3 step 5).
+    fn registers_other_scheme(&self) -> bool
+        ensures { result ≡ Definition.registers_other_scheme self.now }
+    {
+        self.is_register() && !is_sip(&self.core.to.uri)
+    }
+
+    /// Whether, in a REGISTER, a Contact is neither `*` nor a SIP or SIPS URI, or is longer than 512 bytes (RFC 3261
+    /// 10.2.1, 10.3 step 6).
+    fn binds_other_contact(&self, alloc: Global) -> Result<bool, AllocError>
+        ensures { IfOk result (λ binds. binds ≡ Definition.binds_other_contact self.now) }
+    {
+        if !self.is_register() {
+            return Ok(false);
+        }
+        Ok(!are_bindable(alloc, self.fields.as_slice(), &FieldName::Contact)?)
+    }
+
+    /// Whether it is a bad request (RFC 3261 16.3 step 1, 21.4.1). `AllocError` is the only refusal.
+    #[tactic(auto, using(crate::proofs::Bad::by_short, crate::proofs::Bad::by_method, crate::proofs::Bad::by_hops, crate::proofs::Bad::by_uri, crate::proofs::Bad::by_item, crate::proofs::Bad::by_scheme, crate::proofs::Bad::by_contact))]
+    pub(crate) fn is_bad(&self, alloc: Global) -> Result<bool, AllocError>
+        ensures { IfOk result (λ bad. bad ≡ Definition.is_bad self.now) }
+    {
+        if self.has_short_body() {
+            return Ok(true);
+        }
+        if self.has_other_cseq_method() {
+            return Ok(true);
+        }
+        if self.has_bad_max_forwards() {
+            return Ok(true);
+        }
+        if self.has_bad_uri(alloc)? {
+            return Ok(true);
+        }
+        if self.has_bad_item(alloc)? {
+            return Ok(true);
+        }
+        if self.registers_other_scheme() {
+            return Ok(true);
+        }
+        Ok(self.binds_other_contact(alloc)?)
+    }
+}

@@ -1,0 +1,191 @@
+ghost use Rattle.std.specs.Prelude.{◌≡◌, ◌++◌, IfOk, OnOk, codes, false, map, option_map};
+ghost use Rattle.std.specs.List.{list_any, flat_map, join_by};
+ghost use Rattle.std.specs.Option.{option_map_or};
+ghost use Rattle.sip_field.specs.Values.{values_of};
+ghost use Rattle.sip_header.specs.Via as Vias;
+ghost use Rattle.sip_way.specs.Own as Owns;
+ghost use Rattle.sip_validate.specs.Candidate.{on_way};
+ghost use Rattle.sip_validate.specs.Refusal as Definition;
+ghost use Rattle.sip_validate.specs.Refused.{refused_with};
+
+use crate::candidate::Candidate;
+use crate::faults::has_sip_scheme;
+use crate::refused::Refused;
+use sip_field::FieldName;
+use sip_header::{MaxForwards, max_forwards_of, tag_of, via_of};
+use sip_text::{Bytes, same_bytes};
+use sip_view::ViewField;
+use sip_way::{Own, Way};
+use std::alloc::{AllocError, Global};
+
+/// Whether a Max-Forwards is 0.
+fn is_zero(max_forwards: MaxForwards) -> bool
+    ensures { result ≡ Definition.is_zero max_forwards }
+{
+    match max_forwards {
+        MaxForwards::Hops(hops) => hops == 0,
+        MaxForwards::Absent | MaxForwards::Malformed => false,
+    }
+}
+
+/// Whether a Via is this server's; one that can't be read isn't.
+fn is_own_via(alloc: Global, own: &Own, value: &[u8]) -> Result<bool, AllocError>
+    ensures { IfOk result (λ is_own. is_own ≡ option_map_or (Owns.is_own_via own.now) (Vias.via_of value.now) false) }
+{
+    match via_of(alloc, value)? {
+        Some(via) => Ok(own.is_own_via(&via)),
+        None => Ok(false),
+    }
+}
+
+/// Whether some value of a name is a Via of this server's.
+fn some_is_own(
+    alloc: Global,
+    own: &Own,
+    fields: &[ViewField<'_>],
+    name: &FieldName,
+) -> Result<bool, AllocError>
+    ensures { IfOk result (λ some. some ≡ list_any (λ value. option_map_or (Owns.is_own_via own.now) (Vias.via_of value) false) (values_of name.now fields.now)) }
+{
+    for field in fields {
+        if field.name().is_same(name) {
+            if is_own_via(alloc, own, field.value().as_slice())? {
+                return Ok(true);
+            }
+        }
+    }
+    Ok(false)
+}
+
+/// Puts each of some items behind `, `.
+fn put_behind_commas(out: &mut Bytes, items: &[&[u8]]) -> Result<(), AllocError>
+    ensures { OnOk result (out.new ≡ out.old ++ flat_map (λ item. codes ", " ++ item) (map (λ item. item.now) items.now)) }
+{
+    for item in items {
+        out.extend(b", ")?;
+        out.extend(item)?;
+    }
+    Ok(())
+}
+
+/// Some items with `, ` between them.
+fn joined(alloc: Global, items: &[&[u8]]) -> Result<Bytes, AllocError>
+    ensures { IfOk result (λ text. text ≡ join_by (λ item. item) (codes ", ") (map (λ item. item.now) items.now)) }
+{
+    let Some((first, others)) = items.split_first() else {
+        return Ok(Bytes::new(alloc));
+    };
+    let mut text = Bytes::copy(alloc, first)?;
+    put_behind_commas(&mut text, others)?;
+    Ok(text)
+}
+
+impl<'a> Candidate<'a> {
+    /// Whether it is of another version than SIP/2.0 (RFC 3261 7.1, 21.5.6).
+    fn has_other_version(&self) -> bool
+        ensures { result ≡ Definition.has_other_version self.now }
+    {
+        !same_bytes(self.version, b"SIP/2.0")
+    }
+
+    /// Whether Max-Forwards is 0 (RFC 3261 16.3 step 3), except in a REGISTER.
+    fn has_no_hops(&self) -> bool
+        ensures { result ≡ Definition.has_no_hops self.now }
+    {
+        !self.is_register() && is_zero(max_forwards_of(self.fields))
+    }
+
+    /// Whether a Via is this server's (RFC 3261 16.3 step 4).
+    fn has_own_via(&self, alloc: Global) -> Result<bool, AllocError>
+        ensures { IfOk result (λ has. has ≡ Definition.has_own_via self.now) }
+    {
+        some_is_own(alloc, self.own, self.fields.as_slice(), &FieldName::Via)
+    }
+
+    /// The field that says which extensions it needs (RFC 3261 16.3 step 5, 8.2.2.3).
+    fn required_by(&self) -> FieldName
+        ensures { result ≡ Definition.required_by self.now }
+    {
+        if self.is_register() {
+            FieldName::Require
+        } else {
+            FieldName::ProxyRequire
+        }
+    }
+
+    /// Whether it needs an extension; none is known here.
+    fn needs_extension(&self) -> bool
+        ensures { result ≡ Definition.needs_extension self.now }
+    {
+        self.fields.first(&self.required_by()).is_some()
+    }
+
+    /// The value of Unsupported (RFC 3261 20.40).
+    fn unsupported(&self, alloc: Global) -> Result<Bytes, AllocError>
+        ensures { IfOk result (λ items. items ≡ Definition.unsupported self.now) }
+    {
+        let items = self.fields.values(alloc, &self.required_by())?;
+        joined(alloc, items.as_slice())
+    }
+
+    /// Whether To has a tag.
+    fn is_in_dialog(&self) -> bool
+        ensures { result ≡ Definition.is_in_dialog self.now }
+    {
+        tag_of(self.core.to.parameters.as_slice()).is_some()
+    }
+
+    /// Whether the Request-URI, without this server's own part of the way, isn't `sip:` (RFC 3261 16.3 step 2).
+    fn has_other_scheme(&self, way: &Way<'_>) -> bool
+        ensures { result ≡ Definition.has_other_scheme (on_way way.now self.now) }
+    {
+        !has_sip_scheme(way.uri.as_slice())
+    }
+
+    /// Whether it wants, outside a dialog, to go by another place: a Route is left without this server's own.
+    fn has_other_route(&self, way: &Way<'_>) -> bool
+        ensures { result ≡ Definition.has_other_route (on_way way.now self.now) }
+    {
+        if self.is_register() {
+            return false;
+        }
+        if self.is_in_dialog() {
+            return false;
+        }
+        !way.routes.as_slice().is_empty()
+    }
+
+    /// What refuses it on this way: the status of the first row of the table that applies, with the value of
+    /// Unsupported in a 420. None where it may be served. `AllocError` is the only refusal of the call.
+    #[tactic(auto, using(crate::proofs::Rows::bad, crate::proofs::Rows::other_version, crate::proofs::Rows::other_scheme, crate::proofs::Rows::no_hops, crate::proofs::Rows::own_via, crate::proofs::Rows::extension, crate::proofs::Rows::other_route, crate::proofs::Rows::no_row))]
+    pub(crate) fn refusal(
+        &self,
+        alloc: Global,
+        way: &Way<'_>,
+    ) -> Result<Option<Refused>, AllocError>
+        ensures { IfOk result (λ refused. refused ≡ option_map refused_with (Definition.refusal (on_way way.now self.now))) }
+    {
+        if self.is_bad(alloc)? {
+            return Ok(Some(Refused::of(alloc, 400)));
+        }
+        if self.has_other_version() {
+            return Ok(Some(Refused::of(alloc, 505)));
+        }
+        if self.has_other_scheme(way) {
+            return Ok(Some(Refused::of(alloc, 416)));
+        }
+        if self.has_no_hops() {
+            return Ok(Some(Refused::of(alloc, 483)));
+        }
+        if self.has_own_via(alloc)? {
+            return Ok(Some(Refused::of(alloc, 482)));
+        }
+        if self.needs_extension() {
+            return Ok(Some(Refused::Status(420, self.unsupported(alloc)?)));
+        }
+        if self.has_other_route(way) {
+            return Ok(Some(Refused::of(alloc, 400)));
+        }
+        Ok(None)
+    }
+}

@@ -1,0 +1,111 @@
+ghost use Rattle.std.specs.Prelude.{◌≡◌, IfOk, Some, None, false, option_map};
+ghost use Rattle.std.specs.Result.{result_ok};
+ghost use Rattle.std.specs.Option.{option_map_or};
+ghost use Rattle.sip_header.specs.CoreFields as Cores;
+ghost use Rattle.sip_validate.specs.Candidate.{on_way, candidate_with, is_request};
+ghost use Rattle.sip_validate.specs.Faults;
+ghost use Rattle.sip_validate.specs.Refusal as Definition;
+ghost use Rattle.sip_validate.specs.Refused.{refused_with};
+ghost use Rattle.sip_validate.specs.Checked.{Validates, validation_of};
+
+use crate::candidate::Candidate;
+use crate::checked::Checked;
+use crate::refused::Refused;
+use sip_form::{View, ViewStart};
+use sip_header::{CoreFields, HeaderError, core_of};
+use sip_way::{Own, Way, way_of};
+use std::alloc::{AllocError, Global};
+
+/// The core fields of a message, if each stands there once and can be read.
+fn core_read<'v>(alloc: Global, message: &'v View<'_>) -> Result<Option<CoreFields<'v>>, AllocError>
+    ensures { IfOk result (λ core. core ≡ result_ok (Cores.core_of message.now)) }
+{
+    match core_of(alloc, message) {
+        Ok(core) => Ok(Some(core)),
+        Err(HeaderError::NoMemory) => Err(AllocError),
+        Err(_) => Ok(None),
+    }
+}
+
+/// What refuses a message, if these are its core fields and its way; nothing refuses a response.
+fn refusal(
+    alloc: Global,
+    message: &View<'_>,
+    short: bool,
+    own: &Own,
+    core: &CoreFields<'_>,
+    way: &Way<'_>,
+) -> Result<Option<Refused>, AllocError>
+    ensures { IfOk result (λ refused. refused ≡ option_map refused_with (option_map_or (λ r. Definition.refusal (on_way way.now r)) (candidate_with (Some core.now) own.now message.now.fields short message.now.start) None)) }
+{
+    match Candidate::of(own, message, short, core) {
+        Some(candidate) => candidate.refusal(alloc, way),
+        None => Ok(None),
+    }
+}
+
+/// Whether a message is a bad request, if its core fields are these; a response is none.
+fn is_bad(
+    alloc: Global,
+    message: &View<'_>,
+    short: bool,
+    own: &Own,
+    core: &CoreFields<'_>,
+) -> Result<bool, AllocError>
+    ensures { IfOk result (λ bad. bad ≡ option_map_or Faults.is_bad (candidate_with (Some core.now) own.now message.now.fields short message.now.start) false) }
+{
+    match Candidate::of(own, message, short, core) {
+        Some(candidate) => candidate.is_bad(alloc),
+        None => Ok(false),
+    }
+}
+
+/// Whether a message is a request.
+fn is_request(message: &View<'_>) -> bool
+    ensures { result ≡ is_request message.now.start }
+{
+    match message.start() {
+        ViewStart::Request { .. } => true,
+        ViewStart::Status { .. } => false,
+    }
+}
+
+/// What is read of a request that passes every check (RFC 3261 16.3, 8.2.2, 10.3), each once: its core fields and
+/// its way. `short` says that fewer bytes of its body came than its Content-Length says. Refusals: `Status` with the
+/// status of the first row of the table that applies, and the value of Unsupported in a 420; `NoMemory`. Of a
+/// response only the core fields are asked for, and 400 is its only status.
+#[tactic(auto, using(crate::proofs::Serving::lacking))]
+pub fn validate<'v>(
+    alloc: Global,
+    request: &'v View<'_>,
+    short: bool,
+    own: &Own,
+) -> Result<Checked<'v>, Refused>
+    ensures { Validates result (validation_of own.now request.now short) }
+{
+    let Some(core) = core_read(alloc, request)? else {
+        return Err(Refused::of(alloc, 400));
+    };
+    let way = way_of(alloc, own, request)?;
+    if let Some(refused) = refusal(alloc, request, short, own, &core, &way)? {
+        return Err(refused);
+    }
+    Ok(Checked { core, way })
+}
+
+/// Whether a request is a bad one: what refuses a CANCEL, which no other row does (RFC 3261 9.2, 16.10). A response
+/// is none. `AllocError` is the only refusal.
+#[tactic(auto, using(crate::proofs::Serving::lacking_is_bad, crate::proofs::Serving::is_bad_with))]
+pub fn is_bad_request(
+    alloc: Global,
+    request: &View<'_>,
+    short: bool,
+    own: &Own,
+) -> Result<bool, AllocError>
+    ensures { IfOk result (λ bad. bad ≡ Definition.is_bad_request own.now request.now short) }
+{
+    let Some(core) = core_read(alloc, request)? else {
+        return Ok(is_request(request));
+    };
+    is_bad(alloc, request, short, own, &core)
+}

@@ -1,0 +1,5 @@
+pub mod ConfigError
+pub mod Refusals
+pub mod Grammar
+pub mod Values
+pub mod Rows

@@ -1,0 +1,86 @@
+ghost use Rattle.std.specs.Prelude.{◌≡◌, IfOk, All, map};
+ghost use Rattle.sip_view.specs.KeptField.{field_kept, IsStored, IsPut, IsFieldPut, AreFieldsPut};
+
+use crate::kept_field::KeptField;
+use crate::value::Value;
+use crate::view_field::ViewField;
+use crate::view_fields::ViewFields;
+use crate::view_name::ViewName;
+use sip_text::{Bytes, Span};
+use std::alloc::{AllocError, Global};
+
+/// Puts bytes at the end of a store. What stood in it stays where it is.
+pub fn put(store: &mut Bytes, more: &[u8]) -> Result<Span, AllocError>
+    ensures { IfOk result (λ span. IsPut store.old more.now store.new span) }
+{
+    let start = store.as_slice().len();
+    store.extend(more)?;
+    let end = store.as_slice().len();
+    Ok(Span { start, end })
+}
+
+/// Puts a field at the end of a store.
+fn put_field(store: &mut Bytes, field: &ViewField<'_>) -> Result<KeptField, AllocError>
+    ensures { IfOk result (λ kept. IsFieldPut store.old field.now store.new kept) }
+{
+    let (known, written) = field.name().known_or_written()?;
+    let spelling = put(store, written)?;
+    let value = put(store, field.value().as_slice())?;
+    Ok(KeptField {
+        known,
+        spelling,
+        value,
+    })
+}
+
+/// Puts fields at the end of a store. What stood in it stays where it is.
+pub fn put_fields(
+    alloc: Global,
+    store: &mut Bytes,
+    fields: &[ViewField<'_>],
+) -> Result<Vec<KeptField>, AllocError>
+    ensures { IfOk result (λ list. AreFieldsPut store.old fields.now store.new list.items) }
+{
+    let mut list = Vec::with_capacity(alloc, fields.len())?;
+    for field in fields {
+        let kept = put_field(store, field)?;
+        list.push(kept)?;
+    }
+    Ok(list)
+}
+
+/// The name that is kept so in a store.
+fn name_in<'k>(bytes: &'k [u8], kept: &'k KeptField) -> Result<ViewName<'k>, AllocError>
+    requires { IsStored bytes.now kept.now }
+    ensures { IfOk result (λ name. name ≡ (field_kept bytes.now kept.now).name) }
+{
+    match &kept.known {
+        Some(name) => ViewName::of_field_name(name),
+        None => Ok(ViewName::of_other(kept.spelling.of(bytes))),
+    }
+}
+
+/// The field that is kept so in a store.
+fn field_in<'k>(bytes: &'k [u8], kept: &'k KeptField) -> Result<ViewField<'k>, AllocError>
+    requires { IsStored bytes.now kept.now }
+    ensures { IfOk result (λ field. field ≡ field_kept bytes.now kept.now) }
+{
+    let name = name_in(bytes, kept)?;
+    Ok(ViewField::new(name, Value::of_part(kept.value.of(bytes))))
+}
+
+/// The fields that are kept so in a store, of which no byte is copied.
+pub fn fields_in<'k>(
+    alloc: Global,
+    bytes: &'k [u8],
+    list: &'k [KeptField],
+) -> Result<ViewFields<'k>, AllocError>
+    requires { All (IsStored bytes.now) list.now }
+    ensures { IfOk result (λ fields. fields ≡ map (field_kept bytes.now) list.now) }
+{
+    let mut fields = ViewFields::with_room(alloc, list.len())?;
+    for kept in list {
+        fields.push(field_in(bytes, kept)?)?;
+    }
+    Ok(fields)
+}
