@@ -12,7 +12,7 @@ ghost use Rattle.sip_client.specs.declared.actions.Action.TheVariants.{Send, Sen
 ghost use Rattle.sip_client.specs.declared.actions.Report.TheVariants.{Timeout, Unavailable};
 ghost use Rattle.sip_client.specs.declared.client_invite.ClientInvite.{ClientInvite};
 ghost use Rattle.sip_client.specs.declared.client_invite.ClientInviteInput.TheVariants.{Received, Fired, Fault, GivenUp};
-ghost use Rattle.sip_state.specs.Server.{Server};
+ghost use Rattle.sip_state.specs.declared.server.Server.{Server};
 ghost use Rattle.sip_state.specs.State.{first_resend, is_invite, is_answering, is_final, is_provisional, is_success};
 ghost use Rattle.sip_state.specs.declared.branch.Branch.{Branch};
 ghost use Rattle.sip_state.specs.declared.branch.Phase.{Phase};
