@@ -7,6 +7,7 @@ use Rattle.std.proofs.lemmas.List.Folds.{list_all-append, list_any-append}
 use Rattle.std.proofs.lemmas.Bool.Decides.{nat_tests}
 use Rattle.toml.specs.Data.{Items, no_items, item, Members}
 use Rattle.sip_hops.specs.declared.hop.Hop.{Hop}
+use Rattle.sip_hops.specs.declared.host_address.HostAddress.{HostAddress}
 use Rattle.sip_policy.specs.declared.user.User.{User}
 use Rattle.sip_policy.specs.declared.rule.Rule.{Rule}
 use Rattle.sip_policy.specs.declared.rule_verdict.RuleVerdict.{RuleVerdict}
@@ -20,6 +21,7 @@ use Rattle.sip_values.specs.Values.{needed, number_of, between, number_between, 
 use Rattle.sip_values.specs.Rows.{rows_after, all_pass}
 use Rattle.sip_rulebook.specs.Words.{is_hop, hop_named, via_of, via_place, verdict_of}
 use Rattle.sip_rulebook.specs.Rules.{id_at, verdict_text, verdict_at, window_at, who_at, operation_at, target_at, rule_lines, new_id, rule_at, names_known_group, rules_of}
+use Rattle.sip_config.specs.declared.head.Head.{Head}
 use Rattle.sip_config.specs.declared.users.UserLine.TheVariants.{A1, A1Sha256, Groups}
 use Rattle.sip_config.specs.Head.{head_of}
 use Rattle.sip_config.specs.Users.{new_name, user_line, user_at, users_of, users_at}
@@ -31,29 +33,29 @@ use Rattle.sip_config.specs.Configuration.{config_of, rules_at, stated_by, confi
 use Rattle.sip_config.specs.Configured.{numbers_differ, ids_of, is_hop_below, names_known_hop, IsConfigured}
 
 -- what came of a value that was not refused
-record Came {A B : Type 0} (r : Result A ConfigError) (next : A → Result B ConfigError) (b : B) : Type 0 where
-  value : A
-  is : r ≡ Ok value
-  rest : next value ≡ Ok b
+pub record Came {A B : Type 0} (r : Result A ConfigError) (next : A → Result B ConfigError) (b : B) : Type 0 where
+  pub value : A
+  pub is : r ≡ Ok value
+  pub rest : next value ≡ Ok b
 
-came : {A B : Type 0} (r : Result A ConfigError) (next : A → Result B ConfigError) (b : B) → (r >>= next) ≡ Ok b → Came r next b
+pub came : {A B : Type 0} (r : Result A ConfigError) (next : A → Result B ConfigError) (b : B) → (r >>= next) ≡ Ok b → Came r next b
 came (Ok value) next b e = record { value = value; is = refl; rest = e }
 came (Err refusal) next b e = absurd cc
 
-confirmed_ok : (t : Bool) (refusal : ConfigError) (u : Unit {0}) → confirmed t refusal ≡ Ok u → t ≡ true
+pub confirmed_ok : (t : Bool) (refusal : ConfigError) (u : Unit {0}) → confirmed t refusal ≡ Ok u → t ≡ true
 confirmed_ok true refusal u e = refl
 confirmed_ok false refusal u e = absurd cc
 
-kept_is : {A : Type 0} (t : Bool) (a b : A) → kept_if t a ≡ Ok b → a ≡ b
+pub kept_is : {A : Type 0} (t : Bool) (a b : A) → kept_if t a ≡ Ok b → a ≡ b
 kept_is true a b e = cc
 kept_is false a b e = absurd cc
 
-kept_passes : {A : Type 0} (t : Bool) (a b : A) → kept_if t a ≡ Ok b → t ≡ true
+pub kept_passes : {A : Type 0} (t : Bool) (a b : A) → kept_if t a ≡ Ok b → t ≡ true
 kept_passes true a b e = refl
 kept_passes false a b e = absurd cc
 
 -- what every next row keeps, all rows keep
-rows_keep : {A : Type 0} (Keeps : List A → Type 0) (read : List A → Members → Result A ConfigError)
+pub rows_keep : {A : Type 0} (Keeps : List A → Type 0) (read : List A → Members → Result A ConfigError)
     → ((before : List A) (members : Members) (row : A) → Keeps before → read before members ≡ Ok row → Keeps (before ++ row ∷ []))
     → (items : Items) (before rows : List A) → Keeps before → rows_after read before items ≡ Ok rows → Keeps rows
 rows_keep Keeps read step no_items before rows kept e = let same : before ≡ rows = cc in subst Keeps same kept
@@ -62,7 +64,7 @@ rows_keep Keeps read step (item first items) before rows kept e =
     let table = came (table_of first) (read before) row.value row.is in
     rows_keep Keeps read step items (before ++ row.value ∷ []) rows (step before table.value row.value kept table.rest) row.rest
 
-all_last : {A : Type 0} (p : A → Bool) (before : List A) (row : A) → list_all p before ≡ true → p row ≡ true → list_all p (before ++ row ∷ []) ≡ true
+pub all_last : {A : Type 0} (p : A → Bool) (before : List A) (row : A) → list_all p before ≡ true → p row ≡ true → list_all p (before ++ row ∷ []) ≡ true
 all_last p before row all passes = list_all-append p before (row ∷ []) ∙ ap₂ (λ (x y : Bool). x && (y && true)) all passes
 
 -- ---- numbers
@@ -100,7 +102,7 @@ differ_last (m ∷ ms) n own new = by (m == n) refl (list_any (λ (o : ℕ). m =
         let none : list_any (λ (o : ℕ). m == o) (ms ++ n ∷ []) ≡ false = list_any-append (λ (o : ℕ). m == o) ms (n ∷ []) ∙ ap₂ (λ (x y : Bool). x || (y || false)) f e in
         ap₂ (λ (x y : Bool). not x && y) none (rest own new)
 
-not_is : (b : Bool) → not b ≡ true → b ≡ false
+pub not_is : (b : Bool) → not b ≡ true → b ≡ false
 not_is true e = absurd cc
 not_is false e = refl
 
@@ -201,6 +203,17 @@ record AreGood (users : List User) (hops : List Hop) (rules : List Rule) : Type 
   hops_known : list_all (names_known_hop hops) rules ≡ true
   groups_known : list_all (names_known_group users) rules ≡ true
 
+-- the rows that the rules of a list are
+pub rule_rows : (version : ℕ) (users : List User) (hops : List Hop) (items : Items) (rules : List Rule) → rules_of version users hops items ≡ Ok rules
+    → rows_after (λ others. rule_at version users hops) [] items ≡ Ok rules
+rule_rows version users hops items rules e =
+    let ids = came (rows_after new_id [] items)
+    (λ _. rows_after (λ others. rule_at version users hops) [] items >>= λ rows. confirmed (list_all (names_known_group users) rows) UnknownGroup >>= λ _. Ok rows) rules e in
+    let rows = came (rows_after (λ others. rule_at version users hops) [] items) (λ rows. confirmed (list_all (names_known_group users) rows) UnknownGroup >>= λ _. Ok rows) rules ids.rest in
+    let test = came (confirmed (list_all (names_known_group users) rows.value) UnknownGroup) (λ _. Ok rows.value) rules rows.rest in
+    let same : rows.value ≡ rules = cc in
+    rows.is ∙ ap (λ (rs : List Rule). Ok rs) same
+
 rules_good : (version : ℕ) (users : List User) (hops : List Hop) (items : Items) (rules : List Rule) → rules_of version users hops items ≡ Ok rules → AreGood users hops rules
 rules_good version users hops items rules e =
     let ids = came (rows_after new_id [] items)
@@ -223,33 +236,63 @@ rules_good version users hops items rules e =
     } in
     subst (λ (rs : List Rule). AreGood users hops rs) same good
 
-at_good : (version : ℕ) (users : List User) (hops : List Hop) (members : Members) (rules : List Rule) → rules_at version users hops members ≡ Ok rules → AreGood users hops rules
-at_good version users hops members rules e =
+-- the list that rules come of
+pub record AreRules (version : ℕ) (users : List User) (hops : List Hop) (members : Members) (rules : List Rule) : Type 0 where
+  pub items : Items
+  pub items_are : items_at (codes "rule") members ≡ Ok items
+  pub rules_are : rules_of version users hops items ≡ Ok rules
+
+pub are_rules : (version : ℕ) (users : List User) (hops : List Hop) (members : Members) (rules : List Rule) → rules_at version users hops members ≡ Ok rules → AreRules version users hops members rules
+are_rules version users hops members rules e =
     let items = came (items_at (codes "rule") members) (λ items. rule_lines version users items >>= λ _. confirmed (knows_all version members) BadValue >>= λ _. rules_of version users hops items) rules e in
     let lines = came (rule_lines version users items.value) (λ _. confirmed (knows_all version members) BadValue >>= λ _. rules_of version users hops items.value) rules items.rest in
     let keys = came (confirmed (knows_all version members) BadValue) (λ _. rules_of version users hops items.value) rules lines.rest in
-    rules_good version users hops items.value rules keys.rest
+    record { items = items.value; items_are = items.is; rules_are = keys.rest }
 
 -- ---- users
 
-users_differ : (members : Members) (users : List User) → users_at members ≡ Ok users → have_own_names users ≡ true
-users_differ members users e =
-    let items = came (some_items_at (codes "user") members) users_of users e in
-    let list = items.value in
+-- the rows that the users of a list are
+pub record AreUsers (items : Items) (users : List User) : Type 0 where
+  pub rows_are : rows_after (λ others. user_at) [] items ≡ Ok users
+  pub own : have_own_names users ≡ true
+
+pub are_users : (list : Items) (users : List User) → users_of list ≡ Ok users → AreUsers list users
+are_users list users e =
     let names = came (rows_after new_name [] list)
-    (λ _. all_pass (user_line A1) list >>= λ _. all_pass (user_line A1Sha256) list >>= λ _. all_pass (user_line Groups) list >>= λ _. rows_after (λ others. user_at) [] list >>= λ rows. kept_if (have_own_names rows) rows) users items.rest in
+    (λ _. all_pass (user_line A1) list >>= λ _. all_pass (user_line A1Sha256) list >>= λ _. all_pass (user_line Groups) list >>= λ _. rows_after (λ others. user_at) [] list >>= λ rows. kept_if (have_own_names rows) rows) users e in
     let first = came (all_pass (user_line A1) list)
     (λ _. all_pass (user_line A1Sha256) list >>= λ _. all_pass (user_line Groups) list >>= λ _. rows_after (λ others. user_at) [] list >>= λ rows. kept_if (have_own_names rows) rows) users names.rest in
     let second = came (all_pass (user_line A1Sha256) list)
     (λ _. all_pass (user_line Groups) list >>= λ _. rows_after (λ others. user_at) [] list >>= λ rows. kept_if (have_own_names rows) rows) users first.rest in
     let third = came (all_pass (user_line Groups) list) (λ _. rows_after (λ others. user_at) [] list >>= λ rows. kept_if (have_own_names rows) rows) users second.rest in
     let rows = came (rows_after (λ others. user_at) [] list) (λ rows. kept_if (have_own_names rows) rows) users third.rest in
-    subst (λ (us : List User). have_own_names us ≡ true) (kept_is (have_own_names rows.value) rows.value users rows.rest) (kept_passes (have_own_names rows.value) rows.value users rows.rest)
+    let same : rows.value ≡ users = kept_is (have_own_names rows.value) rows.value users rows.rest in
+    record {
+      rows_are = rows.is ∙ ap (λ (us : List User). Ok us) same;
+      own = subst (λ (us : List User). have_own_names us ≡ true) same (kept_passes (have_own_names rows.value) rows.value users rows.rest);
+    }
 
 -- ---- the whole
 
-whole : (members : Members) (config : Config) → stated_by members ≡ Ok config → IsConfigured config
-whole members config e =
+-- the parts that a configuration comes of
+pub record Parts (members : Members) (config : Config) : Type 0 where
+  pub few : has_too_many members ≡ false
+  pub head : Head
+  pub head_is : head_of members ≡ Ok head
+  pub user_list : Items
+  pub user_list_is : some_items_at (codes "user") members ≡ Ok user_list
+  pub users : List User
+  pub users_are : AreUsers user_list users
+  pub hops : List Hop
+  pub hops_are : hops_at members ≡ Ok hops
+  pub addresses : List HostAddress
+  pub addresses_are : host_addresses_at members ≡ Ok addresses
+  pub rules : List Rule
+  pub rules_are : AreRules head.version users hops members rules
+  pub same : config_of head users hops addresses rules ≡ config
+
+pub parts_of : (members : Members) (config : Config) → stated_by members ≡ Ok config → Parts members config
+parts_of members config e =
     let few = came (confirmed (not (has_too_many members)) TooMany)
     (λ _. head_of members >>= λ head. users_at members >>= λ users. hops_at members >>= λ hops. host_addresses_at members >>= λ addresses. rules_at head.version users hops members >>= λ rules.
     Ok (config_of head users hops addresses rules)) config e in
@@ -258,23 +301,44 @@ whole members config e =
     config few.rest in
     let users = came (users_at members)
     (λ users. hops_at members >>= λ hops. host_addresses_at members >>= λ addresses. rules_at head.value.version users hops members >>= λ rules. Ok (config_of head.value users hops addresses rules)) config head.rest in
+    let list = came (some_items_at (codes "user") members) users_of users.value users.is in
     let hops = came (hops_at members)
     (λ hops. host_addresses_at members >>= λ addresses. rules_at head.value.version users.value hops members >>= λ rules. Ok (config_of head.value users.value hops addresses rules)) config users.rest in
     let addresses = came (host_addresses_at members)
     (λ addresses. rules_at head.value.version users.value hops.value members >>= λ rules. Ok (config_of head.value users.value hops.value addresses rules)) config hops.rest in
     let rules = came (rules_at head.value.version users.value hops.value members) (λ rules. Ok (config_of head.value users.value hops.value addresses.value rules)) config addresses.rest in
-    let good = at_good head.value.version users.value hops.value members rules.value rules.is in
     let made : Config = config_of head.value users.value hops.value addresses.value rules.value in
     let same : made ≡ config = cc in
-    let is_good : IsConfigured made =
     record {
-      names_differ = users_differ members users.value users.is;
+      few = not_is (has_too_many members) (confirmed_ok (not (has_too_many members)) TooMany few.value few.is);
+      head = head.value;
+      head_is = head.is;
+      user_list = list.value;
+      user_list_is = list.is;
+      users = users.value;
+      users_are = are_users list.value users.value list.rest;
+      hops = hops.value;
+      hops_are = hops.is;
+      addresses = addresses.value;
+      addresses_are = addresses.is;
+      rules = rules.value;
+      rules_are = are_rules head.value.version users.value hops.value members rules.value rules.is;
+      same = same;
+    }
+
+whole : (members : Members) (config : Config) → stated_by members ≡ Ok config → IsConfigured config
+whole members config e =
+    let p = parts_of members config e in
+    let good = rules_good p.head.version p.users p.hops p.rules_are.items p.rules p.rules_are.rules_are in
+    let is_good : IsConfigured (config_of p.head p.users p.hops p.addresses p.rules) =
+    record {
+      names_differ = p.users_are.own;
       ids_differ = good.ids_differ;
       numbered = good.numbered;
       hops_known = good.hops_known;
       groups_known = good.groups_known;
     } in
-    subst IsConfigured same is_good
+    subst IsConfigured p.same is_good
 
 pub configured : (file : Option Members) (config : Config) → configuration_of file ≡ Ok config → IsConfigured config
 configured None config e = absurd cc

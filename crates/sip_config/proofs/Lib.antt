@@ -1,2 +1,4 @@
 pub mod Rows
 pub mod Configured
+pub mod Within
+pub mod RowPlaces

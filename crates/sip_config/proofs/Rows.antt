@@ -1,5 +1,5 @@
 -- Lists of values, item by item.
-use Rattle.std.proofs.Common.{◌≡◌, ℕ, ◌+◌, ◌<◌, ◌≤◌, true, false, ◌&&◌, ◌||◌, List, [], ◌∷◌, ◌++◌, length, drop, get_or, Result, Ok, refl, ap, arith}
+use Rattle.std.proofs.Common.{◌≡◌, ℕ, ◌+◌, ◌<◌, ◌≤◌, true, false, ◌&&◌, ◌||◌, List, [], ◌∷◌, ◌++◌, length, drop, get_or, Result, Ok, Err, refl, ap, ◌∙◌, arith}
 use Rattle.std.proofs.lemmas.List.{drop_all}
 use Rattle.toml.specs.Data.{Members, as_table}
 use Rattle.toml.specs.View.{view, items_view}
@@ -18,6 +18,24 @@ pub rows_step : {A : Type 0} (read : List A → Members → Result A ConfigError
     → i < length values
     → rows_after read before (items_view (drop i values)) ≡ (table_of (view (get_or values i other)) >>= read before >>= λ row. rows_after read (before ++ row ∷ []) (items_view (drop (i + 1) values)))
 rows_step read values i other before within = ap (rows_after read before) (items_view-drop values i other within)
+
+gathered : {A : Type 0} (before : List A) (next : List A → Result (List A) ConfigError) (row : Result A ConfigError)
+    → (row >>= λ r. next (before ++ r ∷ [])) ≡ ((row >>= λ r. Ok (before ++ r ∷ [])) >>= next)
+gathered before next (Ok row) = refl
+gathered before next (Err refusal) = refl
+
+grow_by : {A : Type 0} (read : List A → Members → Result A ConfigError) (before : List A) (next : List A → Result (List A) ConfigError) (table : Result Members ConfigError)
+    → (table >>= read before >>= λ row. next (before ++ row ∷ [])) ≡ ((table >>= λ members. (read before members >>= λ row. Ok (before ++ row ∷ []))) >>= next)
+grow_by read before next (Ok members) = gathered before next (read before members)
+grow_by read before next (Err refusal) = refl
+
+-- one more row goes behind those before
+pub grow_step : {A : Type 0} (read : List A → Members → Result A ConfigError) (values : List Value) (i : ℕ) (other : Value) (before : List A)
+    → i < length values
+    → rows_after read before (items_view (drop i values))
+    ≡ ((table_of (view (get_or values i other)) >>= λ members. (read before members >>= λ row. Ok (before ++ row ∷ []))) >>= λ rows. rows_after read rows (items_view (drop (i + 1) values)))
+grow_step read values i other before within =
+    rows_step read values i other before within ∙ grow_by read before (λ rows. rows_after read rows (items_view (drop (i + 1) values))) (table_of (view (get_or values i other)))
 
 -- no value is left
 pub rows_end : {A : Type 0} (read : List A → Members → Result A ConfigError) (values : List Value) (i : ℕ) (before : List A) → length values ≤ i

@@ -1,5 +1,5 @@
 -- Users: the tables `[[user]]`.
-use Rattle.std.specs.Prelude.{ℕ, not, List, [], codes, Option, None, Some, Result, Ok}
+use Rattle.std.specs.Prelude.{ℕ, not, List, [], ◌∷◌, ◌++◌, codes, Option, None, Some, Result, Ok}
 use Rattle.std.specs.List.{list_any}
 use Rattle.std.specs.Str.{bytes_eq}
 use Rattle.toml.specs.Data.{Data, Items, Members, get_member}
@@ -16,6 +16,10 @@ use Rattle.sip_values.specs.Rows.{rows_after, all_pass, texts_of}
 -- a user's name, which none before it has
 abbrev pub new_name : List (List ℕ) → Members → Result (List ℕ) ConfigError
 new_name before members = text_at (codes "name") Name members >>= λ name. kept_if (not (list_any (bytes_eq name) before)) name
+
+-- names, and a user's behind them
+abbrev pub name_behind : List (List ℕ) → Members → Result (List (List ℕ)) ConfigError
+name_behind before members = new_name before members >>= λ name. Ok (before ++ name ∷ [])
 
 -- H(A1) by MD5 (RFC 2617 3.2.2.2)
 abbrev pub a1_at : Members → Result (List ℕ) ConfigError

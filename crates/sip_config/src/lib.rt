@@ -11,6 +11,7 @@ mod host_addresses;
 mod keys;
 pub mod laws;
 mod limits;
+mod places;
 mod users;
 
 pub use configuration::read_config;

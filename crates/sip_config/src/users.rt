@@ -1,16 +1,14 @@
 ghost use Rattle.std.specs.Prelude.{◌≡◌, []};
-ghost use Rattle.std.specs.List.{list_any};
-ghost use Rattle.std.specs.Str.{bytes_eq};
 ghost use Rattle.toml.specs.View.{table_view, items_view};
 ghost use Rattle.sip_values.specs.Refusals.{Reads};
 ghost use Rattle.sip_values.specs.Rows.{rows_after, all_pass};
 ghost use Rattle.sip_config.specs.Users as Definitions;
 
 use sip_policy::{PolicyError, User, Users};
-use sip_text::{Bytes, Items, same_bytes};
+use sip_text::{Bytes, Items};
 use sip_values::{
-    ConfigError, Grammar, digest_of, find, list_of, needed, some_items_at, table_of, text_at,
-    texts_of,
+    ConfigError, Grammar, Names, digest_of, find, list_of, needed, some_items_at, table_of,
+    text_at, texts_of,
 };
 use std::alloc::Global;
 use toml::{Table, Value};
@@ -23,33 +21,25 @@ pub(crate) enum UserLine {
     Groups,
 }
 
-/// Whether a name is one of some.
-fn is_one_of(names: &[Bytes], name: &[u8]) -> bool
-    ensures { result ≡ list_any (bytes_eq name.now) names.now }
-{
-    names.iter().any(|other| same_bytes(name, other.as_slice()))
-}
-
-/// A user's name, which none before it has.
-fn new_name(alloc: Global, before: &[Bytes], table: &Table) -> Result<Bytes, ConfigError>
-    ensures { Reads (λ name. name) result (Definitions.new_name before.now (table_view table.now)) }
+/// Adds a user's name, which none before it has.
+fn add_name(alloc: Global, names: &mut Names, table: &Table) -> Result<(), ConfigError>
+    ensures { Reads (λ done. names.new) result (Definitions.name_behind names.old (table_view table.now)) }
 {
     let name = text_at(table, "name", Grammar::Name)?;
-    if is_one_of(before, name) {
+    if !names.add(alloc, name)? {
         return Err(ConfigError::BadValue);
     }
-    Ok(Bytes::copy(alloc, name)?)
+    Ok(())
 }
 
 /// The names of users, no two the same.
-#[tactic(auto, using(crate::proofs::Rows::rows_step, crate::proofs::Rows::rows_end))]
-fn names_of(alloc: Global, items: &[Value]) -> Result<Items<Bytes>, ConfigError>
+#[tactic(auto, using(crate::proofs::Rows::grow_step, crate::proofs::Rows::rows_end))]
+fn names_of(alloc: Global, items: &[Value]) -> Result<Names, ConfigError>
     ensures { Reads (λ names. names) result (rows_after Definitions.new_name [] (items_view items.now)) }
 {
-    let mut names = Items::new(alloc);
+    let mut names = Names::new(alloc);
     for item in items {
-        let name = new_name(alloc, names.as_slice(), table_of(item)?)?;
-        names.push(name)?;
+        add_name(alloc, &mut names, table_of(item)?)?;
     }
     Ok(names)
 }

@@ -8,6 +8,7 @@ mod kept_start;
 mod lengths;
 mod message;
 mod message_view;
+mod putting;
 mod view_error;
 mod view_length;
 mod view_refusal;

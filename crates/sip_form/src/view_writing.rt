@@ -4,6 +4,7 @@ ghost use Rattle.sip_form.specs.Text.{start_text, field_text, text_of};
 ghost use Rattle.sip_form.specs.ViewStart.{start_seen};
 
 use crate::message_view::View;
+use crate::putting::{put_body, put_line, put_request_line, put_status_line};
 use crate::view_start::ViewStart;
 use sip_text::Bytes;
 use sip_view::ViewField;
@@ -18,19 +19,8 @@ fn put_start(out: &mut Bytes, start: &ViewStart<'_>) -> Result<(), AllocError>
             method,
             uri,
             version,
-        } => {
-            out.extend(method)?;
-            out.extend(b" ")?;
-            out.extend(uri)?;
-            out.extend(b" ")?;
-            out.extend(version.as_slice())
-        }
-        ViewStart::Status { code, reason } => {
-            out.extend(b"SIP/2.0 ")?;
-            out.push_decimal(u64::from(*code))?;
-            out.extend(b" ")?;
-            out.extend(reason)
-        }
+        } => put_request_line(out, method, uri, version.as_slice()),
+        ViewStart::Status { code, reason } => put_status_line(out, *code, reason),
     }
 }
 
@@ -38,10 +28,7 @@ fn put_start(out: &mut Bytes, start: &ViewStart<'_>) -> Result<(), AllocError>
 fn put_field(out: &mut Bytes, field: &ViewField<'_>) -> Result<(), AllocError>
     ensures { OnOk result (out.new ≡ out.old ++ field_text field.now) }
 {
-    out.extend(field.name().spelling())?;
-    out.extend(b": ")?;
-    out.extend(field.value().as_slice())?;
-    out.extend(b"\r\n")
+    put_line(out, field.name().spelling(), field.value().as_slice())
 }
 
 /// Puts each field with its CRLF.
@@ -54,18 +41,22 @@ fn put_fields(out: &mut Bytes, fields: &[ViewField<'_>]) -> Result<(), AllocErro
     Ok(())
 }
 
+/// Puts the written form of a view.
+fn put_view(out: &mut Bytes, view: &View<'_>) -> Result<(), AllocError>
+    ensures { OnOk result (out.new ≡ out.old ++ text_of view.now) }
+{
+    put_start(out, view.start())?;
+    out.extend(b"\r\n")?;
+    put_fields(out, view.fields().as_slice())?;
+    put_body(out, view.body())
+}
+
 /// The written form of a view, as `write` gives it of the same message, in a buffer of its length. `AllocError` is
 /// the only refusal.
 pub fn write_view(alloc: Global, view: &View<'_>) -> Result<Bytes, AllocError>
     ensures { IfOk result (λ written. written ≡ text_of view.now) }
 {
     let mut out = Bytes::with_room(alloc, view.written_length())?;
-    put_start(&mut out, view.start())?;
-    out.extend(b"\r\n")?;
-    put_fields(&mut out, view.fields().as_slice())?;
-    out.extend(b"Content-Length: ")?;
-    out.push_decimal(view.body().len() as u64)?;
-    out.extend(b"\r\n\r\n")?;
-    out.extend(view.body())?;
+    put_view(&mut out, view)?;
     Ok(out)
 }

@@ -4,6 +4,7 @@ ghost use Rattle.sip_form.specs.Text.{start_text, field_line, field_text, text_o
 
 use crate::lengths::{line_length, request_length, status_length, whole_length};
 use crate::message::{Message, Start};
+use crate::putting::{put_body, put_line, put_request_line, put_status_line};
 use sip_field::Field;
 use sip_text::Bytes;
 use std::alloc::{AllocError, Global};
@@ -17,19 +18,8 @@ fn put_start(out: &mut Bytes, start: &Start) -> Result<(), AllocError>
             method,
             uri,
             version,
-        } => {
-            out.extend(method.as_slice())?;
-            out.extend(b" ")?;
-            out.extend(uri.as_slice())?;
-            out.extend(b" ")?;
-            out.extend(version.as_slice())
-        }
-        Start::Status { code, reason } => {
-            out.extend(b"SIP/2.0 ")?;
-            out.push_decimal(u64::from(*code))?;
-            out.extend(b" ")?;
-            out.extend(reason.as_slice())
-        }
+        } => put_request_line(out, method.as_slice(), uri.as_slice(), version.as_slice()),
+        Start::Status { code, reason } => put_status_line(out, *code, reason.as_slice()),
     }
 }
 
@@ -37,10 +27,7 @@ fn put_start(out: &mut Bytes, start: &Start) -> Result<(), AllocError>
 fn put_field(out: &mut Bytes, field: &Field) -> Result<(), AllocError>
     ensures { OnOk result (out.new ≡ out.old ++ field_text field.now) }
 {
-    out.extend(field.name.spelling())?;
-    out.extend(b": ")?;
-    out.extend(field.value.as_slice())?;
-    out.extend(b"\r\n")
+    put_line(out, field.name.spelling(), field.value.as_slice())
 }
 
 /// Puts each field with its CRLF.
@@ -53,6 +40,16 @@ fn put_fields(out: &mut Bytes, fields: &[Field]) -> Result<(), AllocError>
     Ok(())
 }
 
+/// Puts the written form of a message.
+fn put_message(out: &mut Bytes, message: &Message) -> Result<(), AllocError>
+    ensures { OnOk result (out.new ≡ out.old ++ text_of message.now) }
+{
+    put_start(out, &message.start)?;
+    out.extend(b"\r\n")?;
+    put_fields(out, message.fields.as_slice())?;
+    put_body(out, message.body.as_slice())
+}
+
 /// The written form of a message: its start line, each field on a line of its own as `Name: value`, then
 /// `Content-Length` with the length of the body, the empty line, and the body (RFC 3261 7). `AllocError`
 /// is the only refusal.
@@ -60,13 +57,7 @@ pub fn write(alloc: Global, message: &Message) -> Result<Bytes, AllocError>
     ensures { IfOk result (λ written. written ≡ text_of message.now) }
 {
     let mut out = Bytes::with_room(alloc, written_length(message))?;
-    put_start(&mut out, &message.start)?;
-    out.extend(b"\r\n")?;
-    put_fields(&mut out, message.fields.as_slice())?;
-    out.extend(b"Content-Length: ")?;
-    out.push_decimal(message.body.as_slice().len() as u64)?;
-    out.extend(b"\r\n\r\n")?;
-    out.extend(message.body.as_slice())?;
+    put_message(&mut out, message)?;
     Ok(out)
 }
 

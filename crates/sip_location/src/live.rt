@@ -22,10 +22,10 @@ impl<'a> Model for LiveBindings<'a> {
 }
 
 impl<'a> LiveBindings<'a> {
-    /// The next one.
+    /// The next one. Behind the last there is none, however often it is asked for.
     pub fn next(&mut self) -> Option<&'a Binding>
         ensures some { IfSome result (λ binding. self.old ≡ binding.now ∷ self.new) }
-        ensures none { IfNone result (self.old ≡ []) }
+        ensures none { IfNone result ((self.old ≡ []) × (self.new ≡ [])) }
     {
         while let Some((row, rest)) = self.rows.split_first() {
             self.rows = rest;

@@ -17,16 +17,19 @@ pub settled_alike : (server : Server) (now : ℕ) (acks acks' : List Packet) (up
 settled_alike server now acks acks' up up' r r' change e p q s =
     e ∙ ap (λ (a : List Packet). settled server now a up r) p ∙ ap (λ (u : Option Upward). settled server now acks' u r) q ∙ ap (λ (x : OpenRequest). settled server now acks' up' x) s
 
--- the same after the first final answer of a branch, which was kept once
-pub final_settled : (server : Server) (now : ℕ) (r after : OpenRequest) (b : Branch) (status : ℕ) (m kept : Message) (acks : List Packet) (relayed : Option Upward) (change : Change)
-    → change ≡ settled server now acks relayed after → acks ≡ acks_of server r b status m → kept ≡ without_top_via m
+-- ---- the first final answer of a branch, which was kept once
+
+pub final_relayed : (r : OpenRequest) (b : Branch) (status : ℕ) (m kept : Message) (relayed : Option Upward) → kept ≡ without_top_via m
     → relayed ≡ cond (is_success status && (is_answering r.side || is_accepted r)) (Some (record { status = status; message = kept; target = b.address })) None
+    → relayed ≡ relayed_success r b status m
+final_relayed r b status m kept relayed kept_is relayed_is =
+    relayed_is ∙ ap (λ (k : Message). cond (is_success status && (is_answering r.side || is_accepted r)) (Some (record { status = status; message = k; target = b.address })) None) kept_is
+
+pub final_taken : (now : ℕ) (r after : OpenRequest) (b : Branch) (status : ℕ) (m kept : Message) → kept ≡ without_top_via m
     → after ≡ search_ended r status (with_final (record { status = status; message = Some kept }) (with_phase (told_to r b status m) (Done (now + linger r) status) r))
-    → change ≡ settled server now (acks_of server r b status m) (relayed_success r b status m) (with_answer r b now status m)
-final_settled server now r after b status m kept acks relayed change is acks_are kept_is relayed_is after_is =
-    let up : Message → Option Upward = λ k. cond (is_success status && (is_answering r.side || is_accepted r)) (Some (record { status = status; message = k; target = b.address })) None in
-    let left : Message → OpenRequest = λ k. search_ended r status (with_final (record { status = status; message = Some k }) (with_phase (told_to r b status m) (Done (now + linger r) status) r)) in
-    settled_alike server now acks (acks_of server r b status m) relayed (relayed_success r b status m) after (with_answer r b now status m) change is acks_are (relayed_is ∙ ap up kept_is) (after_is ∙ ap left kept_is)
+    → after ≡ with_answer r b now status m
+final_taken now r after b status m kept kept_is after_is =
+    after_is ∙ ap (λ (k : Message). search_ended r status (with_final (record { status = status; message = Some k }) (with_phase (told_to r b status m) (Done (now + linger r) status) r))) kept_is
 
 -- a response to a CANCEL
 pub cancel_is : (server : Server) (now : ℕ) (r : OpenRequest) (b : Branch) (status : ℕ) (m : Message) → b.is_cancel ≡ true → cancel_responded server now r b status m ≡ responded server now r b status m

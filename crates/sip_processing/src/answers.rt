@@ -95,8 +95,14 @@ fn last_answer(alloc: Global, call: &OpenRequest, up: &Upward) -> Result<LastAns
     })
 }
 
-/// An answer goes to the caller: it is the last one, and the first final one begins to close the request.
-fn answered(alloc: Global, now: u64, call: &mut OpenRequest, up: &Upward) -> Result<(), AllocError>
+/// An answer goes to the caller: it is the last one, and the first final one begins to close the request (RFC 3261 17.2).
+/// `AllocError` is the only refusal.
+pub fn answered(
+    alloc: Global,
+    now: u64,
+    call: &mut OpenRequest,
+    up: &Upward,
+) -> Result<(), AllocError>
     requires { now + 32000 < 2 ^ 64 }
     ensures { OnOk result (call.new ≡ Contexts.answered now up.now call.old) }
 {

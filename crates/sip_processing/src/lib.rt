@@ -17,8 +17,12 @@ mod side;
 mod status;
 
 pub use acknowledging::take_ack;
+pub use answers::answered;
 pub use cancelling::take_cancel;
 pub use deadlines::{pass_branch, pass_side};
 pub use faults::take_fault;
 pub use responses::take_response;
 pub use sent::Sent;
+pub use settling::settle_alone;
+pub use side::first_resend;
+pub use status::is_invite;

@@ -18,7 +18,7 @@ use sip_field::FieldName;
 use sip_form::View;
 use sip_sending::ack_packets;
 use sip_shared::Shared;
-use sip_state::{Branch, OpenRequest, Phase, Server};
+use sip_state::{Branch, OpenRequest, Phase, Server, Upward};
 use sip_text::{Bytes, Items};
 use std::alloc::{AllocError, Global};
 
@@ -200,6 +200,29 @@ fn hear_further(
     Ok(sent)
 }
 
+/// The first final response of a target is taken: what of it goes to the caller at once, if anything does.
+fn take_final(
+    alloc: Global,
+    now: u64,
+    call: &mut OpenRequest,
+    branch: &Branch,
+    status: u16,
+    response: &View<'_>,
+) -> Result<Option<Upward>, AllocError>
+    requires { now + 32000 < 2 ^ 64 }
+    ensures relayed { IfOk result (λ up. up ≡ Contexts.relayed_success call.old branch.now status response.now) }
+    ensures request { OnOk result (call.new ≡ Contexts.with_answer call.old branch.now now status response.now) }
+{
+    let message = kept_response(alloc, response)?;
+    let relayed = relayed_answer(call, branch, status, &message)?;
+    let answer = Final {
+        status,
+        message: Some(message),
+    };
+    finish(alloc, now, call, branch, answer, response)?;
+    Ok(relayed)
+}
+
 /// The first final response came from a target.
 fn hear_final(
     alloc: Global,
@@ -215,13 +238,7 @@ fn hear_final(
         (Contexts.relayed_success call.old branch.now status response.now) (Contexts.with_answer call.old branch.now now status response.now)) }
 {
     let acks = acks_of(alloc, server, call, branch, status, response)?;
-    let message = kept_response(alloc, response)?;
-    let relayed = relayed_answer(call, branch, status, &message)?;
-    let answer = Final {
-        status,
-        message: Some(message),
-    };
-    finish(alloc, now, call, branch, answer, response)?;
+    let relayed = take_final(alloc, now, call, branch, status, response)?;
     let sent = settle(alloc, server, now, acks, relayed, call)?;
     Ok(sent)
 }

@@ -72,8 +72,10 @@ pub(crate) fn settle(
     })
 }
 
-/// The same where an event alone has nothing to acknowledge or to relay.
-pub(crate) fn settle_alone(
+/// What follows an event that has nothing to acknowledge or to relay: the best answer goes to the caller if it is time for
+/// it, and the branches that are ready for one are sent their CANCELs (RFC 3261 16.7 steps 5 to 10). `AllocError` is the
+/// only refusal.
+pub fn settle_alone(
     alloc: Global,
     server: &Server,
     now: u64,

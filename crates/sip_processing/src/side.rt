@@ -68,8 +68,8 @@ pub(crate) fn side_after(now: u64, side: Side, status: u16) -> Side
     }
 }
 
-/// What is sent at a moment goes again for the first time.
-pub(crate) fn first_resend(now: u64) -> Resend
+/// When what is sent at a moment goes again for the first time: T1 later (RFC 3261 17.1.1.2, 17.1.2.2, 17.2.1).
+pub fn first_resend(now: u64) -> Resend
     requires { now + 32000 < 2 ^ 64 }
     ensures { result ≡ States.first_resend now }
 {

@@ -4,7 +4,7 @@ ghost use Rattle.sip_state.specs.State as States;
 use sip_state::OpenRequest;
 
 /// Whether a request is an INVITE.
-pub(crate) fn is_invite(call: &OpenRequest) -> bool
+pub fn is_invite(call: &OpenRequest) -> bool
     ensures { result ≡ States.is_invite call.now }
 {
     call.key.get().method.as_slice() == b"INVITE".as_slice()

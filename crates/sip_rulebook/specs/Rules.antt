@@ -116,6 +116,11 @@ abbrev pub is_known : List User → Who → Bool
 is_known users (Group group) = has_member users group
 is_known users who = true
 
+-- whether the group that a user pattern names is among some
+abbrev pub is_listed : List (List ℕ) → Who → Bool
+is_listed groups (Group group) = list_any (bytes_eq group) groups
+is_listed groups who = true
+
 abbrev pub names_known_group : List User → Rule → Bool
 names_known_group users rule = is_known users rule.who
 

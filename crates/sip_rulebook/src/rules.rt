@@ -1,15 +1,17 @@
-ghost use Rattle.std.specs.Prelude.{◌≡◌, ◌==◌, []};
+ghost use Rattle.std.specs.Prelude.{◌≡◌, ℕ, ◌==◌, ◌||◌, List, [], IfOk, IfErr, OnOk};
 ghost use Rattle.std.specs.List.{list_all, list_any};
+ghost use Rattle.std.specs.Str.{bytes_eq};
 ghost use Rattle.toml.specs.View.{view, table_view, items_view};
+ghost use Rattle.sip_values.specs.declared.error.ConfigError.TheVariants.{NoMemory};
 ghost use Rattle.sip_values.specs.Refusals.{Reads};
 ghost use Rattle.sip_values.specs.Rows.{rows_after, all_pass};
 ghost use Rattle.sip_rulebook.specs.Rules as Definitions;
 
 use crate::words::{is_verdict, operation_of, target_of, verdict_of, who_of};
 use sip_hops::Hop;
-use sip_policy::{OperationPattern, Rule, RuleVerdict, TargetPattern, Users, Who, Window};
-use sip_text::Items;
-use sip_values::{ConfigError, confirm, find, needed, number_between, table_of, text_of};
+use sip_policy::{OperationPattern, Rule, RuleVerdict, TargetPattern, User, Users, Who, Window};
+use sip_text::{Bytes, Items};
+use sip_values::{ConfigError, Names, confirm, find, needed, number_between, table_of, text_of};
 use std::alloc::Global;
 use toml::{Table, Value};
 
@@ -239,27 +241,56 @@ fn rule_rows(
     Ok(rules)
 }
 
-/// Whether a group has a member.
-fn has_member(users: &Users, group: &[u8]) -> bool
-    ensures { result ≡ Definitions.has_member users.now group.now }
+/// Adds the names of groups to those that are there.
+#[tactic(auto, using(crate::proofs::Groups::none_added, crate::proofs::Groups::added_more, crate::proofs::Groups::all_added))]
+fn add_groups(alloc: Global, names: &mut Names, groups: &[Bytes]) -> Result<(), ConfigError>
+    ensures added { OnOk result ((group : List ℕ) → list_any (bytes_eq group) names.new ≡ (list_any (bytes_eq group) names.old || list_any (bytes_eq group) groups.now)) }
+    ensures refused { IfErr result (λ e. e ≡ NoMemory) }
 {
-    users.as_slice().iter().any(|user| user.is_in(group))
+    for group in groups {
+        let _ = names.add(alloc, group.as_slice())?;
+    }
+    Ok(())
 }
 
-/// Whether the group that a rule names, if it names one, has a member.
-fn names_known_group(users: &Users, rule: &Rule) -> bool
-    ensures { result ≡ Definitions.names_known_group users.now rule.now }
+/// The names of the groups that have a member.
+#[tactic(auto, using(crate::proofs::Groups::no_members, crate::proofs::Groups::members_more, crate::proofs::Groups::all_members))]
+fn groups_of(alloc: Global, users: &[User]) -> Result<Names, ConfigError>
+    ensures names { IfOk result (λ names. (group : List ℕ) → list_any (bytes_eq group) names ≡ Definitions.has_member users.now group) }
+    ensures refused { IfErr result (λ e. e ≡ NoMemory) }
+{
+    let mut names = Names::new(alloc);
+    for user in users {
+        add_groups(alloc, &mut names, user.groups.as_slice())?;
+    }
+    Ok(names)
+}
+
+/// Whether the group that a rule names, if it names one, is among some.
+fn is_listed(groups: &Names, rule: &Rule) -> bool
+    ensures { result ≡ Definitions.is_listed groups.now rule.now.who }
 {
     match &rule.who {
-        Who::Group(group) => has_member(users, group.as_slice()),
+        Who::Group(group) => groups.has(group.as_slice()),
         _ => true,
     }
 }
 
-fn name_known_groups(users: &Users, rules: &[Rule]) -> bool
-    ensures { result ≡ list_all (Definitions.names_known_group users.now) rules.now }
+fn are_listed(groups: &Names, rules: &[Rule]) -> bool
+    ensures { result ≡ list_all (λ rule. Definitions.is_listed groups.now rule.who) rules.now }
 {
-    rules.iter().all(|rule| names_known_group(users, rule))
+    rules.iter().all(|rule| is_listed(groups, rule))
+}
+
+/// Whether the groups that rules name have members. The names of all groups are gathered once, so that this
+/// takes the time of the users and of the rules, and not that of the users for each rule.
+#[tactic(auto, using(crate::proofs::Groups::listed_same))]
+fn name_known_groups(alloc: Global, users: &Users, rules: &[Rule]) -> Result<bool, ConfigError>
+    ensures known { IfOk result (λ known. known ≡ list_all (Definitions.names_known_group users.now) rules.now) }
+    ensures refused { IfErr result (λ e. e ≡ NoMemory) }
+{
+    let groups = groups_of(alloc, users.as_slice())?;
+    Ok(are_listed(&groups, rules))
 }
 
 /// The rules of a list whose lines passed: first no number twice, then each hop known, then each group.
@@ -274,9 +305,7 @@ pub fn rules_of(
 {
     let _ = ids_of(alloc, items)?;
     let rules = rule_rows(alloc, version, users, hops, items)?;
-    confirm(
-        name_known_groups(users, rules.as_slice()),
-        ConfigError::UnknownGroup,
-    )?;
+    let known = name_known_groups(alloc, users, rules.as_slice())?;
+    confirm(known, ConfigError::UnknownGroup)?;
     Ok(rules)
 }

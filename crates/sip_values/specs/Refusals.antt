@@ -15,6 +15,11 @@ Reads view (Err UnknownHop) wanted = wanted ≡ Err UnknownHop
 Reads view (Err UnknownGroup) wanted = wanted ≡ Err UnknownGroup
 Reads view (Err TooMany) wanted = wanted ≡ Err TooMany
 
+-- the same of a call that takes no memory: its refusal is the one that is wanted
+abbrev pub Tells : {X Y : Type 0} → (X → Y) → Result X ConfigError → Result Y ConfigError → Type 0
+Tells view (Ok value) wanted = wanted ≡ Ok (view value)
+Tells view (Err refusal) wanted = wanted ≡ Err refusal
+
 infixl 10 ◌>>=◌
 -- the value, and then what comes of it; or the refusal
 abbrev pub ◌>>=◌ : {A B : Type 0} → Result A ConfigError → (A → Result B ConfigError) → Result B ConfigError

@@ -4,11 +4,13 @@
 
 mod error;
 mod grammar;
+mod names;
 mod texts;
 mod values;
 
 pub use error::ConfigError;
 pub use grammar::{Grammar, is_name, is_sent_method};
+pub use names::Names;
 pub use texts::texts_of;
 pub use values::{
     address_of, confirm, digest_of, find, items_at, list_of, needed, number_between, number_of,

@@ -1,7 +1,7 @@
 ghost use Rattle.std.specs.Prelude.{◌≡◌, ◌≤◌, option_map, IfOk};
 ghost use Rattle.toml.specs.Data.{get_member};
 ghost use Rattle.toml.specs.View.{view, table_view, items_view};
-ghost use Rattle.sip_values.specs.Refusals.{Reads, confirmed};
+ghost use Rattle.sip_values.specs.Refusals.{Tells, confirmed};
 ghost use Rattle.sip_values.specs.Values as Definitions;
 
 use crate::error::ConfigError;
@@ -25,7 +25,7 @@ pub fn confirm(holds: bool, refusal: ConfigError) -> Result<(), ConfigError>
 
 /// What a key holds that has to be there.
 pub fn needed<'a>(table: &'a Table, key: &str) -> Result<&'a Value, ConfigError>
-    ensures { Reads (λ value. view value.now) result (Definitions.needed key.now (table_view table.now)) }
+    ensures { Tells (λ value. view value.now) result (Definitions.needed key.now (table_view table.now)) }
 {
     match find(table, key) {
         Some(value) => Ok(value),
@@ -35,7 +35,7 @@ pub fn needed<'a>(table: &'a Table, key: &str) -> Result<&'a Value, ConfigError>
 
 /// The bytes of a text.
 pub fn text_of(value: &Value) -> Result<&[u8], ConfigError>
-    ensures { Reads (λ text. text.now) result (Definitions.text_of (view value.now)) }
+    ensures { Tells (λ text. text.now) result (Definitions.text_of (view value.now)) }
 {
     match value.as_str() {
         Some(text) => Ok(text.as_bytes()),
@@ -45,7 +45,7 @@ pub fn text_of(value: &Value) -> Result<&[u8], ConfigError>
 
 /// A whole number.
 pub fn number_of(value: &Value) -> Result<i64, ConfigError>
-    ensures { Reads (λ number. number) result (Definitions.number_of (view value.now)) }
+    ensures { result ≡ Definitions.number_of (view value.now) }
 {
     match value.as_integer() {
         Some(number) => Ok(number),
@@ -55,7 +55,7 @@ pub fn number_of(value: &Value) -> Result<i64, ConfigError>
 
 /// The items of a list.
 pub fn list_of(value: &Value) -> Result<&[Value], ConfigError>
-    ensures { Reads (λ items. items_view items.now) result (Definitions.list_of (view value.now)) }
+    ensures { Tells (λ items. items_view items.now) result (Definitions.list_of (view value.now)) }
 {
     match value.as_array() {
         Some(array) => Ok(array.as_slice()),
@@ -65,7 +65,7 @@ pub fn list_of(value: &Value) -> Result<&[Value], ConfigError>
 
 /// The table that an item of a list is.
 pub fn table_of(value: &Value) -> Result<&Table, ConfigError>
-    ensures { Reads (λ table. table_view table.now) result (Definitions.table_of (view value.now)) }
+    ensures { Tells (λ table. table_view table.now) result (Definitions.table_of (view value.now)) }
 {
     match value.as_table() {
         Some(table) => Ok(table),
@@ -75,7 +75,7 @@ pub fn table_of(value: &Value) -> Result<&Table, ConfigError>
 
 /// A text of a grammar.
 pub fn text_as(value: &Value, grammar: Grammar) -> Result<&[u8], ConfigError>
-    ensures { Reads (λ text. text.now) result (Definitions.text_as grammar (view value.now)) }
+    ensures { Tells (λ text. text.now) result (Definitions.text_as grammar (view value.now)) }
 {
     let text = text_of(value)?;
     if grammar.accepts(text) {
@@ -87,7 +87,7 @@ pub fn text_as(value: &Value, grammar: Grammar) -> Result<&[u8], ConfigError>
 
 /// So many hexadecimal digits in lower case.
 pub fn digest_of<const N: usize>(value: &Value) -> Result<[u8; N], ConfigError>
-    ensures { Reads (λ digest. digest) result (Definitions.digest_of N (view value.now)) }
+    ensures { result ≡ Definitions.digest_of N (view value.now) }
 {
     let text = text_of(value)?;
     if !are_lower_hex(text) {
@@ -101,7 +101,7 @@ pub fn digest_of<const N: usize>(value: &Value) -> Result<[u8; N], ConfigError>
 
 /// An address with its port.
 pub fn address_of(value: &Value) -> Result<Addr, ConfigError>
-    ensures { Reads (λ address. address) result (Definitions.address_of (view value.now)) }
+    ensures { result ≡ Definitions.address_of (view value.now) }
 {
     match addr_of(text_of(value)?) {
         Some(address) => Ok(address),
@@ -111,7 +111,7 @@ pub fn address_of(value: &Value) -> Result<Addr, ConfigError>
 
 /// A number from `low` to `most`, which is below 2^32.
 fn between(low: u32, most: u32, number: i64) -> Result<u32, ConfigError>
-    ensures value { Reads (λ n. n) result (Definitions.between low most number) }
+    ensures value { result ≡ Definitions.between low most number }
     ensures within { IfOk result (λ n. n ≤ most) }
 {
     match u32::try_from(number) {
@@ -122,7 +122,7 @@ fn between(low: u32, most: u32, number: i64) -> Result<u32, ConfigError>
 
 /// A whole number from `low` to `most`.
 pub fn number_between(value: &Value, low: u32, most: u32) -> Result<u32, ConfigError>
-    ensures value { Reads (λ n. n) result (Definitions.number_between low most (view value.now)) }
+    ensures value { result ≡ Definitions.number_between low most (view value.now) }
     ensures within { IfOk result (λ n. n ≤ most) }
 {
     between(low, most, number_of(value)?)
@@ -130,7 +130,7 @@ pub fn number_between(value: &Value, low: u32, most: u32) -> Result<u32, ConfigE
 
 /// A port, 1 to 65535.
 pub fn port_of(value: &Value) -> Result<u16, ConfigError>
-    ensures { Reads (λ n. n) result (Definitions.port_of (view value.now)) }
+    ensures { result ≡ Definitions.port_of (view value.now) }
 {
     let port = number_between(value, 1, 65_535)?;
     Ok(port as u16)
@@ -138,14 +138,14 @@ pub fn port_of(value: &Value) -> Result<u16, ConfigError>
 
 /// The text of a grammar that a key holds, which has to be there.
 pub fn text_at<'a>(table: &'a Table, key: &str, grammar: Grammar) -> Result<&'a [u8], ConfigError>
-    ensures { Reads (λ text. text.now) result (Definitions.text_at key.now grammar (table_view table.now)) }
+    ensures { Tells (λ text. text.now) result (Definitions.text_at key.now grammar (table_view table.now)) }
 {
     text_as(needed(table, key)?, grammar)
 }
 
 /// The items of the list that a key holds, none where it isn't there.
 pub fn items_at<'a>(table: &'a Table, key: &str) -> Result<&'a [Value], ConfigError>
-    ensures { Reads (λ items. items_view items.now) result (Definitions.items_at key.now (table_view table.now)) }
+    ensures { Tells (λ items. items_view items.now) result (Definitions.items_at key.now (table_view table.now)) }
 {
     match find(table, key) {
         Some(value) => list_of(value),
@@ -156,7 +156,7 @@ pub fn items_at<'a>(table: &'a Table, key: &str) -> Result<&'a [Value], ConfigEr
 /// The items of the list that a key holds, which has to be there and to have one item or more.
 #[tactic(auto, using(crate::proofs::Rows::has_some))]
 pub fn some_items_at<'a>(table: &'a Table, key: &str) -> Result<&'a [Value], ConfigError>
-    ensures { Reads (λ items. items_view items.now) result (Definitions.some_items_at key.now (table_view table.now)) }
+    ensures { Tells (λ items. items_view items.now) result (Definitions.some_items_at key.now (table_view table.now)) }
 {
     let items = list_of(needed(table, key)?)?;
     if items.is_empty() {

@@ -1,0 +1,52 @@
+ghost use Rattle.std.specs.Prelude.{◌≡◌, List, Ok, IfOk, map};
+ghost use Rattle.sip_location.specs.Binding as Bindings;
+ghost use Rattle.sip_location.specs.Locations.{IsPlan};
+ghost use Rattle.sip_location.specs.Registration.{registered};
+ghost use Rattle.sip_location.specs.declared.binding.Binding.{Binding};
+ghost use Rattle.sip_location.specs.declared.registration.Registration.{Registration};
+ghost use Rattle.sip_model.specs.Effect as Effects;
+
+use sip_field::{Field, FieldName, Fields};
+use sip_location::{Binding, Plan};
+use sip_reply::contact_value;
+use sip_uri::write_uri;
+use std::alloc::{AllocError, Global};
+
+/// The seconds that a binding has left, rounded up.
+fn seconds_left(now: u64, binding: &Binding) -> u64
+    ensures { result ≡ Bindings.seconds_left now binding.now }
+{
+    binding.expires_at.saturating_sub(now).div_ceil(1000)
+}
+
+/// The field that lists a binding.
+fn contact_field(alloc: Global, now: u64, binding: &Binding) -> Result<Field, AllocError>
+    ensures { IfOk result (λ field. field ≡ Effects.contact_field now binding.now) }
+{
+    let uri = write_uri(alloc, &binding.uri)?;
+    let value = contact_value(alloc, uri.as_slice(), seconds_left(now, binding))?;
+    Ok(Field {
+        name: FieldName::Contact,
+        value,
+    })
+}
+
+/// The fields that list some bindings.
+fn fields_of(alloc: Global, now: u64, bindings: &[Binding]) -> Result<Fields, AllocError>
+    ensures { IfOk result (λ fields. fields ≡ map (Effects.contact_field now) bindings.now) }
+{
+    let mut fields = Fields::new(alloc);
+    for binding in bindings {
+        fields.push(contact_field(alloc, now, binding)?)?;
+    }
+    Ok(fields)
+}
+
+/// The Contact fields of the 200 to a REGISTER, told by its plan before that is applied: one for each binding that is live
+/// then, in their order, with the whole seconds that it has left (RFC 3261 10.3 step 8). `AllocError` is the only refusal.
+pub fn contact_fields(alloc: Global, now: u64, plan: &Plan) -> Result<Fields, AllocError>
+    ensures planned { IfOk result (λ fields. fields ≡ map (Effects.contact_field now) plan.now.bindings) }
+    ensures registered { IfOk result (λ fields. (rows after : List Binding) (r : Registration) → IsPlan rows r now plan.now → registered rows r now ≡ Ok after → fields ≡ Effects.contact_fields now plan.now.aor after) }
+{
+    fields_of(alloc, now, plan.bindings())
+}

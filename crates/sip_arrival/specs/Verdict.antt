@@ -1,0 +1,75 @@
+-- When what was decided about a request is the verdict on it.
+use Rattle.std.specs.Prelude.{◌≡◌, ℕ, Bool, List, Option, ⊤}
+use Rattle.sip_dialog.specs.declared.dialog.Dialog.{Dialog}
+use Rattle.sip_form.specs.declared.message.Start.{Start}
+use Rattle.sip_form.specs.declared.message.Start.TheVariants.{Request, Status}
+use Rattle.sip_judge.specs.Registering as Registering
+use Rattle.sip_judge.specs.declared.registering.Registering.{Registering}
+use Rattle.sip_location.specs.declared.binding.Binding.{Binding}
+use Rattle.sip_nonces.specs.declared.nonces.Nonce.{Nonce}
+use Rattle.sip_state.specs.declared.open_request.OpenRequest.{OpenRequest}
+use Rattle.sip_state.specs.declared.proxy_state.ProxyState.{ProxyState}
+use Rattle.sip_state.specs.declared.server.Server.{Server}
+use Rattle.sip_verdict.specs.declared.question.Question.{Question}
+use Rattle.sip_verdict.specs.Verdict as Definition
+use Rattle.sip_arrival.specs.declared.verdict.Verdict.{Verdict}
+use Rattle.sip_arrival.specs.declared.verdict.Verdict.TheVariants.{Dropped, AckOn, Cancel, Answer, InDialog, Judged}
+use Rattle.sip_arrival.specs.declared.verdict.Outcome.{Outcome}
+use Rattle.sip_arrival.specs.declared.verdict.Outcome.TheVariants.{Challenge, Deny, Send, Register}
+
+-- ---- what is asked
+
+-- a first line is a request's of this method
+abbrev pub IsRequestOf : List ℕ → Start → Type 0
+IsRequestOf method (Request name uri version) = name ≡ method
+IsRequestOf method (Status code reason) = ⊥
+
+-- a state with these bindings, nonces and dialogs, and with 1,024 requests open or fewer
+pub record Knows (state : ProxyState) (rows : List Binding) (nonces : List Nonce) (dialogs : List Dialog) (is_full : Bool) : Type 0 where
+  pub bindings_are : state.bindings ≡ rows
+  pub nonces_are : state.nonces ≡ nonces
+  pub dialogs_are : state.dialogs ≡ dialogs
+  pub fullness_is : Definition.is_full state ≡ is_full
+
+-- ---- what is decided
+
+-- A verdict is that a REGISTER is taken by a rule, and comes to this.
+pub record IsRegistered (rows : List Binding) (now : ℕ) (q : Question) (id : ℕ) (verdict : Definition.Verdict) (registering : Registering) : Type 0 where
+  pub registered : Definition.Registered
+  pub verdict_is : verdict ≡ Definition.Register q id registered
+  pub comes_to : Registering.ComesTo rows now registered registering
+
+-- What comes of what policy decided about a question is the verdict.
+abbrev pub IsOutcome : List Binding → ℕ → Question → Definition.Verdict → Outcome → Type 0
+IsOutcome rows now q verdict Challenge = verdict ≡ Definition.Challenge q
+IsOutcome rows now q verdict (Deny id) = verdict ≡ Definition.Deny q id
+IsOutcome rows now q verdict (Send id targets) = verdict ≡ Definition.Send q id targets
+IsOutcome rows now q verdict (Register id registering) = IsRegistered rows now q id verdict registering
+
+-- What was decided is the verdict on a request, over some bindings, where a CANCEL names this open request.
+abbrev pub Is : Server → List Binding → ℕ → Option OpenRequest → Definition.Verdict → Verdict → Type 0
+Is server rows now named verdict Dropped = verdict ≡ Definition.Drop
+Is server rows now named verdict (AckOn address id) = verdict ≡ Definition.AckOn address id
+Is server rows now named verdict Cancel = verdict ≡ Definition.Cancel named
+Is server rows now named verdict (Answer status extras) = verdict ≡ Definition.Answer status extras
+Is server rows now named verdict (InDialog address id) = verdict ≡ Definition.InDialog address id
+Is server rows now named verdict (Judged judged) =
+    (judged.minute ≡ Definition.minute_on server judged.question) × IsOutcome rows now judged.question verdict judged.outcome
+
+-- ---- room
+
+-- There is room for the plan of a REGISTER that was let through.
+abbrev pub HasRoomFor : ℕ → Outcome → Type 0
+HasRoomFor room Challenge = ⊤
+HasRoomFor room (Deny id) = ⊤
+HasRoomFor room (Send id targets) = ⊤
+HasRoomFor room (Register id registering) = Registering.HasRoom room registering
+
+-- There is room for the plan of a verdict, if it has one.
+abbrev pub HasRoom : ℕ → Verdict → Type 0
+HasRoom room Dropped = ⊤
+HasRoom room (AckOn address id) = ⊤
+HasRoom room Cancel = ⊤
+HasRoom room (Answer status extras) = ⊤
+HasRoom room (InDialog address id) = ⊤
+HasRoom room (Judged judged) = HasRoomFor room judged.outcome

@@ -1,0 +1,37 @@
+ghost use Rattle.std.specs.Prelude.{◌≡◌, ℕ, List, IfOk};
+ghost use Rattle.sip_key.specs.declared.key.Key.{Key};
+ghost use Rattle.sip_location.specs.declared.binding.Binding.{Binding};
+ghost use Rattle.sip_state.specs.Arrival.{Arrival};
+ghost use Rattle.sip_state.specs.declared.proxy_state.ProxyState.{ProxyState};
+ghost use Rattle.sip_state.specs.declared.server.Server.{Server};
+ghost use Rattle.sip_verdict.specs.Verdict as Definition;
+ghost use Rattle.sip_arrival.specs.Verdict.{Is, HasRoom};
+
+use crate::verdict::Verdict;
+use sip_field::Fields;
+use sip_form::View;
+use sip_validate::is_bad_request;
+use sip_way::Own;
+use std::alloc::{AllocError, Global};
+
+/// The verdict on a CANCEL: 400 if it is a bad request, 503 without room, else by what it names (RFC 3261 9.2, 16.10).
+pub(crate) fn cancel_verdict<'v>(
+    alloc: Global,
+    own: &Own,
+    is_full: bool,
+    request: &'v View<'_>,
+    short: bool,
+) -> Result<Verdict<'v>, AllocError>
+    ensures verdict { IfOk result (λ verdict. (server : Server) (state : ProxyState) (a : Arrival) (key : Key) (rows : List Binding) (now : ℕ)
+        → server.config.own ≡ own.now → Definition.is_full state ≡ is_full
+        → Is server rows now (Definition.found_for_cancel state key a.from) (Definition.cancel_verdict server state a request.now short key) verdict) }
+    ensures room { IfOk result (λ verdict. (room : ℕ) → HasRoom room verdict) }
+{
+    if is_bad_request(alloc, request, short, own)? {
+        return Ok(Verdict::Answer(400, Fields::new(alloc)));
+    }
+    if is_full {
+        return Ok(Verdict::Answer(503, Fields::new(alloc)));
+    }
+    Ok(Verdict::Cancel)
+}

@@ -1,0 +1,140 @@
+ghost use Rattle.std.specs.Prelude.{◌≡◌, ◌<◌, ◌^◌, IfOk};
+ghost use Rattle.sip_state.specs.declared.proxy_state.ProxyState.{ProxyState};
+ghost use Rattle.sip_way.specs.Way.{way_of};
+ghost use Rattle.sip_verdict.specs.Verdict as Definition;
+ghost use Rattle.sip_arrival.specs.Verdict.{IsOutcome, HasRoomFor};
+
+use crate::verdict::{Judged, Outcome};
+use sip_form::View;
+use sip_judge::{Judge, is_register};
+use sip_location::Locations;
+use sip_nonces::Nonces;
+use sip_policy::{Decision, Rules};
+use sip_validate::Checked;
+use sip_verdict::Question;
+use std::alloc::{AllocError, Global};
+
+/// What comes of a request that a rule let through: a REGISTER is taken, every other is sent to its targets.
+fn let_through<R: Rules>(
+    alloc: Global,
+    judge: &Judge<R>,
+    locations: &mut Locations,
+    now: u64,
+    request: &View<'_>,
+    method: &[u8],
+    checked: &Checked<'_>,
+    question: &Question<'_>,
+    id: u32,
+    decision: &Decision,
+) -> Result<Outcome, AllocError>
+    requires moment { now < 2 ^ 62 }
+    requires way { checked.now.way ≡ way_of judge.now.config.own request.now }
+    ensures outcome { IfOk result (λ outcome. (state : ProxyState) → state.bindings ≡ locations.old.rows
+        → IsOutcome locations.old.rows now question.now (Definition.let_through judge.now state now request.now method.now checked.now.core question.now id decision.now) outcome) }
+    ensures unchanged { locations.new.rows ≡ locations.old.rows }
+    ensures room { IfOk result (HasRoomFor locations.new.room) }
+{
+    if is_register(method) {
+        let registering = judge.registering(alloc, locations, now, request, checked)?;
+        return Ok(Outcome::Register(id, registering));
+    }
+    let targets = judge.request_targets(
+        alloc, locations, now, request, checked, question, decision,
+    )?;
+    Ok(Outcome::Send(id, targets))
+}
+
+/// What comes of a decision about a request.
+fn decided<R: Rules>(
+    alloc: Global,
+    judge: &Judge<R>,
+    locations: &mut Locations,
+    now: u64,
+    request: &View<'_>,
+    method: &[u8],
+    checked: &Checked<'_>,
+    question: &Question<'_>,
+    decision: &Decision,
+) -> Result<Outcome, AllocError>
+    requires moment { now < 2 ^ 62 }
+    requires way { checked.now.way ≡ way_of judge.now.config.own request.now }
+    ensures outcome { IfOk result (λ outcome. (state : ProxyState) → state.bindings ≡ locations.old.rows
+        → IsOutcome locations.old.rows now question.now (Definition.decided judge.now state now request.now method.now checked.now.core question.now decision.now) outcome) }
+    ensures unchanged { locations.new.rows ≡ locations.old.rows }
+    ensures room { IfOk result (HasRoomFor locations.new.room) }
+{
+    match decision {
+        Decision::Challenge => Ok(Outcome::Challenge),
+        Decision::Deny(id) => Ok(Outcome::Deny(*id)),
+        Decision::Allow(id) => let_through(
+            alloc, judge, locations, now, request, method, checked, question, *id, decision,
+        ),
+        Decision::Via(id, _) => let_through(
+            alloc, judge, locations, now, request, method, checked, question, *id, decision,
+        ),
+    }
+}
+
+/// What policy decides about a request, about which it is asked this.
+fn judged<'v, R: Rules>(
+    alloc: Global,
+    judge: &Judge<R>,
+    locations: &mut Locations,
+    now: u64,
+    request: &View<'_>,
+    method: &[u8],
+    checked: &Checked<'_>,
+    question: Question<'v>,
+) -> Result<Judged<'v>, AllocError>
+    requires moment { now < 2 ^ 62 }
+    requires way { checked.now.way ≡ way_of judge.now.config.own request.now }
+    ensures question { IfOk result (λ judged. judged.question ≡ question.entry) }
+    ensures minute { IfOk result (λ judged. judged.minute ≡ Definition.minute_on judge.now judged.question) }
+    ensures outcome { IfOk result (λ judged. (state : ProxyState) → state.bindings ≡ locations.old.rows
+        → IsOutcome locations.old.rows now judged.question (Definition.decided judge.now state now request.now method.now checked.now.core judged.question (Definition.answer_of judge.now judged.question)) judged.outcome) }
+    ensures unchanged { locations.new.rows ≡ locations.old.rows }
+    ensures room { IfOk result (λ judged. HasRoomFor locations.new.room judged.outcome) }
+{
+    let ruling = judge.ruling(&question);
+    let outcome = decided(
+        alloc,
+        judge,
+        locations,
+        now,
+        request,
+        method,
+        checked,
+        &question,
+        &ruling.decision,
+    )?;
+    Ok(Judged {
+        question,
+        minute: ruling.minute,
+        outcome,
+    })
+}
+
+/// What policy says of a request outside a dialog, of which this was read (RFC 3261 16.3 step 6, 16.5, 10.3).
+pub(crate) fn policy_verdict<'v, R: Rules>(
+    alloc: Global,
+    judge: &Judge<R>,
+    locations: &mut Locations,
+    nonces: &Nonces,
+    now: u64,
+    request: &'v View<'_>,
+    method: &[u8],
+    checked: &Checked<'_>,
+) -> Result<Judged<'v>, AllocError>
+    requires moment { now < 2 ^ 62 }
+    requires way { checked.now.way ≡ way_of judge.now.config.own request.now }
+    ensures minute { IfOk result (λ judged. judged.minute ≡ Definition.minute_on judge.now judged.question) }
+    ensures outcome { IfOk result (λ judged. (state : ProxyState) → state.bindings ≡ locations.old.rows → state.nonces ≡ nonces.now
+        → IsOutcome locations.old.rows now judged.question (Definition.policy_verdict judge.now state now request.now method.now checked.now.core) judged.outcome) }
+    ensures unchanged { locations.new.rows ≡ locations.old.rows }
+    ensures room { IfOk result (λ judged. HasRoomFor locations.new.room judged.outcome) }
+{
+    let question = judge.question_of(alloc, nonces, now, request, method, checked)?;
+    judged(
+        alloc, judge, locations, now, request, method, checked, question,
+    )
+}

@@ -1,0 +1,117 @@
+-- The places of rows, and the keys of a set that they are.
+use Rattle.std.proofs.Common.{◌≡◌, ℕ, ◌+◌, ◌<◌, ◌≤◌, Bool, true, false, ◌&&◌, ◌||◌, ◌==◌, not, if◌then◌else◌, List, [], ◌∷◌, ◌++◌, length, drop, get_or, map, codes, Vec, Global, Result, Ok, Err, refl, sym, ap, ap₂, ◌∙◌}
+use Rattle.std.specs.List.{list_any}
+use Rattle.std.specs.Str.{bytes_eq}
+use Rattle.std.proofs.lemmas.Cmp.{nat_list_eq_equiv, nat_eq_equiv}
+use Rattle.std.proofs.lemmas.List.{map-append, drop_all}
+use Rattle.toml.specs.Data.{Data, Items, no_items, item, Members, get_member}
+use Rattle.toml.specs.View.{view, items_view}
+use Rattle.toml.specs.declared.value.Value.{Value}
+use Rattle.toml.proofs.Views.{items_view-drop}
+use Rattle.sip_text.specs.Words.{without_case}
+use Rattle.sip_hops.specs.declared.host_address.HostAddress.{HostAddress}
+use Rattle.sip_hops.specs.HostAddress.{is_row_for}
+use Rattle.sip_values.specs.declared.error.ConfigError.{ConfigError}
+use Rattle.sip_values.specs.declared.error.ConfigError.TheVariants.{BadValue}
+use Rattle.sip_values.specs.declared.grammar.Grammar.TheVariants.{Host}
+use Rattle.sip_values.specs.Refusals.{◌>>=◌, confirmed}
+use Rattle.sip_values.specs.Values.{needed, text_as, address_of, table_of}
+use Rattle.sip_values.specs.Rows.{rows_after}
+use Rattle.sip_config.specs.HostAddresses.{port_in, new_row}
+use Rattle.sip_config.specs.Places.{place_of, is_place, row_besides, rows_besides}
+
+-- ---- the keys of a set
+
+abbrev pub Key : Type 0
+Key = Vec ℕ Global × ℕ
+
+abbrev pub places_of : List Key → List (List ℕ × ℕ)
+places_of keys = map (λ place. (place.0.items, place.1)) keys
+
+abbrev pub is_key : List ℕ → ℕ → Key → Bool
+is_key lower port key = bytes_eq lower key.0.items && port == key.1
+
+any_key : (host : List ℕ) (port : ℕ) (keys : List Key) → list_any (is_key (without_case host) port) keys ≡ list_any (is_place host port) (places_of keys)
+any_key host port [] = refl
+any_key host port (k ∷ ks) = ap (λ (b : Bool). is_key (without_case host) port k || b) (any_key host port ks)
+
+-- whether a place is new
+pub told : (host : List ℕ) (port : ℕ) (copy : Vec ℕ Global) (keys : List Key) (new : Bool) → copy.items ≡ without_case host → new ≡ not (list_any (is_key copy.items port) keys)
+    → new ≡ not (list_any (is_place host port) (places_of keys))
+told host port copy keys new is e = e ∙ ap not (ap (λ (lower : List ℕ). list_any (is_key lower port) keys) is ∙ any_key host port keys)
+
+grown_by : (host : List ℕ) (port : ℕ) (copy : Vec ℕ Global) (keys more : List Key) (new there : Bool) → copy.items ≡ without_case host → new ≡ not there → more ≡ (if there then keys else keys ++ (copy, port) ∷ [])
+    → places_of more ≡ (if new then places_of keys ++ (without_case host, port) ∷ [] else places_of keys)
+grown_by host port copy keys more new true is n g = ap places_of g ∙ sym (ap (λ (b : Bool). if b then places_of keys ++ (without_case host, port) ∷ [] else places_of keys) n)
+grown_by host port copy keys more new false is n g =
+    ap places_of g
+    ∙ map-append (λ (place : Key). (place.0.items, place.1)) keys ((copy, port) ∷ [])
+    ∙ ap (λ (lower : List ℕ). places_of keys ++ (lower, port) ∷ []) is
+    ∙ sym (ap (λ (b : Bool). if b then places_of keys ++ (without_case host, port) ∷ [] else places_of keys) n)
+
+-- a new place goes last
+pub grown : (host : List ℕ) (port : ℕ) (copy : Vec ℕ Global) (keys more : List Key) (new : Bool) → copy.items ≡ without_case host → new ≡ not (list_any (is_key copy.items port) keys)
+    → more ≡ (if list_any (is_key copy.items port) keys then keys else keys ++ (copy, port) ∷ []) → places_of more ≡ (if new then places_of keys ++ (without_case host, port) ∷ [] else places_of keys)
+grown host port copy keys more new is n g = grown_by host port copy keys more new (list_any (is_key copy.items port) keys) is n g
+
+-- ---- the rows of a list
+
+row_is : (host : List ℕ) (port : ℕ) (row : HostAddress) → is_row_for host port row ≡ is_place host port (place_of row)
+row_is host port row = ap₂ (λ (x y : Bool). x && y) (nat_list_eq_equiv.symm (without_case row.host) (without_case host)) (nat_eq_equiv.symm row.port port)
+
+-- a row is for a host and a port where their place is one of the rows'
+any_row : (host : List ℕ) (port : ℕ) (rows : List HostAddress) → list_any (is_row_for host port) rows ≡ list_any (is_place host port) (map place_of rows)
+any_row host port [] = refl
+any_row host port (row ∷ rows) = ap₂ (λ (x y : Bool). x || y) (row_is host port row) (any_row host port rows)
+
+same_next : {A B : Type 0} (r : Result A ConfigError) (f g : A → Result B ConfigError) → ((a : A) → f a ≡ g a) → (r >>= f) ≡ (r >>= g)
+same_next (Ok a) f g same = same a
+same_next (Err e) f g same = refl
+
+-- the end of a row, where a test says whether its place is taken
+abbrev pub row_where : Bool → Data → List ℕ → ℕ → Result HostAddress ConfigError
+row_where taken placed host port = confirmed (not taken) BadValue >>= λ _. address_of placed >>= λ address. Ok (record { host = host; port = port; address = address })
+
+besides : (before : List HostAddress) (members : Members) → new_row before members ≡ row_besides (map place_of before) members
+besides before members =
+    same_next (needed (codes "host") members)
+    (λ named. needed (codes "address") members >>= λ placed. text_as Host named >>= λ host. port_in (get_member (codes "port") members) >>= λ port. row_where (list_any (is_row_for host port) before) placed host port)
+    (λ named. needed (codes "address") members >>= λ placed. text_as Host named >>= λ host. port_in (get_member (codes "port") members) >>= λ port. row_where (list_any (is_place host port) (map place_of before)) placed host port)
+    (λ named. same_next (needed (codes "address") members)
+    (λ placed. text_as Host named >>= λ host. port_in (get_member (codes "port") members) >>= λ port. row_where (list_any (is_row_for host port) before) placed host port)
+    (λ placed. text_as Host named >>= λ host. port_in (get_member (codes "port") members) >>= λ port. row_where (list_any (is_place host port) (map place_of before)) placed host port)
+    (λ placed. same_next (text_as Host named)
+    (λ host. port_in (get_member (codes "port") members) >>= λ port. row_where (list_any (is_row_for host port) before) placed host port)
+    (λ host. port_in (get_member (codes "port") members) >>= λ port. row_where (list_any (is_place host port) (map place_of before)) placed host port)
+    (λ host. same_next (port_in (get_member (codes "port") members))
+    (λ port. row_where (list_any (is_row_for host port) before) placed host port)
+    (λ port. row_where (list_any (is_place host port) (map place_of before)) placed host port)
+    (λ port. ap (λ (b : Bool). row_where b placed host port) (any_row host port before)))))
+
+table_same : (before : List HostAddress) (places : List (List ℕ × ℕ)) (table : Result Members ConfigError) → places ≡ map place_of before → (table >>= new_row before) ≡ (table >>= row_besides places)
+table_same before places (Ok members) e = besides before members ∙ ap (λ (ps : List (List ℕ × ℕ)). row_besides ps members) (sym e)
+table_same before places (Err refusal) e = refl
+
+placed_more : (rows : List HostAddress) (places : List (List ℕ × ℕ)) (row : HostAddress) → places ≡ map place_of rows → places ++ place_of row ∷ [] ≡ map place_of (rows ++ row ∷ [])
+placed_more rows places row e = ap (λ (ps : List (List ℕ × ℕ)). ps ++ place_of row ∷ []) e ∙ sym (map-append place_of rows (row ∷ []))
+
+rows_same : (rows : List HostAddress) (places : List (List ℕ × ℕ)) (items : Items) → places ≡ map place_of rows → rows_besides places rows items ≡ rows_after new_row rows items
+rows_same rows places no_items e = refl
+rows_same rows places (item first items) e =
+    ap (λ (r : Result HostAddress ConfigError). r >>= λ row. rows_besides (places ++ place_of row ∷ []) (rows ++ row ∷ []) items) (sym (table_same rows places (table_of first) e))
+    ∙ same_next (table_of first >>= new_row rows) (λ row. rows_besides (places ++ place_of row ∷ []) (rows ++ row ∷ []) items) (λ row. rows_after new_row (rows ++ row ∷ []) items)
+    (λ row. rows_same (rows ++ row ∷ []) (places ++ place_of row ∷ []) items (placed_more rows places row e))
+
+-- rows besides the places of those before are rows whose host and port none before has
+pub rows_are : (items : Items) → rows_besides [] [] items ≡ rows_after new_row [] items
+rows_are items = rows_same [] [] items refl
+
+-- one more row
+pub row_step : (values : List Value) (i : ℕ) (other : Value) (places : List (List ℕ × ℕ)) (rows : List HostAddress) → i < length values
+    → rows_besides places rows (items_view (drop i values))
+    ≡ (table_of (view (get_or values i other)) >>= row_besides places >>= λ row. rows_besides (places ++ place_of row ∷ []) (rows ++ row ∷ []) (items_view (drop (i + 1) values)))
+row_step values i other places rows within = ap (rows_besides places rows) (items_view-drop values i other within)
+
+-- no value is left
+pub row_end : (values : List Value) (i : ℕ) (places : List (List ℕ × ℕ)) (rows : List HostAddress) → length values ≤ i → rows_besides places rows (items_view (drop i values)) ≡ Ok rows
+row_end values i places rows past = ap (λ (list : List Value). rows_besides places rows (items_view list)) (drop_all i values past)

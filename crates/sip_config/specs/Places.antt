@@ -1,0 +1,37 @@
+-- The hosts and ports that rows of the address table are for.
+use Rattle.std.specs.Prelude.{ℕ, Bool, ◌&&◌, ◌==◌, not, List, [], ◌∷◌, ◌++◌, codes, Result, Ok}
+use Rattle.std.specs.List.{list_any}
+use Rattle.std.specs.Str.{bytes_eq}
+use Rattle.toml.specs.Data.{Items, no_items, item, Members, get_member}
+use Rattle.sip_text.specs.Words.{without_case}
+use Rattle.sip_hops.specs.declared.host_address.HostAddress.{HostAddress}
+use Rattle.sip_values.specs.declared.error.ConfigError.{ConfigError}
+use Rattle.sip_values.specs.declared.error.ConfigError.TheVariants.{BadValue}
+use Rattle.sip_values.specs.declared.grammar.Grammar.TheVariants.{Host}
+use Rattle.sip_values.specs.Refusals.{◌>>=◌, confirmed}
+use Rattle.sip_values.specs.Values.{needed, text_as, address_of, table_of}
+use Rattle.sip_config.specs.HostAddresses.{port_in}
+
+-- the host that a row is for, its letters small ones, and the port
+abbrev pub place_of : HostAddress → List ℕ × ℕ
+place_of row = (without_case row.host, row.port)
+
+-- whether a place is that of a host, compared without case, and a port
+abbrev pub is_place : List ℕ → ℕ → List ℕ × ℕ → Bool
+is_place host port place = bytes_eq (without_case host) place.0 && port == place.1
+
+-- a row for a host and a port whose place is none of some
+abbrev pub row_besides : List (List ℕ × ℕ) → Members → Result HostAddress ConfigError
+row_besides places members = do
+  named ← needed (codes "host") members
+  placed ← needed (codes "address") members
+  host ← text_as Host named
+  port ← port_in (get_member (codes "port") members)
+  _ ← confirmed (not (list_any (is_place host port) places)) BadValue
+  address ← address_of placed
+  Ok (record { host = host; port = port; address = address })
+
+-- rows, each besides the places of those before
+abbrev pub rows_besides : List (List ℕ × ℕ) → List HostAddress → Items → Result (List HostAddress) ConfigError
+rows_besides places rows no_items = Ok rows
+rows_besides places rows (item first items) = table_of first >>= row_besides places >>= λ row. rows_besides (places ++ place_of row ∷ []) (rows ++ row ∷ []) items

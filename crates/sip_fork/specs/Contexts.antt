@@ -1,0 +1,37 @@
+-- Open requests with exactly the timers that they name (RFC 3261 16, 17).
+use Rattle.std.specs.Prelude.{ℕ, ◌≡◌, ◌<◌, ◌+◌, ◌^◌, Bool, List, count_by}
+use Rattle.std.specs.List.{All, sum_by}
+use Rattle.sip_timers.specs.declared.timer.Timer.{Timer}
+use Rattle.sip_timers.specs.Timers.{KeysDiffer}
+use Rattle.sip_state.specs.declared.open_request.OpenRequest.{OpenRequest}
+use Rattle.sip_moments.specs.Near.{IsWithin}
+use Rattle.sip_fitting.specs.Fits.{Fits}
+use Rattle.sip_request.specs.declared.request.Request.{Request}
+use Rattle.sip_request.specs.Named.{HasKeys, named_by}
+
+-- What the table of open requests shows: them, in rising order of their numbers; the timers that stand, in the order in
+-- which they fire; the greatest moment that was told to have passed; and for how many more requests, and how many more
+-- timers, no memory is taken.
+pub record Contexts : Type 0 where
+  pub requests : List OpenRequest
+  pub pending : List Timer
+  pub reached : ℕ
+  pub places : ℕ
+  pub room : ℕ
+
+-- ---- inside
+
+-- An open request is kept: each branch has its keys, its parts fit their transactions, and its moments are near the next
+-- one that may come.
+pub record IsKept (reached : ℕ) (r : Request) : Type 0 where
+  pub keys : HasKeys r.context r.branches
+  pub fits : Fits r.context
+  pub within : IsWithin (reached + 1) r.context
+
+-- Exactly the timers that open requests name stand, by every test as many, no two with one key; each request is kept; and
+-- moments are far below the end of their numbers.
+pub record AreTied (pending : List Timer) (reached : ℕ) (rows : List Request) : Type 0 where
+  pub same : (p : Timer → Bool) → count_by p pending ≡ sum_by (λ r. count_by p (named_by r)) rows
+  pub keys_differ : KeysDiffer pending
+  pub kept : All (IsKept reached) rows
+  pub early : reached < 2 ^ 62

@@ -1,0 +1,66 @@
+ghost use Rattle.std.specs.Prelude.{◌≡◌};
+ghost use Rattle.sip_verdict.specs.Verdict;
+
+use sip_key::Key;
+use sip_request::Request;
+use sip_state::OpenRequest;
+use sip_table::Row;
+use std::marker::Model;
+
+/// An open request as a row of the table, seen as the request.
+#[derive(Drop)]
+pub(crate) struct Standing {
+    pub(crate) request: Request,
+}
+
+impl Model for Standing {
+    ghost use Rattle.sip_request.specs.declared.request.Request.{Request};
+
+    ghost Value = { Request };
+
+    ghost view = { λ s. s.request };
+}
+
+/// Whether a CANCEL with a key may name an open request: neither ACK nor CANCEL, with the same branch and sent-by
+/// (RFC 3261 9.2).
+fn is_named_by(call: &OpenRequest, cancel: &Key) -> bool
+    ensures { result ≡ Verdict.is_cancelled_by cancel.now call.now }
+{
+    let key = call.key.get();
+    if key.branch.as_slice() != cancel.branch.as_slice() {
+        return false;
+    }
+    if key.host.as_slice() != cancel.host.as_slice() {
+        return false;
+    }
+    if key.port != cancel.port {
+        return false;
+    }
+    if key.method.as_slice() == b"CANCEL".as_slice() {
+        return false;
+    }
+    if key.method.as_slice() == b"ACK".as_slice() {
+        return false;
+    }
+    true
+}
+
+impl Row for Standing {
+    ghost number = { λ r. r.context.number };
+
+    ghost key = { λ r. r.context.key };
+
+    ghost is_cancelled_by = { λ key r. Verdict.is_cancelled_by key r.context };
+
+    fn number(&self) -> u64 {
+        self.request.context.number
+    }
+
+    fn key(&self) -> &Key {
+        self.request.context.key.get()
+    }
+
+    fn is_cancelled_by(&self, cancel: &Key) -> bool {
+        is_named_by(&self.request.context, cancel)
+    }
+}

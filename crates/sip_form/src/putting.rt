@@ -1,0 +1,52 @@
+ghost use Rattle.std.specs.Prelude.{◌≡◌, ◌++◌, length, codes, decimal, OnOk};
+ghost use Rattle.sip_form.specs.declared.message.Start.TheVariants.{Request, Status};
+ghost use Rattle.sip_form.specs.Text.{start_text};
+
+use sip_text::Bytes;
+use std::alloc::AllocError;
+
+/// Puts a request line of these parts without its CRLF.
+pub(crate) fn put_request_line(
+    out: &mut Bytes,
+    method: &[u8],
+    uri: &[u8],
+    version: &[u8],
+) -> Result<(), AllocError>
+    ensures { OnOk result (out.new ≡ out.old ++ start_text (Request method.now uri.now version.now)) }
+{
+    out.extend(method)?;
+    out.extend(b" ")?;
+    out.extend(uri)?;
+    out.extend(b" ")?;
+    out.extend(version)
+}
+
+/// Puts a status line of these parts without its CRLF.
+pub(crate) fn put_status_line(out: &mut Bytes, code: u16, reason: &[u8]) -> Result<(), AllocError>
+    ensures { OnOk result (out.new ≡ out.old ++ start_text (Status code reason.now)) }
+{
+    out.extend(b"SIP/2.0 ")?;
+    out.push_decimal(u64::from(code))?;
+    out.extend(b" ")?;
+    out.extend(reason)
+}
+
+/// Puts a field of these parts with its CRLF.
+pub(crate) fn put_line(out: &mut Bytes, name: &[u8], value: &[u8]) -> Result<(), AllocError>
+    ensures { OnOk result (out.new ≡ out.old ++ name.now ++ codes ": " ++ value.now ++ codes "\r\n") }
+{
+    out.extend(name)?;
+    out.extend(b": ")?;
+    out.extend(value)?;
+    out.extend(b"\r\n")
+}
+
+/// Puts what stands behind the fields of a message: the length of its body, the empty line, and the body.
+pub(crate) fn put_body(out: &mut Bytes, body: &[u8]) -> Result<(), AllocError>
+    ensures { OnOk result (out.new ≡ out.old ++ codes "Content-Length: " ++ decimal (length body.now) ++ codes "\r\n\r\n" ++ body.now) }
+{
+    out.extend(b"Content-Length: ")?;
+    out.push_decimal(body.len() as u64)?;
+    out.extend(b"\r\n\r\n")?;
+    out.extend(body)
+}

@@ -1,0 +1,25 @@
+-- What a REGISTER that was let through comes to, with the plan for its bindings.
+use Rattle.std.specs.Prelude.{◌≡◌, ◌≤◌, ℕ, List, ⊤}
+use Rattle.sip_location.specs.declared.binding.Binding.{Binding}
+use Rattle.sip_location.specs.declared.registration.Registration.{Registration}
+use Rattle.sip_location.specs.Locations.{Planned, IsPlan}
+use Rattle.sip_location.specs.Registration.{registered}
+use Rattle.sip_judge.specs.declared.registering.Registering.{Registering}
+use Rattle.sip_judge.specs.declared.registering.Registering.TheVariants as Judged
+use Rattle.sip_verdict.specs.Verdict.{Registered, Bound, Refused, registered_by}
+
+-- A plan is the one for a registration that isn't refused, and a REGISTER comes to what that makes of the rows.
+pub record IsPlanned (rows : List Binding) (now : ℕ) (outcome : Registered) (plan : Planned) : Type 0 where
+  pub registration : Registration
+  pub is_plan : IsPlan rows registration now plan
+  pub comes_to : outcome ≡ registered_by (registered rows registration now)
+
+-- What a REGISTER comes to over some rows, as it is judged: the same refusal, or the plan for it.
+abbrev pub ComesTo : List Binding → ℕ → Registered → Registering → Type 0
+ComesTo rows now outcome (Judged.Refused status extras) = outcome ≡ Refused status extras
+ComesTo rows now outcome (Judged.Planned plan) = IsPlanned rows now outcome plan
+
+-- There is room for a plan, so that applying it takes no memory.
+abbrev pub HasRoom : ℕ → Registering → Type 0
+HasRoom room (Judged.Refused status extras) = ⊤
+HasRoom room (Judged.Planned plan) = 1 ≤ room

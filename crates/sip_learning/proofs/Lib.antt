@@ -1,0 +1,3 @@
+pub mod OneTo
+pub mod Order
+pub mod Told

@@ -1,0 +1,170 @@
+ghost use Rattle.std.specs.Prelude.{◌≡◌, ◌&&◌, ◌++◌, ◌∷◌, true, false, nat_le, codes, IfOk};
+ghost use Rattle.std.specs.Option.{option_to_list};
+ghost use Rattle.std.specs.Str.{bytes_eq};
+ghost use Rattle.sip_hops.specs.HostAddress.{address_of};
+ghost use Rattle.sip_dialog.specs.Addresses.{addresses_in};
+ghost use Rattle.sip_state.specs.declared.server.Server.{Server};
+ghost use Rattle.sip_state.specs.State as States;
+ghost use Rattle.sip_state.specs.Dialogs as Dialogs;
+ghost use Rattle.sip_learning.specs.Lessons.{may_begin, begins};
+ghost use Rattle.sip_learning.specs.Telling.{Does, DoesOr, is_early_or_success};
+
+use crate::calls::{is_bye, is_invite, is_success};
+use crate::given::{given_by, put_given};
+use crate::lesson::Lesson;
+use crate::naming::{answered_dialog, dialog_of};
+use sip_dialog::{DialogId, InviteAnswer};
+use sip_hops::Hops;
+use sip_host::Addr;
+use sip_state::{OpenRequest, Upward};
+use sip_text::Items;
+use std::alloc::{AllocError, Global};
+
+/// Whether an answer ends the dialog of its request: a 2xx to a BYE (RFC 3261 15).
+fn ends_dialog(call: &OpenRequest, up: &Upward) -> bool
+    ensures { result ≡ (bytes_eq call.now.key.method (codes "BYE") && States.is_success up.now.status) }
+{
+    is_bye(call) && is_success(up.status)
+}
+
+/// What an answer to a request of a dialog tells it (RFC 3261 15).
+fn lesson_within(
+    alloc: Global,
+    hops: &Hops,
+    call: &OpenRequest,
+    up: &Upward,
+    id: DialogId,
+) -> Result<Lesson, AllocError>
+    ensures does { IfOk result (λ lesson. Does hops.now.addresses lesson (λ server now dialogs. Dialogs.after_answer_within server now call.now up.now id dialogs)) }
+    ensures room { IfOk result (λ lesson. may_begin lesson ≡ false) }
+{
+    if ends_dialog(call, up) {
+        return Ok(Lesson::End(id));
+    }
+    let addresses = given_by(alloc, hops, up.message.get())?;
+    Ok(Lesson::Teach { id, addresses })
+}
+
+/// The address that an INVITE came from, and that of the branch which answered it, if it is known.
+fn both_ends(alloc: Global, call: &OpenRequest, up: &Upward) -> Result<Items<Addr>, AllocError>
+    ensures { IfOk result (λ addresses. addresses ≡ call.now.source ∷ option_to_list up.now.target) }
+{
+    let mut addresses = Items::new(alloc);
+    addresses.push(call.source)?;
+    if let Some(target) = up.target {
+        addresses.push(target)?;
+    }
+    Ok(addresses)
+}
+
+/// The addresses that an answer to an INVITE tells the dialog that it begins.
+fn invite_addresses(
+    alloc: Global,
+    hops: &Hops,
+    call: &OpenRequest,
+    up: &Upward,
+) -> Result<Items<Addr>, AllocError>
+    ensures { IfOk result (λ addresses. addresses ≡ call.now.source ∷ option_to_list up.now.target
+        ++ addresses_in (address_of hops.now.addresses) call.now.request.fields ++ addresses_in (address_of hops.now.addresses) up.now.message.fields) }
+{
+    let mut addresses = both_ends(alloc, call, up)?;
+    put_given(alloc, hops, &mut addresses, call.request.get())?;
+    put_given(alloc, hops, &mut addresses, up.message.get())?;
+    Ok(addresses)
+}
+
+/// What an answer to an INVITE tells of the dialog that it names.
+fn invite_answer(
+    alloc: Global,
+    hops: &Hops,
+    call: &OpenRequest,
+    up: &Upward,
+    id: DialogId,
+) -> Result<InviteAnswer, AllocError>
+    ensures { IfOk result (λ answer. (server : Server) → server.config.addresses ≡ hops.now.addresses → answer ≡ Dialogs.invite_answer server call.now up.now id) }
+{
+    let addresses = invite_addresses(alloc, hops, call, up)?;
+    Ok(InviteAnswer {
+        id,
+        number: call.number,
+        arrived_at: call.arrived_at,
+        is_success: is_success(up.status),
+        addresses,
+    })
+}
+
+/// What an answer above 100 to an INVITE that begins a dialog tells of it (RFC 3261 12.1).
+fn invite_lesson(
+    alloc: Global,
+    hops: &Hops,
+    call: &OpenRequest,
+    up: &Upward,
+    id: DialogId,
+) -> Result<Lesson, AllocError>
+    ensures does { IfOk result (λ lesson. Does hops.now.addresses lesson (λ server now dialogs. Dialogs.after_invite_answer server now call.now up.now id dialogs)) }
+    ensures room { IfOk result (λ lesson. may_begin lesson ≡ true → nat_le up.now.status 299 ≡ true) }
+{
+    if up.status <= 299 {
+        return Ok(Lesson::Learn(invite_answer(alloc, hops, call, up, id)?));
+    }
+    let addresses = given_by(alloc, hops, up.message.get())?;
+    Ok(Lesson::Teach { id, addresses })
+}
+
+/// The dialog that an answer names for an open INVITE.
+fn answered_dialog_of(
+    alloc: Global,
+    call: &OpenRequest,
+    up: &Upward,
+) -> Result<Option<DialogId>, AllocError>
+    ensures { IfOk result (λ id. id ≡ Dialogs.answered_dialog call.now up.now.message) }
+{
+    let answer = up.message.get().view(alloc)?;
+    answered_dialog(alloc, call, &answer)
+}
+
+/// What an answer above 100 to a request outside a dialog tells.
+fn first_lesson(
+    alloc: Global,
+    hops: &Hops,
+    call: &OpenRequest,
+    up: &Upward,
+) -> Result<Option<Lesson>, AllocError>
+    ensures does { IfOk result (λ lesson. DoesOr hops.now.addresses lesson (λ server now dialogs. Dialogs.after_first_answer server now call.now up.now dialogs)) }
+    ensures room { IfOk result (λ lesson. begins lesson ≡ true → nat_le up.now.status 299 ≡ true) }
+{
+    if !is_invite(call) {
+        return Ok(None);
+    }
+    match answered_dialog_of(alloc, call, up)? {
+        Some(id) => Ok(Some(invite_lesson(alloc, hops, call, up, id)?)),
+        None => Ok(None),
+    }
+}
+
+/// The dialog that an open request names.
+fn dialog_of_call(alloc: Global, call: &OpenRequest) -> Result<Option<DialogId>, AllocError>
+    ensures { IfOk result (λ id. id ≡ Dialogs.dialog_of call.now.request) }
+{
+    let request = call.request.get().view(alloc)?;
+    dialog_of(alloc, &request)
+}
+
+/// What an answer that goes to the caller tells the dialogs, if it tells them anything.
+pub(crate) fn lesson_of(
+    alloc: Global,
+    hops: &Hops,
+    call: &OpenRequest,
+    up: &Upward,
+) -> Result<Option<Lesson>, AllocError>
+    ensures does { IfOk result (λ lesson. DoesOr hops.now.addresses lesson (λ server now dialogs. Dialogs.after_answer server now call.now up.now dialogs)) }
+    ensures room { IfOk result (λ lesson. begins lesson ≡ true → is_early_or_success up.now ≡ true) }
+{
+    if up.status <= 100 {
+        return Ok(None);
+    }
+    match dialog_of_call(alloc, call)? {
+        Some(id) => Ok(Some(lesson_within(alloc, hops, call, up, id)?)),
+        None => first_lesson(alloc, hops, call, up),
+    }
+}

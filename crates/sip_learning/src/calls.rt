@@ -1,0 +1,65 @@
+ghost use Rattle.std.specs.Prelude.{◌≡◌, codes};
+ghost use Rattle.std.specs.List.{list_all};
+ghost use Rattle.std.specs.Str.{bytes_eq};
+ghost use Rattle.sip_state.specs.declared.branch.Branch.{Branch};
+ghost use Rattle.sip_state.specs.State as States;
+
+use sip_state::{Branch, OpenRequest, Phase, Side};
+
+/// Whether a request is an INVITE.
+pub(crate) fn is_invite(call: &OpenRequest) -> bool
+    ensures { result ≡ States.is_invite call.now }
+{
+    call.key.get().method.as_slice() == b"INVITE".as_slice()
+}
+
+/// Whether a request is a BYE.
+pub(crate) fn is_bye(call: &OpenRequest) -> bool
+    ensures { result ≡ bytes_eq call.now.key.method (codes "BYE") }
+{
+    call.key.get().method.as_slice() == b"BYE".as_slice()
+}
+
+/// 2xx.
+pub(crate) fn is_success(status: u16) -> bool
+    ensures { result ≡ States.is_success status }
+{
+    200 <= status && status <= 299
+}
+
+/// Whether the answering side of a request has ended.
+fn is_closed(side: Side) -> bool
+    ensures { result ≡ States.is_closed side }
+{
+    match side {
+        Side::Closed => true,
+        Side::Answering | Side::Closing { .. } | Side::Acknowledged { .. } => false,
+    }
+}
+
+/// Whether a branch has ended.
+fn is_ended(phase: Phase) -> bool
+    ensures { result ≡ States.is_ended phase }
+{
+    match phase {
+        Phase::Ended => true,
+        Phase::Unheard { .. }
+        | Phase::Heard { .. }
+        | Phase::Cancelled { .. }
+        | Phase::Done { .. } => false,
+    }
+}
+
+/// Whether all of some branches have ended.
+fn all_ended(branches: &[Branch]) -> bool
+    ensures { result ≡ list_all (λ (b : Branch). States.is_ended b.phase) branches.now }
+{
+    branches.iter().all(|branch| is_ended(branch.phase))
+}
+
+/// Whether a request stays open no longer.
+pub(crate) fn has_left(call: &OpenRequest) -> bool
+    ensures { result ≡ States.has_left call.now }
+{
+    is_closed(call.side) && all_ended(call.branches.as_slice())
+}

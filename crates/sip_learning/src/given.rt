@@ -1,0 +1,102 @@
+ghost use Rattle.std.specs.Prelude.{◌≡◌, ◌++◌, IfOk, OnOk};
+ghost use Rattle.sip_hops.specs.HostAddress.{address_of};
+ghost use Rattle.sip_dialog.specs.Addresses as Given;
+
+use sip_field::FieldName;
+use sip_form::{Kept, View};
+use sip_header::{AnyUri, NameAddr, name_addr_of, route_of};
+use sip_hops::Hops;
+use sip_host::Addr;
+use sip_text::Items;
+use sip_view::ViewField;
+use std::alloc::{AllocError, Global};
+
+/// The address of a SIP URI; another has none.
+fn address_by(hops: &Hops, uri: &AnyUri<'_>) -> Option<Addr>
+    ensures { result ≡ Given.address_by (address_of hops.now.addresses) uri.now }
+{
+    match uri {
+        AnyUri::Sip(uri) => hops.address_of(uri),
+        AnyUri::Other(_) => None,
+    }
+}
+
+/// What a Contact or a Record-Route says.
+fn item_in<'v>(alloc: Global, field: &'v ViewField<'_>) -> Result<Option<NameAddr<'v>>, AllocError>
+    ensures { IfOk result (λ item. item ≡ Given.item_in field.now) }
+{
+    if field.name().is_same(&FieldName::Contact) {
+        return name_addr_of(alloc, field.value().as_slice());
+    }
+    if field.name().is_same(&FieldName::RecordRoute) {
+        return route_of(alloc, field.value().as_slice());
+    }
+    Ok(None)
+}
+
+/// The address that a Contact or a Record-Route gives.
+fn address_in(alloc: Global, hops: &Hops, field: &ViewField<'_>) -> Result<Option<Addr>, AllocError>
+    ensures { IfOk result (λ address. address ≡ Given.address_in (address_of hops.now.addresses) field.now) }
+{
+    match item_in(alloc, field)? {
+        Some(item) => Ok(address_by(hops, &item.uri)),
+        None => Ok(None),
+    }
+}
+
+/// Adds the addresses that some fields give.
+fn put_addresses(
+    alloc: Global,
+    hops: &Hops,
+    out: &mut Items<Addr>,
+    fields: &[ViewField<'_>],
+) -> Result<(), AllocError>
+    ensures { OnOk result (out.new ≡ out.old ++ Given.addresses_in (address_of hops.now.addresses) fields.now) }
+{
+    for field in fields {
+        if let Some(address) = address_in(alloc, hops, field)? {
+            out.push(address)?;
+        }
+    }
+    Ok(())
+}
+
+/// Adds the addresses that a message gives.
+pub(crate) fn put_given(
+    alloc: Global,
+    hops: &Hops,
+    out: &mut Items<Addr>,
+    message: &Kept,
+) -> Result<(), AllocError>
+    ensures { OnOk result (out.new ≡ out.old ++ Given.addresses_in (address_of hops.now.addresses) message.now.fields) }
+{
+    let fields = message.fields(alloc)?;
+    put_addresses(alloc, hops, out, fields.as_slice())
+}
+
+/// The addresses that a message gives, as kept.
+pub(crate) fn given_by(
+    alloc: Global,
+    hops: &Hops,
+    message: &Kept,
+) -> Result<Items<Addr>, AllocError>
+    ensures { IfOk result (λ addresses. addresses ≡ Given.addresses_in (address_of hops.now.addresses) message.now.fields) }
+{
+    let mut addresses = Items::new(alloc);
+    put_given(alloc, hops, &mut addresses, message)?;
+    Ok(addresses)
+}
+
+/// The addresses that Contact and Record-Route of a message give by this table, in the order of its fields (RFC 3261
+/// 12.1.1, 12.2). `AllocError` is the only refusal.
+pub fn addresses_of(
+    alloc: Global,
+    hops: &Hops,
+    message: &View<'_>,
+) -> Result<Items<Addr>, AllocError>
+    ensures { IfOk result (λ addresses. addresses ≡ Given.addresses_in (address_of hops.now.addresses) message.now.fields) }
+{
+    let mut addresses = Items::new(alloc);
+    put_addresses(alloc, hops, &mut addresses, message.fields().as_slice())?;
+    Ok(addresses)
+}

@@ -1,0 +1,3 @@
+pub mod Keys
+pub mod Moved
+pub mod Opened

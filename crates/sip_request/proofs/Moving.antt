@@ -1,0 +1,58 @@
+-- How the timers of slots, parts and requests move: what stands is counted by every test.
+use Rattle.std.proofs.Common.{◌≡◌, ℕ, ◌+◌, Bool, List, [], ◌++◌, cond, Option, refl, arith}
+use Rattle.std.specs.Prelude.{count_by}
+use Rattle.std.proofs.lemmas.List.Sums.{sum_by-append}
+use Rattle.sip_transaction.specs.declared.letter.Letter.{Letter}
+use Rattle.sip_timers.specs.declared.timer.Timer.{Timer}
+use Rattle.sip_running.specs.Moves.{IsHeld, Moves}
+use Rattle.sip_ties.specs.declared.timer_keys.TimerKeys.{TimerKeys}
+use Rattle.sip_request.specs.declared.part.Part.{Part}
+use Rattle.sip_request.specs.Slots.{part_standing, slot_timers}
+
+pub count-append : (p : Timer → Bool) (xs ys : List Timer) → count_by p (xs ++ ys) ≡ count_by p xs + count_by p ys
+count-append p xs ys = sum_by-append (λ (u : Timer). cond (p u) 1 0) xs ys
+
+-- what stands stays
+pub Moves-stays : (ts named : List Timer) → Moves ts named ts named
+Moves-stays ts named = record { same = λ p. refl; keys_differ = λ differ. differ }
+
+-- a timer that is stopped makes way for another one
+pub Moves-replaced : (ts us vs before after : List Timer) → Moves ts before us [] → Moves us [] vs after → Moves ts before vs after
+Moves-replaced ts us vs before after a b = record {
+  same = λ p. omega (arith, a.same p, b.same p);
+  keys_differ = λ differ. b.keys_differ (a.keys_differ differ);
+}
+
+-- ---- a part: three slots
+
+held_first : (ts a b c : List Timer) → IsHeld ts (a ++ (b ++ c)) → IsHeld ts a
+held_first ts a b c h = record { stand = λ p. omega (arith, h.stand p, count-append p a (b ++ c)); keys_differ = h.keys_differ }
+
+pub held_again : (ts : List Timer) (keys : TimerKeys) (part : Part) → IsHeld ts (part_standing keys part) → IsHeld ts (slot_timers part.request part.owner keys.again part.timers.again)
+held_again ts keys part h =
+    let of_slot : ℕ → Option (Letter × ℕ) → List Timer = slot_timers part.request part.owner in
+    held_first ts (of_slot keys.again part.timers.again) (of_slot keys.last part.timers.last) (of_slot keys.call part.timers.call) h
+
+pub held_second : (ts us a b c first : List Timer) → IsHeld ts (a ++ (b ++ c)) → Moves ts a us first → IsHeld us b
+held_second ts us a b c first h m = record {
+  stand = λ p. omega (arith, h.stand p, m.same p, count-append p a (b ++ c), count-append p b c);
+  keys_differ = m.keys_differ h.keys_differ;
+}
+
+pub held_third : (ts us vs a b c first second : List Timer) → IsHeld ts (a ++ (b ++ c)) → Moves ts a us first → Moves us b vs second → IsHeld vs c
+held_third ts us vs a b c first second h m n = record {
+  stand = λ p. omega (arith, h.stand p, m.same p, n.same p, count-append p a (b ++ c), count-append p b c);
+  keys_differ = n.keys_differ (m.keys_differ h.keys_differ);
+}
+
+pub Moves-three : (ts us vs ws a b c first second third : List Timer) → Moves ts a us first → Moves us b vs second → Moves vs c ws third → Moves ts (a ++ (b ++ c)) ws (first ++ (second ++ third))
+Moves-three ts us vs ws a b c first second third k m n = record {
+  same = λ p. omega (arith, k.same p, m.same p, n.same p, count-append p a (b ++ c), count-append p b c, count-append p first (second ++ third), count-append p second third);
+  keys_differ = λ differ. n.keys_differ (m.keys_differ (k.keys_differ differ));
+}
+
+pub Moves-three_stopped : (ts us vs ws a b c : List Timer) → Moves ts a us [] → Moves us b vs [] → Moves vs c ws [] → Moves ts (a ++ (b ++ c)) ws []
+Moves-three_stopped ts us vs ws a b c k m n = record {
+  same = λ p. omega (arith, k.same p, m.same p, n.same p, count-append p a (b ++ c), count-append p b c);
+  keys_differ = λ differ. n.keys_differ (m.keys_differ (k.keys_differ differ));
+}

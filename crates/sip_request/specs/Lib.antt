@@ -1,0 +1,4 @@
+pub mod Slots
+pub mod Near
+pub mod Walk
+pub mod Named

@@ -1,0 +1,155 @@
+ghost use Rattle.std.specs.Prelude.{◌≡◌, ◌≤◌, ◌<◌, ◌+◌, ◌*◌, ◌^◌, ◌++◌, [], length, IfSome, MatchOption};
+ghost use Rattle.sip_running.specs.Moves.{IsHeld, Moves};
+ghost use Rattle.sip_ties.specs.Ties.{branch_timers, branches_timers, owner_of, part_timers};
+ghost use Rattle.sip_request.specs.Near.{AreBefore, IsNear};
+ghost use Rattle.sip_request.specs.Slots.{part_standing};
+ghost use Rattle.sip_request.specs.Walk.{left_timers};
+
+use crate::naming::branch_part;
+use crate::part::{NO_KEYS, Part, no_part, stop_part, sync_part};
+use sip_state::{Branch, OpenRequest};
+use sip_ties::TimerKeys;
+use sip_timers::Timers;
+
+/// A branch whose timers stand, with their keys, and the place behind it.
+#[derive(Clone, Copy)]
+struct Stood {
+    part: Part,
+    keys: TimerKeys,
+    behind: usize,
+}
+
+/// Keys of a branch, and how many of the branches before are through.
+#[derive(Clone, Copy)]
+struct Synced {
+    keys: TimerKeys,
+    place: usize,
+}
+
+/// The branch at a place with its timers, if it has keys.
+fn stood_at(was: &OpenRequest, keys: &[TimerKeys], place: usize) -> Option<Stood>
+    requires { IsNear (2 ^ 64) was.now }
+    ensures left { MatchOption result (left_timers was.now keys.now place ≡ []) (λ s. left_timers was.now keys.now place ≡ part_standing s.keys s.part ++ left_timers was.now keys.now s.behind) }
+    ensures within { IfSome result (λ s. (s.behind ≡ place + 1) × (place < length keys.now)) }
+{
+    let branches = was.branches.as_slice();
+    if place >= branches.len() {
+        return None;
+    }
+    if place >= keys.len() {
+        return None;
+    }
+    let part = branch_part(was, &branches[place]);
+    let behind = place + 1;
+    Some(Stood {
+        part,
+        keys: keys[place],
+        behind,
+    })
+}
+
+/// Whether a branch is the one at a place.
+fn is_at(was: &OpenRequest, place: usize, branch: &Branch) -> bool {
+    let branches = was.branches.as_slice();
+    if place >= branches.len() {
+        return false;
+    }
+    let stood = &branches[place];
+    stood.number == branch.number && stood.is_cancel == branch.is_cancel
+}
+
+/// The branch at a place with its timers, if it is this one.
+fn partner(was: &OpenRequest, keys: &[TimerKeys], place: usize, branch: &Branch) -> Option<Stood>
+    requires { IsNear (2 ^ 64) was.now }
+    ensures left { IfSome result (λ s. left_timers was.now keys.now place ≡ part_standing s.keys s.part ++ left_timers was.now keys.now s.behind) }
+{
+    if !is_at(was, place, branch) {
+        return None;
+    }
+    stood_at(was, keys, place)
+}
+
+/// Lets the timers of a branch stand, and no others of the branch at a place if that is the same one.
+fn sync_branch<T: Timers>(
+    timers: &mut T,
+    was: &OpenRequest,
+    was_keys: &[TimerKeys],
+    place: usize,
+    next: &OpenRequest,
+    branch: &Branch,
+) -> Synced
+    requires held { IsHeld (T.pending timers.old) (left_timers was.now was_keys.now place) }
+    requires room { 3 ≤ T.room timers.old }
+    requires timed { IsNear (2 ^ 64) was.now }
+    requires moments { T.reached timers.old + 2 ^ 30 ≤ 2 ^ 64 }
+    requires near { AreBefore (T.reached timers.old + 2 ^ 30) (branch_timers next.now branch.now) }
+    ensures moves { Moves (T.pending timers.old) (left_timers was.now was_keys.now place) (T.pending timers.new)
+        (part_timers next.now.number (owner_of branch.now) result.keys (branch_timers next.now branch.now) ++ left_timers was.now was_keys.now result.place) }
+    ensures left { T.room timers.old ≤ T.room timers.new + 3 }
+    ensures still { T.reached timers.new ≡ T.reached timers.old }
+{
+    let part = branch_part(next, branch);
+    match partner(was, was_keys, place, branch) {
+        None => {
+            let keys = sync_part(timers, no_part(), NO_KEYS, part);
+            Synced { keys, place }
+        }
+        Some(stood) => {
+            let keys = sync_part(timers, stood.part, stood.keys, part);
+            Synced {
+                keys,
+                place: stood.behind,
+            }
+        }
+    }
+}
+
+/// Stops the timers of the branches from a place on.
+pub(crate) fn stop_left<T: Timers>(
+    timers: &mut T,
+    was: &OpenRequest,
+    keys: &[TimerKeys],
+    place: usize,
+)
+    requires held { IsHeld (T.pending timers.old) (left_timers was.now keys.now place) }
+    requires timed { IsNear (2 ^ 64) was.now }
+    ensures moves { Moves (T.pending timers.old) (left_timers was.now keys.now place) (T.pending timers.new) [] }
+    ensures left { T.room timers.old ≤ T.room timers.new }
+    ensures still { T.reached timers.new ≡ T.reached timers.old }
+{
+    let mut at = place;
+    while let Some(stood) = stood_at(was, keys, at) {
+        stop_part(timers, stood.part, stood.keys);
+        at = stood.behind;
+    }
+}
+
+/// Lets the timers of the branches of an open request stand, and no others of its branches before: each branch is matched
+/// with the next one before that is the same. Fills in the keys.
+pub(crate) fn sync_branches<T: Timers>(
+    timers: &mut T,
+    was: &OpenRequest,
+    was_keys: &[TimerKeys],
+    next: &OpenRequest,
+    keys: &mut [TimerKeys],
+)
+    requires held { IsHeld (T.pending timers.old) (branches_timers was.now was.now.branches was_keys.now) }
+    requires keys { length keys.old ≡ length next.now.branches }
+    requires room { 3 * length next.now.branches ≤ T.room timers.old }
+    requires timed { IsNear (2 ^ 64) was.now }
+    requires moments { T.reached timers.old + 2 ^ 30 ≤ 2 ^ 64 }
+    requires near { IsNear (T.reached timers.old + 2 ^ 30) next.now }
+    ensures moves { Moves (T.pending timers.old) (branches_timers was.now was.now.branches was_keys.now) (T.pending timers.new)
+        (branches_timers next.now next.now.branches keys.new) }
+    ensures left { T.room timers.old ≤ T.room timers.new + 3 * length next.now.branches }
+    ensures still { T.reached timers.new ≡ T.reached timers.old }
+{
+    let mut place = 0;
+    let branches = next.branches.as_slice();
+    for (i, branch) in branches.iter().enumerate() {
+        let synced = sync_branch(timers, was, was_keys, place, next, branch);
+        keys[i] = synced.keys;
+        place = synced.place;
+    }
+    stop_left(timers, was, was_keys, place);
+}

@@ -1,0 +1,16 @@
+//! One open request with the timers that it names: which timers its parts have by their phases, and how they are stopped
+//! and set once an event changed the request, where a timer that stays the same keeps its key and its place in the order
+//! of firing (RFC 3261 16.6 to 16.8, 17; RFC 6026). Who fires looks at the first timer, takes its event and lets the
+//! request move its timers; no timer is ever taken out by its moment.
+#![tactic(auto)]
+
+mod branches;
+mod naming;
+mod part;
+mod request;
+mod retiming;
+mod slots;
+
+pub use naming::{branch_part, side_part};
+pub use part::{Part, PartTimers};
+pub use request::{Plan, Request};

@@ -1,0 +1,230 @@
+ghost use Rattle.std.specs.Prelude.{◌≡◌, ◌++◌, ◌^◌, ℕ, Some, None, if◌then◌else◌};
+ghost use Rattle.sip_transaction.specs.declared.letter.Letter.TheVariants.{D, M};
+ghost use Rattle.sip_timers.specs.declared.timer.Owner.{Owner};
+ghost use Rattle.sip_timers.specs.declared.timer.Owner.TheVariants as Of;
+ghost use Rattle.sip_state.specs.State as States;
+ghost use Rattle.sip_context.specs.Branches as Contexts;
+ghost use Rattle.sip_branches.specs.Early.{IsEarly};
+ghost use Rattle.sip_machines.specs.InviteClient.{invite_timers, call_timers};
+ghost use Rattle.sip_machines.specs.OtherClient.{other_timers};
+ghost use Rattle.sip_machines.specs.InviteServer.{invite_side_timers};
+ghost use Rattle.sip_machines.specs.OtherServer.{other_side_timers};
+ghost use Rattle.sip_ties.specs.Ties.{branch_timers, owner_of, part_timers, side_timers};
+ghost use Rattle.sip_ties.specs.declared.timer_keys.TimerKeys.{TimerKeys};
+ghost use Rattle.sip_request.specs.Near.{AreBefore};
+ghost use Rattle.sip_request.specs.Slots.{listed, part_standing, slots_standing};
+
+use crate::part::{Part, PartTimers};
+use sip_state::{Branch, LastAnswer, OpenRequest, Phase, Resend, Side};
+use sip_timers::Owner;
+use sip_transaction::Letter;
+
+/// How much longer Timer C is than the wait for a first response, in milliseconds (RFC 3261 16.8).
+const BEHIND_FIRST_WAIT: u64 = 153_000;
+
+/// Whether a request is an INVITE.
+fn is_invite(call: &OpenRequest) -> bool
+    ensures { result ≡ States.is_invite call.now }
+{
+    call.key.get().method.as_slice() == b"INVITE".as_slice()
+}
+
+/// Whether a status is a 2xx (RFC 3261 7.2).
+fn is_success(status: u16) -> bool
+    ensures { result ≡ States.is_success status }
+{
+    200 <= status && status <= 299
+}
+
+/// Whether the answer that was sent last is one of 300 to 699.
+fn was_refused(answer: &Option<LastAnswer>) -> bool
+    ensures { result ≡ Contexts.was_refused answer.now }
+{
+    match answer {
+        None => false,
+        Some(answer) => answer.status >= 300,
+    }
+}
+
+/// One timer at which a transaction ends.
+fn ending(letter: Letter, until: u64) -> PartTimers
+    ensures { result ≡ record { again = None; last = Some (letter, until); call = None } }
+{
+    PartTimers {
+        again: None,
+        last: Some((letter, until)),
+        call: None,
+    }
+}
+
+/// One timer at which what was sent goes again, and one at which the transaction ends.
+fn repeating(again: Letter, due: u64, last: Letter, until: u64) -> PartTimers
+    ensures { result ≡ record { again = Some (again, due); last = Some (last, until); call = None } }
+{
+    PartTimers {
+        again: Some((again, due)),
+        last: Some((last, until)),
+        call: None,
+    }
+}
+
+/// The proxy's own timer of a branch alone.
+fn calling(letter: Letter, until: u64) -> PartTimers
+    ensures { result ≡ record { again = None; last = None; call = Some (letter, until) } }
+{
+    PartTimers {
+        again: None,
+        last: None,
+        call: Some((letter, until)),
+    }
+}
+
+/// No timer.
+fn nothing() -> PartTimers
+    ensures { result ≡ record { again = None; last = None; call = None } }
+{
+    PartTimers {
+        again: None,
+        last: None,
+        call: None,
+    }
+}
+
+/// The timer of a branch of an INVITE that has its final answer: M after a 2xx, D after another one (RFC 3261 17.1.1.2,
+/// RFC 6026 7.2).
+fn lingering(until: u64, status: u16) -> PartTimers
+    ensures { result ≡ record { again = None; last = Some ((if States.is_success status then M else D), until); call = None } }
+{
+    if is_success(status) {
+        ending(Letter::M, until)
+    } else {
+        ending(Letter::D, until)
+    }
+}
+
+/// The timers of a branch to a target of an INVITE: those of its transaction, and the proxy's own (RFC 3261 16.6, 16.8,
+/// 17.1.1.2; RFC 6026 7.2).
+fn invite_part(phase: Phase, again: Resend) -> PartTimers
+    requires { IsEarly phase }
+    ensures timers { listed result ≡ invite_timers phase again ++ call_timers phase }
+    ensures names { (number : ℕ) (owner : Owner) (keys : TimerKeys) → slots_standing number owner keys result ≡ part_timers number owner keys (invite_timers phase again ++ call_timers phase) }
+{
+    match phase {
+        Phase::Unheard { until } => PartTimers {
+            again: Some((Letter::A, again.due)),
+            last: Some((Letter::B, until)),
+            call: Some((Letter::C, until + BEHIND_FIRST_WAIT)),
+        },
+        Phase::Heard { until } => calling(Letter::C, until),
+        Phase::Cancelled { until } => calling(Letter::Cancelled, until),
+        Phase::Done { until, status } => lingering(until, status),
+        Phase::Ended => nothing(),
+    }
+}
+
+/// The timers of a branch of another request, and of a CANCEL (RFC 3261 17.1.2.2).
+fn other_part(phase: Phase, again: Resend) -> PartTimers
+    ensures timers { listed result ≡ other_timers phase again }
+    ensures names { (number : ℕ) (owner : Owner) (keys : TimerKeys) → slots_standing number owner keys result ≡ part_timers number owner keys (other_timers phase again) }
+{
+    match phase {
+        Phase::Unheard { until } => repeating(Letter::E, again.due, Letter::F, until),
+        Phase::Heard { until } => repeating(Letter::E, again.due, Letter::F, until),
+        Phase::Cancelled { .. } => nothing(),
+        Phase::Done { until, .. } => ending(Letter::K, until),
+        Phase::Ended => nothing(),
+    }
+}
+
+/// The timers of the answering side of an INVITE (RFC 3261 17.2.1, RFC 6026 7.1).
+fn invite_side_part(side: Side, answer: &Option<LastAnswer>, again: Resend) -> PartTimers
+    ensures timers { listed result ≡ invite_side_timers side answer.now again }
+    ensures names { (number : ℕ) (owner : Owner) (keys : TimerKeys) → slots_standing number owner keys result ≡ part_timers number owner keys (invite_side_timers side answer.now again) }
+{
+    match side {
+        Side::Answering => nothing(),
+        Side::Closing { until } => {
+            if was_refused(answer) {
+                repeating(Letter::G, again.due, Letter::H, until)
+            } else {
+                ending(Letter::L, until)
+            }
+        }
+        Side::Acknowledged { until } => ending(Letter::I, until),
+        Side::Closed => nothing(),
+    }
+}
+
+/// The timer of the answering side of another request (RFC 3261 17.2.2).
+fn other_side_part(side: Side) -> PartTimers
+    ensures timers { listed result ≡ other_side_timers side }
+    ensures names { (number : ℕ) (owner : Owner) (keys : TimerKeys) → slots_standing number owner keys result ≡ part_timers number owner keys (other_side_timers side) }
+{
+    match side {
+        Side::Answering => nothing(),
+        Side::Closing { until } => ending(Letter::J, until),
+        Side::Acknowledged { .. } => nothing(),
+        Side::Closed => nothing(),
+    }
+}
+
+/// Whose the timers of a branch are.
+fn owner_of(branch: &Branch) -> Owner
+    ensures { result ≡ owner_of branch.now }
+{
+    if branch.is_cancel {
+        Owner::Cancel(branch.number)
+    } else {
+        Owner::Branch(branch.number)
+    }
+}
+
+/// The timers of a branch.
+fn timers_of_branch(call: &OpenRequest, branch: &Branch) -> PartTimers
+    requires { AreBefore (2 ^ 64) (branch_timers call.now branch.now) }
+    ensures timers { listed result ≡ branch_timers call.now branch.now }
+    ensures names { (number : ℕ) (owner : Owner) (keys : TimerKeys) → slots_standing number owner keys result ≡ part_timers number owner keys (branch_timers call.now branch.now) }
+{
+    if is_invite(call) && !branch.is_cancel {
+        invite_part(branch.phase, branch.again)
+    } else {
+        other_part(branch.phase, branch.again)
+    }
+}
+
+/// The timers of the answering side.
+fn timers_of_side(call: &OpenRequest) -> PartTimers
+    ensures timers { listed result ≡ side_timers call.now }
+    ensures names { (number : ℕ) (owner : Owner) (keys : TimerKeys) → slots_standing number owner keys result ≡ part_timers number owner keys (side_timers call.now) }
+{
+    if is_invite(call) {
+        invite_side_part(call.side, &call.answer, call.again)
+    } else {
+        other_side_part(call.side)
+    }
+}
+
+/// A branch of an open request, with the timers that it has by its phase.
+pub fn branch_part(call: &OpenRequest, branch: &Branch) -> Part
+    requires { AreBefore (2 ^ 64) (branch_timers call.now branch.now) }
+    ensures timers { listed result.timers ≡ branch_timers call.now branch.now }
+    ensures names { (keys : TimerKeys) → part_standing keys result ≡ part_timers call.now.number (owner_of branch.now) keys (branch_timers call.now branch.now) }
+{
+    Part {
+        request: call.number,
+        owner: owner_of(branch),
+        timers: timers_of_branch(call, branch),
+    }
+}
+
+/// The answering side of an open request, with the timers that it has by its phase.
+pub fn side_part(call: &OpenRequest) -> Part
+    ensures timers { listed result.timers ≡ side_timers call.now }
+    ensures names { (keys : TimerKeys) → part_standing keys result ≡ part_timers call.now.number Of.Server keys (side_timers call.now) }
+{
+    Part {
+        request: call.number,
+        owner: Owner::Server,
+        timers: timers_of_side(call),
+    }
+}

@@ -1,0 +1,139 @@
+ghost use Rattle.std.specs.Prelude.{◌≡◌, ◌≤◌, ◌<◌, ◌+◌, ◌^◌, []};
+ghost use Rattle.sip_running.specs.Moves.{IsHeld, Moves};
+ghost use Rattle.sip_ties.specs.declared.timer_keys.TimerKeys.{TimerKeys};
+ghost use Rattle.sip_request.specs.Slots.{IsBefore, IsPartNear, part_standing, slot_timers};
+
+use crate::slots::{clear, standing, sync};
+use sip_ties::TimerKeys;
+use sip_timers::{Owner, Timers};
+use sip_transaction::Letter;
+
+/// The timers that a part of an open request has by its phase, each with its letter and the moment at which it is due, in
+/// milliseconds. No part has more than these three.
+#[derive(Clone, Copy)]
+pub struct PartTimers {
+    /// The timer at which something goes again: A, E or G.
+    pub again: Option<(Letter, u64)>,
+    /// The timer at which the transaction ends: B, D, F, H, I, J, K, L or M.
+    pub last: Option<(Letter, u64)>,
+    /// The proxy's own timer of a branch of an INVITE: C, or the wait for the answer to one that was sent CANCEL.
+    pub call: Option<(Letter, u64)>,
+}
+
+/// A part of an open request, with its timers.
+#[derive(Clone, Copy)]
+pub struct Part {
+    /// The number of the open request.
+    pub request: u64,
+    /// Which part of it.
+    pub owner: Owner,
+    pub timers: PartTimers,
+}
+
+/// Keys of a part without timers.
+pub(crate) const NO_KEYS: TimerKeys = TimerKeys {
+    again: 0,
+    last: 0,
+    call: 0,
+};
+
+/// A part without timers.
+pub(crate) fn no_part() -> Part
+    ensures { (keys : TimerKeys) → part_standing keys result ≡ [] }
+{
+    Part {
+        request: 0,
+        owner: Owner::Server,
+        timers: PartTimers {
+            again: None,
+            last: None,
+            call: None,
+        },
+    }
+}
+
+/// Lets the timer of a slot of a part stand, and no other one in place of the timer of a slot of a part before. Gives the
+/// key.
+fn sync_slot<T: Timers>(
+    timers: &mut T,
+    was: Part,
+    key: usize,
+    stood: Option<(Letter, u64)>,
+    next: Part,
+    slot: Option<(Letter, u64)>,
+) -> usize
+    requires held { IsHeld (T.pending timers.old) (slot_timers was.request was.owner key stood) }
+    requires room { 1 ≤ T.room timers.old }
+    requires near { IsBefore (T.reached timers.old + 2 ^ 30) slot }
+    ensures moves { Moves (T.pending timers.old) (slot_timers was.request was.owner key stood) (T.pending timers.new) (slot_timers next.request next.owner result slot) }
+    ensures left { T.room timers.old ≤ T.room timers.new + 1 }
+    ensures still { T.reached timers.new ≡ T.reached timers.old }
+{
+    let timer = standing(was.request, was.owner, key, stood);
+    sync(timers, timer, next.request, next.owner, slot)
+}
+
+/// Lets the timers of a part stand, for which there is room, and no others: of those that stood before, one that is the
+/// same stays as it is, and another one is stopped. Gives the keys.
+pub(crate) fn sync_part<T: Timers>(
+    timers: &mut T,
+    was: Part,
+    keys: TimerKeys,
+    next: Part,
+) -> TimerKeys
+    requires held { IsHeld (T.pending timers.old) (part_standing keys was) }
+    requires room { 3 ≤ T.room timers.old }
+    requires near { IsPartNear (T.reached timers.old + 2 ^ 30) next.timers }
+    ensures moves { Moves (T.pending timers.old) (part_standing keys was) (T.pending timers.new) (part_standing result next) }
+    ensures left { T.room timers.old ≤ T.room timers.new + 3 }
+    ensures still { T.reached timers.new ≡ T.reached timers.old }
+{
+    let again = sync_slot(
+        timers,
+        was,
+        keys.again,
+        was.timers.again,
+        next,
+        next.timers.again,
+    );
+    let last = sync_slot(
+        timers,
+        was,
+        keys.last,
+        was.timers.last,
+        next,
+        next.timers.last,
+    );
+    let call = sync_slot(
+        timers,
+        was,
+        keys.call,
+        was.timers.call,
+        next,
+        next.timers.call,
+    );
+    TimerKeys { again, last, call }
+}
+
+/// Stops the timer of a slot of a part.
+fn stop_slot<T: Timers>(timers: &mut T, was: Part, key: usize, stood: Option<(Letter, u64)>)
+    requires { IsHeld (T.pending timers.old) (slot_timers was.request was.owner key stood) }
+    ensures moves { Moves (T.pending timers.old) (slot_timers was.request was.owner key stood) (T.pending timers.new) [] }
+    ensures left { T.room timers.old ≤ T.room timers.new }
+    ensures still { T.reached timers.new ≡ T.reached timers.old }
+{
+    let timer = standing(was.request, was.owner, key, stood);
+    clear(timers, timer);
+}
+
+/// Stops the timers of a part.
+pub(crate) fn stop_part<T: Timers>(timers: &mut T, was: Part, keys: TimerKeys)
+    requires { IsHeld (T.pending timers.old) (part_standing keys was) }
+    ensures moves { Moves (T.pending timers.old) (part_standing keys was) (T.pending timers.new) [] }
+    ensures left { T.room timers.old ≤ T.room timers.new }
+    ensures still { T.reached timers.new ≡ T.reached timers.old }
+{
+    stop_slot(timers, was, keys.again, was.timers.again);
+    stop_slot(timers, was, keys.last, was.timers.last);
+    stop_slot(timers, was, keys.call, was.timers.call);
+}

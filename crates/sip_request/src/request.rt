@@ -1,0 +1,127 @@
+ghost use Rattle.std.specs.Prelude.{◌≡◌, ◌≤◌, ◌+◌, ◌^◌, [], length, IfOk, IfErr, OnOk};
+ghost use Rattle.sip_timers.specs.Timers.{KeysDiffer};
+ghost use Rattle.sip_timers.specs.declared.error.TimerError.TheVariants.{NoMemory};
+ghost use Rattle.sip_running.specs.Moves.{IsHeld, Moves};
+ghost use Rattle.sip_request.specs.Near.{IsNear, most_timers};
+ghost use Rattle.sip_request.specs.Named.{HasKeys, IsReady, named_by};
+
+use crate::part::NO_KEYS;
+use crate::retiming::{begin, end, retime};
+use sip_state::OpenRequest;
+use sip_text::Items;
+use sip_ties::TimerKeys;
+use sip_timers::{TimerError, Timers};
+use std::alloc::{AllocError, Global};
+
+/// An open request, with the keys of the timers that it names: those of its answering side, and those of its branches in
+/// their order.
+#[derive(Drop)]
+pub struct Request {
+    pub context: OpenRequest,
+    pub side: TimerKeys,
+    pub branches: Items<TimerKeys>,
+}
+
+/// What an event makes of an open request, and room for the keys of its branches.
+#[derive(Drop)]
+pub struct Plan {
+    pub request: OpenRequest,
+    pub keys: Items<TimerKeys>,
+}
+
+impl Plan {
+    /// The plan that an open request becomes this one. `AllocError` is the only refusal.
+    pub fn of(alloc: Global, request: OpenRequest) -> Result<Self, AllocError>
+        ensures request { IfOk result (λ plan. plan.request ≡ request) }
+        ensures keys { IfOk result (λ plan. HasKeys plan.request plan.keys) }
+    {
+        let keys = blank_keys(alloc, request.branches.as_slice().len())?;
+        Ok(Plan { request, keys })
+    }
+
+    /// Makes room for the timers that the plan may start. `NoMemory` is the only refusal.
+    pub fn reserve<T: Timers>(&self, timers: &mut T) -> Result<(), TimerError>
+        ensures ok { OnOk result (most_timers self.now.request ≤ T.room timers.new) }
+        ensures kept { T.room timers.old ≤ T.room timers.new }
+        ensures same { T.pending timers.new ≡ T.pending timers.old }
+        ensures still { T.reached timers.new ≡ T.reached timers.old }
+        ensures refused { IfErr result (λ e. e ≡ NoMemory) }
+    {
+        let branches = self.request.branches.as_slice().len();
+        if branches >= MOST_BRANCHES {
+            return Err(TimerError::NoMemory);
+        }
+        timers.reserve(3 * branches + 3)
+    }
+}
+
+/// From so many branches on, their timers can't be counted.
+const MOST_BRANCHES: usize = 1 << 32;
+
+/// A key for each of so many branches, which means nothing yet.
+fn blank_keys(alloc: Global, count: usize) -> Result<Items<TimerKeys>, AllocError>
+    ensures { IfOk result (λ keys. length keys ≡ count) }
+{
+    let mut keys = Items::with_room(alloc, count)?;
+    for _place in 0..count {
+        keys.push(NO_KEYS)?;
+    }
+    Ok(keys)
+}
+
+impl Request {
+    /// An open request that came: its timers are set, and no others.
+    pub fn open<T: Timers>(timers: &mut T, plan: Plan) -> Self
+        requires apart { KeysDiffer (T.pending timers.old) }
+        requires ready { IsReady (T.reached timers.old) (T.room timers.old) plan }
+        ensures moves { Moves (T.pending timers.old) [] (T.pending timers.new) (named_by result) }
+        ensures request { result.context ≡ plan.request }
+        ensures keys { HasKeys result.context result.branches }
+        ensures left { T.room timers.old ≤ T.room timers.new + most_timers plan.request }
+        ensures still { T.reached timers.new ≡ T.reached timers.old }
+    {
+        let Plan { request, mut keys } = plan;
+        let side = begin(timers, &request, keys.as_mut_slice());
+        Request {
+            context: request,
+            side,
+            branches: keys,
+        }
+    }
+
+    /// The request becomes what was planned, and its timers follow. Takes no memory.
+    pub fn apply<T: Timers>(&mut self, timers: &mut T, plan: Plan)
+        requires held { IsHeld (T.pending timers.old) (named_by self.old) }
+        requires timed { IsNear (2 ^ 64) self.old.context }
+        requires ready { IsReady (T.reached timers.old) (T.room timers.old) plan }
+        ensures moves { Moves (T.pending timers.old) (named_by self.old) (T.pending timers.new) (named_by self.new) }
+        ensures request { self.new.context ≡ plan.request }
+        ensures keys { HasKeys self.new.context self.new.branches }
+        ensures left { T.room timers.old ≤ T.room timers.new + most_timers plan.request }
+        ensures still { T.reached timers.new ≡ T.reached timers.old }
+    {
+        let Plan { request, mut keys } = plan;
+        let side = retime(
+            timers,
+            &self.context,
+            self.side,
+            self.branches.as_slice(),
+            &request,
+            keys.as_mut_slice(),
+        );
+        self.context = request;
+        self.side = side;
+        self.branches = keys;
+    }
+
+    /// The request is open no longer: its timers are stopped.
+    pub fn close<T: Timers>(self, timers: &mut T)
+        requires held { IsHeld (T.pending timers.old) (named_by self) }
+        requires timed { IsNear (2 ^ 64) self.context }
+        ensures moves { Moves (T.pending timers.old) (named_by self) (T.pending timers.new) [] }
+        ensures left { T.room timers.old ≤ T.room timers.new }
+        ensures still { T.reached timers.new ≡ T.reached timers.old }
+    {
+        end(timers, &self.context, self.side, self.branches.as_slice());
+    }
+}

@@ -1,0 +1,72 @@
+ghost use Rattle.std.specs.Prelude.{◌≡◌, ◌≤◌, ◌+◌, ◌^◌, [], length};
+ghost use Rattle.sip_timers.specs.Timers.{KeysDiffer};
+ghost use Rattle.sip_running.specs.Moves.{IsHeld, Moves};
+ghost use Rattle.sip_ties.specs.Ties.{timers_of};
+ghost use Rattle.sip_request.specs.Near.{IsNear, most_timers};
+
+use crate::branches::{stop_left, sync_branches};
+use crate::naming::side_part;
+use crate::part::{NO_KEYS, no_part, stop_part, sync_part};
+use sip_state::OpenRequest;
+use sip_ties::TimerKeys;
+use sip_timers::Timers;
+
+/// Lets the timers of an open request stand, for which there is room, and no others of those that it named before. Gives
+/// the keys of its answering side, and fills in those of its branches.
+pub(crate) fn retime<T: Timers>(
+    timers: &mut T,
+    was: &OpenRequest,
+    was_side: TimerKeys,
+    was_keys: &[TimerKeys],
+    next: &OpenRequest,
+    keys: &mut [TimerKeys],
+) -> TimerKeys
+    requires held { IsHeld (T.pending timers.old) (timers_of was.now was_side was_keys.now) }
+    requires keys { length keys.old ≡ length next.now.branches }
+    requires room { most_timers next.now ≤ T.room timers.old }
+    requires timed { IsNear (2 ^ 64) was.now }
+    requires moments { T.reached timers.old + 2 ^ 30 ≤ 2 ^ 64 }
+    requires near { IsNear (T.reached timers.old + 2 ^ 30) next.now }
+    ensures moves { Moves (T.pending timers.old) (timers_of was.now was_side was_keys.now) (T.pending timers.new) (timers_of next.now result keys.new) }
+    ensures left { T.room timers.old ≤ T.room timers.new + most_timers next.now }
+    ensures still { T.reached timers.new ≡ T.reached timers.old }
+{
+    let stood = side_part(was);
+    let part = side_part(next);
+    let side = sync_part(timers, stood, was_side, part);
+    sync_branches(timers, was, was_keys, next, keys);
+    side
+}
+
+/// Sets the timers of an open request that named none.
+pub(crate) fn begin<T: Timers>(
+    timers: &mut T,
+    next: &OpenRequest,
+    keys: &mut [TimerKeys],
+) -> TimerKeys
+    requires apart { KeysDiffer (T.pending timers.old) }
+    requires keys { length keys.old ≡ length next.now.branches }
+    requires room { most_timers next.now ≤ T.room timers.old }
+    requires moments { T.reached timers.old + 2 ^ 30 ≤ 2 ^ 64 }
+    requires near { IsNear (T.reached timers.old + 2 ^ 30) next.now }
+    ensures moves { Moves (T.pending timers.old) [] (T.pending timers.new) (timers_of next.now result keys.new) }
+    ensures left { T.room timers.old ≤ T.room timers.new + most_timers next.now }
+    ensures still { T.reached timers.new ≡ T.reached timers.old }
+{
+    let part = side_part(next);
+    let side = sync_part(timers, no_part(), NO_KEYS, part);
+    sync_branches(timers, next, &[], next, keys);
+    side
+}
+
+/// Stops the timers of an open request.
+pub(crate) fn end<T: Timers>(timers: &mut T, was: &OpenRequest, side: TimerKeys, keys: &[TimerKeys])
+    requires held { IsHeld (T.pending timers.old) (timers_of was.now side keys.now) }
+    requires timed { IsNear (2 ^ 64) was.now }
+    ensures moves { Moves (T.pending timers.old) (timers_of was.now side keys.now) (T.pending timers.new) [] }
+    ensures left { T.room timers.old ≤ T.room timers.new }
+    ensures still { T.reached timers.new ≡ T.reached timers.old }
+{
+    stop_part(timers, side_part(was), side);
+    stop_left(timers, was, keys, 0);
+}

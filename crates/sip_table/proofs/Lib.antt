@@ -1,0 +1,5 @@
+pub mod Callers
+mod Filing
+mod Numbers
+mod Places
+mod SameKey

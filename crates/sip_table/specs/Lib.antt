@@ -1,0 +1,4 @@
+pub mod Digest
+pub mod Keys
+pub mod Numbered
+pub mod Rows
