@@ -6,11 +6,15 @@
 
 mod branches;
 mod naming;
+mod near;
 mod part;
+mod planning;
 mod request;
 mod retiming;
 mod slots;
 
 pub use naming::{branch_part, side_part};
+pub use near::near_later;
 pub use part::{Part, PartTimers};
+pub use planning::Planned;
 pub use request::{Plan, Request};
