@@ -14,8 +14,28 @@ IMPORT = re.compile(r"\s*(?:pub )?(?:ghost )?use Rattle\.(sip_\w+)\.(specs|proof
 MADE = ("declared.", "contracts.")
 
 
+# A crate that passes on the specs of another one, under a short name.
+PASSED = re.compile(r"(?m)^pub use Rattle\.(sip_\w+)\.specs((?:\.\w+)*?)(?:\.(\w+)|\s+as\s+(\w+))$")
+
+
 def text(path):
     return open(path, encoding="utf-8").read()
+
+
+def passed_on(crate):
+    """What a crate passes on: by its short name, the crate that it is taken from, and under which path there."""
+    path = f"crates/{crate}/specs/Lib.antt"
+    found = PASSED.findall(text(path)) if os.path.exists(path) else []
+    return {last or name: (low, (inner + "." + last if last else inner).lstrip(".")) for low, inner, last, name in found}
+
+
+def home_of(crate, kind, path):
+    """The crate where a path stands, and the path there."""
+    first, _, rest = path.partition(".")
+    if kind != "specs" or first not in passed_on(crate):
+        return crate, path
+    low, inner = passed_on(crate)[first]
+    return home_of(low, kind, ".".join(part for part in (inner, rest) if part))
 
 
 def names(crate, module, wanted):
@@ -61,7 +81,8 @@ for file in sorted(files):
         count += 1
         crate, kind, path, listed = found.groups()
         wanted = [n.strip().split(" as ")[0].strip() for n in (listed or "").split(",") if n.strip()]
-        fault = fault_of(crate, kind, path, wanted)
+        home, path = home_of(crate, kind, path)
+        fault = fault_of(home, kind, path, wanted) if path else None
         if fault:
             faults += 1
             print(f"{file}:{number}: {crate}.{kind}.{path}: {fault}")

@@ -1,14 +1,14 @@
 ghost use Rattle.std.specs.Prelude.{◌≡◌, ℕ, IfOk};
-ghost use Rattle.sip_host.specs.declared.addr.Addr.{Addr};
+ghost use Rattle.sip_model.specs.host.declared.addr.Addr.{Addr};
 ghost use Rattle.sip_model.specs.Effect as Effects;
 
-use sip_auth::offers_sha256;
-use sip_field::{FieldName, Fields};
-use sip_nonces::nonce_text;
-use sip_policy::Operation;
-use sip_reply::challenge_fields;
-use sip_state::Server;
-use sip_verdict::Question;
+use sip_model::auth::offers_sha256;
+use sip_model::field::{FieldName, Fields};
+use sip_model::nonces::nonce_text;
+use sip_model::policy::Operation;
+use sip_model::reply::challenge_fields;
+use sip_model::state::Server;
+use sip_model::verdict::Question;
 use std::alloc::{AllocError, Global};
 
 /// Whether a registrar is asked, which challenges as a user agent server (RFC 3261 22.2).

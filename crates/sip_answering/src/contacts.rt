@@ -6,10 +6,10 @@ ghost use Rattle.sip_location.specs.declared.binding.Binding.{Binding};
 ghost use Rattle.sip_location.specs.declared.registration.Registration.{Registration};
 ghost use Rattle.sip_model.specs.Effect as Effects;
 
-use sip_field::{Field, FieldName, Fields};
 use sip_location::{Binding, Plan};
-use sip_reply::contact_value;
-use sip_uri::write_uri;
+use sip_model::field::{Field, FieldName, Fields};
+use sip_model::reply::contact_value;
+use sip_model::uri::write_uri;
 use std::alloc::{AllocError, Global};
 
 /// The seconds that a binding has left, rounded up.

@@ -12,3 +12,10 @@ pub use challenges::{challenge_name, challenge_status, challenges_to};
 pub use contacts::contact_fields;
 pub use records::{method_of, record_of, recorded};
 pub use refusals::{denial_fields, refusal_fields};
+pub use sip_location as location;
+pub use sip_model as model;
+pub use sip_model::{
+    audit, auth, best, context, dialog, digest, edit, event, field, form, header, hops, host, key,
+    message, nonces, policy, reply, retransmission, settings, shared, state, targets, text, uri,
+    validate, verdict, way,
+};

@@ -1,15 +1,15 @@
 ghost use Rattle.std.specs.Prelude.{◌≡◌, ℕ, IfOk};
 ghost use Rattle.std.specs.Option.{option_copied};
-ghost use Rattle.sip_host.specs.declared.addr.Addr.{Addr};
+ghost use Rattle.sip_model.specs.host.declared.addr.Addr.{Addr};
 ghost use Rattle.sip_model.specs.Effect as Effects;
-ghost use Rattle.sip_state.specs.declared.server.Server.{Server};
-ghost use Rattle.sip_verdict.specs.Verdict.{minute_on};
+ghost use Rattle.sip_model.specs.state.declared.server.Server.{Server};
+ghost use Rattle.sip_model.specs.verdict.Verdict.{minute_on};
 
-use sip_audit::{Outcome, Record};
-use sip_form::{View, ViewStart};
-use sip_policy::Operation;
-use sip_text::Bytes;
-use sip_verdict::Question;
+use sip_model::audit::{Outcome, Record};
+use sip_model::form::{View, ViewStart};
+use sip_model::policy::Operation;
+use sip_model::text::Bytes;
+use sip_model::verdict::Question;
 use std::alloc::{AllocError, Global};
 
 /// The method of a request; a response has none. Takes no memory.
@@ -23,13 +23,13 @@ pub fn method_of<'v>(request: &'v View<'_>) -> &'v [u8]
 }
 
 /// An operation as it is recorded. Takes no memory.
-pub fn recorded(operation: &Operation) -> sip_audit::Operation
+pub fn recorded(operation: &Operation) -> sip_model::audit::Operation
     ensures { result ≡ Effects.recorded operation.now }
 {
     match operation {
-        Operation::Register => sip_audit::Operation::Register,
-        Operation::List => sip_audit::Operation::List,
-        Operation::Send(_) => sip_audit::Operation::Send,
+        Operation::Register => sip_model::audit::Operation::Register,
+        Operation::List => sip_model::audit::Operation::List,
+        Operation::Send(_) => sip_model::audit::Operation::Send,
     }
 }
 

@@ -1,10 +1,10 @@
 ghost use Rattle.std.specs.Prelude.{◌≡◌, [], ◌∷◌, IfOk};
-ghost use Rattle.sip_reply.specs.Extras;
-ghost use Rattle.sip_verdict.specs.Verdict as Verdict;
+ghost use Rattle.sip_model.specs.reply.Extras;
+ghost use Rattle.sip_model.specs.verdict.Verdict as Verdict;
 
-use sip_field::Fields;
-use sip_reply::{denial_warning, unsupported_field};
-use sip_state::Server;
+use sip_model::field::Fields;
+use sip_model::reply::{denial_warning, unsupported_field};
+use sip_model::state::Server;
 use std::alloc::{AllocError, Global};
 
 /// The fields of a 403: the Warning that names the rule that denies (RFC 3261 20.43, in this project's profile).

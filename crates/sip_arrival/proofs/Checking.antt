@@ -2,19 +2,19 @@
 use Rattle.std.proofs.Common.{◌≡◌, ◌↔◌, ℕ, Bool, List, Option, Some, None, option_map, Result, Ok, Err, inl, inr, refl, ap, sym, subst}
 use Rattle.std.specs.Prelude.{IfOk, IfErr}
 use Rattle.std.specs.Result.{result_ok}
-use Rattle.sip_form.specs.declared.message.Message.{Message}
-use Rattle.sip_form.specs.declared.message.Start.{Start}
-use Rattle.sip_form.specs.declared.message.Start.TheVariants.{Request, Status}
-use Rattle.sip_header.specs.declared.core_fields.CoreFields.{CoreFields}
-use Rattle.sip_header.specs.CoreFields.{core_of}
-use Rattle.sip_state.specs.declared.server.Server.{Server}
-use Rattle.sip_way.specs.declared.own.Own.{Own}
-use Rattle.sip_way.specs.Way.{way_of}
-use Rattle.sip_validate.specs.declared.checked.Checked.{Checked}
-use Rattle.sip_validate.specs.declared.refused.Refused.{Refused}
-use Rattle.sip_validate.specs.declared.refused.Refused.TheVariants as Why
-use Rattle.sip_validate.specs.Checked.{checked_with, checked_of, validation_of, Validates}
-use Rattle.sip_validate.specs.Refusal.{refusal_of}
+use Rattle.sip_judge.specs.form.declared.message.Message.{Message}
+use Rattle.sip_judge.specs.form.declared.message.Start.{Start}
+use Rattle.sip_judge.specs.form.declared.message.Start.TheVariants.{Request, Status}
+use Rattle.sip_judge.specs.header.declared.core_fields.CoreFields.{CoreFields}
+use Rattle.sip_judge.specs.header.CoreFields.{core_of}
+use Rattle.sip_judge.specs.state.declared.server.Server.{Server}
+use Rattle.sip_judge.specs.way.declared.own.Own.{Own}
+use Rattle.sip_judge.specs.way.Way.{way_of}
+use Rattle.sip_judge.specs.validate.declared.checked.Checked.{Checked}
+use Rattle.sip_judge.specs.validate.declared.refused.Refused.{Refused}
+use Rattle.sip_judge.specs.validate.declared.refused.Refused.TheVariants as Why
+use Rattle.sip_judge.specs.validate.Checked.{checked_with, checked_of, validation_of, Validates}
+use Rattle.sip_judge.specs.validate.Refusal.{refusal_of}
 use Rattle.sip_arrival.specs.Refusal.{IsRefusal}
 use Rattle.sip_arrival.specs.Verdict.{IsRequestOf}
 

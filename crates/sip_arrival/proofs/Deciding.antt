@@ -4,25 +4,25 @@ use Rattle.std.specs.Prelude.{Result, IfOk, codes}
 use Rattle.std.specs.Result.{result_ok}
 use Rattle.std.specs.Str.{bytes_eq}
 use Rattle.std.specs.declared.alloc.AllocError.{AllocError}
-use Rattle.sip_dialog.specs.declared.dialog.Dialog.{Dialog}
-use Rattle.sip_form.specs.declared.message.Message.{Message}
-use Rattle.sip_header.specs.declared.core_fields.CoreFields.{CoreFields}
-use Rattle.sip_header.specs.CoreFields.{core_of}
+use Rattle.sip_judge.specs.dialog.declared.dialog.Dialog.{Dialog}
+use Rattle.sip_judge.specs.form.declared.message.Message.{Message}
+use Rattle.sip_judge.specs.header.declared.core_fields.CoreFields.{CoreFields}
+use Rattle.sip_judge.specs.header.CoreFields.{core_of}
 use Rattle.sip_judge.specs.Registering.{ComesTo}
 use Rattle.sip_judge.specs.declared.registering.Registering.{Registering}
-use Rattle.sip_key.specs.declared.key.Key.{Key}
-use Rattle.sip_location.specs.declared.binding.Binding.{Binding}
-use Rattle.sip_nonces.specs.declared.nonces.Nonce.{Nonce}
-use Rattle.sip_policy.specs.declared.decision.Decision.{Decision}
-use Rattle.sip_state.specs.Arrival.{Arrival}
-use Rattle.sip_state.specs.declared.open_request.OpenRequest.{OpenRequest}
-use Rattle.sip_state.specs.declared.proxy_state.ProxyState.{ProxyState}
-use Rattle.sip_state.specs.declared.server.Server.{Server}
-use Rattle.sip_targets.specs.declared.targets.Targets.{Targets}
-use Rattle.sip_validate.specs.Refusal.{refusal_of, is_bad_request}
-use Rattle.sip_way.specs.declared.own.Own.{Own}
-use Rattle.sip_verdict.specs.declared.question.Question.{Question}
-use Rattle.sip_verdict.specs.Verdict as Definition
+use Rattle.sip_judge.specs.key.declared.key.Key.{Key}
+use Rattle.sip_judge.specs.location.declared.binding.Binding.{Binding}
+use Rattle.sip_judge.specs.nonces.declared.nonces.Nonce.{Nonce}
+use Rattle.sip_judge.specs.policy.declared.decision.Decision.{Decision}
+use Rattle.sip_judge.specs.state.Arrival.{Arrival}
+use Rattle.sip_judge.specs.state.declared.open_request.OpenRequest.{OpenRequest}
+use Rattle.sip_judge.specs.state.declared.proxy_state.ProxyState.{ProxyState}
+use Rattle.sip_judge.specs.state.declared.server.Server.{Server}
+use Rattle.sip_judge.specs.targets.declared.targets.Targets.{Targets}
+use Rattle.sip_judge.specs.validate.Refusal.{refusal_of, is_bad_request}
+use Rattle.sip_judge.specs.way.declared.own.Own.{Own}
+use Rattle.sip_judge.specs.verdict.declared.question.Question.{Question}
+use Rattle.sip_judge.specs.verdict.Verdict as Definition
 use Rattle.sip_arrival.specs.declared.verdict.Verdict.{Verdict}
 use Rattle.sip_arrival.specs.declared.verdict.Verdict.TheVariants as Made
 use Rattle.sip_arrival.specs.declared.verdict.Judged.{Judged}

@@ -2,20 +2,20 @@
 use Rattle.std.proofs.Common.{◌≡◌, ◌∙◌, ℕ, Bool, true, false, cond, List, Option, Some, None, ap, sym}
 use Rattle.std.specs.Option.{option_and_then}
 use Rattle.std.specs.Result.{result_ok}
-use Rattle.sip_dialog.specs.declared.dialog.Dialog.{Dialog}
-use Rattle.sip_dialog.specs.declared.dialog.DialogId.{DialogId}
-use Rattle.sip_dialog.specs.DialogId.{id_of}
-use Rattle.sip_dialog.specs.Dialogs.{is_in_dialog}
-use Rattle.sip_form.specs.declared.message.Message.{Message}
-use Rattle.sip_header.specs.declared.core_fields.CoreFields.{CoreFields}
-use Rattle.sip_header.specs.CoreFields.{core_of}
-use Rattle.sip_hops.specs.HostAddress.{address_of}
-use Rattle.sip_host.specs.declared.addr.Addr.{Addr}
-use Rattle.sip_state.specs.declared.server.Server.{Server}
-use Rattle.sip_state.specs.Dialogs.{dialog_of}
-use Rattle.sip_way.specs.declared.way.Way.{Way}
-use Rattle.sip_way.specs.Way.{way_of, next_uri}
-use Rattle.sip_verdict.specs.Verdict.{next_address, within_at}
+use Rattle.sip_judge.specs.dialog.declared.dialog.Dialog.{Dialog}
+use Rattle.sip_judge.specs.dialog.declared.dialog.DialogId.{DialogId}
+use Rattle.sip_judge.specs.dialog.DialogId.{id_of}
+use Rattle.sip_judge.specs.dialog.Dialogs.{is_in_dialog}
+use Rattle.sip_judge.specs.form.declared.message.Message.{Message}
+use Rattle.sip_judge.specs.header.declared.core_fields.CoreFields.{CoreFields}
+use Rattle.sip_judge.specs.header.CoreFields.{core_of}
+use Rattle.sip_judge.specs.hops.HostAddress.{address_of}
+use Rattle.sip_judge.specs.host.declared.addr.Addr.{Addr}
+use Rattle.sip_judge.specs.state.declared.server.Server.{Server}
+use Rattle.sip_judge.specs.state.Dialogs.{dialog_of}
+use Rattle.sip_judge.specs.way.declared.way.Way.{Way}
+use Rattle.sip_judge.specs.way.Way.{way_of, next_uri}
+use Rattle.sip_judge.specs.verdict.Verdict.{next_address, within_at}
 use Rattle.sip_arrival.specs.Within.{GoesOn}
 
 -- the dialog that a request names, by its core fields

@@ -1,17 +1,17 @@
 -- When what was decided about a request is the verdict on it.
 use Rattle.std.specs.Prelude.{◌≡◌, ℕ, Bool, List, Option, ⊤}
-use Rattle.sip_dialog.specs.declared.dialog.Dialog.{Dialog}
-use Rattle.sip_form.specs.declared.message.Start.{Start}
-use Rattle.sip_form.specs.declared.message.Start.TheVariants.{Request, Status}
+use Rattle.sip_judge.specs.dialog.declared.dialog.Dialog.{Dialog}
+use Rattle.sip_judge.specs.form.declared.message.Start.{Start}
+use Rattle.sip_judge.specs.form.declared.message.Start.TheVariants.{Request, Status}
 use Rattle.sip_judge.specs.Registering as Registering
 use Rattle.sip_judge.specs.declared.registering.Registering.{Registering}
-use Rattle.sip_location.specs.declared.binding.Binding.{Binding}
-use Rattle.sip_nonces.specs.declared.nonces.Nonce.{Nonce}
-use Rattle.sip_state.specs.declared.open_request.OpenRequest.{OpenRequest}
-use Rattle.sip_state.specs.declared.proxy_state.ProxyState.{ProxyState}
-use Rattle.sip_state.specs.declared.server.Server.{Server}
-use Rattle.sip_verdict.specs.declared.question.Question.{Question}
-use Rattle.sip_verdict.specs.Verdict as Definition
+use Rattle.sip_judge.specs.location.declared.binding.Binding.{Binding}
+use Rattle.sip_judge.specs.nonces.declared.nonces.Nonce.{Nonce}
+use Rattle.sip_judge.specs.state.declared.open_request.OpenRequest.{OpenRequest}
+use Rattle.sip_judge.specs.state.declared.proxy_state.ProxyState.{ProxyState}
+use Rattle.sip_judge.specs.state.declared.server.Server.{Server}
+use Rattle.sip_judge.specs.verdict.declared.question.Question.{Question}
+use Rattle.sip_judge.specs.verdict.Verdict as Definition
 use Rattle.sip_arrival.specs.declared.verdict.Verdict.{Verdict}
 use Rattle.sip_arrival.specs.declared.verdict.Verdict.TheVariants.{Dropped, AckOn, Cancel, Answer, InDialog, Judged}
 use Rattle.sip_arrival.specs.declared.verdict.Outcome.{Outcome}

@@ -1,13 +1,13 @@
 -- Where a request goes in a dialog that is known.
 use Rattle.std.specs.Prelude.{◌≡◌, ℕ, List, Option}
 use Rattle.std.specs.Option.{option_map_or}
-use Rattle.sip_dialog.specs.declared.dialog.Dialog.{Dialog}
-use Rattle.sip_dialog.specs.declared.dialog.DialogId.{DialogId}
-use Rattle.sip_form.specs.declared.message.Message.{Message}
-use Rattle.sip_host.specs.declared.addr.Addr.{Addr}
-use Rattle.sip_state.specs.declared.proxy_state.ProxyState.{ProxyState}
-use Rattle.sip_state.specs.declared.server.Server.{Server}
-use Rattle.sip_verdict.specs.Verdict.{Verdict, within}
+use Rattle.sip_judge.specs.dialog.declared.dialog.Dialog.{Dialog}
+use Rattle.sip_judge.specs.dialog.declared.dialog.DialogId.{DialogId}
+use Rattle.sip_judge.specs.form.declared.message.Message.{Message}
+use Rattle.sip_judge.specs.host.declared.addr.Addr.{Addr}
+use Rattle.sip_judge.specs.state.declared.proxy_state.ProxyState.{ProxyState}
+use Rattle.sip_judge.specs.state.declared.server.Server.{Server}
+use Rattle.sip_judge.specs.verdict.Verdict.{Verdict, within}
 
 -- A request goes on to this address in this dialog, or is in none of these dialogs: so every verdict on it within a dialog says, in every state with these.
 abbrev pub GoesOn : Server → List Dialog → ℕ → Message → Option (Addr × DialogId) → Type 0

@@ -1,21 +1,21 @@
 ghost use Rattle.std.specs.Prelude.{◌≡◌, ℕ, List, Option, Some, IfOk};
 ghost use Rattle.std.specs.Result.{result_ok};
-ghost use Rattle.sip_header.specs.CoreFields.{core_of};
-ghost use Rattle.sip_location.specs.declared.binding.Binding.{Binding};
-ghost use Rattle.sip_state.specs.declared.open_request.OpenRequest.{OpenRequest};
-ghost use Rattle.sip_state.specs.declared.proxy_state.ProxyState.{ProxyState};
-ghost use Rattle.sip_way.specs.Way.{way_of};
-ghost use Rattle.sip_verdict.specs.Verdict as Definition;
+ghost use Rattle.sip_judge.specs.header.CoreFields.{core_of};
+ghost use Rattle.sip_judge.specs.location.declared.binding.Binding.{Binding};
+ghost use Rattle.sip_judge.specs.state.declared.open_request.OpenRequest.{OpenRequest};
+ghost use Rattle.sip_judge.specs.state.declared.proxy_state.ProxyState.{ProxyState};
+ghost use Rattle.sip_judge.specs.way.Way.{way_of};
+ghost use Rattle.sip_judge.specs.verdict.Verdict as Definition;
 ghost use Rattle.sip_arrival.specs.Verdict.{Is, IsRequestOf, HasRoom};
 
 use crate::checks::check;
 use crate::verdict::Verdict;
 use crate::within::within;
-use sip_dialog::Dialogs;
-use sip_form::View;
 use sip_judge::Judge;
-use sip_policy::Rules;
-use sip_validate::{Checked, Refused};
+use sip_judge::dialog::Dialogs;
+use sip_judge::form::View;
+use sip_judge::policy::Rules;
+use sip_judge::validate::{Checked, Refused};
 use std::alloc::{AllocError, Global};
 
 /// An ACK of which this was read goes on in its dialog, or nowhere.

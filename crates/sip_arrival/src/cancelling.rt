@@ -1,17 +1,17 @@
 ghost use Rattle.std.specs.Prelude.{◌≡◌, ℕ, List, IfOk};
-ghost use Rattle.sip_key.specs.declared.key.Key.{Key};
-ghost use Rattle.sip_location.specs.declared.binding.Binding.{Binding};
-ghost use Rattle.sip_state.specs.Arrival.{Arrival};
-ghost use Rattle.sip_state.specs.declared.proxy_state.ProxyState.{ProxyState};
-ghost use Rattle.sip_state.specs.declared.server.Server.{Server};
-ghost use Rattle.sip_verdict.specs.Verdict as Definition;
+ghost use Rattle.sip_judge.specs.key.declared.key.Key.{Key};
+ghost use Rattle.sip_judge.specs.location.declared.binding.Binding.{Binding};
+ghost use Rattle.sip_judge.specs.state.Arrival.{Arrival};
+ghost use Rattle.sip_judge.specs.state.declared.proxy_state.ProxyState.{ProxyState};
+ghost use Rattle.sip_judge.specs.state.declared.server.Server.{Server};
+ghost use Rattle.sip_judge.specs.verdict.Verdict as Definition;
 ghost use Rattle.sip_arrival.specs.Verdict.{Is, HasRoom};
 
 use crate::verdict::Verdict;
-use sip_field::Fields;
-use sip_form::View;
-use sip_validate::is_bad_request;
-use sip_way::Own;
+use sip_judge::field::Fields;
+use sip_judge::form::View;
+use sip_judge::validate::is_bad_request;
+use sip_judge::way::Own;
 use std::alloc::{AllocError, Global};
 
 /// The verdict on a CANCEL: 400 if it is a bad request, 503 without room, else by what it names (RFC 3261 9.2, 16.10).

@@ -1,16 +1,16 @@
 ghost use Rattle.std.specs.Prelude.{◌≡◌, IfOk, IfErr, Some, None};
 ghost use Rattle.std.specs.Result.{result_ok};
-ghost use Rattle.sip_header.specs.CoreFields.{core_of};
-ghost use Rattle.sip_way.specs.Way.{way_of};
-ghost use Rattle.sip_validate.specs.Refusal.{refusal_of};
+ghost use Rattle.sip_judge.specs.header.CoreFields.{core_of};
+ghost use Rattle.sip_judge.specs.way.Way.{way_of};
+ghost use Rattle.sip_judge.specs.validate.Refusal.{refusal_of};
 ghost use Rattle.sip_arrival.specs.Refusal.{IsRefusal};
 ghost use Rattle.sip_arrival.specs.Verdict.{IsRequestOf};
 
-use sip_form::View;
 use sip_judge::Judge;
-use sip_policy::Rules;
-use sip_validate::laws::first_row_refuses;
-use sip_validate::{Checked, Refused, validate};
+use sip_judge::form::View;
+use sip_judge::policy::Rules;
+use sip_judge::validate::laws::first_row_refuses;
+use sip_judge::validate::{Checked, Refused, validate};
 use std::alloc::Global;
 
 /// What the checks give of a request: what was read of it, where none refuses it; else why it isn't served

@@ -12,4 +12,10 @@ mod within;
 
 pub use acknowledging::ack_verdict;
 pub use arriving::new_verdict;
+pub use sip_judge as judge;
+pub use sip_judge::{
+    auth, best, context, dialog, digest, edit, event, field, form, header, hops, host, key,
+    location, message, nonces, reply, settings, shared, state, targets, text, uri, validate, view,
+    way,
+};
 pub use verdict::{Judged, Outcome, Verdict};

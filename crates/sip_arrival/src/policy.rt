@@ -1,17 +1,17 @@
 ghost use Rattle.std.specs.Prelude.{◌≡◌, ◌<◌, ◌^◌, IfOk};
-ghost use Rattle.sip_state.specs.declared.proxy_state.ProxyState.{ProxyState};
-ghost use Rattle.sip_way.specs.Way.{way_of};
-ghost use Rattle.sip_verdict.specs.Verdict as Definition;
+ghost use Rattle.sip_judge.specs.state.declared.proxy_state.ProxyState.{ProxyState};
+ghost use Rattle.sip_judge.specs.way.Way.{way_of};
+ghost use Rattle.sip_judge.specs.verdict.Verdict as Definition;
 ghost use Rattle.sip_arrival.specs.Verdict.{IsOutcome, HasRoomFor};
 
 use crate::verdict::{Judged, Outcome};
-use sip_form::View;
+use sip_judge::form::View;
+use sip_judge::location::Locations;
+use sip_judge::nonces::Nonces;
+use sip_judge::policy::{Decision, Rules};
+use sip_judge::validate::Checked;
+use sip_judge::verdict::Question;
 use sip_judge::{Judge, is_register};
-use sip_location::Locations;
-use sip_nonces::Nonces;
-use sip_policy::{Decision, Rules};
-use sip_validate::Checked;
-use sip_verdict::Question;
 use std::alloc::{AllocError, Global};
 
 /// What comes of a request that a rule let through: a REGISTER is taken, every other is sent to its targets.

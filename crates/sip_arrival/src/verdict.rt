@@ -1,9 +1,9 @@
-use sip_dialog::DialogId;
-use sip_field::Fields;
-use sip_host::Addr;
 use sip_judge::Registering;
-use sip_targets::Targets;
-use sip_verdict::Question;
+use sip_judge::dialog::DialogId;
+use sip_judge::field::Fields;
+use sip_judge::host::Addr;
+use sip_judge::targets::Targets;
+use sip_judge::verdict::Question;
 
 /// What is to be done with a request that no open one is found for.
 #[derive(Drop)]

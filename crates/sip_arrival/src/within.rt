@@ -1,22 +1,22 @@
 ghost use Rattle.std.specs.Prelude.{◌≡◌, IfOk, Some, []};
 ghost use Rattle.std.specs.Option.{option_and_then, unwrap_or};
 ghost use Rattle.std.specs.Result.{result_ok};
-ghost use Rattle.sip_dialog.specs.DialogId as Names;
-ghost use Rattle.sip_header.specs.CoreFields.{core_of};
-ghost use Rattle.sip_header.specs.Parameters as Parameters;
-ghost use Rattle.sip_hops.specs.HostAddress.{address_of};
-ghost use Rattle.sip_way.specs.Way as Ways;
+ghost use Rattle.sip_judge.specs.dialog.DialogId as Names;
+ghost use Rattle.sip_judge.specs.header.CoreFields.{core_of};
+ghost use Rattle.sip_judge.specs.header.Parameters as Parameters;
+ghost use Rattle.sip_judge.specs.hops.HostAddress.{address_of};
+ghost use Rattle.sip_judge.specs.way.Way as Ways;
 ghost use Rattle.sip_arrival.specs.Within.{GoesOn};
 
-use sip_dialog::{DialogId, Dialogs};
-use sip_form::View;
-use sip_header::{CoreFields, Parameter, tag_of};
-use sip_host::Addr;
 use sip_judge::Judge;
-use sip_policy::Rules;
-use sip_text::Bytes;
-use sip_validate::Checked;
-use sip_way::Way;
+use sip_judge::dialog::{DialogId, Dialogs};
+use sip_judge::form::View;
+use sip_judge::header::{CoreFields, Parameter, tag_of};
+use sip_judge::host::Addr;
+use sip_judge::policy::Rules;
+use sip_judge::text::Bytes;
+use sip_judge::validate::Checked;
+use sip_judge::way::Way;
 use std::alloc::{AllocError, Global};
 
 /// The tag among some parameters; it is empty where there is none.

@@ -3,7 +3,7 @@ use Rattle.std.proofs.Common.{◌≡◌, ℕ, zero, suc, ◌+◌, ◌<◌, List,
 use Rattle.std.specs.Prelude.{count_by}
 use Rattle.std.specs.List.{flat_map}
 use Rattle.std.proofs.lemmas.List.Sums.{sum_by-cons}
-use Rattle.sip_state.specs.declared.branch.Branch.{Branch}
+use Rattle.sip_context.specs.state.declared.branch.Branch.{Branch}
 use Rattle.sip_context.specs.Branches.{is_cancellable, cancel_branch, held_branch, with_cancel}
 
 set_map : {X : Type 0} (f : X → X) (xs : List X) (i : ℕ) (d : X) → i < length xs

@@ -1,7 +1,7 @@
 -- Deadlines that leave room for Timer C.
 use Rattle.std.specs.Prelude.{◌+◌, ◌<◌, ◌^◌}
-use Rattle.sip_state.specs.declared.branch.Phase.{Phase}
-use Rattle.sip_state.specs.declared.branch.Phase.TheVariants.{Unheard, Heard, Cancelled, Done, Ended}
+use Rattle.sip_context.specs.state.declared.branch.Phase.{Phase}
+use Rattle.sip_context.specs.state.declared.branch.Phase.TheVariants.{Unheard, Heard, Cancelled, Done, Ended}
 
 -- A 100 lets a branch wait until Timer C, 153,000 ms behind its wait for a first response (RFC 3261 16.8): that moment is one of 64 bits. One that was sent at such a moment that Timer C,
 -- 185,000 ms later, is, has such a deadline. No other phase's deadline is counted on from.

@@ -1,9 +1,9 @@
 ghost use Rattle.std.specs.Prelude.{◌≡◌, ◌+◌, ◌<◌, ◌^◌, true, if◌then◌else◌, IfOk, OnOk};
-ghost use Rattle.sip_state.specs.State as States;
+ghost use Rattle.sip_context.specs.state.State as States;
 ghost use Rattle.sip_context.specs.Branches as Contexts;
 
 use crate::phase::{is_final, is_ready};
-use sip_state::{Branch, Phase, Resend};
+use sip_context::state::{Branch, Phase, Resend};
 use std::alloc::AllocError;
 
 /// How long a CANCEL, and a branch that was sent one, wait for their final answers, in milliseconds.

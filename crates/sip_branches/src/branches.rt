@@ -1,13 +1,13 @@
 ghost use Rattle.std.specs.Prelude.{◌≡◌, ◌==◌, true, not, if◌then◌else◌, map, filter, OnOk};
 ghost use Rattle.std.specs.List.{list_all};
-ghost use Rattle.sip_state.specs.declared.branch.Branch.{Branch};
-ghost use Rattle.sip_state.specs.State as States;
+ghost use Rattle.sip_context.specs.state.declared.branch.Branch.{Branch};
+ghost use Rattle.sip_context.specs.state.State as States;
 ghost use Rattle.sip_context.specs.Branches as Contexts;
 
 use crate::branch::{mark_branch, turn_same, want_same};
 use crate::phase::is_final;
-use sip_state::{Branch, Phase};
-use sip_text::Items;
+use sip_context::state::{Branch, Phase};
+use sip_context::text::Items;
 use std::alloc::AllocError;
 
 /// Gives one of some branches another phase.

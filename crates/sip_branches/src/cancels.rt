@@ -3,8 +3,8 @@ ghost use Rattle.std.specs.List.{flat_map};
 ghost use Rattle.sip_context.specs.Branches as Contexts;
 
 use crate::branch::{cancel_branch, held_branch, is_cancellable};
-use sip_state::Branch;
-use sip_text::Items;
+use sip_context::state::Branch;
+use sip_context::text::Items;
 use std::alloc::{AllocError, Global};
 
 /// How many branches are sent a CANCEL now.

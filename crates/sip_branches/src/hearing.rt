@@ -2,7 +2,7 @@ ghost use Rattle.std.specs.Prelude.{◌≡◌, ◌==◌, ◌+◌, ◌<◌, ◌^�
 ghost use Rattle.sip_context.specs.Branches as Contexts;
 ghost use Rattle.sip_branches.specs.Early.{IsEarly};
 
-use sip_state::Phase;
+use sip_context::state::Phase;
 
 /// Timer C: how long a branch of an INVITE waits for its final answer, in milliseconds (RFC 3261 16.8).
 const TIMER_C: u64 = 185_000;

@@ -12,3 +12,8 @@ pub use branches::{all_final, mark, set_phase, want_cancel};
 pub use cancels::{add_cancels, new_cancels};
 pub use hearing::{invite_heard, other_heard};
 pub use phase::is_final;
+pub use sip_context as context;
+pub use sip_context::{
+    best, dialog, digest, edit, event, field, form, header, hops, host, key, location, nonces,
+    reply, settings, shared, state, targets, text, uri,
+};

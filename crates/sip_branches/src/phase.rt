@@ -1,8 +1,8 @@
 ghost use Rattle.std.specs.Prelude.{◌≡◌};
-ghost use Rattle.sip_state.specs.State as States;
+ghost use Rattle.sip_context.specs.state.State as States;
 ghost use Rattle.sip_context.specs.Branches as Contexts;
 
-use sip_state::Phase;
+use sip_context::state::Phase;
 
 /// Whether a branch has a final answer, or counts as having one.
 pub fn is_final(phase: Phase) -> bool

@@ -1,13 +1,13 @@
 -- Small open requests of a server of the sample configuration, and what comes to them, for the worked examples. Moments are in milliseconds.
 use Rattle.std.specs.Prelude.{ℕ, Bool, false, true, List, [], ◌∷◌, ◌++◌, length, map, codes, None, Some}
 use Rattle.std.specs.Option.{option_map_or}
-use Rattle.sip_field.specs.declared.field_name.FieldName.TheVariants as Name
-use Rattle.sip_form.specs.declared.message.Start.TheVariants.{Status}
-use Rattle.sip_form.specs.declared.message.Message.{Message}
-use Rattle.sip_hops.specs.Examples.{local}
+use Rattle.sip_state.specs.field.declared.field_name.FieldName.TheVariants as Name
+use Rattle.sip_state.specs.form.declared.message.Start.TheVariants.{Status}
+use Rattle.sip_state.specs.form.declared.message.Message.{Message}
+use Rattle.sip_state.specs.hops.Examples.{local}
 use Rattle.sip_edit.specs.OwnVia.{branch_text}
 use Rattle.sip_edit.specs.OnwardExamples as Onward
-use Rattle.sip_settings.specs.Sample as Settings
+use Rattle.sip_state.specs.settings.Sample as Settings
 use Rattle.sip_event.specs.declared.packet.Packet.{Packet}
 use Rattle.sip_state.specs.declared.server.Server.{Server}
 use Rattle.sip_state.specs.State.{first_resend}

@@ -2,14 +2,14 @@
 use Rattle.std.specs.Prelude.{ℕ, ◌+◌, Bool, false, not, ◌&&◌, is_some, if◌then◌else◌, List, [], ◌∷◌, map, filter, Some, None}
 use Rattle.std.specs.Option.{unwrap_or}
 use Rattle.std.specs.List.{list_any}
-use Rattle.sip_host.specs.declared.addr.Addr.{Addr}
-use Rattle.sip_uri.specs.Uri as UriText
-use Rattle.sip_form.specs.declared.message.Message.{Message}
-use Rattle.sip_key.specs.declared.key.Key.{Key}
-use Rattle.sip_key.specs.Key.{key_of}
+use Rattle.sip_state.specs.host.declared.addr.Addr.{Addr}
+use Rattle.sip_state.specs.uri.Uri as UriText
+use Rattle.sip_state.specs.form.declared.message.Message.{Message}
+use Rattle.sip_state.specs.key.declared.key.Key.{Key}
+use Rattle.sip_state.specs.key.Key.{key_of}
 use Rattle.sip_edit.specs.Onward.{onward_uri}
 use Rattle.sip_targets.specs.declared.target.Target.{Target}
-use Rattle.sip_best.specs.declared.final_answer.Final.{Final}
+use Rattle.sip_state.specs.best.declared.final_answer.Final.{Final}
 use Rattle.sip_state.specs.declared.server.Server.{Server}
 use Rattle.sip_state.specs.Arrival.{Arrival}
 use Rattle.sip_state.specs.declared.branch.Branch.{Branch}

@@ -1,10 +1,10 @@
 -- What is sent of an open request: its answers, its requests to targets, their CANCELs and ACKs.
 use Rattle.std.specs.Prelude.{ℕ, Bool, not, ◌&&◌, is_some, if◌then◌else◌, List, [], ◌∷◌, Option}
 use Rattle.std.specs.Option.{option_map_or}
-use Rattle.sip_field.specs.declared.field.Field.{Field}
-use Rattle.sip_form.specs.declared.message.Message.{Message}
-use Rattle.sip_form.specs.Text.{text_of}
-use Rattle.sip_host.specs.declared.addr.Addr.{Addr}
+use Rattle.sip_state.specs.field.declared.field.Field.{Field}
+use Rattle.sip_state.specs.form.declared.message.Message.{Message}
+use Rattle.sip_state.specs.form.Text.{text_of}
+use Rattle.sip_state.specs.host.declared.addr.Addr.{Addr}
 use Rattle.sip_edit.specs.OwnVia.{branch_text}
 use Rattle.sip_edit.specs.Onward.{onward_of, with_record_route}
 use Rattle.sip_edit.specs.OwnRequests.{ack_with, cancel_of}

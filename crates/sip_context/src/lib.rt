@@ -5,3 +5,13 @@
 
 pub mod calls;
 pub mod laws;
+
+pub use sip_edit as edit;
+pub use sip_event as event;
+pub use sip_reply as reply;
+pub use sip_state as state;
+pub use sip_state::{
+    best, dialog, digest, field, form, header, hops, host, key, location, nonces, settings, shared,
+    text, uri,
+};
+pub use sip_targets as targets;

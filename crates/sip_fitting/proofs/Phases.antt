@@ -4,16 +4,16 @@ use Rattle.std.proofs.lemmas.Bool.Decides.{nat_tests}
 use Rattle.std.specs.Prelude.{◌&&◌, ◌||◌}
 use Rattle.std.specs.List.{AllByRecursion}
 use Rattle.std.proofs.lemmas.List.Elements.{All-from_recursion, All-contains}
-use Rattle.sip_state.specs.declared.branch.Branch.{Branch}
-use Rattle.sip_state.specs.declared.branch.Phase.{Phase}
-use Rattle.sip_state.specs.declared.branch.Phase.TheVariants.{Unheard, Heard, Cancelled, Done, Ended}
-use Rattle.sip_state.specs.declared.resend.Resend.{Resend}
-use Rattle.sip_state.specs.State.{is_final, is_success, is_failure, is_provisional, first_resend}
-use Rattle.sip_client.specs.declared.client_invite.ClientInvite.{ClientInvite}
-use Rattle.sip_client.specs.declared.client_invite.ClientInvite.TheVariants as Call
-use Rattle.sip_client.specs.declared.client_other.ClientOther.{ClientOther}
-use Rattle.sip_client.specs.declared.client_other.ClientOther.TheVariants as Other
-use Rattle.sip_context.specs.Branches.{is_same_branch, turned, phased, marked_branch, is_cancellable, is_ready, cancel_branch, held_branch, with_cancel, invite_heard, other_heard}
+use Rattle.sip_machines.specs.state.declared.branch.Branch.{Branch}
+use Rattle.sip_machines.specs.state.declared.branch.Phase.{Phase}
+use Rattle.sip_machines.specs.state.declared.branch.Phase.TheVariants.{Unheard, Heard, Cancelled, Done, Ended}
+use Rattle.sip_machines.specs.state.declared.resend.Resend.{Resend}
+use Rattle.sip_machines.specs.state.State.{is_final, is_success, is_failure, is_provisional, first_resend}
+use Rattle.sip_machines.specs.client.declared.client_invite.ClientInvite.{ClientInvite}
+use Rattle.sip_machines.specs.client.declared.client_invite.ClientInvite.TheVariants as Call
+use Rattle.sip_machines.specs.client.declared.client_other.ClientOther.{ClientOther}
+use Rattle.sip_machines.specs.client.declared.client_other.ClientOther.TheVariants as Other
+use Rattle.sip_machines.specs.context.Branches.{is_same_branch, turned, phased, marked_branch, is_cancellable, is_ready, cancel_branch, held_branch, with_cancel, invite_heard, other_heard}
 use Rattle.sip_machines.specs.InviteClient.{RunsInviteClient}
 use Rattle.sip_machines.specs.InviteClient as ForCall
 use Rattle.sip_machines.specs.OtherClient.{RunsOtherClient}

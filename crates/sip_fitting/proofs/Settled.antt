@@ -1,19 +1,19 @@
 -- What follows every event of an open request leaves its parts fitting.
 use Rattle.std.proofs.Common.{◌≡◌, ℕ, ◌+◌, ◌==◌, Bool, true, false, not, cond, List, Option, Some, None, option_map, refl, ap, sym, ◌∙◌, true≢false}
 use Rattle.std.specs.Prelude.{◌&&◌, ◌||◌}
-use Rattle.sip_event.specs.declared.packet.Packet.{Packet}
-use Rattle.sip_form.specs.Text.{text_of}
-use Rattle.sip_best.specs.declared.final_answer.Final.{Final}
-use Rattle.sip_best.specs.Best.{best_of}
-use Rattle.sip_form.specs.declared.message.Message.{Message}
-use Rattle.sip_state.specs.declared.server.Server.{Server}
-use Rattle.sip_state.specs.declared.branch.Branch.{Branch}
-use Rattle.sip_state.specs.declared.open_request.OpenRequest.{OpenRequest}
-use Rattle.sip_state.specs.declared.open_request.Upward.{Upward}
-use Rattle.sip_state.specs.declared.open_request.Side.{Side}
-use Rattle.sip_state.specs.declared.open_request.LastAnswer.{LastAnswer}
-use Rattle.sip_state.specs.State.{is_invite, is_answering, is_final, is_success, first_resend}
-use Rattle.sip_context.specs.Branches.{Change, last_answer, answered, upward_of, all_final, best_upward, after_upward, settled, relayed_from, relayed_provisional, relayed_success, is_accepted, is_closing, has_success}
+use Rattle.sip_machines.specs.event.declared.packet.Packet.{Packet}
+use Rattle.sip_machines.specs.form.Text.{text_of}
+use Rattle.sip_machines.specs.best.declared.final_answer.Final.{Final}
+use Rattle.sip_machines.specs.best.Best.{best_of}
+use Rattle.sip_machines.specs.form.declared.message.Message.{Message}
+use Rattle.sip_machines.specs.state.declared.server.Server.{Server}
+use Rattle.sip_machines.specs.state.declared.branch.Branch.{Branch}
+use Rattle.sip_machines.specs.state.declared.open_request.OpenRequest.{OpenRequest}
+use Rattle.sip_machines.specs.state.declared.open_request.Upward.{Upward}
+use Rattle.sip_machines.specs.state.declared.open_request.Side.{Side}
+use Rattle.sip_machines.specs.state.declared.open_request.LastAnswer.{LastAnswer}
+use Rattle.sip_machines.specs.state.State.{is_invite, is_answering, is_final, is_success, first_resend}
+use Rattle.sip_machines.specs.context.Branches.{Change, last_answer, answered, upward_of, all_final, best_upward, after_upward, settled, relayed_from, relayed_provisional, relayed_success, is_accepted, is_closing, has_success}
 use Rattle.sip_fitting.specs.Fits.{Fits}
 use Rattle.sip_fitting.proofs.Phases.{cancels_fit}
 use Rattle.sip_fitting.proofs.Sides.{answered_fits, accepted_fits}

@@ -2,14 +2,14 @@
 use Rattle.std.proofs.Common.{◌≡◌, ℕ, ◌+◌, Bool, true, false, not, cond, List, Option, Some, None, refl, arith, leb}
 use Rattle.std.proofs.lemmas.Bool.Decides.{nat_tests}
 use Rattle.std.specs.Prelude.{◌&&◌}
-use Rattle.sip_state.specs.declared.resend.Resend.{Resend}
-use Rattle.sip_state.specs.declared.open_request.LastAnswer.{LastAnswer}
-use Rattle.sip_state.specs.declared.open_request.Side.{Side}
-use Rattle.sip_state.specs.declared.open_request.Side.TheVariants.{Answering, Closing, Acknowledged, Closed}
-use Rattle.sip_state.specs.State.{is_answering, is_success, is_failure, is_provisional}
-use Rattle.sip_server.specs.declared.server_invite.ServerInvite.TheVariants as OfInviteState
-use Rattle.sip_server.specs.declared.server_other.ServerOther.TheVariants as OfOtherState
-use Rattle.sip_context.specs.Branches.{is_closing, has_success, was_refused, acknowledged_side}
+use Rattle.sip_machines.specs.state.declared.resend.Resend.{Resend}
+use Rattle.sip_machines.specs.state.declared.open_request.LastAnswer.{LastAnswer}
+use Rattle.sip_machines.specs.state.declared.open_request.Side.{Side}
+use Rattle.sip_machines.specs.state.declared.open_request.Side.TheVariants.{Answering, Closing, Acknowledged, Closed}
+use Rattle.sip_machines.specs.state.State.{is_answering, is_success, is_failure, is_provisional}
+use Rattle.sip_machines.specs.server.declared.server_invite.ServerInvite.TheVariants as OfInviteState
+use Rattle.sip_machines.specs.server.declared.server_other.ServerOther.TheVariants as OfOtherState
+use Rattle.sip_machines.specs.context.Branches.{is_closing, has_success, was_refused, acknowledged_side}
 use Rattle.sip_machines.specs.InviteServer as ForInvite
 use Rattle.sip_machines.specs.OtherServer as ForOther
 use Rattle.sip_fitting.specs.Fits.{SideFits, OfInvite, OfRequest}

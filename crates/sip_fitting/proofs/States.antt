@@ -1,9 +1,9 @@
 -- What fits has a state of its machine.
 use Rattle.std.proofs.Common.{◌≡◌, Bool, true, false, not, refl, sym, subst}
 use Rattle.std.specs.Prelude.{◌&&◌}
-use Rattle.sip_state.specs.declared.branch.Branch.{Branch}
-use Rattle.sip_state.specs.declared.open_request.OpenRequest.{OpenRequest}
-use Rattle.sip_state.specs.State.{is_invite}
+use Rattle.sip_machines.specs.state.declared.branch.Branch.{Branch}
+use Rattle.sip_machines.specs.state.declared.open_request.OpenRequest.{OpenRequest}
+use Rattle.sip_machines.specs.state.State.{is_invite}
 use Rattle.sip_fitting.specs.Fits.{is_call, PhaseFits, OfCall, OfOther, BranchFits, SideFits, OfInvite, OfRequest, Fits, HasInviteClient, HasOtherClient, HasInviteServer, HasOtherServer}
 
 -- the two ways to say which transaction runs a branch

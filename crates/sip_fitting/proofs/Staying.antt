@@ -1,23 +1,23 @@
 -- Every event of an open request, and its opening, leaves its parts fitting.
 use Rattle.std.proofs.Common.{◌≡◌, ℕ, ◌+◌, ◌==◌, Bool, true, false, not, cond, List, [], ◌∷◌, map, Option, Some, None, is_some, refl, sym, ap, subst, Contains}
 use Rattle.std.specs.Prelude.{◌&&◌, ◌||◌}
-use Rattle.sip_host.specs.declared.addr.Addr.{Addr}
-use Rattle.sip_form.specs.declared.message.Message.{Message}
-use Rattle.sip_targets.specs.declared.target.Target.{Target}
-use Rattle.sip_state.specs.Arrival.{Arrival}
-use Rattle.sip_state.specs.declared.server.Server.{Server}
-use Rattle.sip_state.specs.declared.branch.Branch.{Branch}
-use Rattle.sip_state.specs.declared.branch.Phase.{Phase}
-use Rattle.sip_state.specs.declared.branch.Phase.TheVariants.{Unheard, Heard, Cancelled, Done, Ended}
-use Rattle.sip_state.specs.declared.resend.Resend.{Resend}
-use Rattle.sip_state.specs.declared.open_request.OpenRequest.{OpenRequest}
-use Rattle.sip_state.specs.State.{is_invite, is_answering, is_final, is_provisional, is_success, is_decline, first_resend}
-use Rattle.sip_context.specs.Branches.{is_same_branch, linger, with_phase, marked, search_ended, with_answer, heard, invite_heard, other_heard, further, relayed_provisional, relayed_success, target_responded, cancel_responded, responded, given_up, target_overdue, branch_overdue, overdue, side_overdue, send_failed, cancelled, acknowledged, was_refused, told_to, final_of, with_final, acks_of, acknowledged_side, settled}
-use Rattle.sip_context.specs.Sending.{made_answer}
-use Rattle.sip_state.specs.declared.open_request.Upward.{Upward}
-use Rattle.sip_state.specs.declared.open_request.Side.TheVariants as To
-use Rattle.sip_context.specs.Opening.{closing, arriving, branch_to, branches_from, dialog_branch, forking, is_tried, trying, tried, opening}
-use Rattle.sip_retransmission.specs.Retransmission.{branch_next, answer_next, resent_branch, with_resend}
+use Rattle.sip_machines.specs.host.declared.addr.Addr.{Addr}
+use Rattle.sip_machines.specs.form.declared.message.Message.{Message}
+use Rattle.sip_machines.specs.targets.declared.target.Target.{Target}
+use Rattle.sip_machines.specs.state.Arrival.{Arrival}
+use Rattle.sip_machines.specs.state.declared.server.Server.{Server}
+use Rattle.sip_machines.specs.state.declared.branch.Branch.{Branch}
+use Rattle.sip_machines.specs.state.declared.branch.Phase.{Phase}
+use Rattle.sip_machines.specs.state.declared.branch.Phase.TheVariants.{Unheard, Heard, Cancelled, Done, Ended}
+use Rattle.sip_machines.specs.state.declared.resend.Resend.{Resend}
+use Rattle.sip_machines.specs.state.declared.open_request.OpenRequest.{OpenRequest}
+use Rattle.sip_machines.specs.state.State.{is_invite, is_answering, is_final, is_provisional, is_success, is_decline, first_resend}
+use Rattle.sip_machines.specs.context.Branches.{is_same_branch, linger, with_phase, marked, search_ended, with_answer, heard, invite_heard, other_heard, further, relayed_provisional, relayed_success, target_responded, cancel_responded, responded, given_up, target_overdue, branch_overdue, overdue, side_overdue, send_failed, cancelled, acknowledged, was_refused, told_to, final_of, with_final, acks_of, acknowledged_side, settled}
+use Rattle.sip_machines.specs.context.Sending.{made_answer}
+use Rattle.sip_machines.specs.state.declared.open_request.Upward.{Upward}
+use Rattle.sip_machines.specs.state.declared.open_request.Side.TheVariants as To
+use Rattle.sip_machines.specs.context.Opening.{closing, arriving, branch_to, branches_from, dialog_branch, forking, is_tried, trying, tried, opening}
+use Rattle.sip_machines.specs.retransmission.Retransmission.{branch_next, answer_next, resent_branch, with_resend}
 use Rattle.sip_fitting.specs.Fits.{is_call, PhaseFits, BranchFits, BranchesFit, Fits, IsFinalAnswer, SideFits}
 use Rattle.sip_fitting.proofs.Phases.{unheard_fits, ended_fits, done_fits, invite_heard_fits, other_heard_fits, again_fits, map_fits, one_fits, phased_fits, marked_fits, wanted_fits}
 use Rattle.sip_fitting.proofs.Sides.{coming_fits, closing_fits, closed_fits, acknowledged_fits, later_fits}

@@ -1,17 +1,17 @@
 -- An open request whose parts fit their transactions: each is as some state of its machine has it (RFC 3261 17, RFC 6026).
 use Rattle.std.specs.Prelude.{◌≡◌, ℕ, Bool, true, false, List, Option}
 use Rattle.std.specs.List.{AllByRecursion}
-use Rattle.sip_client.specs.declared.client_invite.ClientInvite.{ClientInvite}
-use Rattle.sip_client.specs.declared.client_other.ClientOther.{ClientOther}
-use Rattle.sip_server.specs.declared.server_invite.ServerInvite.{ServerInvite}
-use Rattle.sip_server.specs.declared.server_other.ServerOther.{ServerOther}
-use Rattle.sip_state.specs.declared.branch.Branch.{Branch}
-use Rattle.sip_state.specs.declared.branch.Phase.{Phase}
-use Rattle.sip_state.specs.declared.resend.Resend.{Resend}
-use Rattle.sip_state.specs.declared.open_request.LastAnswer.{LastAnswer}
-use Rattle.sip_state.specs.declared.open_request.OpenRequest.{OpenRequest}
-use Rattle.sip_state.specs.declared.open_request.Side.{Side}
-use Rattle.sip_state.specs.State.{is_invite, is_provisional}
+use Rattle.sip_machines.specs.client.declared.client_invite.ClientInvite.{ClientInvite}
+use Rattle.sip_machines.specs.client.declared.client_other.ClientOther.{ClientOther}
+use Rattle.sip_machines.specs.server.declared.server_invite.ServerInvite.{ServerInvite}
+use Rattle.sip_machines.specs.server.declared.server_other.ServerOther.{ServerOther}
+use Rattle.sip_machines.specs.state.declared.branch.Branch.{Branch}
+use Rattle.sip_machines.specs.state.declared.branch.Phase.{Phase}
+use Rattle.sip_machines.specs.state.declared.resend.Resend.{Resend}
+use Rattle.sip_machines.specs.state.declared.open_request.LastAnswer.{LastAnswer}
+use Rattle.sip_machines.specs.state.declared.open_request.OpenRequest.{OpenRequest}
+use Rattle.sip_machines.specs.state.declared.open_request.Side.{Side}
+use Rattle.sip_machines.specs.state.State.{is_invite, is_provisional}
 use Rattle.sip_machines.specs.InviteClient.{RunsInviteClient}
 use Rattle.sip_machines.specs.OtherClient.{RunsOtherClient}
 use Rattle.sip_machines.specs.InviteServer.{RunsInviteServer}

@@ -1,15 +1,15 @@
 ghost use Rattle.std.specs.Prelude.{◌≡◌, ℕ, true, List, [], ◌∷◌, Contains};
-ghost use Rattle.sip_form.specs.declared.message.Message.{Message};
-ghost use Rattle.sip_state.specs.Arrival.{Arrival};
-ghost use Rattle.sip_state.specs.declared.server.Server.{Server};
-ghost use Rattle.sip_state.specs.declared.branch.Branch.{Branch};
-ghost use Rattle.sip_state.specs.declared.open_request.OpenRequest.{OpenRequest};
-ghost use Rattle.sip_state.specs.State.{is_answering};
-ghost use Rattle.sip_context.specs.Branches.{responded, overdue, side_overdue, send_failed, cancelled, acknowledged};
-ghost use Rattle.sip_context.specs.Opening.{closing, branches_from, dialog_branch, forking, opening};
-ghost use Rattle.sip_retransmission.specs.Retransmission.{answer_next, with_resend};
-ghost use Rattle.sip_targets.specs.declared.target.Target.{Target};
-ghost use Rattle.sip_host.specs.declared.addr.Addr.{Addr};
+ghost use Rattle.sip_machines.specs.form.declared.message.Message.{Message};
+ghost use Rattle.sip_machines.specs.state.Arrival.{Arrival};
+ghost use Rattle.sip_machines.specs.state.declared.server.Server.{Server};
+ghost use Rattle.sip_machines.specs.state.declared.branch.Branch.{Branch};
+ghost use Rattle.sip_machines.specs.state.declared.open_request.OpenRequest.{OpenRequest};
+ghost use Rattle.sip_machines.specs.state.State.{is_answering};
+ghost use Rattle.sip_machines.specs.context.Branches.{responded, overdue, side_overdue, send_failed, cancelled, acknowledged};
+ghost use Rattle.sip_machines.specs.context.Opening.{closing, branches_from, dialog_branch, forking, opening};
+ghost use Rattle.sip_machines.specs.retransmission.Retransmission.{answer_next, with_resend};
+ghost use Rattle.sip_machines.specs.targets.declared.target.Target.{Target};
+ghost use Rattle.sip_machines.specs.host.declared.addr.Addr.{Addr};
 ghost use Rattle.sip_fitting.specs.Fits.{Fits, BranchesFit, IsFinalAnswer};
 
 /// A request that comes fits: one that is answered at once, with a final answer; one that is sent to its targets, or

@@ -5,3 +5,5 @@
 
 pub mod events;
 pub mod machines;
+
+pub use sip_machines::{retransmission, transaction};

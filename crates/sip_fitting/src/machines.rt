@@ -1,7 +1,7 @@
 ghost use Rattle.std.specs.Prelude.{◌≡◌, ◌&&◌, not, true, false, Option};
-ghost use Rattle.sip_state.specs.declared.branch.Branch.{Branch};
-ghost use Rattle.sip_state.specs.declared.open_request.OpenRequest.{OpenRequest};
-ghost use Rattle.sip_state.specs.State.{is_invite};
+ghost use Rattle.sip_machines.specs.state.declared.branch.Branch.{Branch};
+ghost use Rattle.sip_machines.specs.state.declared.open_request.OpenRequest.{OpenRequest};
+ghost use Rattle.sip_machines.specs.state.State.{is_invite};
 ghost use Rattle.sip_machines.specs.InviteClient.{RunsInviteClient};
 ghost use Rattle.sip_machines.specs.OtherClient.{RunsOtherClient};
 ghost use Rattle.sip_machines.specs.InviteServer.{RunsInviteServer};

@@ -3,7 +3,7 @@ use Rattle.std.specs.Prelude.{ℕ, ◌≡◌, ◌<◌, ◌+◌, ◌^◌, Bool, L
 use Rattle.std.specs.List.{All, sum_by}
 use Rattle.sip_timers.specs.declared.timer.Timer.{Timer}
 use Rattle.sip_timers.specs.Timers.{KeysDiffer}
-use Rattle.sip_state.specs.declared.open_request.OpenRequest.{OpenRequest}
+use Rattle.sip_verdict.specs.state.declared.open_request.OpenRequest.{OpenRequest}
 use Rattle.sip_moments.specs.Near.{IsWithin}
 use Rattle.sip_fitting.specs.Fits.{Fits}
 use Rattle.sip_request.specs.declared.request.Request.{Request}

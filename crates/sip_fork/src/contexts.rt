@@ -1,18 +1,18 @@
 ghost use Rattle.std.specs.Prelude.{◌≡◌, ◌<◌, ◌≤◌, ◌==◌, [], ℕ, false, length, position, find, nat_le, slice_get, Some, IfOk, IfErr, OnOk};
 ghost use Rattle.std.specs.List.{AllPairs};
 ghost use Rattle.std.specs.Option.{option_and_then};
-ghost use Rattle.sip_key.specs.Key.{same_key};
+ghost use Rattle.sip_verdict.specs.key.Key.{same_key};
 ghost use Rattle.sip_timers.specs.declared.error.TimerError.TheVariants.{NoMemory};
-ghost use Rattle.sip_state.specs.State.{has_key};
-ghost use Rattle.sip_state.specs.declared.open_request.OpenRequest.{OpenRequest};
+ghost use Rattle.sip_verdict.specs.state.State.{has_key};
+ghost use Rattle.sip_verdict.specs.state.declared.open_request.OpenRequest.{OpenRequest};
 ghost use Rattle.sip_verdict.specs.Verdict.{is_cancelled_by};
 
 use crate::queue::Queue;
 use crate::row::Standing;
-use sip_key::Key;
-use sip_state::OpenRequest;
 use sip_table::Table;
 use sip_timers::{TimerError, Timers};
+use sip_verdict::key::Key;
+use sip_verdict::state::OpenRequest;
 use std::alloc::{AllocError, Global};
 use std::marker::Model;
 

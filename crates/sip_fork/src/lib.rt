@@ -8,3 +8,15 @@ mod queue;
 mod row;
 
 pub use contexts::Contexts;
+pub use sip_fitting::{retransmission, transaction};
+pub use sip_moments::branches;
+pub use sip_request as request;
+pub use sip_request::{inputs, onward, processing, resend};
+pub use sip_table as table;
+pub use sip_timers as timers;
+pub use sip_verdict as verdict;
+pub use sip_verdict::{
+    auth, best, context, dialog, digest, edit, event, field, form, header, hops, host, key,
+    location, message, nonces, policy, reply, settings, shared, state, targets, text, uri,
+    validate, way,
+};

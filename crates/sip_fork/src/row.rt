@@ -1,10 +1,10 @@
 ghost use Rattle.std.specs.Prelude.{◌≡◌};
 ghost use Rattle.sip_verdict.specs.Verdict;
 
-use sip_key::Key;
 use sip_request::Request;
-use sip_state::OpenRequest;
 use sip_table::Row;
+use sip_verdict::key::Key;
+use sip_verdict::state::OpenRequest;
 use std::marker::Model;
 
 /// An open request as a row of the table, seen as the request.

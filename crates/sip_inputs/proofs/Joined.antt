@@ -1,8 +1,8 @@
 -- What is sent, joined to the request after an input.
 use Rattle.std.proofs.Common.{◌≡◌, List, ap, ◌∙◌}
-use Rattle.sip_event.specs.declared.packet.Packet.{Packet}
-use Rattle.sip_state.specs.declared.open_request.OpenRequest.{OpenRequest}
-use Rattle.sip_context.specs.Branches.{Change}
+use Rattle.sip_processing.specs.event.declared.packet.Packet.{Packet}
+use Rattle.sip_processing.specs.state.declared.open_request.OpenRequest.{OpenRequest}
+use Rattle.sip_processing.specs.context.Branches.{Change}
 use Rattle.sip_processing.specs.declared.sent.Sent.{Sent}
 use Rattle.sip_processing.specs.Sent.{change_of}
 use Rattle.sip_inputs.specs.declared.sending.Sending.{Sending}

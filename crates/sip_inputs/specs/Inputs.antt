@@ -1,14 +1,14 @@
 -- What an input makes of an open request, and what is sent then: the change of its response context (RFC 3261 16.7 to 16.10, 17), or what
 -- goes again.
 use Rattle.std.specs.Prelude.{ℕ, ◌<◌, ◌+◌, ◌^◌, true, List, []}
-use Rattle.sip_event.specs.declared.packet.Packet.{Packet}
-use Rattle.sip_state.specs.declared.open_request.OpenRequest.{OpenRequest}
-use Rattle.sip_state.specs.declared.open_request.Upward.{Upward}
-use Rattle.sip_state.specs.declared.server.Server.{Server}
-use Rattle.sip_branches.specs.Early.{IsEarly}
-use Rattle.sip_context.specs.Branches.{Change, responded, overdue, side_overdue, send_failed, cancelled, acknowledged}
-use Rattle.sip_context.specs.Sending.{branch_packets}
-use Rattle.sip_retransmission.specs.Retransmission.{acked_again, answers_again, answer_next, with_resend}
+use Rattle.sip_processing.specs.event.declared.packet.Packet.{Packet}
+use Rattle.sip_processing.specs.state.declared.open_request.OpenRequest.{OpenRequest}
+use Rattle.sip_processing.specs.state.declared.open_request.Upward.{Upward}
+use Rattle.sip_processing.specs.state.declared.server.Server.{Server}
+use Rattle.sip_processing.specs.branches.Early.{IsEarly}
+use Rattle.sip_processing.specs.context.Branches.{Change, responded, overdue, side_overdue, send_failed, cancelled, acknowledged}
+use Rattle.sip_processing.specs.context.Sending.{branch_packets}
+use Rattle.sip_resend.specs.retransmission.Retransmission.{acked_again, answers_again, answer_next, with_resend}
 use Rattle.sip_inputs.specs.declared.input.Input.{Input}
 use Rattle.sip_inputs.specs.declared.input.Input.TheVariants.{Response, BranchDeadline, SideDeadline, SendFault, Cancel, Ack, BranchAgain, AnswerAgain}
 use Rattle.sip_inputs.specs.declared.sending.Sending.{Sending}

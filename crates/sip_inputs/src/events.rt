@@ -1,23 +1,23 @@
 ghost use Rattle.std.specs.Prelude.{◌≡◌, ◌<◌, ◌+◌, ◌^◌, [], IfOk, option_map, true};
-ghost use Rattle.sip_branches.specs.Early.{IsEarly};
-ghost use Rattle.sip_context.specs.Branches as Contexts;
-ghost use Rattle.sip_context.specs.Sending as Sendings;
+ghost use Rattle.sip_processing.specs.branches.Early.{IsEarly};
+ghost use Rattle.sip_processing.specs.context.Branches as Contexts;
+ghost use Rattle.sip_processing.specs.context.Sending as Sendings;
 ghost use Rattle.sip_processing.specs.Sent.{change_of};
-ghost use Rattle.sip_retransmission.specs.Retransmission;
+ghost use Rattle.sip_resend.specs.retransmission.Retransmission;
 ghost use Rattle.sip_inputs.specs.Inputs.{IsFit, changing, outcome, outcome_of, repeating};
 
 use crate::input::Input;
 use crate::sending::Sending;
-use sip_event::Packet;
-use sip_form::View;
+use sip_processing::event::Packet;
+use sip_processing::form::View;
+use sip_processing::sending::{ack_packets, answer_to, branch_packets};
+use sip_processing::shared::Shared;
+use sip_processing::state::{Branch, OpenRequest, Server};
+use sip_processing::text::{Bytes, Items};
 use sip_processing::{
     Sent, pass_branch, pass_side, take_ack, take_cancel, take_fault, take_response,
 };
 use sip_resend::{answer_again, answer_went, branch_went, is_acked_again};
-use sip_sending::{ack_packets, answer_to, branch_packets};
-use sip_shared::Shared;
-use sip_state::{Branch, OpenRequest, Server};
-use sip_text::{Bytes, Items};
 use std::alloc::{AllocError, Global};
 
 /// What a change sends, with what goes again beside it.

@@ -1,5 +1,5 @@
-use sip_form::View;
-use sip_state::Branch;
+use sip_processing::form::View;
+use sip_processing::state::Branch;
 
 /// What happens to an open request.
 #[derive(Drop)]

@@ -10,3 +10,10 @@ mod sending;
 pub use events::take_input;
 pub use input::Input;
 pub use sending::Sending;
+pub use sip_processing as processing;
+pub use sip_processing::{
+    best, branches, context, dialog, digest, edit, event, field, form, header, hops, host, key,
+    location, message, nonces, onward, reply, settings, shared, state, targets, text, uri,
+};
+pub use sip_resend as resend;
+pub use sip_resend::retransmission;

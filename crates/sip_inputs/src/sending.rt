@@ -1,6 +1,6 @@
-use sip_event::Packet;
-use sip_state::Upward;
-use sip_text::Items;
+use sip_processing::event::Packet;
+use sip_processing::state::Upward;
+use sip_processing::text::Items;
 
 /// What an event makes an open request send: ACKs, then what goes to the caller, then CANCELs; and what goes again.
 #[derive(Drop)]

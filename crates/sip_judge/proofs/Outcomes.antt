@@ -1,16 +1,16 @@
 -- What a registration that the registrar refuses comes to.
 use Rattle.std.proofs.Common.{◌≡◌, ◌≢◌, ◌∙◌, ℕ, List, Ok, Err, inl, inr, sym, ap, subst}
-use Rattle.sip_field.specs.declared.field.Field.{Field}
-use Rattle.sip_header.specs.declared.core_fields.CoreFields.{CoreFields}
-use Rattle.sip_location.specs.Registering.{registration_of}
+use Rattle.sip_verdict.specs.field.declared.field.Field.{Field}
+use Rattle.sip_verdict.specs.header.declared.core_fields.CoreFields.{CoreFields}
+use Rattle.sip_verdict.specs.location.Registering.{registration_of}
 use Rattle.std.specs.Prelude.{Result, IfOk, OnOk}
 use Rattle.std.specs.declared.alloc.AllocError.{AllocError}
-use Rattle.sip_location.specs.declared.binding.Binding.{Binding}
-use Rattle.sip_location.specs.declared.error.LocationError.{LocationError}
-use Rattle.sip_location.specs.declared.error.LocationError.TheVariants.{NoMemory}
-use Rattle.sip_location.specs.declared.registration.Registration.{Registration}
-use Rattle.sip_location.specs.Locations.{IsRefusal}
-use Rattle.sip_location.specs.Registration.{registered}
+use Rattle.sip_verdict.specs.location.declared.binding.Binding.{Binding}
+use Rattle.sip_verdict.specs.location.declared.error.LocationError.{LocationError}
+use Rattle.sip_verdict.specs.location.declared.error.LocationError.TheVariants.{NoMemory}
+use Rattle.sip_verdict.specs.location.declared.registration.Registration.{Registration}
+use Rattle.sip_verdict.specs.location.Locations.{IsRefusal}
+use Rattle.sip_verdict.specs.location.Registration.{registered}
 use Rattle.sip_judge.specs.declared.registering.Registering.{Registering}
 use Rattle.sip_judge.specs.Registering.{ComesTo}
 use Rattle.sip_verdict.specs.Verdict.{refused_by, registered_by}

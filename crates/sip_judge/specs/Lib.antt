@@ -1,2 +1,30 @@
 pub mod Judge
 pub mod Registering
+pub use Rattle.sip_verdict.specs.digest
+pub use Rattle.sip_verdict.specs.shared
+pub use Rattle.sip_verdict.specs.text
+pub use Rattle.sip_verdict.specs.field
+pub use Rattle.sip_verdict.specs.host
+pub use Rattle.sip_verdict.specs.nonces
+pub use Rattle.sip_verdict.specs.uri
+pub use Rattle.sip_view.specs as view
+pub use Rattle.sip_verdict.specs.form
+pub use Rattle.sip_verdict.specs.policy
+pub use Rattle.sip_verdict.specs.best
+pub use Rattle.sip_verdict.specs.event
+pub use Rattle.sip_verdict.specs.hops
+pub use Rattle.sip_verdict.specs.message
+pub use Rattle.sip_verdict.specs.header
+pub use Rattle.sip_verdict.specs.dialog
+pub use Rattle.sip_verdict.specs.key
+pub use Rattle.sip_verdict.specs.location
+pub use Rattle.sip_verdict.specs.way
+pub use Rattle.sip_verdict.specs.auth
+pub use Rattle.sip_verdict.specs.edit
+pub use Rattle.sip_verdict.specs.settings
+pub use Rattle.sip_verdict.specs.targets
+pub use Rattle.sip_verdict.specs.validate
+pub use Rattle.sip_verdict.specs.reply
+pub use Rattle.sip_verdict.specs.state
+pub use Rattle.sip_verdict.specs.context
+pub use Rattle.sip_verdict.specs as verdict

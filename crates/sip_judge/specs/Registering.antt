@@ -1,9 +1,9 @@
 -- What a REGISTER that was let through comes to, with the plan for its bindings.
 use Rattle.std.specs.Prelude.{◌≡◌, ◌≤◌, ℕ, List, ⊤}
-use Rattle.sip_location.specs.declared.binding.Binding.{Binding}
-use Rattle.sip_location.specs.declared.registration.Registration.{Registration}
-use Rattle.sip_location.specs.Locations.{Planned, IsPlan}
-use Rattle.sip_location.specs.Registration.{registered}
+use Rattle.sip_verdict.specs.location.declared.binding.Binding.{Binding}
+use Rattle.sip_verdict.specs.location.declared.registration.Registration.{Registration}
+use Rattle.sip_verdict.specs.location.Locations.{Planned, IsPlan}
+use Rattle.sip_verdict.specs.location.Registration.{registered}
 use Rattle.sip_judge.specs.declared.registering.Registering.{Registering}
 use Rattle.sip_judge.specs.declared.registering.Registering.TheVariants as Judged
 use Rattle.sip_verdict.specs.Verdict.{Registered, Bound, Refused, registered_by}

@@ -1,7 +1,7 @@
 ghost use Rattle.std.specs.Prelude.{◌≡◌, IfOk};
 
-use sip_hops::{Hop, HostAddress};
-use sip_text::Items;
+use sip_verdict::hops::{Hop, HostAddress};
+use sip_verdict::text::Items;
 use std::alloc::{AllocError, Global};
 
 /// The same hop.

@@ -1,14 +1,14 @@
 ghost use Rattle.std.specs.Prelude.{◌≡◌, IfOk};
-ghost use Rattle.sip_hops.specs.HostAddress.{address_of};
+ghost use Rattle.sip_verdict.specs.hops.HostAddress.{address_of};
 ghost use Rattle.sip_verdict.specs.Verdict.{answer_of, minute_on};
 
 use crate::copies::{copy_addresses, copy_hops};
-use sip_hops::Hops;
-use sip_host::Addr;
-use sip_policy::{Rules, Ruling};
-use sip_state::Server;
-use sip_uri::Uri;
 use sip_verdict::Question;
+use sip_verdict::hops::Hops;
+use sip_verdict::host::Addr;
+use sip_verdict::policy::{Rules, Ruling};
+use sip_verdict::state::Server;
+use sip_verdict::uri::Uri;
 use std::alloc::{AllocError, Global};
 use std::marker::Model;
 
@@ -23,7 +23,7 @@ pub struct Judge<R: Rules> {
 
 impl<R: Rules> Model for Judge<R> {
     ghost use Rattle.sip_judge.specs.Judge.{IsConfigured};
-    ghost use Rattle.sip_state.specs.declared.server.Server.{Server};
+    ghost use Rattle.sip_verdict.specs.state.declared.server.Server.{Server};
 
     ghost Value = { Server };
 

@@ -13,3 +13,10 @@ pub use judge::Judge;
 pub use question::is_register;
 pub use registering::Registering;
 pub use registration::registration_of;
+pub use sip_verdict as verdict;
+pub use sip_verdict::{
+    auth, best, context, dialog, digest, edit, event, field, form, header, hops, host, key,
+    location, message, nonces, policy, reply, settings, shared, state, targets, text, uri,
+    validate, way,
+};
+pub use sip_view as view;

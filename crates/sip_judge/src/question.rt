@@ -1,22 +1,22 @@
 ghost use Rattle.std.specs.Prelude.{◌≡◌, IfOk, if◌then◌else◌};
 ghost use Rattle.std.specs.Option.{option_copied};
-ghost use Rattle.sip_policy.specs.Operation as Operations;
-ghost use Rattle.sip_location.specs.Registering as Naming;
-ghost use Rattle.sip_way.specs.Way.{way_of, request_uri_in};
+ghost use Rattle.sip_verdict.specs.policy.Operation as Operations;
+ghost use Rattle.sip_verdict.specs.location.Registering as Naming;
+ghost use Rattle.sip_verdict.specs.way.Way.{way_of, request_uri_in};
 ghost use Rattle.sip_verdict.specs.Verdict as Verdict;
 
 use crate::judge::Judge;
-use sip_auth::proof_of;
-use sip_field::FieldName;
-use sip_form::View;
-use sip_header::CoreFields;
-use sip_nonces::Nonces;
-use sip_policy::{Operation, Rules, minute_of};
-use sip_text::Bytes;
-use sip_uri::{Aor, Uri, aor_of};
-use sip_validate::Checked;
 use sip_verdict::Question;
-use sip_way::Way;
+use sip_verdict::auth::proof_of;
+use sip_verdict::field::FieldName;
+use sip_verdict::form::View;
+use sip_verdict::header::CoreFields;
+use sip_verdict::nonces::Nonces;
+use sip_verdict::policy::{Operation, Rules, minute_of};
+use sip_verdict::text::Bytes;
+use sip_verdict::uri::{Aor, Uri, aor_of};
+use sip_verdict::validate::Checked;
+use sip_verdict::way::Way;
 use std::alloc::{AllocError, Global};
 
 /// Whether a method is REGISTER. Takes no memory.

@@ -1,5 +1,5 @@
-use sip_field::Fields;
-use sip_location::Plan;
+use sip_verdict::field::Fields;
+use sip_verdict::location::Plan;
 
 /// What a REGISTER that was let through comes to (RFC 3261 10.3).
 #[derive(Drop)]

@@ -1,30 +1,30 @@
 ghost use Rattle.std.specs.Prelude.{◌≡◌, ◌≢◌, ◌<◌, ◌^◌, ◌&&◌, ◌++◌, [], ◌∷◌, IfOk, OnOk, List, ℕ, map};
 ghost use Rattle.std.specs.List.{filter_map};
-ghost use Rattle.sip_header.specs.ContactItem.{contact_of};
-ghost use Rattle.sip_location.specs.Registering as Naming;
-ghost use Rattle.sip_location.specs.Registration.{registered};
-ghost use Rattle.sip_location.specs.declared.binding.Binding.{Binding};
-ghost use Rattle.sip_location.specs.declared.error.LocationError.TheVariants.{NoMemory};
-ghost use Rattle.sip_policy.specs.User.{is_users_address};
-ghost use Rattle.sip_way.specs.Way.{way_of, request_uri_in, request_uri_of};
+ghost use Rattle.sip_verdict.specs.header.ContactItem.{contact_of};
+ghost use Rattle.sip_verdict.specs.location.Registering as Naming;
+ghost use Rattle.sip_verdict.specs.location.Registration.{registered};
+ghost use Rattle.sip_verdict.specs.location.declared.binding.Binding.{Binding};
+ghost use Rattle.sip_verdict.specs.location.declared.error.LocationError.TheVariants.{NoMemory};
+ghost use Rattle.sip_verdict.specs.policy.User.{is_users_address};
+ghost use Rattle.sip_verdict.specs.way.Way.{way_of, request_uri_in, request_uri_of};
 ghost use Rattle.sip_verdict.specs.Verdict as Verdict;
-ghost use Rattle.sip_reply.specs.Extras;
+ghost use Rattle.sip_verdict.specs.reply.Extras;
 ghost use Rattle.sip_judge.specs.Registering.{ComesTo, HasRoom};
 
 use crate::judge::Judge;
 use crate::question::to_aor;
 use crate::registering::Registering;
-use sip_field::{Field, FieldName, Fields};
-use sip_form::View;
-use sip_header::{ContactItem, CoreFields, contact_of, expires_of};
-use sip_location::{LocationError, Locations, Registration};
-use sip_policy::{Rules, is_own_domain, is_users_address};
-use sip_reply::min_expires;
-use sip_state::Server;
-use sip_text::{Items, Text};
-use sip_validate::Checked;
+use sip_verdict::field::{Field, FieldName, Fields};
+use sip_verdict::form::View;
+use sip_verdict::header::{ContactItem, CoreFields, contact_of, expires_of};
+use sip_verdict::location::{LocationError, Locations, Registration};
+use sip_verdict::policy::{Rules, is_own_domain, is_users_address};
+use sip_verdict::reply::min_expires;
+use sip_verdict::state::Server;
+use sip_verdict::text::{Items, Text};
+use sip_verdict::validate::Checked;
+use sip_verdict::way::Way;
 use sip_view::ViewFields;
-use sip_way::Way;
 use std::alloc::{AllocError, Global};
 
 /// Adds what a value of Contact says, if it can be read.

@@ -1,15 +1,15 @@
 ghost use Rattle.std.specs.Prelude.{◌≡◌, Some, IfOk};
-ghost use Rattle.sip_way.specs.Way.{way_of, request_uri_in};
+ghost use Rattle.sip_verdict.specs.way.Way.{way_of, request_uri_in};
 ghost use Rattle.sip_verdict.specs.Verdict as Verdict;
 
 use crate::judge::Judge;
-use sip_form::View;
-use sip_location::Locations;
-use sip_policy::{Decision, Rules, is_users_address};
-use sip_targets::{Targets, targets_of};
-use sip_uri::Uri;
-use sip_validate::Checked;
 use sip_verdict::Question;
+use sip_verdict::form::View;
+use sip_verdict::location::Locations;
+use sip_verdict::policy::{Decision, Rules, is_users_address};
+use sip_verdict::targets::{Targets, targets_of};
+use sip_verdict::uri::Uri;
+use sip_verdict::validate::Checked;
 use std::alloc::{AllocError, Global};
 
 impl<R: Rules> Judge<R> {

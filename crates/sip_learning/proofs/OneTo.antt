@@ -1,9 +1,9 @@
 -- The one To of some fields.
 use Rattle.std.proofs.Common.{◌≡◌, ℕ, ◌<◌, ◌≤◌, List, length, Option, Some, None, Result, refl, ap}
 use Rattle.std.specs.Result.{result_ok}
-use Rattle.sip_field.specs.declared.field_name.FieldName.{FieldName}
-use Rattle.sip_field.specs.declared.field.Field.{Field}
-use Rattle.sip_field.specs.Values.{values_of, first_value}
+use Rattle.sip_state.specs.field.declared.field_name.FieldName.{FieldName}
+use Rattle.sip_state.specs.field.declared.field.Field.{Field}
+use Rattle.sip_state.specs.field.Values.{values_of, first_value}
 use Rattle.sip_header.specs.declared.error.HeaderError.{HeaderError}
 use Rattle.sip_header.specs.declared.name_addr.NameAddr.{NameAddr}
 use Rattle.sip_header.specs.NameAddr.{name_addr_of}

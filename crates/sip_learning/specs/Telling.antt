@@ -1,6 +1,6 @@
 -- Which lessons say what goes through a server.
 use Rattle.std.specs.Prelude.{◌≡◌, ℕ, Bool, not, ◌&&◌, nat_le, List, Option}
-use Rattle.sip_hops.specs.declared.host_address.HostAddress.{HostAddress}
+use Rattle.sip_state.specs.hops.declared.host_address.HostAddress.{HostAddress}
 use Rattle.sip_dialog.specs.declared.dialog.Dialog.{Dialog}
 use Rattle.sip_state.specs.declared.server.Server.{Server}
 use Rattle.sip_state.specs.declared.open_request.Upward.{Upward}

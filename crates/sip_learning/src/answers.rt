@@ -1,7 +1,7 @@
 ghost use Rattle.std.specs.Prelude.{◌≡◌, ◌&&◌, ◌++◌, ◌∷◌, true, false, nat_le, codes, IfOk};
 ghost use Rattle.std.specs.Option.{option_to_list};
 ghost use Rattle.std.specs.Str.{bytes_eq};
-ghost use Rattle.sip_hops.specs.HostAddress.{address_of};
+ghost use Rattle.sip_state.specs.hops.HostAddress.{address_of};
 ghost use Rattle.sip_dialog.specs.Addresses.{addresses_in};
 ghost use Rattle.sip_state.specs.declared.server.Server.{Server};
 ghost use Rattle.sip_state.specs.State as States;
@@ -14,10 +14,10 @@ use crate::given::{given_by, put_given};
 use crate::lesson::Lesson;
 use crate::naming::{answered_dialog, dialog_of};
 use sip_dialog::{DialogId, InviteAnswer};
-use sip_hops::Hops;
-use sip_host::Addr;
+use sip_state::hops::Hops;
+use sip_state::host::Addr;
+use sip_state::text::Items;
 use sip_state::{OpenRequest, Upward};
-use sip_text::Items;
 use std::alloc::{AllocError, Global};
 
 /// Whether an answer ends the dialog of its request: a 2xx to a BYE (RFC 3261 15).

@@ -1,13 +1,13 @@
 ghost use Rattle.std.specs.Prelude.{◌≡◌, ◌++◌, IfOk, OnOk};
-ghost use Rattle.sip_hops.specs.HostAddress.{address_of};
+ghost use Rattle.sip_state.specs.hops.HostAddress.{address_of};
 ghost use Rattle.sip_dialog.specs.Addresses as Given;
 
-use sip_field::FieldName;
-use sip_form::{Kept, View};
 use sip_header::{AnyUri, NameAddr, name_addr_of, route_of};
-use sip_hops::Hops;
-use sip_host::Addr;
-use sip_text::Items;
+use sip_state::field::FieldName;
+use sip_state::form::{Kept, View};
+use sip_state::hops::Hops;
+use sip_state::host::Addr;
+use sip_state::text::Items;
 use sip_view::ViewField;
 use std::alloc::{AllocError, Global};
 

@@ -4,8 +4,8 @@ ghost use Rattle.sip_dialog.specs.Sameness.{SameDialogs};
 ghost use Rattle.sip_learning.specs.Lessons.{after_lesson, room_for};
 
 use sip_dialog::{DialogId, Dialogs, InviteAnswer};
-use sip_host::Addr;
-use sip_text::Items;
+use sip_state::host::Addr;
+use sip_state::text::Items;
 
 /// What something that goes through this server tells the dialogs that it knows.
 pub enum Lesson {

@@ -16,3 +16,10 @@ pub use given::addresses_of;
 pub use lesson::Lesson;
 pub use lessons::Lessons;
 pub use naming::{answer_id, answered_dialog, dialog_of, id_of};
+pub use sip_dialog as dialog;
+pub use sip_header as header;
+pub use sip_state as state;
+pub use sip_state::{
+    best, digest, field, form, hops, host, key, location, nonces, settings, shared, text, uri,
+};
+pub use sip_view as view;

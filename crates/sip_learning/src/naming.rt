@@ -1,18 +1,18 @@
 ghost use Rattle.std.specs.Prelude.{◌≡◌, [], IfOk};
 ghost use Rattle.std.specs.Option.{unwrap_or, option_and_then};
 ghost use Rattle.std.specs.Result.{result_ok};
-ghost use Rattle.sip_field.specs.declared.field_name.FieldName.TheVariants as Name;
+ghost use Rattle.sip_state.specs.field.declared.field_name.FieldName.TheVariants as Name;
 ghost use Rattle.sip_header.specs.Parameters as Tags;
 ghost use Rattle.sip_header.specs.CoreFields.{name_addr_in, core_of};
 ghost use Rattle.sip_dialog.specs.DialogId as Names;
 ghost use Rattle.sip_state.specs.Dialogs as Dialogs;
 
 use sip_dialog::DialogId;
-use sip_field::FieldName;
-use sip_form::View;
 use sip_header::{CoreFields, HeaderError, NameAddr, Parameter, core_of, name_addr_of, tag_of};
 use sip_state::OpenRequest;
-use sip_text::Bytes;
+use sip_state::field::FieldName;
+use sip_state::form::View;
+use sip_state::text::Bytes;
 use sip_view::ViewFields;
 use std::alloc::{AllocError, Global};
 

@@ -13,12 +13,12 @@ use Rattle.sip_client.specs.declared.actions.Report.TheVariants.{Timeout, Unavai
 use Rattle.sip_client.specs.declared.client_invite.ClientInvite.{ClientInvite}
 use Rattle.sip_client.specs.declared.client_invite.ClientInvite.TheVariants.{Calling, Proceeding, Completed, Accepted, Terminated}
 use Rattle.sip_client.specs.declared.client_invite.ClientInviteInput.TheVariants.{Received, Fired, Fault, GivenUp}
-use Rattle.sip_state.specs.State.{is_final, is_provisional, is_success, is_failure}
-use Rattle.sip_state.specs.declared.branch.Phase.{Phase}
-use Rattle.sip_state.specs.declared.branch.Phase.TheVariants.{Unheard, Cancelled, Done, Ended}
-use Rattle.sip_state.specs.declared.branch.Phase.TheVariants as Now
-use Rattle.sip_state.specs.declared.resend.Resend.{Resend}
-use Rattle.sip_context.specs.Branches.{invite_heard, is_unheard}
+use Rattle.sip_retransmission.specs.state.State.{is_final, is_provisional, is_success, is_failure}
+use Rattle.sip_retransmission.specs.state.declared.branch.Phase.{Phase}
+use Rattle.sip_retransmission.specs.state.declared.branch.Phase.TheVariants.{Unheard, Cancelled, Done, Ended}
+use Rattle.sip_retransmission.specs.state.declared.branch.Phase.TheVariants as Now
+use Rattle.sip_retransmission.specs.state.declared.resend.Resend.{Resend}
+use Rattle.sip_retransmission.specs.context.Branches.{invite_heard, is_unheard}
 use Rattle.sip_retransmission.specs.Retransmission.{is_sent_again, is_cancelled_again, resend_after}
 use Rattle.sip_machines.specs.Steps.{Steps}
 use Rattle.sip_machines.specs.InviteClient.{RunsInviteClient, WhileUnheard, WhileHeard, WhileCancelled, AfterSuccess, AfterFailure, WhenEnded, invite_timers, heard_actions, final_actions, further_actions}

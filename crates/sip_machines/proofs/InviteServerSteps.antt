@@ -1,7 +1,7 @@
 -- The server transaction of an INVITE beside the answering side of its request.
 use Rattle.std.proofs.Common.{◌≡◌, ℕ, ◌+◌, ◌<◌, ◌≤◌, Bool, true, false, cond, List, [], ◌∷◌, Option, Some, None, refl, sym, ◌∙◌}
 use Rattle.std.specs.Prelude.{◌&&◌, not}
-use Rattle.sip_form.specs.Text.{text_of}
+use Rattle.sip_retransmission.specs.form.Text.{text_of}
 use Rattle.sip_transaction.specs.declared.letter.Letter.TheVariants as By
 use Rattle.sip_server.specs.Action.{copy_actions}
 use Rattle.sip_server.specs.ServerInvite.{server_invite, invite_machine, row, runs, answers_copy, provisional, success, failure}
@@ -9,14 +9,14 @@ use Rattle.sip_server.specs.declared.actions.Action.TheVariants.{Send, SendAgain
 use Rattle.sip_server.specs.declared.server_invite.ServerInvite.{ServerInvite}
 use Rattle.sip_server.specs.declared.server_invite.ServerInvite.TheVariants.{Proceeding, Completed, Confirmed, Accepted, Terminated}
 use Rattle.sip_server.specs.declared.server_invite.ServerInviteInput.TheVariants.{Invite, Ack, Answer, Fired}
-use Rattle.sip_state.specs.State.{first_resend, is_invite, is_answering, is_success, is_failure, is_provisional}
-use Rattle.sip_state.specs.declared.open_request.LastAnswer.{LastAnswer}
-use Rattle.sip_state.specs.declared.open_request.OpenRequest.{OpenRequest}
-use Rattle.sip_state.specs.declared.open_request.Side.{Side}
-use Rattle.sip_state.specs.declared.open_request.Side.TheVariants.{Answering, Closing, Acknowledged, Closed}
-use Rattle.sip_state.specs.declared.open_request.Upward.{Upward}
-use Rattle.sip_state.specs.declared.resend.Resend.{Resend}
-use Rattle.sip_context.specs.Branches.{answered, acknowledged, acknowledged_side, is_accepted, is_closing, has_success, was_refused}
+use Rattle.sip_retransmission.specs.state.State.{first_resend, is_invite, is_answering, is_success, is_failure, is_provisional}
+use Rattle.sip_retransmission.specs.state.declared.open_request.LastAnswer.{LastAnswer}
+use Rattle.sip_retransmission.specs.state.declared.open_request.OpenRequest.{OpenRequest}
+use Rattle.sip_retransmission.specs.state.declared.open_request.Side.{Side}
+use Rattle.sip_retransmission.specs.state.declared.open_request.Side.TheVariants.{Answering, Closing, Acknowledged, Closed}
+use Rattle.sip_retransmission.specs.state.declared.open_request.Upward.{Upward}
+use Rattle.sip_retransmission.specs.state.declared.resend.Resend.{Resend}
+use Rattle.sip_retransmission.specs.context.Branches.{answered, acknowledged, acknowledged_side, is_accepted, is_closing, has_success, was_refused}
 use Rattle.sip_retransmission.specs.Retransmission.{answers_again, is_lasting, resend_after}
 use Rattle.sip_machines.specs.Steps.{Steps}
 use Rattle.sip_machines.specs.InviteServer.{RunsInviteServer, BeforeAnswer, WhileProvisional, AfterSuccess, AfterFailure, AfterAck, WhenClosed, invite_side_timers, answer_actions, ack_actions, repeated}

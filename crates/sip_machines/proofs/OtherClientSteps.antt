@@ -11,11 +11,11 @@ use Rattle.sip_client.specs.declared.actions.Report.TheVariants.{Response, Timeo
 use Rattle.sip_client.specs.declared.client_other.ClientOther.{ClientOther}
 use Rattle.sip_client.specs.declared.client_other.ClientOther.TheVariants.{Trying, Proceeding, Completed, Terminated}
 use Rattle.sip_client.specs.declared.client_other.ClientOtherInput.TheVariants.{Received, Fired, Fault}
-use Rattle.sip_state.specs.State.{is_final, is_provisional}
-use Rattle.sip_state.specs.declared.branch.Phase.{Phase}
-use Rattle.sip_state.specs.declared.branch.Phase.TheVariants.{Unheard, Heard, Cancelled, Done, Ended}
-use Rattle.sip_state.specs.declared.resend.Resend.{Resend}
-use Rattle.sip_context.specs.Branches.{other_heard, is_unheard}
+use Rattle.sip_retransmission.specs.state.State.{is_final, is_provisional}
+use Rattle.sip_retransmission.specs.state.declared.branch.Phase.{Phase}
+use Rattle.sip_retransmission.specs.state.declared.branch.Phase.TheVariants.{Unheard, Heard, Cancelled, Done, Ended}
+use Rattle.sip_retransmission.specs.state.declared.resend.Resend.{Resend}
+use Rattle.sip_retransmission.specs.context.Branches.{other_heard, is_unheard}
 use Rattle.sip_retransmission.specs.Retransmission.{is_sent_again, is_cancelled_again, resend_after}
 use Rattle.sip_machines.specs.Steps.{Steps}
 use Rattle.sip_machines.specs.OtherClient.{RunsOtherClient, WhileUnheard, WhileHeard, AfterFinal, WhenEnded, other_timers, heard_actions, steady}

@@ -1,20 +1,20 @@
 -- The server transaction of another request beside its answering side.
 use Rattle.std.proofs.Common.{◌≡◌, ℕ, ◌+◌, ◌<◌, ◌≤◌, Bool, true, false, cond, List, [], ◌∷◌, Option, Some, None, refl}
 use Rattle.std.specs.Prelude.{◌&&◌, not}
-use Rattle.sip_form.specs.Text.{text_of}
+use Rattle.sip_retransmission.specs.form.Text.{text_of}
 use Rattle.sip_transaction.specs.declared.letter.Letter.TheVariants as By
 use Rattle.sip_server.specs.Action.{copy_actions}
 use Rattle.sip_server.specs.ServerOther.{server_other, other_machine, answers_copy}
 use Rattle.sip_server.specs.declared.server_other.ServerOther.{ServerOther}
 use Rattle.sip_server.specs.declared.server_other.ServerOther.TheVariants.{Trying, Proceeding, Completed, Terminated}
 use Rattle.sip_server.specs.declared.server_other.ServerOtherInput.TheVariants.{Request, Answer, Fired}
-use Rattle.sip_state.specs.State.{is_invite, is_answering, is_success, is_provisional}
-use Rattle.sip_state.specs.declared.open_request.LastAnswer.{LastAnswer}
-use Rattle.sip_state.specs.declared.open_request.OpenRequest.{OpenRequest}
-use Rattle.sip_state.specs.declared.open_request.Side.{Side}
-use Rattle.sip_state.specs.declared.open_request.Side.TheVariants.{Answering, Closing, Acknowledged, Closed}
-use Rattle.sip_state.specs.declared.open_request.Upward.{Upward}
-use Rattle.sip_context.specs.Branches.{answered}
+use Rattle.sip_retransmission.specs.state.State.{is_invite, is_answering, is_success, is_provisional}
+use Rattle.sip_retransmission.specs.state.declared.open_request.LastAnswer.{LastAnswer}
+use Rattle.sip_retransmission.specs.state.declared.open_request.OpenRequest.{OpenRequest}
+use Rattle.sip_retransmission.specs.state.declared.open_request.Side.{Side}
+use Rattle.sip_retransmission.specs.state.declared.open_request.Side.TheVariants.{Answering, Closing, Acknowledged, Closed}
+use Rattle.sip_retransmission.specs.state.declared.open_request.Upward.{Upward}
+use Rattle.sip_retransmission.specs.context.Branches.{answered}
 use Rattle.sip_machines.specs.Steps.{Steps}
 use Rattle.sip_machines.specs.OtherServer.{RunsOtherServer, BeforeAnswer, WhileProvisional, AfterFinal, WhenClosed, other_side_timers, answer_actions}
 use Rattle.sip_machines.proofs.Statuses.{served_provisional, served_final}

@@ -10,7 +10,7 @@ use Rattle.sip_server.specs.ServerInvite as InviteServer
 use Rattle.sip_server.specs.ServerOther as OtherServer
 use Rattle.sip_server.specs.declared.server_invite.ServerInviteInput.TheVariants as OfInvite
 use Rattle.sip_server.specs.declared.server_other.ServerOtherInput.TheVariants as OfOther
-use Rattle.sip_state.specs.State.{is_success, is_failure, is_provisional}
+use Rattle.sip_retransmission.specs.state.State.{is_success, is_failure, is_provisional}
 
 -- ---- the tests among themselves
 

@@ -8,10 +8,10 @@ use Rattle.sip_client.specs.declared.actions.Action.TheVariants.{Ack, AckAgain, 
 use Rattle.sip_client.specs.declared.actions.Report.TheVariants.{Response}
 use Rattle.sip_client.specs.declared.client_invite.ClientInvite.{ClientInvite}
 use Rattle.sip_client.specs.declared.client_invite.ClientInvite.TheVariants.{Calling, Proceeding, Completed, Accepted, Terminated}
-use Rattle.sip_state.specs.declared.branch.Phase.{Phase}
-use Rattle.sip_state.specs.declared.branch.Phase.TheVariants.{Unheard, Heard, Cancelled, Done, Ended}
-use Rattle.sip_state.specs.declared.resend.Resend.{Resend}
-use Rattle.sip_state.specs.State.{is_final, is_success, is_failure}
+use Rattle.sip_retransmission.specs.state.declared.branch.Phase.{Phase}
+use Rattle.sip_retransmission.specs.state.declared.branch.Phase.TheVariants.{Unheard, Heard, Cancelled, Done, Ended}
+use Rattle.sip_retransmission.specs.state.declared.resend.Resend.{Resend}
+use Rattle.sip_retransmission.specs.state.State.{is_final, is_success, is_failure}
 
 -- The state of the transaction in a phase of its branch, whose request goes again then: while no response came,
 -- it holds the wait before that.

@@ -2,21 +2,21 @@
 -- RFC 6026 7.1).
 use Rattle.std.specs.Prelude.{ℕ, ◌≡◌, ◌&&◌, Bool, true, false, if◌then◌else◌, List, [], ◌∷◌, Option, Some, None}
 use Rattle.std.specs.Option.{option_map_or}
-use Rattle.sip_event.specs.declared.packet.Packet.{Packet}
+use Rattle.sip_retransmission.specs.event.declared.packet.Packet.{Packet}
 use Rattle.sip_transaction.specs.declared.letter.Letter.{Letter}
 use Rattle.sip_transaction.specs.declared.letter.Letter.TheVariants as By
 use Rattle.sip_server.specs.declared.actions.Action.{Action}
 use Rattle.sip_server.specs.declared.actions.Action.TheVariants.{Send, Up, Start}
 use Rattle.sip_server.specs.declared.server_invite.ServerInvite.{ServerInvite}
 use Rattle.sip_server.specs.declared.server_invite.ServerInvite.TheVariants.{Proceeding, Completed, Confirmed, Accepted, Terminated}
-use Rattle.sip_state.specs.declared.open_request.LastAnswer.{LastAnswer}
-use Rattle.sip_state.specs.declared.open_request.OpenRequest.{OpenRequest}
-use Rattle.sip_state.specs.declared.open_request.Side.{Side}
-use Rattle.sip_state.specs.declared.open_request.Side.TheVariants.{Answering, Closing, Acknowledged, Closed}
-use Rattle.sip_state.specs.declared.resend.Resend.{Resend}
-use Rattle.sip_state.specs.State.{is_answering, is_success, is_failure, is_provisional}
-use Rattle.sip_context.specs.Sending.{answer_to}
-use Rattle.sip_context.specs.Branches.{was_refused}
+use Rattle.sip_retransmission.specs.state.declared.open_request.LastAnswer.{LastAnswer}
+use Rattle.sip_retransmission.specs.state.declared.open_request.OpenRequest.{OpenRequest}
+use Rattle.sip_retransmission.specs.state.declared.open_request.Side.{Side}
+use Rattle.sip_retransmission.specs.state.declared.open_request.Side.TheVariants.{Answering, Closing, Acknowledged, Closed}
+use Rattle.sip_retransmission.specs.state.declared.resend.Resend.{Resend}
+use Rattle.sip_retransmission.specs.state.State.{is_answering, is_success, is_failure, is_provisional}
+use Rattle.sip_retransmission.specs.context.Sending.{answer_to}
+use Rattle.sip_retransmission.specs.context.Branches.{was_refused}
 
 -- The state of the transaction, by how far the answering side is, the answer that was sent last, and when that goes
 -- again: until its ACK a 300 to 699 does, and the state holds the wait before that.

@@ -7,10 +7,10 @@ use Rattle.sip_server.specs.declared.actions.Action.{Action}
 use Rattle.sip_server.specs.declared.actions.Action.TheVariants.{Send, Start}
 use Rattle.sip_server.specs.declared.server_other.ServerOther.{ServerOther}
 use Rattle.sip_server.specs.declared.server_other.ServerOther.TheVariants.{Trying, Proceeding, Completed, Terminated}
-use Rattle.sip_state.specs.declared.open_request.LastAnswer.{LastAnswer}
-use Rattle.sip_state.specs.declared.open_request.Side.{Side}
-use Rattle.sip_state.specs.declared.open_request.Side.TheVariants.{Answering, Closing, Acknowledged, Closed}
-use Rattle.sip_state.specs.State.{is_provisional}
+use Rattle.sip_retransmission.specs.state.declared.open_request.LastAnswer.{LastAnswer}
+use Rattle.sip_retransmission.specs.state.declared.open_request.Side.{Side}
+use Rattle.sip_retransmission.specs.state.declared.open_request.Side.TheVariants.{Answering, Closing, Acknowledged, Closed}
+use Rattle.sip_retransmission.specs.state.State.{is_provisional}
 
 -- The state of the transaction, by how far the answering side is, and the answer that was sent last. No ACK comes
 -- for such a request.

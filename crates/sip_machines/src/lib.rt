@@ -9,3 +9,6 @@ pub mod invite_client;
 pub mod invite_server;
 pub mod other_client;
 pub mod other_server;
+
+pub use sip_retransmission as retransmission;
+pub use sip_transaction as transaction;

@@ -1,17 +1,17 @@
 -- What a datagram does is the same in states that are the same.
 use Rattle.std.proofs.Common.{◌≡◌, ℕ, ◌≤◌, Bool, true, false, cond, List, [], ◌∷◌, refl, sym, subst, codes, Option, Some, None, bytes_eq}
 use Rattle.std.specs.Option.{option_map_or}
-use Rattle.sip_field.specs.declared.field.Field.{Field}
-use Rattle.sip_form.specs.declared.message.Message.{Message}
+use Rattle.sip_state.specs.field.declared.field.Field.{Field}
+use Rattle.sip_state.specs.form.declared.message.Message.{Message}
 use Rattle.sip_location.specs.declared.binding.Binding.{Binding}
 use Rattle.sip_location.specs.Sameness.{SameBindings}
 use Rattle.sip_location.proofs.Sameness.{same_later}
-use Rattle.sip_targets.specs.declared.targets.Targets.{Targets}
+use Rattle.sip_context.specs.targets.declared.targets.Targets.{Targets}
 use Rattle.sip_dialog.specs.declared.dialog.Dialog.{Dialog}
 use Rattle.sip_dialog.specs.Sameness.{SameDialogs}
 use Rattle.sip_dialog.proofs.Sameness.{dialogs_later}
-use Rattle.sip_nonces.specs.declared.nonces.Nonce.{Nonce}
-use Rattle.sip_nonces.specs.Nonces.{issued}
+use Rattle.sip_state.specs.nonces.declared.nonces.Nonce.{Nonce}
+use Rattle.sip_state.specs.nonces.Nonces.{issued}
 use Rattle.sip_auth.specs.Proof.{used}
 use Rattle.sip_audit.specs.declared.record.Record.{Record}
 use Rattle.sip_state.specs.declared.server.Server.{Server}

@@ -1,11 +1,11 @@
 -- A REGISTER counts as let through exactly where it is valid and new, and a rule lets it through.
 use Rattle.std.proofs.Common.{◌≡◌, ◌↔◌, ℕ, List, cond, Bool, true, false, refl, sym, ◌∙◌, ap, Option, Some, None}
 use Rattle.std.specs.Option.{option_and_then}
-use Rattle.sip_form.specs.declared.message.Message.{Message}
-use Rattle.sip_message.specs.Reading.{reading_of}
-use Rattle.sip_header.specs.declared.core_fields.CoreFields.{CoreFields}
-use Rattle.sip_policy.specs.declared.decision.Decision.{Decision}
-use Rattle.sip_targets.specs.declared.targets.Targets.{Targets}
+use Rattle.sip_state.specs.form.declared.message.Message.{Message}
+use Rattle.sip_verdict.specs.message.Reading.{reading_of}
+use Rattle.sip_state.specs.header.declared.core_fields.CoreFields.{CoreFields}
+use Rattle.sip_verdict.specs.policy.declared.decision.Decision.{Decision}
+use Rattle.sip_context.specs.targets.declared.targets.Targets.{Targets}
 use Rattle.sip_state.specs.declared.server.Server.{Server}
 use Rattle.sip_state.specs.declared.proxy_state.ProxyState.{ProxyState}
 use Rattle.sip_state.specs.Arrival.{Arrival}

@@ -4,7 +4,7 @@ use Rattle.std.specs.List.{AllByRecursion}
 use Rattle.std.proofs.lemmas.Bool.Decides.{nat_tests}
 use Rattle.std.proofs.lemmas.List.Sums.{sum_by-append}
 use Rattle.sip_best.specs.Best.{best_of}
-use Rattle.sip_event.specs.declared.packet.Packet.{Packet}
+use Rattle.sip_context.specs.event.declared.packet.Packet.{Packet}
 use Rattle.sip_state.specs.declared.server.Server.{Server}
 use Rattle.sip_state.specs.declared.open_request.Side.{Side}
 use Rattle.sip_state.specs.declared.open_request.OpenRequest.{OpenRequest}

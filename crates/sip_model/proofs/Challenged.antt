@@ -3,16 +3,16 @@ use Rattle.std.proofs.Common.{◌≡◌, ◌∙◌, ℕ, zero, suc, ◌+◌, ◌
 use Rattle.std.specs.Prelude.{◌-◌, option_map}
 use Rattle.std.specs.Option.{option_map_or}
 use Rattle.std.specs.List.{AllByRecursion, list_any}
-use Rattle.sip_form.specs.declared.message.Message.{Message}
-use Rattle.sip_nonces.specs.declared.nonces.Nonce.{Nonce}
-use Rattle.sip_digest.specs.Credential.{Credential, count_of}
-use Rattle.sip_nonces.specs.NonceText.{nonce_text, word_of}
-use Rattle.sip_nonces.specs.Nonces.{is_this, issued, counted}
+use Rattle.sip_state.specs.form.declared.message.Message.{Message}
+use Rattle.sip_state.specs.nonces.declared.nonces.Nonce.{Nonce}
+use Rattle.sip_state.specs.digest.Credential.{Credential, count_of}
+use Rattle.sip_state.specs.nonces.NonceText.{nonce_text, word_of}
+use Rattle.sip_state.specs.nonces.Nonces.{is_this, issued, counted}
 use Rattle.sip_auth.specs.Proof.{Proof, Right, Stale, Wrong, used, proof_of}
 use Rattle.sip_auth.specs.RightAnswer.{IsRightAnswer}
 use Rattle.sip_auth.proofs.RightAnswers.{right_rests}
-use Rattle.sip_event.specs.declared.event.StepOut.{StepOut}
-use Rattle.sip_event.specs.declared.event.Event.TheVariants.{Datagram, Time, Fault}
+use Rattle.sip_context.specs.event.declared.event.StepOut.{StepOut}
+use Rattle.sip_context.specs.event.declared.event.Event.TheVariants.{Datagram, Time, Fault}
 use Rattle.sip_state.specs.declared.server.Server.{Server}
 use Rattle.sip_state.specs.declared.proxy_state.ProxyState.{ProxyState}
 use Rattle.sip_state.specs.State.{first_state}

@@ -11,7 +11,7 @@ use Rattle.sip_state.specs.declared.branch.Phase.TheVariants.{Unheard, Heard, Ca
 use Rattle.sip_state.specs.declared.open_request.Side.TheVariants.{Answering, Closing, Acknowledged, Closed}
 use Rattle.sip_state.specs.State.{is_invite, is_answering, phase_deadline, side_deadline, is_provisional}
 use Rattle.sip_state.specs.declared.open_request.Upward.{Upward}
-use Rattle.sip_event.specs.declared.packet.Packet.{Packet}
+use Rattle.sip_context.specs.event.declared.packet.Packet.{Packet}
 use Rattle.sip_state.specs.declared.resend.Resend.{Resend}
 use Rattle.sip_retransmission.specs.Retransmission.{resent_branch, branch_next, IsResent, OfAnswer, OfRequest}
 use Rattle.sip_context.specs.Branches.{Change, is_same_branch, with_phase, given_up, best_upward, is_ready, is_cancellable, cancel_branch, after_upward, settled, target_overdue, side_overdue, turned, held_branch, with_cancel}

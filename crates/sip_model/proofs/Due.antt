@@ -2,18 +2,18 @@
 use Rattle.std.proofs.Common.{◌≡◌, ◌∙◌, inr, ℕ, ◌+◌, ◌&&◌, ◌||◌, ◌==◌, not, List, [], ◌∷◌, ◌++◌, filter, flat_map, cond, Bool, true, false, refl, sym, ap, ap₂, subst, Contains, Option, Some, None, IfSome, option_map, true≢false, arith}
 use Rattle.std.specs.List.{AllByRecursion}
 use Rattle.std.specs.Option.{option_map_or}
-use Rattle.sip_field.specs.declared.field.Field.{Field}
-use Rattle.sip_form.specs.declared.message.Start.TheVariants.{Status}
-use Rattle.sip_form.specs.declared.message.Message.{Message}
-use Rattle.sip_field.specs.declared.field_name.FieldName.TheVariants as Name
-use Rattle.sip_field.specs.Values.{first_value}
-use Rattle.sip_form.specs.Text.{text_of}
-use Rattle.sip_edit.specs.OwnVia.{without_top_via}
-use Rattle.sip_edit.specs.OwnRequests.{cancel_of}
+use Rattle.sip_state.specs.field.declared.field.Field.{Field}
+use Rattle.sip_state.specs.form.declared.message.Start.TheVariants.{Status}
+use Rattle.sip_state.specs.form.declared.message.Message.{Message}
+use Rattle.sip_state.specs.field.declared.field_name.FieldName.TheVariants as Name
+use Rattle.sip_state.specs.field.Values.{first_value}
+use Rattle.sip_state.specs.form.Text.{text_of}
+use Rattle.sip_context.specs.edit.OwnVia.{without_top_via}
+use Rattle.sip_context.specs.edit.OwnRequests.{cancel_of}
 use Rattle.sip_location.specs.declared.binding.Binding.{Binding}
 use Rattle.sip_best.specs.declared.final_answer.Final.{Final}
 use Rattle.sip_best.specs.Best.{best_of, is_challenge_status, taking_along}
-use Rattle.sip_event.specs.declared.packet.Packet.{Packet}
+use Rattle.sip_context.specs.event.declared.packet.Packet.{Packet}
 use Rattle.sip_state.specs.declared.server.Server.{Server}
 use Rattle.sip_state.specs.declared.branch.Phase.{Phase}
 use Rattle.sip_state.specs.declared.branch.Branch.{Branch}

@@ -1,24 +1,24 @@
 -- What a verdict on a datagram does sends what is owed.
 use Rattle.std.proofs.Common.{◌≡◌, ◌∙◌, ℕ, ◌+◌, ◌≤◌, ◌&&◌, not, is_some, List, [], ◌∷◌, ◌++◌, length, map, filter, flat_map, cond, codes, bytes_eq, Bool, true, false, refl, sym, ap, ap₂, subst, Contains, Option, Some, None, IfSome, true≢false, arith}
 use Rattle.std.specs.List.{AllByRecursion}
-use Rattle.sip_uri.specs.declared.aor.Aor.{Aor}
-use Rattle.sip_field.specs.declared.field.Field.{Field}
-use Rattle.sip_form.specs.declared.message.Message.{Message}
-use Rattle.sip_form.specs.Text.{text_of}
-use Rattle.sip_header.specs.declared.core_fields.CoreFields.{CoreFields}
-use Rattle.sip_host.specs.declared.addr.Addr.{Addr}
-use Rattle.sip_reply.specs.Extras.{denial_warning}
-use Rattle.sip_edit.specs.Onward.{onward_uri, with_record_route}
-use Rattle.sip_policy.specs.declared.decision.Decision.{Decision}
-use Rattle.sip_policy.specs.declared.operation.Operation.{Operation}
+use Rattle.sip_state.specs.uri.declared.aor.Aor.{Aor}
+use Rattle.sip_state.specs.field.declared.field.Field.{Field}
+use Rattle.sip_state.specs.form.declared.message.Message.{Message}
+use Rattle.sip_state.specs.form.Text.{text_of}
+use Rattle.sip_state.specs.header.declared.core_fields.CoreFields.{CoreFields}
+use Rattle.sip_state.specs.host.declared.addr.Addr.{Addr}
+use Rattle.sip_context.specs.reply.Extras.{denial_warning}
+use Rattle.sip_context.specs.edit.Onward.{onward_uri, with_record_route}
+use Rattle.sip_verdict.specs.policy.declared.decision.Decision.{Decision}
+use Rattle.sip_verdict.specs.policy.declared.operation.Operation.{Operation}
 use Rattle.sip_best.specs.declared.final_answer.Final.{Final}
 use Rattle.sip_location.specs.Binding.{live}
-use Rattle.sip_targets.specs.declared.target.Target.{Target}
-use Rattle.sip_targets.specs.declared.targets.Targets.{Targets}
-use Rattle.sip_targets.specs.Targets.{target_list}
+use Rattle.sip_context.specs.targets.declared.target.Target.{Target}
+use Rattle.sip_context.specs.targets.declared.targets.Targets.{Targets}
+use Rattle.sip_context.specs.targets.Targets.{target_list}
 use Rattle.sip_dialog.specs.declared.dialog.DialogId.{DialogId}
 use Rattle.sip_audit.specs.declared.record.Record.{Record}
-use Rattle.sip_event.specs.declared.packet.Packet.{Packet}
+use Rattle.sip_context.specs.event.declared.packet.Packet.{Packet}
 use Rattle.sip_state.specs.declared.server.Server.{Server}
 use Rattle.sip_state.specs.declared.branch.Branch.{Branch}
 use Rattle.sip_state.specs.declared.open_request.OpenRequest.{OpenRequest}

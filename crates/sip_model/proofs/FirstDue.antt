@@ -2,7 +2,7 @@
 use Rattle.std.proofs.Common.{◌≡◌, ◌⊎◌, ◌∙◌, inl, inr, ℕ, ◌+◌, ◌≤◌, Bool, true, false, cond, ◌==◌, nat_le, List, [], ◌∷◌, map, Option, Some, None, refl, ap, arith, count_by}
 use Rattle.std.proofs.lemmas.Bool.Decides.{nat_tests}
 use Rattle.std.specs.List.{AllByRecursion}
-use Rattle.sip_event.specs.declared.packet.Packet.{Packet}
+use Rattle.sip_context.specs.event.declared.packet.Packet.{Packet}
 use Rattle.sip_state.specs.declared.server.Server.{Server}
 use Rattle.sip_state.specs.declared.resend.Resend.{Resend}
 use Rattle.sip_state.specs.declared.branch.Branch.{Branch}

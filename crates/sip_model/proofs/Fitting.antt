@@ -3,30 +3,30 @@ use Rattle.std.proofs.Common.{◌≡◌, ◌∙◌, ℕ, ◌&&◌, ◌||◌, not
 use Rattle.std.specs.List.{AllByRecursion}
 use Rattle.std.specs.Option.{option_map_or}
 use Rattle.std.specs.Result.{result_ok}
-use Rattle.sip_field.specs.declared.field_name.FieldName.TheVariants as Name
-use Rattle.sip_field.specs.declared.field.Field.{Field}
-use Rattle.sip_form.specs.declared.message.Start.{Start}
-use Rattle.sip_form.specs.declared.message.Start.TheVariants.{Request, Status}
-use Rattle.sip_form.specs.declared.message.Message.{Message}
-use Rattle.sip_message.specs.Reading.{reading_of}
-use Rattle.sip_way.specs.declared.own.Own.{Own}
-use Rattle.sip_key.specs.declared.key.Key.{Key}
-use Rattle.sip_header.specs.declared.cseq.CSeq.{CSeq}
-use Rattle.sip_header.specs.declared.core_fields.CoreFields.{CoreFields}
-use Rattle.sip_key.specs.Key.{key_of}
-use Rattle.sip_field.specs.Values.{values_of}
-use Rattle.sip_header.specs.CoreFields.{core_of, cseq_in}
-use Rattle.sip_way.specs.Way.{request_uri_of}
-use Rattle.sip_policy.specs.User.{is_users_address}
-use Rattle.sip_host.specs.declared.addr.Addr.{Addr}
-use Rattle.sip_policy.specs.declared.decision.Decision.{Decision}
+use Rattle.sip_state.specs.field.declared.field_name.FieldName.TheVariants as Name
+use Rattle.sip_state.specs.field.declared.field.Field.{Field}
+use Rattle.sip_state.specs.form.declared.message.Start.{Start}
+use Rattle.sip_state.specs.form.declared.message.Start.TheVariants.{Request, Status}
+use Rattle.sip_state.specs.form.declared.message.Message.{Message}
+use Rattle.sip_verdict.specs.message.Reading.{reading_of}
+use Rattle.sip_verdict.specs.way.declared.own.Own.{Own}
+use Rattle.sip_state.specs.key.declared.key.Key.{Key}
+use Rattle.sip_state.specs.header.declared.cseq.CSeq.{CSeq}
+use Rattle.sip_state.specs.header.declared.core_fields.CoreFields.{CoreFields}
+use Rattle.sip_state.specs.key.Key.{key_of}
+use Rattle.sip_state.specs.field.Values.{values_of}
+use Rattle.sip_state.specs.header.CoreFields.{core_of, cseq_in}
+use Rattle.sip_verdict.specs.way.Way.{request_uri_of}
+use Rattle.sip_verdict.specs.policy.User.{is_users_address}
+use Rattle.sip_state.specs.host.declared.addr.Addr.{Addr}
+use Rattle.sip_verdict.specs.policy.declared.decision.Decision.{Decision}
 use Rattle.sip_location.specs.declared.binding.Binding.{Binding}
 use Rattle.sip_location.specs.declared.error.LocationError.{LocationError}
 use Rattle.sip_location.specs.declared.error.LocationError.TheVariants.{NoMemory, BadStar, TooBrief, OldCSeq, TooMany}
 use Rattle.sip_location.specs.Registration.{registered}
-use Rattle.sip_targets.specs.declared.targets.Targets.{Targets}
-use Rattle.sip_validate.specs.Candidate.{Candidate}
-use Rattle.sip_validate.specs.Refusal.{Row, rows, refusal, candidate_by, candidate_of, refusal_of, is_bad_request}
+use Rattle.sip_context.specs.targets.declared.targets.Targets.{Targets}
+use Rattle.sip_verdict.specs.validate.Candidate.{Candidate}
+use Rattle.sip_verdict.specs.validate.Refusal.{Row, rows, refusal, candidate_by, candidate_of, refusal_of, is_bad_request}
 use Rattle.sip_dialog.specs.declared.dialog.DialogId.{DialogId}
 use Rattle.sip_dialog.specs.Dialogs.{IsInDialog, is_in_dialog}
 use Rattle.std.proofs.lemmas.Slice.Eq.{bytes_eq-Decides}

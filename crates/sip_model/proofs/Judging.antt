@@ -4,18 +4,18 @@ use Rattle.std.specs.Prelude.{find, codes, Result, Ok, Err, ◌&&◌}
 use Rattle.std.specs.Option.{option_map_or}
 use Rattle.std.specs.Result.{result_ok}
 use Rattle.std.specs.Str.{bytes_eq}
-use Rattle.sip_field.specs.declared.field.Field.{Field}
-use Rattle.sip_form.specs.declared.message.Start.{Start}
-use Rattle.sip_form.specs.declared.message.Start.TheVariants as Begins
-use Rattle.sip_form.specs.declared.message.Message.{Message}
-use Rattle.sip_message.specs.Reading.{reading_of}
-use Rattle.sip_way.specs.declared.own.Own.{Own}
-use Rattle.sip_key.specs.declared.key.Key.{Key}
-use Rattle.sip_header.specs.declared.core_fields.CoreFields.{CoreFields}
-use Rattle.sip_key.specs.Key.{key_of}
-use Rattle.sip_header.specs.CoreFields.{core_of}
-use Rattle.sip_host.specs.declared.addr.Addr.{Addr}
-use Rattle.sip_validate.specs.Refusal.{refusal, refusal_of, candidate_by, is_bad_request}
+use Rattle.sip_state.specs.field.declared.field.Field.{Field}
+use Rattle.sip_state.specs.form.declared.message.Start.{Start}
+use Rattle.sip_state.specs.form.declared.message.Start.TheVariants as Begins
+use Rattle.sip_state.specs.form.declared.message.Message.{Message}
+use Rattle.sip_verdict.specs.message.Reading.{reading_of}
+use Rattle.sip_verdict.specs.way.declared.own.Own.{Own}
+use Rattle.sip_state.specs.key.declared.key.Key.{Key}
+use Rattle.sip_state.specs.header.declared.core_fields.CoreFields.{CoreFields}
+use Rattle.sip_state.specs.key.Key.{key_of}
+use Rattle.sip_state.specs.header.CoreFields.{core_of}
+use Rattle.sip_state.specs.host.declared.addr.Addr.{Addr}
+use Rattle.sip_verdict.specs.validate.Refusal.{refusal, refusal_of, candidate_by, is_bad_request}
 use Rattle.sip_dialog.specs.declared.dialog.DialogId.{DialogId}
 use Rattle.sip_dialog.specs.Dialogs.{is_in_dialog}
 use Rattle.sip_state.specs.declared.server.Server.{Server}

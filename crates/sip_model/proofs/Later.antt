@@ -2,9 +2,9 @@
 use Rattle.std.proofs.Common.{◌≡◌, ◌∙◌, inl, ℕ, ◌+◌, ◌==◌, not, ◌&&◌, ◌||◌, List, [], ◌∷◌, map, cond, Bool, true, false, refl, sym, ap, subst, Contains, Option, Some, None, true≢false, arith, ◌++◌}
 use Rattle.std.proofs.lemmas.Bool.Decides.{nat_tests}
 use Rattle.std.specs.List.{AllByRecursion}
-use Rattle.sip_form.specs.declared.message.Message.{Message}
+use Rattle.sip_state.specs.form.declared.message.Message.{Message}
 use Rattle.sip_best.specs.declared.final_answer.Final.{Final}
-use Rattle.sip_event.specs.declared.packet.Packet.{Packet}
+use Rattle.sip_context.specs.event.declared.packet.Packet.{Packet}
 use Rattle.sip_state.specs.declared.resend.Resend.{Resend}
 use Rattle.sip_state.specs.declared.server.Server.{Server}
 use Rattle.sip_state.specs.declared.branch.Phase.{Phase}

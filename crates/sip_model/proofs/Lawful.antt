@@ -1,8 +1,8 @@
 -- Every step of a run is lawful by its history.
 use Rattle.std.proofs.Common.{ℕ, List, [], ◌∷◌, Option, subst}
 use Rattle.sip_location.specs.Sameness.{SameBindings}
-use Rattle.sip_event.specs.declared.event.StepOut.{StepOut}
-use Rattle.sip_event.specs.declared.event.Event.{Event}
+use Rattle.sip_context.specs.event.declared.event.StepOut.{StepOut}
+use Rattle.sip_context.specs.event.declared.event.Event.{Event}
 use Rattle.sip_state.specs.declared.server.Server.{Server}
 use Rattle.sip_state.specs.declared.proxy_state.ProxyState.{ProxyState}
 use Rattle.sip_state.specs.State.{first_state}

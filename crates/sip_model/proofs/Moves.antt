@@ -1,8 +1,8 @@
 -- What a step makes of the list of open requests: it stays, one more is opened, or one that is open changes.
 use Rattle.std.proofs.Common.{◌≡◌, ℕ, ◌+◌, ◌≤◌, false, cond, List, [], ◌∷◌, ◌++◌, None, sym, ap, subst, ◌∙◌, append_assoc, count_by, is_some}
 use Rattle.std.specs.List.{AllByRecursion}
-use Rattle.sip_form.specs.declared.message.Message.{Message}
-use Rattle.sip_event.specs.declared.packet.Packet.{Packet}
+use Rattle.sip_state.specs.form.declared.message.Message.{Message}
+use Rattle.sip_context.specs.event.declared.packet.Packet.{Packet}
 use Rattle.sip_state.specs.declared.server.Server.{Server}
 use Rattle.sip_state.specs.declared.branch.Branch.{Branch}
 use Rattle.sip_state.specs.declared.open_request.OpenRequest.{OpenRequest}

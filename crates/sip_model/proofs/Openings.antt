@@ -1,7 +1,7 @@
 -- A request as it is opened: its name, its deadlines and its final answers.
 use Rattle.std.proofs.Common.{◌≡◌, ℕ, ◌+◌, ◌≤◌, Bool, true, false, cond, List, [], ◌∷◌, Option, Some, None, refl, sym, ap, subst, ◌∙◌, arith, is_some}
 use Rattle.std.specs.List.{AllByRecursion}
-use Rattle.sip_form.specs.declared.message.Message.{Message}
+use Rattle.sip_state.specs.form.declared.message.Message.{Message}
 use Rattle.sip_state.specs.declared.server.Server.{Server}
 use Rattle.sip_state.specs.declared.branch.Phase.{Phase}
 use Rattle.sip_state.specs.declared.branch.Branch.{Branch}

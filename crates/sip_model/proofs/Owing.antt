@@ -2,15 +2,15 @@
 use Rattle.std.proofs.Common.{◌≡◌, ℕ, ◌≤◌, ◌==◌, List, [], ◌∷◌, length, find, Bool, false, refl, sym, subst, arith, ⊎_elim, Contains, Option, Some, None, IfSome}
 use Rattle.std.specs.List.{AllByRecursion}
 use Rattle.std.specs.Option.{option_map_or}
-use Rattle.sip_uri.specs.declared.aor.Aor.{Aor}
-use Rattle.sip_form.specs.declared.message.Message.{Message}
-use Rattle.sip_message.specs.Reading.{reading_of}
-use Rattle.sip_host.specs.declared.addr.Addr.{Addr}
+use Rattle.sip_state.specs.uri.declared.aor.Aor.{Aor}
+use Rattle.sip_state.specs.form.declared.message.Message.{Message}
+use Rattle.sip_verdict.specs.message.Reading.{reading_of}
+use Rattle.sip_state.specs.host.declared.addr.Addr.{Addr}
 use Rattle.sip_location.specs.Binding.{live}
-use Rattle.sip_event.specs.declared.packet.Packet.{Packet}
-use Rattle.sip_event.specs.declared.packet.Ticket.{Ticket}
-use Rattle.sip_event.specs.declared.event.StepOut.{StepOut}
-use Rattle.sip_event.specs.declared.event.Event.TheVariants.{Datagram, Time, Fault}
+use Rattle.sip_context.specs.event.declared.packet.Packet.{Packet}
+use Rattle.sip_context.specs.event.declared.packet.Ticket.{Ticket}
+use Rattle.sip_context.specs.event.declared.event.StepOut.{StepOut}
+use Rattle.sip_context.specs.event.declared.event.Event.TheVariants.{Datagram, Time, Fault}
 use Rattle.sip_state.specs.declared.server.Server.{Server}
 use Rattle.sip_state.specs.declared.branch.Branch.{Branch}
 use Rattle.sip_state.specs.declared.open_request.OpenRequest.{OpenRequest}

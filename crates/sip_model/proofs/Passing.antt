@@ -2,9 +2,9 @@
 use Rattle.std.proofs.Common.{◌≡◌, ◌⊎◌, ◌∙◌, inl, inr, ℕ, zero, suc, ◌+◌, ◌-◌, ◌≤◌, ◌<◌, List, [], ◌∷◌, ◌++◌, reverse, max, Option, Some, refl, sym, ap, subst, arith, sum_by}
 use Rattle.std.proofs.lemmas.List.{reverse-append, reverse-reverse, append_assoc, append-nil}
 use Rattle.std.specs.List.{AllByRecursion}
-use Rattle.sip_event.specs.declared.event.StepOut.{StepOut}
-use Rattle.sip_event.specs.declared.event.Event.{Event}
-use Rattle.sip_event.specs.declared.event.Event.TheVariants.{Datagram, Time, Fault}
+use Rattle.sip_context.specs.event.declared.event.StepOut.{StepOut}
+use Rattle.sip_context.specs.event.declared.event.Event.{Event}
+use Rattle.sip_context.specs.event.declared.event.Event.TheVariants.{Datagram, Time, Fault}
 use Rattle.sip_state.specs.declared.server.Server.{Server}
 use Rattle.sip_state.specs.declared.open_request.OpenRequest.{OpenRequest}
 use Rattle.sip_state.specs.declared.proxy_state.ProxyState.{ProxyState}

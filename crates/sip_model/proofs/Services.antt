@@ -2,21 +2,21 @@
 use Rattle.std.proofs.Common.{◌≡◌, ℕ, List, [], ◌∷◌, cond, Bool, true, false, refl, ◌∙◌, ap, Option, Some, None, arith}
 use Rattle.std.specs.Prelude.{length}
 use Rattle.std.specs.Option.{option_map_or}
-use Rattle.sip_uri.specs.declared.uri.Uri.{Uri}
-use Rattle.sip_uri.specs.declared.aor.Aor.{Aor}
-use Rattle.sip_field.specs.declared.field.Field.{Field}
-use Rattle.sip_form.specs.declared.message.Message.{Message}
-use Rattle.sip_header.specs.declared.core_fields.CoreFields.{CoreFields}
-use Rattle.sip_way.specs.Way.{request_uri_of}
-use Rattle.sip_policy.specs.declared.decision.Decision.{Decision}
+use Rattle.sip_state.specs.uri.declared.uri.Uri.{Uri}
+use Rattle.sip_state.specs.uri.declared.aor.Aor.{Aor}
+use Rattle.sip_state.specs.field.declared.field.Field.{Field}
+use Rattle.sip_state.specs.form.declared.message.Message.{Message}
+use Rattle.sip_state.specs.header.declared.core_fields.CoreFields.{CoreFields}
+use Rattle.sip_verdict.specs.way.Way.{request_uri_of}
+use Rattle.sip_verdict.specs.policy.declared.decision.Decision.{Decision}
 use Rattle.sip_location.specs.declared.binding.Binding.{Binding}
-use Rattle.sip_targets.specs.declared.target.Target.{Target}
-use Rattle.sip_targets.specs.declared.targets.Targets.{Targets}
-use Rattle.sip_targets.specs.Targets.{target_list}
+use Rattle.sip_context.specs.targets.declared.target.Target.{Target}
+use Rattle.sip_context.specs.targets.declared.targets.Targets.{Targets}
+use Rattle.sip_context.specs.targets.Targets.{target_list}
 use Rattle.sip_audit.specs.declared.record.Outcome.{Outcome}
-use Rattle.sip_event.specs.declared.event.StepOut.{StepOut}
-use Rattle.sip_event.specs.declared.event.Event.TheVariants.{Datagram, Time, Fault}
-use Rattle.sip_event.specs.declared.packet.Packet.{Packet}
+use Rattle.sip_context.specs.event.declared.event.StepOut.{StepOut}
+use Rattle.sip_context.specs.event.declared.event.Event.TheVariants.{Datagram, Time, Fault}
+use Rattle.sip_context.specs.event.declared.packet.Packet.{Packet}
 use Rattle.sip_state.specs.declared.server.Server.{Server}
 use Rattle.sip_location.specs.Registering.{to_aor, aor_or_nobody}
 use Rattle.sip_state.specs.declared.proxy_state.ProxyState.{ProxyState}

@@ -4,17 +4,17 @@ use Rattle.std.specs.Prelude.{Result}
 use Rattle.std.specs.Option.{option_map_or}
 use Rattle.std.specs.Result.{result_ok}
 use Rattle.std.specs.List.{AllByRecursion}
-use Rattle.sip_uri.specs.declared.uri.Uri.{Uri}
-use Rattle.sip_uri.specs.declared.aor.Aor.{Aor}
-use Rattle.sip_form.specs.declared.message.Message.{Message}
-use Rattle.sip_header.specs.declared.core_fields.CoreFields.{CoreFields}
-use Rattle.sip_header.specs.CoreFields.{core_of}
-use Rattle.sip_way.specs.Way.{request_uri_of}
-use Rattle.sip_hops.specs.declared.host_address.HostAddress.{HostAddress}
-use Rattle.sip_hops.specs.Hop.{hop_of}
-use Rattle.sip_host.specs.declared.addr.Addr.{Addr}
-use Rattle.sip_policy.specs.declared.decision.Decision.{Decision}
-use Rattle.sip_policy.specs.User.{is_users_address}
+use Rattle.sip_state.specs.uri.declared.uri.Uri.{Uri}
+use Rattle.sip_state.specs.uri.declared.aor.Aor.{Aor}
+use Rattle.sip_state.specs.form.declared.message.Message.{Message}
+use Rattle.sip_state.specs.header.declared.core_fields.CoreFields.{CoreFields}
+use Rattle.sip_state.specs.header.CoreFields.{core_of}
+use Rattle.sip_verdict.specs.way.Way.{request_uri_of}
+use Rattle.sip_state.specs.hops.declared.host_address.HostAddress.{HostAddress}
+use Rattle.sip_state.specs.hops.Hop.{hop_of}
+use Rattle.sip_state.specs.host.declared.addr.Addr.{Addr}
+use Rattle.sip_verdict.specs.policy.declared.decision.Decision.{Decision}
+use Rattle.sip_verdict.specs.policy.User.{is_users_address}
 use Rattle.sip_location.specs.declared.binding.Binding.{Binding}
 use Rattle.sip_location.specs.declared.error.LocationError.{LocationError}
 use Rattle.sip_location.specs.declared.error.LocationError.TheVariants.{NoMemory, BadStar, TooBrief, OldCSeq, TooMany}
@@ -22,10 +22,10 @@ use Rattle.sip_location.specs.Binding.{live, contacts_of}
 use Rattle.sip_location.specs.Registration.{registered}
 use Rattle.sip_location.specs.Registering.{to_aor, registration_of}
 use Rattle.sip_location.proofs.Updates.{few_ever}
-use Rattle.sip_targets.specs.declared.target.Target.{Target}
-use Rattle.sip_targets.specs.declared.targets.Targets.{Targets}
-use Rattle.sip_targets.specs.Target.{target_for}
-use Rattle.sip_targets.specs.Targets.{targets_at, target_by, target_list}
+use Rattle.sip_context.specs.targets.declared.target.Target.{Target}
+use Rattle.sip_context.specs.targets.declared.targets.Targets.{Targets}
+use Rattle.sip_context.specs.targets.Target.{target_for}
+use Rattle.sip_context.specs.targets.Targets.{targets_at, target_by, target_list}
 use Rattle.sip_state.specs.declared.server.Server.{Server}
 use Rattle.sip_state.specs.declared.proxy_state.ProxyState.{ProxyState}
 use Rattle.sip_state.specs.State.{first_state}

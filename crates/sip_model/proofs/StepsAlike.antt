@@ -7,10 +7,10 @@ use Rattle.sip_location.proofs.Sameness.{same_later}
 use Rattle.sip_dialog.specs.declared.dialog.Dialog.{Dialog}
 use Rattle.sip_dialog.specs.Sameness.{SameDialogs}
 use Rattle.sip_dialog.proofs.Sameness.{dialogs_later}
-use Rattle.sip_event.specs.declared.packet.Packet.{Packet}
-use Rattle.sip_event.specs.declared.packet.Ticket.{Ticket}
-use Rattle.sip_event.specs.declared.event.StepOut.{StepOut}
-use Rattle.sip_event.specs.declared.event.Event.TheVariants.{Datagram, Time, Fault}
+use Rattle.sip_context.specs.event.declared.packet.Packet.{Packet}
+use Rattle.sip_context.specs.event.declared.packet.Ticket.{Ticket}
+use Rattle.sip_context.specs.event.declared.event.StepOut.{StepOut}
+use Rattle.sip_context.specs.event.declared.event.Event.TheVariants.{Datagram, Time, Fault}
 use Rattle.sip_state.specs.declared.server.Server.{Server}
 use Rattle.sip_state.specs.declared.branch.Branch.{Branch}
 use Rattle.sip_state.specs.declared.open_request.OpenRequest.{OpenRequest}

@@ -2,31 +2,31 @@
 use Rattle.std.proofs.Common.{◌≡◌, inl, inr, ℕ, Bool, true, false, cond, ◌&&◌, List, [], ◌∷◌, codes, find, Option, Some, None, option_and_then, is_some, refl, sym, ap, subst, count_by, bytes_eq}
 use Rattle.std.specs.Option.{option_map_or, unwrap_or}
 use Rattle.std.specs.Result.{result_ok}
-use Rattle.sip_uri.specs.declared.uri.Uri.{Uri}
-use Rattle.sip_uri.specs.declared.aor.Aor.{Aor}
-use Rattle.sip_field.specs.declared.field.Field.{Field}
-use Rattle.sip_form.specs.declared.message.Start.{Start}
-use Rattle.sip_form.specs.declared.message.Start.TheVariants.{Request, Status}
-use Rattle.sip_form.specs.declared.message.Message.{Message}
-use Rattle.sip_key.specs.declared.key.Key.{Key}
-use Rattle.sip_header.specs.declared.core_fields.CoreFields.{CoreFields}
-use Rattle.sip_key.specs.Key.{key_of}
-use Rattle.sip_header.specs.CoreFields.{core_of, cseq_in}
-use Rattle.sip_header.specs.declared.cseq.CSeq.{CSeq}
-use Rattle.sip_way.specs.Way.{request_uri_of}
-use Rattle.sip_host.specs.declared.addr.Addr.{Addr}
-use Rattle.sip_hops.specs.declared.host_address.HostAddress.{HostAddress}
-use Rattle.sip_hops.specs.Hop.{hop_of}
-use Rattle.sip_policy.specs.declared.decision.Decision.{Decision}
+use Rattle.sip_state.specs.uri.declared.uri.Uri.{Uri}
+use Rattle.sip_state.specs.uri.declared.aor.Aor.{Aor}
+use Rattle.sip_state.specs.field.declared.field.Field.{Field}
+use Rattle.sip_state.specs.form.declared.message.Start.{Start}
+use Rattle.sip_state.specs.form.declared.message.Start.TheVariants.{Request, Status}
+use Rattle.sip_state.specs.form.declared.message.Message.{Message}
+use Rattle.sip_state.specs.key.declared.key.Key.{Key}
+use Rattle.sip_state.specs.header.declared.core_fields.CoreFields.{CoreFields}
+use Rattle.sip_state.specs.key.Key.{key_of}
+use Rattle.sip_state.specs.header.CoreFields.{core_of, cseq_in}
+use Rattle.sip_state.specs.header.declared.cseq.CSeq.{CSeq}
+use Rattle.sip_verdict.specs.way.Way.{request_uri_of}
+use Rattle.sip_state.specs.host.declared.addr.Addr.{Addr}
+use Rattle.sip_state.specs.hops.declared.host_address.HostAddress.{HostAddress}
+use Rattle.sip_state.specs.hops.Hop.{hop_of}
+use Rattle.sip_verdict.specs.policy.declared.decision.Decision.{Decision}
 use Rattle.sip_location.specs.declared.binding.Binding.{Binding}
 use Rattle.sip_location.specs.Binding.{contacts_of}
-use Rattle.sip_targets.specs.declared.target.Target.{Target}
-use Rattle.sip_targets.specs.declared.targets.Targets.{Targets}
-use Rattle.sip_targets.specs.Targets.{targets_at, target_by}
-use Rattle.sip_validate.specs.Refusal.{refusal_of, is_bad_request}
+use Rattle.sip_context.specs.targets.declared.target.Target.{Target}
+use Rattle.sip_context.specs.targets.declared.targets.Targets.{Targets}
+use Rattle.sip_context.specs.targets.Targets.{targets_at, target_by}
+use Rattle.sip_verdict.specs.validate.Refusal.{refusal_of, is_bad_request}
 use Rattle.sip_dialog.specs.declared.dialog.DialogId.{DialogId}
 use Rattle.sip_dialog.specs.Dialogs.{is_in_dialog}
-use Rattle.sip_policy.specs.User.{is_users_address}
+use Rattle.sip_verdict.specs.policy.User.{is_users_address}
 use Rattle.sip_state.specs.declared.server.Server.{Server}
 use Rattle.sip_state.specs.declared.proxy_state.ProxyState.{ProxyState}
 use Rattle.sip_state.specs.declared.open_request.OpenRequest.{OpenRequest}

@@ -4,7 +4,7 @@ use Rattle.std.specs.List.{AllByRecursion, list_any, list_all}
 use Rattle.sip_best.specs.declared.final_answer.Final.{Final}
 use Rattle.sip_best.specs.Best.{best_of, picked, chosen_of, going_up, is_unbeaten, is_challenge_status, challenging}
 use Rattle.sip_best.proofs.Choices.{one_goes_up}
-use Rattle.sip_event.specs.declared.packet.Packet.{Packet}
+use Rattle.sip_context.specs.event.declared.packet.Packet.{Packet}
 use Rattle.sip_state.specs.declared.server.Server.{Server}
 use Rattle.sip_state.specs.declared.branch.Phase.{Phase}
 use Rattle.sip_state.specs.declared.branch.Branch.{Branch}

@@ -2,36 +2,36 @@
 use Rattle.std.specs.Prelude.{◌≡◌, ◌⊎◌, ℕ, ◌==◌, Bool, true, false, not, if◌then◌else◌, List, [], ◌∷◌, filter, find, codes, Contains, Option, Some, None, Ok}
 use Rattle.std.specs.List.{AllByRecursion, flat_map}
 use Rattle.std.specs.Str.{bytes_eq}
-use Rattle.sip_field.specs.declared.field.Field.{Field}
-use Rattle.sip_form.specs.declared.message.Start.TheVariants.{Request, Status}
-use Rattle.sip_form.specs.declared.message.Message.{Message}
-use Rattle.sip_field.specs.declared.field_name.FieldName.TheVariants as Name
-use Rattle.sip_field.specs.Values.{first_value}
-use Rattle.sip_message.specs.Reading.{reading_of}
-use Rattle.sip_form.specs.Text.{text_of}
-use Rattle.sip_key.specs.declared.key.Key.{Key}
-use Rattle.sip_header.specs.declared.core_fields.CoreFields.{CoreFields}
-use Rattle.sip_key.specs.Key.{key_of}
-use Rattle.sip_header.specs.CoreFields.{core_of}
-use Rattle.sip_host.specs.declared.addr.Addr.{Addr}
-use Rattle.sip_reply.specs.Extras.{denial_warning}
-use Rattle.sip_edit.specs.Onward.{onward_uri}
-use Rattle.sip_edit.specs.OwnRequests.{cancel_of}
-use Rattle.sip_edit.specs.OwnVia.{without_top_via}
-use Rattle.sip_policy.specs.declared.decision.Decision.{Decision}
-use Rattle.sip_policy.specs.Operation.{operation_of}
+use Rattle.sip_state.specs.field.declared.field.Field.{Field}
+use Rattle.sip_state.specs.form.declared.message.Start.TheVariants.{Request, Status}
+use Rattle.sip_state.specs.form.declared.message.Message.{Message}
+use Rattle.sip_state.specs.field.declared.field_name.FieldName.TheVariants as Name
+use Rattle.sip_state.specs.field.Values.{first_value}
+use Rattle.sip_verdict.specs.message.Reading.{reading_of}
+use Rattle.sip_state.specs.form.Text.{text_of}
+use Rattle.sip_state.specs.key.declared.key.Key.{Key}
+use Rattle.sip_state.specs.header.declared.core_fields.CoreFields.{CoreFields}
+use Rattle.sip_state.specs.key.Key.{key_of}
+use Rattle.sip_state.specs.header.CoreFields.{core_of}
+use Rattle.sip_state.specs.host.declared.addr.Addr.{Addr}
+use Rattle.sip_context.specs.reply.Extras.{denial_warning}
+use Rattle.sip_context.specs.edit.Onward.{onward_uri}
+use Rattle.sip_context.specs.edit.OwnRequests.{cancel_of}
+use Rattle.sip_context.specs.edit.OwnVia.{without_top_via}
+use Rattle.sip_verdict.specs.policy.declared.decision.Decision.{Decision}
+use Rattle.sip_verdict.specs.policy.Operation.{operation_of}
 use Rattle.sip_location.specs.declared.binding.Binding.{Binding}
 use Rattle.sip_location.specs.Sameness.{SameBindings}
-use Rattle.sip_targets.specs.declared.target.Target.{Target}
-use Rattle.sip_targets.specs.declared.targets.Targets.{Targets}
-use Rattle.sip_targets.specs.Targets.{target_list}
-use Rattle.sip_validate.specs.Refusal.{refusal_of}
+use Rattle.sip_context.specs.targets.declared.target.Target.{Target}
+use Rattle.sip_context.specs.targets.declared.targets.Targets.{Targets}
+use Rattle.sip_context.specs.targets.Targets.{target_list}
+use Rattle.sip_verdict.specs.validate.Refusal.{refusal_of}
 use Rattle.sip_best.specs.Best.{is_challenge_status, is_challenge_field, taking_along}
 use Rattle.sip_dialog.specs.declared.dialog.DialogId.{DialogId}
 use Rattle.sip_dialog.specs.Dialogs.{IsInDialog}
-use Rattle.sip_event.specs.declared.packet.Packet.{Packet}
-use Rattle.sip_event.specs.declared.event.StepOut.{StepOut}
-use Rattle.sip_event.specs.declared.event.Event.TheVariants.{Datagram, Time, Fault}
+use Rattle.sip_context.specs.event.declared.packet.Packet.{Packet}
+use Rattle.sip_context.specs.event.declared.event.StepOut.{StepOut}
+use Rattle.sip_context.specs.event.declared.event.Event.TheVariants.{Datagram, Time, Fault}
 use Rattle.sip_state.specs.declared.server.Server.{Server}
 use Rattle.sip_location.specs.Registering.{to_aor}
 use Rattle.sip_state.specs.declared.proxy_state.ProxyState.{ProxyState}

@@ -1,14 +1,14 @@
 -- The sample configuration with a window, and with a second key, for the worked examples.
 use Rattle.std.specs.Prelude.{ℕ, false, List, [], ◌∷◌, ◌++◌, codes, pos, Some}
-use Rattle.sip_field.specs.declared.field_name.FieldName.TheVariants as Name
-use Rattle.sip_form.specs.declared.message.Start.TheVariants.{Request}
-use Rattle.sip_form.specs.declared.message.Message.{Message}
-use Rattle.sip_reply.specs.Examples as Replies
-use Rattle.sip_edit.specs.OnwardExamples as Onward
-use Rattle.sip_policy.specs.declared.user.User.{User}
-use Rattle.sip_policy.specs.declared.window.Window.{Window}
-use Rattle.sip_policy.specs.Examples.{user_of, mufasas_a1, alices_a1, rules_with}
-use Rattle.sip_settings.specs.Sample as Settings
+use Rattle.sip_state.specs.field.declared.field_name.FieldName.TheVariants as Name
+use Rattle.sip_state.specs.form.declared.message.Start.TheVariants.{Request}
+use Rattle.sip_state.specs.form.declared.message.Message.{Message}
+use Rattle.sip_context.specs.reply.Examples as Replies
+use Rattle.sip_context.specs.edit.OnwardExamples as Onward
+use Rattle.sip_verdict.specs.policy.declared.user.User.{User}
+use Rattle.sip_verdict.specs.policy.declared.window.Window.{Window}
+use Rattle.sip_verdict.specs.policy.Examples.{user_of, mufasas_a1, alices_a1, rules_with}
+use Rattle.sip_state.specs.settings.Sample as Settings
 use Rattle.sip_state.specs.declared.proxy_state.ProxyState.{ProxyState}
 use Rattle.sip_state.specs.State.{first_state}
 use Rattle.sip_state.specs.declared.server.Server.{Server}

@@ -3,36 +3,36 @@ use Rattle.std.specs.Prelude.{ℕ, ◌+◌, Bool, true, false, ◌==◌, if◌th
 use Rattle.std.specs.Option.{option_map_or}
 use Rattle.std.specs.List.{flat_map}
 use Rattle.std.specs.Str.{bytes_eq}
-use Rattle.sip_nonces.specs.NonceText.{nonce_text}
-use Rattle.sip_nonces.specs.Nonces.{issued}
-use Rattle.sip_uri.specs.declared.aor.Aor.{Aor}
-use Rattle.sip_uri.specs.Uri as UriText
-use Rattle.sip_field.specs.declared.field.Field.{Field}
-use Rattle.sip_field.specs.declared.field_name.FieldName.{FieldName}
-use Rattle.sip_field.specs.declared.field_name.FieldName.TheVariants as Name
-use Rattle.sip_form.specs.declared.message.Start.{Start}
-use Rattle.sip_form.specs.declared.message.Start.TheVariants.{Request, Status}
-use Rattle.sip_form.specs.declared.message.Message.{Message}
-use Rattle.sip_form.specs.Text.{text_of}
-use Rattle.sip_host.specs.declared.addr.Addr.{Addr}
-use Rattle.sip_reply.specs.Challenges.{challenge_fields}
+use Rattle.sip_state.specs.nonces.NonceText.{nonce_text}
+use Rattle.sip_state.specs.nonces.Nonces.{issued}
+use Rattle.sip_state.specs.uri.declared.aor.Aor.{Aor}
+use Rattle.sip_state.specs.uri.Uri as UriText
+use Rattle.sip_state.specs.field.declared.field.Field.{Field}
+use Rattle.sip_state.specs.field.declared.field_name.FieldName.{FieldName}
+use Rattle.sip_state.specs.field.declared.field_name.FieldName.TheVariants as Name
+use Rattle.sip_state.specs.form.declared.message.Start.{Start}
+use Rattle.sip_state.specs.form.declared.message.Start.TheVariants.{Request, Status}
+use Rattle.sip_state.specs.form.declared.message.Message.{Message}
+use Rattle.sip_state.specs.form.Text.{text_of}
+use Rattle.sip_state.specs.host.declared.addr.Addr.{Addr}
+use Rattle.sip_context.specs.reply.Challenges.{challenge_fields}
 use Rattle.sip_auth.specs.Offer.{offers_sha256}
-use Rattle.sip_reply.specs.Contacts.{contact_value}
-use Rattle.sip_reply.specs.Extras.{denial_warning}
-use Rattle.sip_edit.specs.Onward.{onward_uri}
-use Rattle.sip_policy.specs.declared.operation.Operation.{Operation}
+use Rattle.sip_context.specs.reply.Contacts.{contact_value}
+use Rattle.sip_context.specs.reply.Extras.{denial_warning}
+use Rattle.sip_context.specs.edit.Onward.{onward_uri}
+use Rattle.sip_verdict.specs.policy.declared.operation.Operation.{Operation}
 use Rattle.sip_location.specs.declared.binding.Binding.{Binding}
 use Rattle.sip_location.specs.Binding.{live, seconds_left}
-use Rattle.sip_targets.specs.declared.target.Target.{Target}
-use Rattle.sip_targets.specs.declared.targets.Targets.{Targets}
-use Rattle.sip_targets.specs.Targets.{target_list}
+use Rattle.sip_context.specs.targets.declared.target.Target.{Target}
+use Rattle.sip_context.specs.targets.declared.targets.Targets.{Targets}
+use Rattle.sip_context.specs.targets.Targets.{target_list}
 use Rattle.sip_dialog.specs.declared.dialog.DialogId.{DialogId}
 use Rattle.sip_dialog.specs.declared.dialog.Dialog.{Dialog}
 use Rattle.sip_audit.specs.declared.record.Record.{Record}
 use Rattle.sip_audit.specs.declared.record.Operation.TheVariants as RecordedAs
 use Rattle.sip_audit.specs.declared.record.Operation as AuditOperation
 use Rattle.sip_audit.specs.declared.record.Outcome.{Outcome}
-use Rattle.sip_event.specs.declared.packet.Packet.{Packet}
+use Rattle.sip_context.specs.event.declared.packet.Packet.{Packet}
 use Rattle.sip_state.specs.declared.server.Server.{Server}
 use Rattle.sip_auth.specs.Proof.{proven, is_stale, used}
 use Rattle.sip_state.specs.declared.open_request.OpenRequest.{OpenRequest}

@@ -3,23 +3,23 @@ use Rattle.std.specs.Prelude.{ℕ, ◌==◌, Bool, false, not, List, [], ◌∷�
 use Rattle.std.specs.Option.{option_map_or}
 use Rattle.std.specs.List.{take_while}
 use Rattle.std.specs.Str.{byte}
-use Rattle.sip_uri.specs.declared.uri.Uri.{Uri}
-use Rattle.sip_uri.specs.declared.aor.Aor.{Aor}
-use Rattle.sip_uri.specs.Examples as Uris
-use Rattle.sip_field.specs.declared.field_name.FieldName.TheVariants as Name
-use Rattle.sip_field.specs.declared.field.Field.{Field}
-use Rattle.sip_form.specs.declared.message.Start.TheVariants.{Request, Status}
-use Rattle.sip_form.specs.declared.message.Message.{Message}
-use Rattle.sip_host.specs.declared.addr.Addr.{Addr}
-use Rattle.sip_hops.specs.Examples as Places
-use Rattle.sip_reply.specs.Examples as Replies
-use Rattle.sip_edit.specs.OnwardExamples as Onward
-use Rattle.sip_edit.specs.OwnVia.{branch_text}
-use Rattle.sip_policy.specs.Examples.{mufasas_a1, alices_a1}
-use Rattle.sip_settings.specs.Sample as Settings
+use Rattle.sip_state.specs.uri.declared.uri.Uri.{Uri}
+use Rattle.sip_state.specs.uri.declared.aor.Aor.{Aor}
+use Rattle.sip_state.specs.uri.Examples as Uris
+use Rattle.sip_state.specs.field.declared.field_name.FieldName.TheVariants as Name
+use Rattle.sip_state.specs.field.declared.field.Field.{Field}
+use Rattle.sip_state.specs.form.declared.message.Start.TheVariants.{Request, Status}
+use Rattle.sip_state.specs.form.declared.message.Message.{Message}
+use Rattle.sip_state.specs.host.declared.addr.Addr.{Addr}
+use Rattle.sip_state.specs.hops.Examples as Places
+use Rattle.sip_context.specs.reply.Examples as Replies
+use Rattle.sip_context.specs.edit.OnwardExamples as Onward
+use Rattle.sip_context.specs.edit.OwnVia.{branch_text}
+use Rattle.sip_verdict.specs.policy.Examples.{mufasas_a1, alices_a1}
+use Rattle.sip_state.specs.settings.Sample as Settings
 use Rattle.sip_auth.specs.Examples.{credential}
 use Rattle.sip_location.specs.declared.binding.Binding.{Binding}
-use Rattle.sip_event.specs.declared.packet.Packet.{Packet}
+use Rattle.sip_context.specs.event.declared.packet.Packet.{Packet}
 use Rattle.sip_state.specs.declared.server.Server.{Server}
 use Rattle.sip_state.specs.declared.proxy_state.ProxyState.{ProxyState}
 use Rattle.sip_state.specs.declared.open_request.OpenRequest.{OpenRequest}

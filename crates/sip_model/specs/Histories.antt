@@ -3,20 +3,20 @@ use Rattle.std.specs.Prelude.{◌≡◌, ◌<◌, ◌≤◌, ◌+◌, ℕ, ◌==
 use mathlib.Core.Logic.{inl, inr}
 use Rattle.std.specs.Option.{option_map_or, option_to_list}
 use Rattle.std.specs.List.{AllByRecursion}
-use Rattle.sip_form.specs.declared.message.Message.{Message}
-use Rattle.sip_nonces.specs.declared.nonces.Nonce.{Nonce}
-use Rattle.sip_digest.specs.Credential.{count_of}
-use Rattle.sip_nonces.specs.NonceText.{nonce_text, word_of}
-use Rattle.sip_nonces.specs.Nonces.{issued}
+use Rattle.sip_state.specs.form.declared.message.Message.{Message}
+use Rattle.sip_state.specs.nonces.declared.nonces.Nonce.{Nonce}
+use Rattle.sip_state.specs.digest.Credential.{count_of}
+use Rattle.sip_state.specs.nonces.NonceText.{nonce_text, word_of}
+use Rattle.sip_state.specs.nonces.Nonces.{issued}
 use Rattle.sip_auth.specs.Proof.{Proof, Right, Stale, Wrong, used}
-use Rattle.sip_targets.specs.declared.targets.Targets.{Targets}
-use Rattle.sip_targets.specs.Targets.{target_list}
+use Rattle.sip_context.specs.targets.declared.targets.Targets.{Targets}
+use Rattle.sip_context.specs.targets.Targets.{target_list}
 use Rattle.sip_audit.specs.declared.record.Outcome.{Outcome}
 use Rattle.sip_audit.specs.declared.record.Record.{Record}
 use Rattle.sip_dialog.specs.declared.dialog.Dialog.{Dialog}
-use Rattle.sip_event.specs.declared.packet.Ticket.{Ticket}
-use Rattle.sip_event.specs.declared.event.StepOut.{StepOut}
-use Rattle.sip_event.specs.declared.event.Event.TheVariants.{Datagram, Time, Fault}
+use Rattle.sip_context.specs.event.declared.packet.Ticket.{Ticket}
+use Rattle.sip_context.specs.event.declared.event.StepOut.{StepOut}
+use Rattle.sip_context.specs.event.declared.event.Event.TheVariants.{Datagram, Time, Fault}
 use Rattle.sip_state.specs.declared.server.Server.{Server}
 use Rattle.sip_state.specs.declared.branch.Branch.{Branch}
 use Rattle.sip_state.specs.declared.open_request.OpenRequest.{OpenRequest}

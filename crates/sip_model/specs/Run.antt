@@ -1,8 +1,8 @@
 -- Whole runs of a proxy, as histories of links, the newest first.
 use Rattle.std.specs.Prelude.{◌≡◌, ℕ, List, [], ◌∷◌, reverse, Option, Some, None}
-use Rattle.sip_event.specs.declared.event.StepOut.{StepOut}
-use Rattle.sip_event.specs.declared.event.Event.{Event}
-use Rattle.sip_event.specs.declared.event.Event.TheVariants.{Datagram, Time, Fault}
+use Rattle.sip_context.specs.event.declared.event.StepOut.{StepOut}
+use Rattle.sip_context.specs.event.declared.event.Event.{Event}
+use Rattle.sip_context.specs.event.declared.event.Event.TheVariants.{Datagram, Time, Fault}
 use Rattle.sip_state.specs.declared.server.Server.{Server}
 use Rattle.sip_state.specs.declared.proxy_state.ProxyState.{ProxyState}
 use Rattle.sip_model.specs.Step.{Act, Given, Passing, IsStep}

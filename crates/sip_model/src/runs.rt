@@ -1,6 +1,6 @@
 ghost use Rattle.std.specs.Prelude.{ℕ, List, ◌++◌, Option};
-ghost use Rattle.sip_event.specs.declared.event.Event.{Event};
-ghost use Rattle.sip_event.specs.declared.event.StepOut.{StepOut};
+ghost use Rattle.sip_context.specs.event.declared.event.Event.{Event};
+ghost use Rattle.sip_context.specs.event.declared.event.StepOut.{StepOut};
 ghost use Rattle.sip_state.specs.declared.server.Server.{Server};
 ghost use Rattle.sip_state.specs.declared.proxy_state.ProxyState.{ProxyState};
 ghost use Rattle.sip_state.specs.State.{first_state};

@@ -2,21 +2,21 @@
 use Rattle.std.proofs.Common.{◌≡◌, ℕ, ◌+◌, ◌*◌, ◌≤◌, Bool, true, false, cond, List, [], ◌∷◌, map, Option, Some, None, arith, min}
 use Rattle.std.specs.Prelude.{◌&&◌, ◌||◌, ◌==◌, not}
 use Rattle.std.specs.List.{AllByRecursion}
-use Rattle.sip_form.specs.declared.message.Message.{Message}
-use Rattle.sip_best.specs.declared.final_answer.Final.{Final}
-use Rattle.sip_event.specs.declared.packet.Packet.{Packet}
-use Rattle.sip_state.specs.State.{is_invite, is_final, is_answering, is_success, is_decline, is_provisional}
-use Rattle.sip_state.specs.declared.branch.Branch.{Branch}
-use Rattle.sip_state.specs.declared.branch.Phase.{Phase}
-use Rattle.sip_state.specs.declared.branch.Phase.TheVariants.{Unheard, Heard, Cancelled, Done, Ended}
-use Rattle.sip_state.specs.declared.open_request.OpenRequest.{OpenRequest}
-use Rattle.sip_state.specs.declared.open_request.Side.{Side}
-use Rattle.sip_state.specs.declared.open_request.Side.TheVariants.{Answering, Closing, Acknowledged, Closed}
-use Rattle.sip_state.specs.declared.open_request.Upward.{Upward}
-use Rattle.sip_state.specs.declared.resend.Resend.{Resend}
-use Rattle.sip_state.specs.declared.server.Server.{Server}
-use Rattle.sip_context.specs.Branches.{is_same_branch, turned, with_phase, with_final, marked_branch, marked, given_up, answered, best_upward, is_cancellable, cancel_branch, held_branch, with_cancel, with_cancels, after_upward, settled, invite_heard, other_heard, heard, relayed_provisional, relayed_success, linger, final_of, search_ended, told_to, with_answer, acks_of, further, target_responded, cancel_responded, responded, target_overdue, branch_overdue, overdue, side_overdue, is_unheard, send_failed, cancelled, acknowledged_side, was_refused, acknowledged}
-use Rattle.sip_retransmission.specs.Retransmission.{resend_after, branch_next, answer_next, insists, goes_again, answer_due, branch_due, resent_branch, with_resend, IsResent, OfAnswer, OfRequest}
+use Rattle.sip_branches.specs.form.declared.message.Message.{Message}
+use Rattle.sip_branches.specs.best.declared.final_answer.Final.{Final}
+use Rattle.sip_branches.specs.event.declared.packet.Packet.{Packet}
+use Rattle.sip_branches.specs.state.State.{is_invite, is_final, is_answering, is_success, is_decline, is_provisional}
+use Rattle.sip_branches.specs.state.declared.branch.Branch.{Branch}
+use Rattle.sip_branches.specs.state.declared.branch.Phase.{Phase}
+use Rattle.sip_branches.specs.state.declared.branch.Phase.TheVariants.{Unheard, Heard, Cancelled, Done, Ended}
+use Rattle.sip_branches.specs.state.declared.open_request.OpenRequest.{OpenRequest}
+use Rattle.sip_branches.specs.state.declared.open_request.Side.{Side}
+use Rattle.sip_branches.specs.state.declared.open_request.Side.TheVariants.{Answering, Closing, Acknowledged, Closed}
+use Rattle.sip_branches.specs.state.declared.open_request.Upward.{Upward}
+use Rattle.sip_branches.specs.state.declared.resend.Resend.{Resend}
+use Rattle.sip_branches.specs.state.declared.server.Server.{Server}
+use Rattle.sip_branches.specs.context.Branches.{is_same_branch, turned, with_phase, with_final, marked_branch, marked, given_up, answered, best_upward, is_cancellable, cancel_branch, held_branch, with_cancel, with_cancels, after_upward, settled, invite_heard, other_heard, heard, relayed_provisional, relayed_success, linger, final_of, search_ended, told_to, with_answer, acks_of, further, target_responded, cancel_responded, responded, target_overdue, branch_overdue, overdue, side_overdue, is_unheard, send_failed, cancelled, acknowledged_side, was_refused, acknowledged}
+use Rattle.sip_ties.specs.retransmission.Retransmission.{resend_after, branch_next, answer_next, insists, goes_again, answer_due, branch_due, resent_branch, with_resend, IsResent, OfAnswer, OfRequest}
 use Rattle.sip_moments.specs.Near.{IsNear, IsPhaseNear, IsSideNear, IsBranchWithin, IsWithin}
 use Rattle.sip_moments.proofs.Lists.{all_map, all_flat_map, all_weaker}
 use Rattle.sip_moments.proofs.Near.{near_earlier}

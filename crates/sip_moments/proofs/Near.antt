@@ -1,16 +1,16 @@
 -- What is near a moment, and what follows.
 use Rattle.std.proofs.Common.{◌≡◌, ℕ, ◌+◌, ◌<◌, ◌≤◌, ◌^◌, Bool, true, false, cond, Some, None, IfSome, arith, option_to_list, filter_map, is_some}
 use Rattle.std.specs.List.{AllByRecursion}
-use Rattle.sip_targets.specs.declared.target.Target.{Target}
-use Rattle.sip_state.specs.State.{phase_deadline, side_deadline, deadlines_of}
-use Rattle.sip_state.specs.declared.branch.Branch.{Branch}
-use Rattle.sip_state.specs.declared.branch.Phase.{Phase}
-use Rattle.sip_state.specs.declared.branch.Phase.TheVariants.{Unheard, Heard, Cancelled, Done, Ended}
-use Rattle.sip_state.specs.declared.open_request.OpenRequest.{OpenRequest}
-use Rattle.sip_state.specs.declared.open_request.Side.{Side}
-use Rattle.sip_state.specs.declared.open_request.Side.TheVariants.{Answering, Closing, Acknowledged, Closed}
-use Rattle.sip_context.specs.Opening.{branch_to}
-use Rattle.sip_retransmission.specs.Retransmission.{resends_of, insists, answer_due, goes_again, branch_due}
+use Rattle.sip_branches.specs.targets.declared.target.Target.{Target}
+use Rattle.sip_branches.specs.state.State.{phase_deadline, side_deadline, deadlines_of}
+use Rattle.sip_branches.specs.state.declared.branch.Branch.{Branch}
+use Rattle.sip_branches.specs.state.declared.branch.Phase.{Phase}
+use Rattle.sip_branches.specs.state.declared.branch.Phase.TheVariants.{Unheard, Heard, Cancelled, Done, Ended}
+use Rattle.sip_branches.specs.state.declared.open_request.OpenRequest.{OpenRequest}
+use Rattle.sip_branches.specs.state.declared.open_request.Side.{Side}
+use Rattle.sip_branches.specs.state.declared.open_request.Side.TheVariants.{Answering, Closing, Acknowledged, Closed}
+use Rattle.sip_branches.specs.context.Opening.{branch_to}
+use Rattle.sip_ties.specs.retransmission.Retransmission.{resends_of, insists, answer_due, goes_again, branch_due}
 use Rattle.sip_branches.specs.Early.{IsEarly}
 use Rattle.sip_moments.specs.Near.{IsNear, IsPhaseNear, IsSideNear, IsBranchWithin, IsWithin}
 use Rattle.sip_moments.proofs.Lists.{all_append, all_given, all_weaker}

@@ -3,25 +3,25 @@ use Rattle.std.proofs.Common.{◌≡◌, ℕ, ◌+◌, ◌<◌, ◌≤◌, ◌^�
 use Rattle.std.specs.Prelude.{◌&&◌, not, count_by}
 use Rattle.std.specs.List.{AllByRecursion}
 use Rattle.std.proofs.lemmas.Bool.Decides.{nat_tests}
-use Rattle.sip_transaction.specs.declared.letter.Letter.{Letter}
-use Rattle.sip_transaction.specs.declared.letter.Letter.TheVariants as By
-use Rattle.sip_timers.specs.declared.timer.Owner.{Owner}
-use Rattle.sip_timers.specs.declared.timer.Owner.TheVariants as Of
-use Rattle.sip_timers.specs.declared.timer.Timer.{Timer}
-use Rattle.sip_state.specs.State.{is_invite, is_success}
-use Rattle.sip_state.specs.declared.branch.Branch.{Branch}
-use Rattle.sip_state.specs.declared.branch.Phase.{Phase}
-use Rattle.sip_state.specs.declared.branch.Phase.TheVariants.{Unheard, Heard, Cancelled, Done, Ended}
-use Rattle.sip_state.specs.declared.open_request.LastAnswer.{LastAnswer}
-use Rattle.sip_state.specs.declared.open_request.OpenRequest.{OpenRequest}
-use Rattle.sip_state.specs.declared.open_request.Side.{Side}
-use Rattle.sip_state.specs.declared.open_request.Side.TheVariants.{Answering, Closing, Acknowledged, Closed}
-use Rattle.sip_state.specs.declared.resend.Resend.{Resend}
-use Rattle.sip_context.specs.Branches.{was_refused}
-use Rattle.sip_machines.specs.InviteClient.{invite_timers, call_timers}
-use Rattle.sip_machines.specs.OtherClient.{other_timers}
-use Rattle.sip_machines.specs.InviteServer.{invite_side_timers}
-use Rattle.sip_machines.specs.OtherServer.{other_side_timers}
+use Rattle.sip_ties.specs.transaction.declared.letter.Letter.{Letter}
+use Rattle.sip_ties.specs.transaction.declared.letter.Letter.TheVariants as By
+use Rattle.sip_ties.specs.timers.declared.timer.Owner.{Owner}
+use Rattle.sip_ties.specs.timers.declared.timer.Owner.TheVariants as Of
+use Rattle.sip_ties.specs.timers.declared.timer.Timer.{Timer}
+use Rattle.sip_branches.specs.state.State.{is_invite, is_success}
+use Rattle.sip_branches.specs.state.declared.branch.Branch.{Branch}
+use Rattle.sip_branches.specs.state.declared.branch.Phase.{Phase}
+use Rattle.sip_branches.specs.state.declared.branch.Phase.TheVariants.{Unheard, Heard, Cancelled, Done, Ended}
+use Rattle.sip_branches.specs.state.declared.open_request.LastAnswer.{LastAnswer}
+use Rattle.sip_branches.specs.state.declared.open_request.OpenRequest.{OpenRequest}
+use Rattle.sip_branches.specs.state.declared.open_request.Side.{Side}
+use Rattle.sip_branches.specs.state.declared.open_request.Side.TheVariants.{Answering, Closing, Acknowledged, Closed}
+use Rattle.sip_branches.specs.state.declared.resend.Resend.{Resend}
+use Rattle.sip_branches.specs.context.Branches.{was_refused}
+use Rattle.sip_ties.specs.machines.InviteClient.{invite_timers, call_timers}
+use Rattle.sip_ties.specs.machines.OtherClient.{other_timers}
+use Rattle.sip_ties.specs.machines.InviteServer.{invite_side_timers}
+use Rattle.sip_ties.specs.machines.OtherServer.{other_side_timers}
 use Rattle.sip_ties.specs.Ties.{named, part_timers, owner_of, branch_timers, side_timers, branches_timers, timers_of}
 use Rattle.sip_ties.specs.declared.timer_keys.TimerKeys.{TimerKeys}
 use Rattle.sip_moments.specs.Near.{IsNear, IsPhaseNear, IsSideNear, IsBranchWithin, IsWithin}

@@ -1,17 +1,17 @@
 -- A request that is opened is near the moment at which it comes.
 use Rattle.std.proofs.Common.{ℕ, ◌+◌, Bool, true, false, cond, List, [], ◌∷◌, is_some, None}
 use Rattle.std.specs.List.{AllByRecursion}
-use Rattle.sip_host.specs.declared.addr.Addr.{Addr}
-use Rattle.sip_form.specs.declared.message.Message.{Message}
-use Rattle.sip_targets.specs.declared.target.Target.{Target}
-use Rattle.sip_state.specs.Arrival.{Arrival}
-use Rattle.sip_state.specs.declared.branch.Branch.{Branch}
-use Rattle.sip_state.specs.declared.branch.Phase.TheVariants.{Unheard, Ended}
-use Rattle.sip_state.specs.declared.open_request.OpenRequest.{OpenRequest}
-use Rattle.sip_state.specs.declared.open_request.Upward.{Upward}
-use Rattle.sip_state.specs.declared.server.Server.{Server}
-use Rattle.sip_context.specs.Branches.{answered}
-use Rattle.sip_context.specs.Opening.{closing, branch_to, branches_from, dialog_branch, forking, trying, tried, opening}
+use Rattle.sip_branches.specs.host.declared.addr.Addr.{Addr}
+use Rattle.sip_branches.specs.form.declared.message.Message.{Message}
+use Rattle.sip_branches.specs.targets.declared.target.Target.{Target}
+use Rattle.sip_branches.specs.state.Arrival.{Arrival}
+use Rattle.sip_branches.specs.state.declared.branch.Branch.{Branch}
+use Rattle.sip_branches.specs.state.declared.branch.Phase.TheVariants.{Unheard, Ended}
+use Rattle.sip_branches.specs.state.declared.open_request.OpenRequest.{OpenRequest}
+use Rattle.sip_branches.specs.state.declared.open_request.Upward.{Upward}
+use Rattle.sip_branches.specs.state.declared.server.Server.{Server}
+use Rattle.sip_branches.specs.context.Branches.{answered}
+use Rattle.sip_branches.specs.context.Opening.{closing, branch_to, branches_from, dialog_branch, forking, trying, tried, opening}
 use Rattle.sip_moments.specs.Near.{IsPhaseNear, IsBranchWithin, IsWithin}
 use Rattle.sip_moments.proofs.Kept.{at_500, at_32000, call_at, answered_kept, settled_kept}
 

@@ -1,1 +1,2 @@
 pub mod Near
+pub use Rattle.sip_branches.specs as branches

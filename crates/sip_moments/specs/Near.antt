@@ -1,12 +1,12 @@
 -- How far ahead the moments of an open request lie, in milliseconds (RFC 3261 16.6 step 11, 17).
 use Rattle.std.specs.Prelude.{ℕ, ◌+◌, ◌≤◌}
 use Rattle.std.specs.List.{AllByRecursion}
-use Rattle.sip_state.specs.declared.branch.Branch.{Branch}
-use Rattle.sip_state.specs.declared.branch.Phase.{Phase}
-use Rattle.sip_state.specs.declared.branch.Phase.TheVariants.{Unheard, Heard, Cancelled, Done, Ended}
-use Rattle.sip_state.specs.declared.open_request.OpenRequest.{OpenRequest}
-use Rattle.sip_state.specs.declared.open_request.Side.{Side}
-use Rattle.sip_state.specs.declared.open_request.Side.TheVariants.{Answering, Closing, Acknowledged, Closed}
+use Rattle.sip_branches.specs.state.declared.branch.Branch.{Branch}
+use Rattle.sip_branches.specs.state.declared.branch.Phase.{Phase}
+use Rattle.sip_branches.specs.state.declared.branch.Phase.TheVariants.{Unheard, Heard, Cancelled, Done, Ended}
+use Rattle.sip_branches.specs.state.declared.open_request.OpenRequest.{OpenRequest}
+use Rattle.sip_branches.specs.state.declared.open_request.Side.{Side}
+use Rattle.sip_branches.specs.state.declared.open_request.Side.TheVariants.{Answering, Closing, Acknowledged, Closed}
 
 -- a moment is near another: at most 185,000 ms behind it; Timer C of an INVITE is set so far ahead, and nothing further (RFC 3261 16.6 step 11)
 abbrev pub IsNear : ℕ → ℕ → Type 0

@@ -1,11 +1,11 @@
 ghost use Rattle.std.specs.Prelude.{◌≡◌, ◌≤◌, ◌<◌, ◌^◌, ℕ, Bool, true, List, Contains, find, is_some, IfSome};
 ghost use Rattle.std.specs.List.{AllByRecursion};
-ghost use Rattle.sip_targets.specs.declared.target.Target.{Target};
-ghost use Rattle.sip_state.specs.declared.branch.Branch.{Branch};
-ghost use Rattle.sip_state.specs.declared.open_request.OpenRequest.{OpenRequest};
-ghost use Rattle.sip_state.specs.State.{deadlines_of};
-ghost use Rattle.sip_context.specs.Opening.{branch_to};
-ghost use Rattle.sip_retransmission.specs.Retransmission.{resends_of};
+ghost use Rattle.sip_branches.specs.targets.declared.target.Target.{Target};
+ghost use Rattle.sip_branches.specs.state.declared.branch.Branch.{Branch};
+ghost use Rattle.sip_branches.specs.state.declared.open_request.OpenRequest.{OpenRequest};
+ghost use Rattle.sip_branches.specs.state.State.{deadlines_of};
+ghost use Rattle.sip_branches.specs.context.Opening.{branch_to};
+ghost use Rattle.sip_ties.specs.retransmission.Retransmission.{resends_of};
 ghost use Rattle.sip_branches.specs.Early.{IsEarly};
 ghost use Rattle.sip_moments.specs.Near.{IsNear, IsBranchWithin, IsWithin};
 

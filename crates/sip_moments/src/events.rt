@@ -1,11 +1,11 @@
 ghost use Rattle.std.specs.Prelude.{◌≡◌, ◌≤◌, ℕ, List, Some};
-ghost use Rattle.sip_form.specs.declared.message.Message.{Message};
-ghost use Rattle.sip_event.specs.declared.packet.Packet.{Packet};
-ghost use Rattle.sip_state.specs.declared.branch.Branch.{Branch};
-ghost use Rattle.sip_state.specs.declared.open_request.OpenRequest.{OpenRequest};
-ghost use Rattle.sip_state.specs.declared.server.Server.{Server};
-ghost use Rattle.sip_context.specs.Branches.{responded, overdue, side_overdue, send_failed, cancelled, acknowledged};
-ghost use Rattle.sip_retransmission.specs.Retransmission.{IsResent, answer_due, answer_next, branch_due, with_resend};
+ghost use Rattle.sip_branches.specs.form.declared.message.Message.{Message};
+ghost use Rattle.sip_branches.specs.event.declared.packet.Packet.{Packet};
+ghost use Rattle.sip_branches.specs.state.declared.branch.Branch.{Branch};
+ghost use Rattle.sip_branches.specs.state.declared.open_request.OpenRequest.{OpenRequest};
+ghost use Rattle.sip_branches.specs.state.declared.server.Server.{Server};
+ghost use Rattle.sip_branches.specs.context.Branches.{responded, overdue, side_overdue, send_failed, cancelled, acknowledged};
+ghost use Rattle.sip_ties.specs.retransmission.Retransmission.{IsResent, answer_due, answer_next, branch_due, with_resend};
 ghost use Rattle.sip_moments.specs.Near.{IsBranchWithin, IsWithin};
 
 /// A response to a branch of a request leaves it near the moment at which it comes (RFC 3261 16.7).

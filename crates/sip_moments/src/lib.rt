@@ -8,3 +8,5 @@ pub mod bounds;
 pub mod events;
 pub mod openings;
 pub mod timers;
+
+pub use sip_branches as branches;

@@ -1,13 +1,13 @@
 ghost use Rattle.std.specs.Prelude.{ℕ, List, [], ◌∷◌};
 ghost use Rattle.std.specs.List.{AllByRecursion};
-ghost use Rattle.sip_host.specs.declared.addr.Addr.{Addr};
-ghost use Rattle.sip_form.specs.declared.message.Message.{Message};
-ghost use Rattle.sip_targets.specs.declared.target.Target.{Target};
-ghost use Rattle.sip_state.specs.Arrival.{Arrival};
-ghost use Rattle.sip_state.specs.declared.branch.Branch.{Branch};
-ghost use Rattle.sip_state.specs.declared.open_request.OpenRequest.{OpenRequest};
-ghost use Rattle.sip_state.specs.declared.server.Server.{Server};
-ghost use Rattle.sip_context.specs.Opening.{closing, branches_from, dialog_branch, forking, opening};
+ghost use Rattle.sip_branches.specs.host.declared.addr.Addr.{Addr};
+ghost use Rattle.sip_branches.specs.form.declared.message.Message.{Message};
+ghost use Rattle.sip_branches.specs.targets.declared.target.Target.{Target};
+ghost use Rattle.sip_branches.specs.state.Arrival.{Arrival};
+ghost use Rattle.sip_branches.specs.state.declared.branch.Branch.{Branch};
+ghost use Rattle.sip_branches.specs.state.declared.open_request.OpenRequest.{OpenRequest};
+ghost use Rattle.sip_branches.specs.state.declared.server.Server.{Server};
+ghost use Rattle.sip_branches.specs.context.Opening.{closing, branches_from, dialog_branch, forking, opening};
 ghost use Rattle.sip_moments.specs.Near.{IsBranchWithin, IsWithin};
 
 /// A request that is answered at once is near the moment at which it comes (RFC 3261 17.2).

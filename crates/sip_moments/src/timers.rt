@@ -1,9 +1,9 @@
 ghost use Rattle.std.specs.Prelude.{◌≡◌, ◌≤◌, ◌<◌, ◌+◌, ◌^◌, ℕ, nat_lt, List, count_by};
 ghost use Rattle.std.specs.List.{AllByRecursion};
-ghost use Rattle.sip_transaction.specs.declared.letter.Letter.{Letter};
-ghost use Rattle.sip_timers.specs.declared.timer.Timer.{Timer};
-ghost use Rattle.sip_state.specs.declared.branch.Branch.{Branch};
-ghost use Rattle.sip_state.specs.declared.open_request.OpenRequest.{OpenRequest};
+ghost use Rattle.sip_ties.specs.transaction.declared.letter.Letter.{Letter};
+ghost use Rattle.sip_ties.specs.timers.declared.timer.Timer.{Timer};
+ghost use Rattle.sip_branches.specs.state.declared.branch.Branch.{Branch};
+ghost use Rattle.sip_branches.specs.state.declared.open_request.OpenRequest.{OpenRequest};
 ghost use Rattle.sip_ties.specs.Ties.{branch_timers, side_timers, timers_of};
 ghost use Rattle.sip_ties.specs.declared.timer_keys.TimerKeys.{TimerKeys};
 ghost use Rattle.sip_moments.specs.Near.{IsNear, IsBranchWithin, IsWithin};

@@ -1,6 +1,6 @@
 -- Packets that are moved one by one.
 use Rattle.std.proofs.Common.{◌≡◌, ℕ, zero, suc, ◌+◌, ◌<◌, List, [], ◌∷◌, ◌++◌, length, map, take, drop, refl, sym, ap, ◌∙◌, arith, append_assoc, slice_index_or}
-use Rattle.sip_event.specs.declared.packet.Packet.{Packet}
+use Rattle.sip_branches.specs.event.declared.packet.Packet.{Packet}
 use Rattle.sip_opening.specs.Moved.{emptied}
 
 -- the place that is next holds what it held

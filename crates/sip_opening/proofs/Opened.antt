@@ -1,9 +1,9 @@
 -- The packets of a request that is sent to its branches, and what an event left.
 use Rattle.std.proofs.Common.{◌≡◌, List, ◌++◌, ◌∙◌, ap, append_assoc}
-use Rattle.sip_event.specs.declared.packet.Packet.{Packet}
-use Rattle.sip_state.specs.declared.open_request.OpenRequest.{OpenRequest}
-use Rattle.sip_state.specs.declared.open_request.Upward.{Upward}
-use Rattle.sip_context.specs.Branches.{Change}
+use Rattle.sip_branches.specs.event.declared.packet.Packet.{Packet}
+use Rattle.sip_branches.specs.state.declared.open_request.OpenRequest.{OpenRequest}
+use Rattle.sip_branches.specs.state.declared.open_request.Upward.{Upward}
+use Rattle.sip_branches.specs.context.Branches.{Change}
 use Rattle.sip_processing.specs.declared.sent.Sent.{Sent}
 use Rattle.sip_processing.specs.Sent.{change_of}
 use Rattle.sip_model.specs.Effect.{change_packets}

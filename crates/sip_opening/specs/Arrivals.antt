@@ -1,5 +1,5 @@
 -- A datagram as it comes.
-use Rattle.sip_state.specs.Arrival as States
+use Rattle.sip_branches.specs.state.Arrival as States
 use Rattle.sip_opening.specs.declared.arrival.Arrival as Declared
 
 -- the datagram of which the definitions speak

@@ -1,6 +1,6 @@
 -- A packet whose bytes were taken out.
 use Rattle.std.specs.Prelude.{[]}
-use Rattle.sip_event.specs.declared.packet.Packet.{Packet}
+use Rattle.sip_branches.specs.event.declared.packet.Packet.{Packet}
 
 -- the packet without them
 abbrev pub emptied : Packet → Packet

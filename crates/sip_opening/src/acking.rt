@@ -1,20 +1,20 @@
 ghost use Rattle.std.specs.Prelude.{◌≡◌, IfOk};
-ghost use Rattle.sip_form.specs.Text.{text_of};
-ghost use Rattle.sip_edit.specs.OwnVia.{branch_text, own_via};
-ghost use Rattle.sip_edit.specs.Onward.{onward_of, onward_uri};
-ghost use Rattle.sip_context.specs.Sending as Sendings;
+ghost use Rattle.sip_branches.specs.form.Text.{text_of};
+ghost use Rattle.sip_branches.specs.edit.OwnVia.{branch_text, own_via};
+ghost use Rattle.sip_branches.specs.edit.Onward.{onward_of, onward_uri};
+ghost use Rattle.sip_branches.specs.context.Sending as Sendings;
 ghost use Rattle.sip_model.specs.Effect as Effects;
 ghost use Rattle.sip_opening.specs.Arrivals.{arrival_of};
 
 use crate::arrival::Arrival;
-use sip_edit::{branch_text, own_via_value, with_top_via};
-use sip_event::{Packet, Ticket};
-use sip_form::{View, write_view};
-use sip_host::Addr;
-use sip_onward::{onward_base, onward_uri, to_target};
-use sip_sending::received_value;
-use sip_state::Server;
-use sip_text::Bytes;
+use sip_branches::edit::{branch_text, own_via_value, with_top_via};
+use sip_branches::event::{Packet, Ticket};
+use sip_branches::form::{View, write_view};
+use sip_branches::host::Addr;
+use sip_branches::state::Server;
+use sip_branches::text::Bytes;
+use sip_processing::onward::{onward_base, onward_uri, to_target};
+use sip_processing::sending::received_value;
 use std::alloc::{AllocError, Global};
 
 /// The value of this server's Via on a request that goes to one place.

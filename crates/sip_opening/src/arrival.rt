@@ -1,15 +1,15 @@
 ghost use Rattle.std.specs.Prelude.{◌≡◌, ◌+◌, ◌<◌, ◌^◌, Some};
-ghost use Rattle.sip_key.specs.Key.{key_of};
-ghost use Rattle.sip_context.specs.Opening as Definitions;
+ghost use Rattle.sip_branches.specs.key.Key.{key_of};
+ghost use Rattle.sip_branches.specs.context.Opening as Definitions;
 ghost use Rattle.sip_opening.specs.Arrivals.{arrival_of};
 
-use sip_form::Kept;
-use sip_host::Addr;
-use sip_key::Key;
+use sip_branches::form::Kept;
+use sip_branches::host::Addr;
+use sip_branches::key::Key;
+use sip_branches::shared::Shared;
+use sip_branches::state::{OpenRequest, Side};
+use sip_branches::text::Items;
 use sip_processing::first_resend;
-use sip_shared::Shared;
-use sip_state::{OpenRequest, Side};
-use sip_text::Items;
 use std::alloc::Global;
 
 /// A datagram as it comes.

@@ -1,18 +1,18 @@
 ghost use Rattle.std.specs.Prelude.{◌≡◌, ◌+◌, ◌<◌, ◌^◌, length, is_some, if◌then◌else◌, ◌∷◌, [], false, Some, None, IfOk};
-ghost use Rattle.sip_state.specs.declared.branch.Phase.TheVariants.{Unheard, Ended};
-ghost use Rattle.sip_state.specs.State as States;
-ghost use Rattle.sip_targets.specs.Targets.{target_list};
-ghost use Rattle.sip_context.specs.Opening as Definitions;
+ghost use Rattle.sip_branches.specs.state.declared.branch.Phase.TheVariants.{Unheard, Ended};
+ghost use Rattle.sip_branches.specs.state.State as States;
+ghost use Rattle.sip_branches.specs.targets.Targets.{target_list};
+ghost use Rattle.sip_branches.specs.context.Opening as Definitions;
 
-use sip_form::View;
-use sip_host::Addr;
-use sip_onward::onward_uri;
+use sip_branches::form::View;
+use sip_branches::host::Addr;
+use sip_branches::shared::Shared;
+use sip_branches::state::{Branch, Phase, Server};
+use sip_branches::targets::{Target, Targets};
+use sip_branches::text::{Bytes, Items};
+use sip_branches::uri::{Uri, write_uri};
 use sip_processing::first_resend;
-use sip_shared::Shared;
-use sip_state::{Branch, Phase, Server};
-use sip_targets::{Target, Targets};
-use sip_text::{Bytes, Items};
-use sip_uri::{Uri, write_uri};
+use sip_processing::onward::onward_uri;
 use std::alloc::{AllocError, Global};
 
 /// How long a branch waits for a first response, or its final one, in milliseconds: 64 times T1 (RFC 3261 17.1: Timers B

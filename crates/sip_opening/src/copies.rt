@@ -1,11 +1,11 @@
 ghost use Rattle.std.specs.Prelude.{◌≡◌, ◌++◌, option_map, OnOk};
-ghost use Rattle.sip_retransmission.specs.Retransmission;
+ghost use Rattle.sip_model.specs.retransmission.Retransmission;
 
-use sip_event::Packet;
+use sip_branches::event::Packet;
+use sip_branches::state::{Branch, OpenRequest, Server};
+use sip_branches::text::{Bytes, Items};
+use sip_processing::sending::{ack_packets, answer_to};
 use sip_resend::{answer_again, is_acked_again};
-use sip_sending::{ack_packets, answer_to};
-use sip_state::{Branch, OpenRequest, Server};
-use sip_text::{Bytes, Items};
 use std::alloc::{AllocError, Global};
 
 /// Adds what a copy of an open request gets, and what goes again by itself when it is due: the last answer, but no 2xx to

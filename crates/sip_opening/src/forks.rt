@@ -1,19 +1,19 @@
 ghost use Rattle.std.specs.Prelude.{◌≡◌, ◌+◌, ◌<◌, ◌^◌, ◌∷◌, [], length, Some, IfOk};
-ghost use Rattle.sip_key.specs.Key.{key_of};
-ghost use Rattle.sip_targets.specs.Targets.{target_list};
-ghost use Rattle.sip_context.specs.Opening as Definitions;
+ghost use Rattle.sip_branches.specs.key.Key.{key_of};
+ghost use Rattle.sip_branches.specs.targets.Targets.{target_list};
+ghost use Rattle.sip_branches.specs.context.Opening as Definitions;
 ghost use Rattle.sip_opening.specs.Arrivals.{arrival_of};
 
 use crate::arrival::{Arrival, arriving};
 use crate::branches::{branches_to, dialog_branch};
-use sip_best::Final;
-use sip_form::Kept;
-use sip_host::Addr;
-use sip_key::Key;
-use sip_shared::Shared;
-use sip_state::{Branch, OpenRequest, Server};
-use sip_targets::Targets;
-use sip_text::Items;
+use sip_branches::best::Final;
+use sip_branches::form::Kept;
+use sip_branches::host::Addr;
+use sip_branches::key::Key;
+use sip_branches::shared::Shared;
+use sip_branches::state::{Branch, OpenRequest, Server};
+use sip_branches::targets::Targets;
+use sip_branches::text::Items;
 use std::alloc::{AllocError, Global};
 
 /// The answers of the branches without an address: each counts as 503 (RFC 3261 16.9).

@@ -20,3 +20,12 @@ pub use forks::{fork_to, fork_within, forking};
 pub use opening::take_opening;
 pub use packets::{change_packets, upward_packets};
 pub use replying::{Replied, reply};
+pub use sip_branches::{
+    best, context, dialog, digest, edit, event, field, form, header, hops, host, key, location,
+    nonces, reply, settings, shared, state, targets, text, uri,
+};
+pub use sip_model as model;
+pub use sip_model::{audit, auth, message, policy, retransmission, validate, verdict, way};
+pub use sip_processing as processing;
+pub use sip_processing::onward;
+pub use sip_resend as resend;

@@ -1,18 +1,18 @@
 ghost use Rattle.std.specs.Prelude.{◌≡◌, ◌+◌, ◌<◌, ◌^◌, ◌++◌, [], false, is_some, None, IfOk, OnOk};
 ghost use Rattle.std.specs.List.{flat_map, list_any};
-ghost use Rattle.sip_state.specs.declared.branch.Branch.{Branch};
-ghost use Rattle.sip_context.specs.Opening as Definitions;
-ghost use Rattle.sip_context.specs.Sending as Sendings;
+ghost use Rattle.sip_branches.specs.state.declared.branch.Branch.{Branch};
+ghost use Rattle.sip_branches.specs.context.Opening as Definitions;
+ghost use Rattle.sip_branches.specs.context.Sending as Sendings;
 ghost use Rattle.sip_processing.specs.Sent.{change_of};
 ghost use Rattle.sip_model.specs.Effect as Effects;
 
 use crate::packets::{change_packets, put_packets, upward_packet};
-use sip_event::Packet;
+use sip_branches::event::Packet;
+use sip_branches::shared::Shared;
+use sip_branches::state::{Branch, OpenRequest, Server, Upward};
+use sip_branches::text::Items;
+use sip_processing::sending::{kept_answer, packets_of_branches};
 use sip_processing::{Sent, answered, is_invite, settle_alone};
-use sip_sending::{kept_answer, packets_of_branches};
-use sip_shared::Shared;
-use sip_state::{Branch, OpenRequest, Server, Upward};
-use sip_text::Items;
 use std::alloc::{AllocError, Global};
 
 /// Whether one of some branches has an address.

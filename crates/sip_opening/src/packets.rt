@@ -1,16 +1,16 @@
 ghost use Rattle.std.specs.Prelude.{◌≡◌, ◌++◌, ◌∷◌, [], map, false, IfOk, OnOk};
-ghost use Rattle.sip_form.specs.Text.{text_of};
-ghost use Rattle.sip_context.specs.Sending as Sendings;
+ghost use Rattle.sip_branches.specs.form.Text.{text_of};
+ghost use Rattle.sip_branches.specs.context.Sending as Sendings;
 ghost use Rattle.sip_processing.specs.Sent.{change_of};
 ghost use Rattle.sip_model.specs.Effect as Effects;
 ghost use Rattle.sip_opening.specs.Moved.{emptied};
 
-use sip_event::Packet;
-use sip_form::write_view;
+use sip_branches::event::Packet;
+use sip_branches::form::write_view;
+use sip_branches::state::{OpenRequest, Upward};
+use sip_branches::text::{Bytes, Items};
 use sip_processing::Sent;
-use sip_sending::answer_to;
-use sip_state::{OpenRequest, Upward};
-use sip_text::{Bytes, Items};
+use sip_processing::sending::answer_to;
 use std::alloc::{AllocError, Global};
 use std::mem::replace;
 

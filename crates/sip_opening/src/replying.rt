@@ -1,18 +1,18 @@
 ghost use Rattle.std.specs.Prelude.{◌≡◌, ◌+◌, ◌<◌, ◌^◌, false, Some, IfOk};
-ghost use Rattle.sip_form.specs.Text.{text_of};
-ghost use Rattle.sip_key.specs.Key.{key_of};
-ghost use Rattle.sip_context.specs.Opening as Definitions;
-ghost use Rattle.sip_context.specs.Sending as Sendings;
+ghost use Rattle.sip_branches.specs.form.Text.{text_of};
+ghost use Rattle.sip_branches.specs.key.Key.{key_of};
+ghost use Rattle.sip_branches.specs.context.Opening as Definitions;
+ghost use Rattle.sip_branches.specs.context.Sending as Sendings;
 ghost use Rattle.sip_opening.specs.Arrivals.{arrival_of};
 
 use crate::arrival::{Arrival, arriving};
-use sip_event::Packet;
-use sip_field::Fields;
-use sip_form::Kept;
-use sip_key::Key;
-use sip_sending::{answer_packet, made_answer};
-use sip_shared::Shared;
-use sip_state::{LastAnswer, OpenRequest, Server, Side};
+use sip_branches::event::Packet;
+use sip_branches::field::Fields;
+use sip_branches::form::Kept;
+use sip_branches::key::Key;
+use sip_branches::shared::Shared;
+use sip_branches::state::{LastAnswer, OpenRequest, Server, Side};
+use sip_processing::sending::{answer_packet, made_answer};
 use std::alloc::{AllocError, Global};
 
 /// How long a request that was answered at once stays, in milliseconds: 64 times T1 (RFC 3261 17.2: Timers H and J).

@@ -1,16 +1,16 @@
 -- What follows an event, told of equal parts.
 use Rattle.std.proofs.Common.{◌≡◌, ℕ, ◌+◌, List, ◌∙◌, ap, refl, Bool, true, false, cond, Some, None}
 use Rattle.std.specs.Prelude.{Option, ◌&&◌, ◌||◌}
-use Rattle.sip_form.specs.declared.message.Message.{Message}
-use Rattle.sip_edit.specs.OwnVia.{without_top_via}
-use Rattle.sip_event.specs.declared.packet.Packet.{Packet}
-use Rattle.sip_state.specs.declared.server.Server.{Server}
-use Rattle.sip_state.specs.declared.open_request.OpenRequest.{OpenRequest}
-use Rattle.sip_state.specs.declared.open_request.Upward.{Upward}
-use Rattle.sip_state.specs.declared.branch.Branch.{Branch}
-use Rattle.sip_state.specs.declared.branch.Phase.TheVariants.{Done}
-use Rattle.sip_state.specs.State.{is_answering, is_success}
-use Rattle.sip_context.specs.Branches.{Change, settled, cancel_responded, target_responded, responded, acks_of, is_accepted, relayed_success, told_to, linger, with_phase, with_final, search_ended, with_answer}
+use Rattle.sip_branches.specs.form.declared.message.Message.{Message}
+use Rattle.sip_branches.specs.edit.OwnVia.{without_top_via}
+use Rattle.sip_branches.specs.event.declared.packet.Packet.{Packet}
+use Rattle.sip_branches.specs.state.declared.server.Server.{Server}
+use Rattle.sip_branches.specs.state.declared.open_request.OpenRequest.{OpenRequest}
+use Rattle.sip_branches.specs.state.declared.open_request.Upward.{Upward}
+use Rattle.sip_branches.specs.state.declared.branch.Branch.{Branch}
+use Rattle.sip_branches.specs.state.declared.branch.Phase.TheVariants.{Done}
+use Rattle.sip_branches.specs.state.State.{is_answering, is_success}
+use Rattle.sip_branches.specs.context.Branches.{Change, settled, cancel_responded, target_responded, responded, acks_of, is_accepted, relayed_success, told_to, linger, with_phase, with_final, search_ended, with_answer}
 
 pub settled_alike : (server : Server) (now : ℕ) (acks acks' : List Packet) (up up' : Option Upward) (r r' : OpenRequest) (change : Change)
     → change ≡ settled server now acks up r → acks ≡ acks' → up ≡ up' → r ≡ r' → change ≡ settled server now acks' up' r'

@@ -1,6 +1,6 @@
 -- What an event makes of an open request.
-use Rattle.sip_state.specs.declared.open_request.OpenRequest.{OpenRequest}
-use Rattle.sip_context.specs.Branches.{Change}
+use Rattle.sip_branches.specs.state.declared.open_request.OpenRequest.{OpenRequest}
+use Rattle.sip_branches.specs.context.Branches.{Change}
 use Rattle.sip_processing.specs.declared.sent.Sent.{Sent}
 
 -- the change to a request with which this is sent

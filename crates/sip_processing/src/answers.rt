@@ -1,17 +1,17 @@
 ghost use Rattle.std.specs.Prelude.{◌≡◌, ◌<◌, ◌+◌, ◌^◌, ◌++◌, ◌&&◌, IfOk, OnOk};
-ghost use Rattle.sip_form.specs.Text.{text_of};
-ghost use Rattle.sip_state.specs.State as States;
-ghost use Rattle.sip_context.specs.Branches as Contexts;
+ghost use Rattle.sip_branches.specs.form.Text.{text_of};
+ghost use Rattle.sip_branches.specs.state.State as States;
+ghost use Rattle.sip_branches.specs.context.Branches as Contexts;
 
 use crate::side::{first_resend, is_answering, side_after};
 use crate::status::{is_invite, is_provisional, is_success};
-use sip_best::{Final, best};
 use sip_branches::all_final;
-use sip_form::{Kept, write_view};
+use sip_branches::best::{Final, best};
+use sip_branches::form::{Kept, write_view};
+use sip_branches::shared::Shared;
+use sip_branches::state::{LastAnswer, OpenRequest, Server, Upward};
+use sip_branches::text::{Bytes, Items};
 use sip_sending::kept_answer;
-use sip_shared::Shared;
-use sip_state::{LastAnswer, OpenRequest, Server, Upward};
-use sip_text::{Bytes, Items};
 use std::alloc::{AllocError, Global};
 
 /// The message of an answer, which is made here if none came.

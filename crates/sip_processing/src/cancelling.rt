@@ -1,5 +1,5 @@
 ghost use Rattle.std.specs.Prelude.{◌≡◌, ◌<◌, ◌+◌, ◌^◌, IfOk};
-ghost use Rattle.sip_context.specs.Branches as Contexts;
+ghost use Rattle.sip_branches.specs.context.Branches as Contexts;
 ghost use Rattle.sip_processing.specs.Sent.{change_of};
 
 use crate::sent::Sent;
@@ -7,7 +7,7 @@ use crate::settling::settle_alone;
 use crate::side::is_answering;
 use crate::status::is_invite;
 use sip_branches::mark;
-use sip_state::{OpenRequest, Server};
+use sip_branches::state::{OpenRequest, Server};
 use std::alloc::{AllocError, Global};
 
 /// A CANCEL from the caller: an INVITE without a final answer is cancelled, each branch once a provisional response

@@ -1,14 +1,14 @@
 ghost use Rattle.std.specs.Prelude.{◌≡◌, ◌<◌, ◌+◌, ◌^◌, IfOk, OnOk};
-ghost use Rattle.sip_state.specs.declared.branch.Phase.TheVariants.{Heard};
-ghost use Rattle.sip_context.specs.Branches as Contexts;
+ghost use Rattle.sip_branches.specs.state.declared.branch.Phase.TheVariants.{Heard};
+ghost use Rattle.sip_branches.specs.context.Branches as Contexts;
 ghost use Rattle.sip_processing.specs.Sent.{change_of};
 
 use crate::finals::{end, give_up};
 use crate::sent::Sent;
 use crate::settling::settle_alone;
 use crate::status::is_invite;
+use sip_branches::state::{Branch, OpenRequest, Phase, Server, Side};
 use sip_branches::want_cancel;
-use sip_state::{Branch, OpenRequest, Phase, Server, Side};
 use std::alloc::{AllocError, Global};
 
 /// Timer C of a branch to a target that was heard: an INVITE is to be cancelled, another request counts as 408

@@ -1,11 +1,11 @@
 ghost use Rattle.std.specs.Prelude.{◌≡◌, ◌<◌, ◌+◌, ◌^◌, IfOk};
-ghost use Rattle.sip_context.specs.Branches as Contexts;
+ghost use Rattle.sip_branches.specs.context.Branches as Contexts;
 ghost use Rattle.sip_processing.specs.Sent.{change_of};
 
 use crate::finals::give_up;
 use crate::sent::Sent;
 use crate::settling::settle_alone;
-use sip_state::{Branch, OpenRequest, Server};
+use sip_branches::state::{Branch, OpenRequest, Server};
 use std::alloc::{AllocError, Global};
 
 /// The request of a branch of which nothing was heard could not be sent: it counts as 503 (RFC 3261 16.9).

@@ -1,11 +1,11 @@
 ghost use Rattle.std.specs.Prelude.{◌≡◌, None, OnOk};
-ghost use Rattle.sip_state.specs.declared.branch.Phase.TheVariants.{Ended};
-ghost use Rattle.sip_context.specs.Branches as Contexts;
+ghost use Rattle.sip_branches.specs.state.declared.branch.Phase.TheVariants.{Ended};
+ghost use Rattle.sip_branches.specs.context.Branches as Contexts;
 
 use crate::side::is_answering;
-use sip_best::Final;
+use sip_branches::best::Final;
 use sip_branches::set_phase;
-use sip_state::{Branch, OpenRequest, Phase};
+use sip_branches::state::{Branch, OpenRequest, Phase};
 use std::alloc::AllocError;
 
 /// One more final answer of its branches, which is kept while none went to the caller.

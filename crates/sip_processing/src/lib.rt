@@ -25,4 +25,11 @@ pub use responses::take_response;
 pub use sent::Sent;
 pub use settling::settle_alone;
 pub use side::first_resend;
+pub use sip_branches as branches;
+pub use sip_branches::{
+    best, context, dialog, digest, edit, event, field, form, header, hops, host, key, location,
+    nonces, reply, settings, shared, state, targets, text, uri,
+};
+pub use sip_sending as sending;
+pub use sip_sending::{message, onward};
 pub use status::is_invite;

@@ -1,15 +1,15 @@
 ghost use Rattle.std.specs.Prelude.{◌≡◌, ◌&&◌, ◌||◌, ◌==◌, not, Some, None, if◌then◌else◌, IfOk};
-ghost use Rattle.sip_edit.specs.OwnVia.{without_top_via};
-ghost use Rattle.sip_state.specs.State as States;
-ghost use Rattle.sip_context.specs.Branches as Contexts;
+ghost use Rattle.sip_branches.specs.edit.OwnVia.{without_top_via};
+ghost use Rattle.sip_branches.specs.state.State as States;
+ghost use Rattle.sip_branches.specs.context.Branches as Contexts;
 
 use crate::side::{is_accepted, is_answering};
 use crate::status::{is_invite, is_success};
+use sip_branches::edit::pop_via;
+use sip_branches::form::{Kept, View};
 use sip_branches::is_final;
-use sip_edit::pop_via;
-use sip_form::{Kept, View};
-use sip_shared::Shared;
-use sip_state::{Branch, OpenRequest, Phase, Upward};
+use sip_branches::shared::Shared;
+use sip_branches::state::{Branch, OpenRequest, Phase, Upward};
 use std::alloc::{AllocError, Global};
 
 /// A response without its top Via, which is kept once however many have it.

@@ -1,8 +1,8 @@
 ghost use Rattle.std.specs.Prelude.{◌≡◌, ◌<◌, ◌+◌, ◌^◌, ◌&&◌, ◌||◌, [], IfOk, OnOk};
-ghost use Rattle.sip_form.specs.declared.message.Message.{Message};
-ghost use Rattle.sip_state.specs.State as States;
-ghost use Rattle.sip_state.specs.declared.branch.Phase.TheVariants.{Done};
-ghost use Rattle.sip_context.specs.Branches as Contexts;
+ghost use Rattle.sip_branches.specs.form.declared.message.Message.{Message};
+ghost use Rattle.sip_branches.specs.state.State as States;
+ghost use Rattle.sip_branches.specs.state.declared.branch.Phase.TheVariants.{Done};
+ghost use Rattle.sip_branches.specs.context.Branches as Contexts;
 ghost use Rattle.sip_branches.specs.Early.{IsEarly};
 ghost use Rattle.sip_processing.specs.Sent.{change_of};
 
@@ -11,15 +11,15 @@ use crate::relayed::{further, kept_response, relayed_answer, relayed_provisional
 use crate::sent::Sent;
 use crate::settling::{settle, settle_alone};
 use crate::status::{is_decline, is_failure, is_invite, is_provisional, is_success};
-use sip_best::Final;
+use sip_branches::best::Final;
+use sip_branches::event::Packet;
+use sip_branches::field::FieldName;
+use sip_branches::form::View;
+use sip_branches::shared::Shared;
+use sip_branches::state::{Branch, OpenRequest, Phase, Server, Upward};
+use sip_branches::text::{Bytes, Items};
 use sip_branches::{invite_heard, is_final, mark, other_heard, set_phase};
-use sip_event::Packet;
-use sip_field::FieldName;
-use sip_form::View;
 use sip_sending::ack_packets;
-use sip_shared::Shared;
-use sip_state::{Branch, OpenRequest, Phase, Server, Upward};
-use sip_text::{Bytes, Items};
 use std::alloc::{AllocError, Global};
 
 /// How long a branch of an INVITE takes more final answers, in milliseconds: Timers D and M (RFC 3261 17.1.1.2,

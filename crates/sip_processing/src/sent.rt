@@ -1,6 +1,6 @@
-use sip_event::Packet;
-use sip_state::Upward;
-use sip_text::Items;
+use sip_branches::event::Packet;
+use sip_branches::state::Upward;
+use sip_branches::text::Items;
 
 /// What an event makes an open request send: ACKs, then what goes to the caller, then CANCELs.
 #[derive(Drop)]

@@ -1,16 +1,16 @@
 ghost use Rattle.std.specs.Prelude.{◌≡◌, ◌<◌, ◌+◌, ◌^◌, false, [], None, IfOk, OnOk};
 ghost use Rattle.std.specs.List.{flat_map};
-ghost use Rattle.sip_context.specs.Sending as Sendings;
-ghost use Rattle.sip_context.specs.Branches as Contexts;
+ghost use Rattle.sip_branches.specs.context.Sending as Sendings;
+ghost use Rattle.sip_branches.specs.context.Branches as Contexts;
 ghost use Rattle.sip_processing.specs.Sent.{change_of};
 
 use crate::answers::{best_upward, tell};
 use crate::sent::Sent;
+use sip_branches::event::Packet;
+use sip_branches::state::{OpenRequest, Server, Upward};
+use sip_branches::text::Items;
 use sip_branches::{add_cancels, new_cancels};
-use sip_event::Packet;
 use sip_sending::packets_of_branches;
-use sip_state::{OpenRequest, Server, Upward};
-use sip_text::Items;
 use std::alloc::{AllocError, Global};
 
 /// The packets of the CANCELs that are sent now.

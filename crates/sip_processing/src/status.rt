@@ -1,7 +1,7 @@
 ghost use Rattle.std.specs.Prelude.{◌≡◌, codes};
-ghost use Rattle.sip_state.specs.State as States;
+ghost use Rattle.sip_branches.specs.state.State as States;
 
-use sip_state::OpenRequest;
+use sip_branches::state::OpenRequest;
 
 /// Whether a request is an INVITE.
 pub fn is_invite(call: &OpenRequest) -> bool

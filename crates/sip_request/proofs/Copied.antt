@@ -1,7 +1,7 @@
 -- What an input makes of a request, by way of a copy of it.
 use Rattle.std.proofs.Common.{◌≡◌, ℕ, ap, ◌∙◌}
-use Rattle.sip_state.specs.declared.open_request.OpenRequest.{OpenRequest}
-use Rattle.sip_state.specs.declared.server.Server.{Server}
+use Rattle.sip_inputs.specs.state.declared.open_request.OpenRequest.{OpenRequest}
+use Rattle.sip_inputs.specs.state.declared.server.Server.{Server}
 use Rattle.sip_inputs.specs.declared.input.Input.{Input}
 use Rattle.sip_inputs.specs.declared.sending.Sending.{Sending}
 use Rattle.sip_inputs.specs.Inputs.{outcome, outcome_of}

@@ -5,17 +5,17 @@ use Rattle.std.specs.Option.{option_to_list}
 use Rattle.std.specs.List.{AllByRecursion}
 use Rattle.std.proofs.lemmas.List.{append-nil, drop_all, drop_more, take_all, take_more, take_more_set, length-take}
 use Rattle.std.proofs.lemmas.List.Elements.{All-from_recursion, All-get_or}
-use Rattle.sip_transaction.specs.declared.letter.Letter.{Letter}
-use Rattle.sip_timers.specs.declared.timer.Timer.{Timer}
-use Rattle.sip_timers.specs.Timers.{KeysDiffer}
+use Rattle.sip_ties.specs.transaction.declared.letter.Letter.{Letter}
+use Rattle.sip_ties.specs.timers.declared.timer.Timer.{Timer}
+use Rattle.sip_ties.specs.timers.Timers.{KeysDiffer}
 use Rattle.sip_running.specs.Moves.{IsHeld, Moves}
-use Rattle.sip_state.specs.declared.branch.Branch.{Branch}
-use Rattle.sip_state.specs.declared.branch.Phase.{Phase}
-use Rattle.sip_state.specs.declared.branch.Phase.TheVariants.{Unheard, Heard, Cancelled, Done, Ended}
-use Rattle.sip_state.specs.declared.open_request.OpenRequest.{OpenRequest}
-use Rattle.sip_state.specs.declared.resend.Resend.{Resend}
-use Rattle.sip_branches.specs.Early.{IsEarly}
-use Rattle.sip_machines.specs.InviteClient.{invite_timers, call_timers}
+use Rattle.sip_inputs.specs.state.declared.branch.Branch.{Branch}
+use Rattle.sip_inputs.specs.state.declared.branch.Phase.{Phase}
+use Rattle.sip_inputs.specs.state.declared.branch.Phase.TheVariants.{Unheard, Heard, Cancelled, Done, Ended}
+use Rattle.sip_inputs.specs.state.declared.open_request.OpenRequest.{OpenRequest}
+use Rattle.sip_inputs.specs.state.declared.resend.Resend.{Resend}
+use Rattle.sip_inputs.specs.branches.Early.{IsEarly}
+use Rattle.sip_ties.specs.machines.InviteClient.{invite_timers, call_timers}
 use Rattle.sip_ties.specs.Ties.{branch_timers, branches_timers, owner_of, part_timers}
 use Rattle.sip_ties.specs.declared.timer_keys.TimerKeys.{TimerKeys}
 use Rattle.sip_request.specs.declared.part.PartTimers.{PartTimers}

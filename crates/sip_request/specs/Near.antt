@@ -1,9 +1,9 @@
 -- The moments of the timers that an open request names.
 use Rattle.std.specs.Prelude.{ℕ, ◌<◌, ◌+◌, ◌*◌, List, length}
 use Rattle.std.specs.List.{AllByRecursion}
-use Rattle.sip_transaction.specs.declared.letter.Letter.{Letter}
-use Rattle.sip_state.specs.declared.branch.Branch.{Branch}
-use Rattle.sip_state.specs.declared.open_request.OpenRequest.{OpenRequest}
+use Rattle.sip_ties.specs.transaction.declared.letter.Letter.{Letter}
+use Rattle.sip_inputs.specs.state.declared.branch.Branch.{Branch}
+use Rattle.sip_inputs.specs.state.declared.open_request.OpenRequest.{OpenRequest}
 use Rattle.sip_ties.specs.Ties.{branch_timers, side_timers}
 
 -- these timers are due before a moment

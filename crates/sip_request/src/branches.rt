@@ -7,9 +7,9 @@ ghost use Rattle.sip_request.specs.Walk.{left_timers};
 
 use crate::naming::branch_part;
 use crate::part::{NO_KEYS, Part, no_part, stop_part, sync_part};
-use sip_state::{Branch, OpenRequest};
+use sip_inputs::state::{Branch, OpenRequest};
 use sip_ties::TimerKeys;
-use sip_timers::Timers;
+use sip_ties::timers::Timers;
 
 /// A branch whose timers stand, with their keys, and the place behind it.
 #[derive(Clone, Copy)]

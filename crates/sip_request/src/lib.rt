@@ -18,3 +18,10 @@ pub use near::near_later;
 pub use part::{Part, PartTimers};
 pub use planning::Planned;
 pub use request::{Plan, Request};
+pub use sip_inputs as inputs;
+pub use sip_inputs::{
+    best, context, dialog, digest, edit, event, field, form, header, hops, host, key, location,
+    message, nonces, onward, processing, reply, resend, retransmission, settings, shared, state,
+    targets, text, uri,
+};
+pub use sip_ties::{timers, transaction};

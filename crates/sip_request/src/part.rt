@@ -5,8 +5,8 @@ ghost use Rattle.sip_request.specs.Slots.{IsBefore, IsPartNear, part_standing, s
 
 use crate::slots::{clear, standing, sync};
 use sip_ties::TimerKeys;
-use sip_timers::{Owner, Timers};
-use sip_transaction::Letter;
+use sip_ties::timers::{Owner, Timers};
+use sip_ties::transaction::Letter;
 
 /// The timers that a part of an open request has by its phase, each with its letter and the moment at which it is due, in
 /// milliseconds. No part has more than these three.

@@ -3,10 +3,10 @@ ghost use Rattle.sip_inputs.specs.Inputs.{IsFit, outcome, outcome_of};
 ghost use Rattle.sip_request.specs.Named.{HasKeys};
 
 use crate::request::{Plan, Request};
-use sip_best::Final;
+use sip_inputs::best::Final;
+use sip_inputs::state::{Branch, LastAnswer, OpenRequest, Server};
+use sip_inputs::text::Items;
 use sip_inputs::{Input, Sending, take_input};
-use sip_state::{Branch, LastAnswer, OpenRequest, Server};
-use sip_text::Items;
 use std::alloc::{AllocError, Global};
 
 /// What an input makes of an open request: the plan to which it comes, and what is sent.

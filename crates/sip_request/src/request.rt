@@ -1,16 +1,16 @@
 ghost use Rattle.std.specs.Prelude.{◌≡◌, ◌≤◌, ◌+◌, ◌^◌, [], length, IfOk, IfErr, OnOk};
-ghost use Rattle.sip_timers.specs.Timers.{KeysDiffer};
-ghost use Rattle.sip_timers.specs.declared.error.TimerError.TheVariants.{NoMemory};
+ghost use Rattle.sip_ties.specs.timers.Timers.{KeysDiffer};
+ghost use Rattle.sip_ties.specs.timers.declared.error.TimerError.TheVariants.{NoMemory};
 ghost use Rattle.sip_running.specs.Moves.{IsHeld, Moves};
 ghost use Rattle.sip_request.specs.Near.{IsNear, most_timers};
 ghost use Rattle.sip_request.specs.Named.{HasKeys, IsReady, named_by};
 
 use crate::part::NO_KEYS;
 use crate::retiming::{begin, end, retime};
-use sip_state::OpenRequest;
-use sip_text::Items;
+use sip_inputs::state::OpenRequest;
+use sip_inputs::text::Items;
 use sip_ties::TimerKeys;
-use sip_timers::{TimerError, Timers};
+use sip_ties::timers::{TimerError, Timers};
 use std::alloc::{AllocError, Global};
 
 /// An open request, with the keys of the timers that it names: those of its answering side, and those of its branches in

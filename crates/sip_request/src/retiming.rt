@@ -1,5 +1,5 @@
 ghost use Rattle.std.specs.Prelude.{◌≡◌, ◌≤◌, ◌+◌, ◌^◌, [], length};
-ghost use Rattle.sip_timers.specs.Timers.{KeysDiffer};
+ghost use Rattle.sip_ties.specs.timers.Timers.{KeysDiffer};
 ghost use Rattle.sip_running.specs.Moves.{IsHeld, Moves};
 ghost use Rattle.sip_ties.specs.Ties.{timers_of};
 ghost use Rattle.sip_request.specs.Near.{IsNear, most_timers};
@@ -7,9 +7,9 @@ ghost use Rattle.sip_request.specs.Near.{IsNear, most_timers};
 use crate::branches::{stop_left, sync_branches};
 use crate::naming::side_part;
 use crate::part::{NO_KEYS, no_part, stop_part, sync_part};
-use sip_state::OpenRequest;
+use sip_inputs::state::OpenRequest;
 use sip_ties::TimerKeys;
-use sip_timers::Timers;
+use sip_ties::timers::Timers;
 
 /// Lets the timers of an open request stand, for which there is room, and no others of those that it named before. Gives
 /// the keys of its answering side, and fills in those of its branches.

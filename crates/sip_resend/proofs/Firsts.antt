@@ -6,8 +6,8 @@ use Rattle.std.specs.List.{AllByRecursion, filter_map}
 use Rattle.std.proofs.lemmas.List.{append-nil, take_more}
 use Rattle.std.proofs.lemmas.List.Elements.{filter_map-append}
 use Rattle.std.proofs.lemmas.Bool.Decides.{nat_tests}
-use Rattle.sip_state.specs.declared.branch.Branch.{Branch}
-use Rattle.sip_state.specs.declared.open_request.OpenRequest.{OpenRequest}
+use Rattle.sip_retransmission.specs.state.declared.branch.Branch.{Branch}
+use Rattle.sip_retransmission.specs.state.declared.open_request.OpenRequest.{OpenRequest}
 use Rattle.sip_retransmission.specs.Retransmission.{answer_due, branch_due}
 use Rattle.sip_resend.specs.declared.next.NextResend.{NextResend}
 use Rattle.sip_resend.specs.declared.next.Resent.TheVariants as What

@@ -1,8 +1,8 @@
 -- What of an open request goes again next.
 use Rattle.std.specs.Prelude.{◌≡◌, ℕ, ◌<◌, ◌≤◌, nat_lt, if◌then◌else◌, length, slice_index_or, List, Option, Some, None}
 use Rattle.std.specs.List.{AllByRecursion}
-use Rattle.sip_state.specs.declared.branch.Branch.{Branch}
-use Rattle.sip_state.specs.declared.open_request.OpenRequest.{OpenRequest}
+use Rattle.sip_retransmission.specs.state.declared.branch.Branch.{Branch}
+use Rattle.sip_retransmission.specs.state.declared.open_request.OpenRequest.{OpenRequest}
 use Rattle.sip_retransmission.specs.Retransmission.{answer_due, branch_due, resends_of}
 use Rattle.sip_resend.specs.declared.next.NextResend.{NextResend}
 use Rattle.sip_resend.specs.declared.next.Resent.{Resent}

@@ -1,8 +1,8 @@
 -- The final answer of a branch.
 use Rattle.std.specs.Prelude.{Bool, false}
-use Rattle.sip_state.specs.declared.branch.Phase.{Phase}
-use Rattle.sip_state.specs.declared.branch.Phase.TheVariants.{Unheard, Heard, Cancelled, Done, Ended}
-use Rattle.sip_state.specs.State.{is_failure}
+use Rattle.sip_retransmission.specs.state.declared.branch.Phase.{Phase}
+use Rattle.sip_retransmission.specs.state.declared.branch.Phase.TheVariants.{Unheard, Heard, Cancelled, Done, Ended}
+use Rattle.sip_retransmission.specs.state.State.{is_failure}
 
 -- whether it was a 300 to 699, which this server acknowledges (RFC 3261 17.1.1.3)
 abbrev pub was_refused : Phase → Bool

@@ -1,12 +1,12 @@
 ghost use Rattle.std.specs.Prelude.{◌≡◌, ◌+◌, ◌<◌, ◌^◌, [], ◌∷◌, Some, true, option_map, if◌then◌else◌};
 ghost use Rattle.std.specs.Option.{option_to_list};
-ghost use Rattle.sip_context.specs.Branches;
-ghost use Rattle.sip_context.specs.Sending.{answer_to};
+ghost use Rattle.sip_retransmission.specs.context.Branches;
+ghost use Rattle.sip_retransmission.specs.context.Sending.{answer_to};
 ghost use Rattle.sip_retransmission.specs.Retransmission;
 
 use crate::kind::{is_failure, is_invite, is_success};
 use crate::wait::{LONGEST_WAIT, resend_after};
-use sip_state::{LastAnswer, OpenRequest, Resend, Side};
+use sip_retransmission::state::{LastAnswer, OpenRequest, Resend, Side};
 
 /// Whether the last answer may still be sent again.
 fn is_lasting(side: Side) -> bool

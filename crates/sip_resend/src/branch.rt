@@ -1,13 +1,13 @@
 ghost use Rattle.std.specs.Prelude.{◌≡◌, ◌+◌, ◌<◌, ◌^◌, [], true, if◌then◌else◌};
-ghost use Rattle.sip_state.specs.declared.server.Server.{Server};
-ghost use Rattle.sip_context.specs.Branches;
-ghost use Rattle.sip_context.specs.Sending.{ack_packets};
+ghost use Rattle.sip_retransmission.specs.state.declared.server.Server.{Server};
+ghost use Rattle.sip_retransmission.specs.context.Branches;
+ghost use Rattle.sip_retransmission.specs.context.Sending.{ack_packets};
 ghost use Rattle.sip_retransmission.specs.Retransmission;
 ghost use Rattle.sip_resend.specs.Refusals;
 
 use crate::kind::{is_failure, is_invite};
 use crate::wait::{LONGEST_INVITE_WAIT, LONGEST_WAIT, resend_after};
-use sip_state::{Branch, OpenRequest, Phase, Resend};
+use sip_retransmission::state::{Branch, OpenRequest, Phase, Resend};
 
 /// Whether the request of a branch to a target goes out again, by whether it is an INVITE.
 fn is_sent_again(invite: bool, phase: Phase) -> bool

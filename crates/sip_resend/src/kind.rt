@@ -1,7 +1,7 @@
 ghost use Rattle.std.specs.Prelude.{◌≡◌};
-ghost use Rattle.sip_state.specs.State;
+ghost use Rattle.sip_retransmission.specs.state.State;
 
-use sip_state::OpenRequest;
+use sip_retransmission::state::OpenRequest;
 
 /// Whether a request is an INVITE.
 pub(crate) fn is_invite(request: &OpenRequest) -> bool

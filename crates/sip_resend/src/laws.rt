@@ -1,7 +1,7 @@
 ghost use Rattle.std.specs.Prelude.{◌≡◌, ℕ, true};
-ghost use Rattle.sip_state.specs.declared.server.Server.{Server};
-ghost use Rattle.sip_state.specs.declared.open_request.OpenRequest.{OpenRequest};
-ghost use Rattle.sip_context.specs.Sending.{branch_packets};
+ghost use Rattle.sip_retransmission.specs.state.declared.server.Server.{Server};
+ghost use Rattle.sip_retransmission.specs.state.declared.open_request.OpenRequest.{OpenRequest};
+ghost use Rattle.sip_retransmission.specs.context.Sending.{branch_packets};
 ghost use Rattle.sip_retransmission.specs.Retransmission.{IsResent, answer_next, answers_again, with_resend};
 ghost use Rattle.sip_resend.specs.NextResend.{GoesAt, BranchGoesAt};
 ghost use Rattle.sip_resend.specs.declared.next.Resent.TheVariants as What;

@@ -5,7 +5,7 @@ ghost use Rattle.sip_resend.specs.declared.next.Resent.TheVariants as What;
 
 use crate::answer::answer_due;
 use crate::branch::branch_due;
-use sip_state::{Branch, OpenRequest};
+use sip_retransmission::state::{Branch, OpenRequest};
 
 /// What of an open request goes again: its last answer, or what the branch at a place among its branches sends.
 #[derive(Clone, Copy)]

@@ -1,10 +1,10 @@
 ghost use Rattle.std.specs.Prelude.{◌≡◌, ◌+◌, ◌<◌, ◌^◌, map};
-ghost use Rattle.sip_context.specs.Branches as Contexts;
+ghost use Rattle.sip_retransmission.specs.context.Branches as Contexts;
 ghost use Rattle.sip_retransmission.specs.Retransmission;
 
 use crate::answer::answer_next;
 use crate::branch::branch_next;
-use sip_state::{Branch, OpenRequest, Resend};
+use sip_retransmission::state::{Branch, OpenRequest, Resend};
 
 /// Whether two branches are one: their numbers and whether they are CANCELs agree.
 fn is_same_branch(left: &Branch, right: &Branch) -> bool

@@ -1,7 +1,7 @@
 ghost use Rattle.std.specs.Prelude.{◌≡◌, ◌+◌, ◌<◌, ◌≤◌, ◌^◌};
 ghost use Rattle.sip_retransmission.specs.Retransmission;
 
-use sip_state::Resend;
+use sip_retransmission::state::Resend;
 
 /// The longest wait of an INVITE in milliseconds, that of Timer B (RFC 3261 17.1.1.2).
 pub(crate) const LONGEST_INVITE_WAIT: u64 = 32_000;

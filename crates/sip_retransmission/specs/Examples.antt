@@ -1,19 +1,19 @@
 -- Requests that are open, each sent to one target at the moment 0, and what happens to them, for the worked examples.
 use Rattle.std.specs.Prelude.{ℕ, zero, suc, false, not, List, [], ◌∷◌, ◌++◌, map, find, codes, Option, Some, None}
 use Rattle.std.specs.Option.{option_map_or, option_to_list}
-use Rattle.sip_field.specs.declared.field_name.FieldName.TheVariants as Name
-use Rattle.sip_form.specs.declared.message.Start.TheVariants.{Status}
-use Rattle.sip_form.specs.declared.message.Message.{Message}
-use Rattle.sip_hops.specs.Examples as Places
-use Rattle.sip_edit.specs.OnwardExamples as Onward
-use Rattle.sip_settings.specs.Sample as Settings
-use Rattle.sip_event.specs.declared.packet.Packet.{Packet}
-use Rattle.sip_state.specs.declared.server.Server.{Server}
-use Rattle.sip_state.specs.declared.branch.Branch.{Branch}
-use Rattle.sip_state.specs.declared.open_request.OpenRequest.{OpenRequest}
-use Rattle.sip_state.specs.declared.branch.Phase.TheVariants.{Unheard}
-use Rattle.sip_state.specs.declared.open_request.Side.TheVariants.{Answering}
-use Rattle.sip_state.specs.State.{first_resend}
+use Rattle.sip_context.specs.field.declared.field_name.FieldName.TheVariants as Name
+use Rattle.sip_context.specs.form.declared.message.Start.TheVariants.{Status}
+use Rattle.sip_context.specs.form.declared.message.Message.{Message}
+use Rattle.sip_context.specs.hops.Examples as Places
+use Rattle.sip_context.specs.edit.OnwardExamples as Onward
+use Rattle.sip_context.specs.settings.Sample as Settings
+use Rattle.sip_context.specs.event.declared.packet.Packet.{Packet}
+use Rattle.sip_context.specs.state.declared.server.Server.{Server}
+use Rattle.sip_context.specs.state.declared.branch.Branch.{Branch}
+use Rattle.sip_context.specs.state.declared.open_request.OpenRequest.{OpenRequest}
+use Rattle.sip_context.specs.state.declared.branch.Phase.TheVariants.{Unheard}
+use Rattle.sip_context.specs.state.declared.open_request.Side.TheVariants.{Answering}
+use Rattle.sip_context.specs.state.State.{first_resend}
 use Rattle.sip_context.specs.Sending.{made_answer}
 use Rattle.sip_context.specs.Branches.{responded, overdue, cancelled, answered}
 use Rattle.sip_retransmission.specs.Retransmission.{answers_again, acked_again, branch_due, answer_due, answer_next, with_resend}

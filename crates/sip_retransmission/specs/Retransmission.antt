@@ -2,17 +2,17 @@
 use Rattle.std.specs.Prelude.{◌≡◌, ℕ, ◌+◌, ◌*◌, min, Bool, true, false, not, ◌&&◌, if◌then◌else◌, List, [], ◌∷◌, ◌++◌, map, Contains, Option, Some, None}
 use Rattle.std.specs.Option.{option_to_list}
 use Rattle.std.specs.List.{flat_map, filter_map}
-use Rattle.sip_event.specs.declared.packet.Packet.{Packet}
-use Rattle.sip_state.specs.declared.server.Server.{Server}
-use Rattle.sip_state.specs.declared.branch.Phase.{Phase}
-use Rattle.sip_state.specs.declared.open_request.Side.{Side}
-use Rattle.sip_state.specs.declared.open_request.LastAnswer.{LastAnswer}
-use Rattle.sip_state.specs.declared.branch.Branch.{Branch}
-use Rattle.sip_state.specs.declared.resend.Resend.{Resend}
-use Rattle.sip_state.specs.declared.open_request.OpenRequest.{OpenRequest}
-use Rattle.sip_state.specs.declared.branch.Phase.TheVariants.{Unheard, Heard, Cancelled, Done, Ended}
-use Rattle.sip_state.specs.declared.open_request.Side.TheVariants.{Answering, Closing, Acknowledged, Closed}
-use Rattle.sip_state.specs.State.{is_invite, is_success, is_failure}
+use Rattle.sip_context.specs.event.declared.packet.Packet.{Packet}
+use Rattle.sip_context.specs.state.declared.server.Server.{Server}
+use Rattle.sip_context.specs.state.declared.branch.Phase.{Phase}
+use Rattle.sip_context.specs.state.declared.open_request.Side.{Side}
+use Rattle.sip_context.specs.state.declared.open_request.LastAnswer.{LastAnswer}
+use Rattle.sip_context.specs.state.declared.branch.Branch.{Branch}
+use Rattle.sip_context.specs.state.declared.resend.Resend.{Resend}
+use Rattle.sip_context.specs.state.declared.open_request.OpenRequest.{OpenRequest}
+use Rattle.sip_context.specs.state.declared.branch.Phase.TheVariants.{Unheard, Heard, Cancelled, Done, Ended}
+use Rattle.sip_context.specs.state.declared.open_request.Side.TheVariants.{Answering, Closing, Acknowledged, Closed}
+use Rattle.sip_context.specs.state.State.{is_invite, is_success, is_failure}
 use Rattle.sip_context.specs.Branches.{is_same_branch, is_unheard, is_closing, was_refused}
 use Rattle.sip_context.specs.Sending.{answer_to, branch_packets, ack_packets}
 

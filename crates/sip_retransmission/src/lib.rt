@@ -3,3 +3,5 @@
 #![tactic(auto)]
 
 pub mod examples;
+
+pub use sip_context::state;

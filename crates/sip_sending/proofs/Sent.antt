@@ -2,23 +2,23 @@
 use Rattle.std.proofs.Common.{◌≡◌, ℕ, Bool, true, false, cond, List, [], ◌∷◌, ◌++◌, refl, sym, ap, subst, ◌∙◌, ◌&&◌, not, is_some, Option, Some, None, option_map}
 use Rattle.std.specs.Prelude.{Result, OnOk}
 use Rattle.std.specs.List.{flat_map}
-use Rattle.sip_field.specs.declared.field.Field.{Field}
-use Rattle.sip_field.specs.declared.field_name.FieldName.TheVariants as Name
-use Rattle.sip_field.specs.Named.{first_named}
-use Rattle.sip_field.specs.FieldName.{is_same_name}
-use Rattle.sip_field.specs.Values.{first_value, with_first}
-use Rattle.sip_form.specs.declared.message.Message.{Message}
-use Rattle.sip_host.specs.declared.addr.Addr.{Addr}
-use Rattle.sip_edit.specs.Onward.{onward_of, with_record_route}
-use Rattle.sip_edit.specs.OwnVia.{branch_text}
-use Rattle.sip_edit.specs.OwnRequests.{ack_with, cancel_of}
-use Rattle.sip_edit.specs.ReceivedRequest.{received, received_fields}
-use Rattle.sip_event.specs.declared.packet.Packet.{Packet}
-use Rattle.sip_state.specs.declared.server.Server.{Server}
-use Rattle.sip_state.specs.declared.branch.Branch.{Branch}
-use Rattle.sip_state.specs.declared.open_request.OpenRequest.{OpenRequest}
-use Rattle.sip_state.specs.State.{is_invite}
-use Rattle.sip_state.specs.Dialogs.{dialog_of}
+use Rattle.sip_context.specs.field.declared.field.Field.{Field}
+use Rattle.sip_context.specs.field.declared.field_name.FieldName.TheVariants as Name
+use Rattle.sip_context.specs.field.Named.{first_named}
+use Rattle.sip_context.specs.field.FieldName.{is_same_name}
+use Rattle.sip_context.specs.field.Values.{first_value, with_first}
+use Rattle.sip_context.specs.form.declared.message.Message.{Message}
+use Rattle.sip_context.specs.host.declared.addr.Addr.{Addr}
+use Rattle.sip_context.specs.edit.Onward.{onward_of, with_record_route}
+use Rattle.sip_context.specs.edit.OwnVia.{branch_text}
+use Rattle.sip_context.specs.edit.OwnRequests.{ack_with, cancel_of}
+use Rattle.sip_context.specs.edit.ReceivedRequest.{received, received_fields}
+use Rattle.sip_context.specs.event.declared.packet.Packet.{Packet}
+use Rattle.sip_context.specs.state.declared.server.Server.{Server}
+use Rattle.sip_context.specs.state.declared.branch.Branch.{Branch}
+use Rattle.sip_context.specs.state.declared.open_request.OpenRequest.{OpenRequest}
+use Rattle.sip_context.specs.state.State.{is_invite}
+use Rattle.sip_context.specs.state.Dialogs.{dialog_of}
 use Rattle.sip_context.specs.Sending.{begins_dialog, request_of, ticket_branch, branch_packets, ack_packets}
 use Rattle.sip_sending.specs.Base.{base_by, request_by, packet_to, packets_by, acks_by}
 

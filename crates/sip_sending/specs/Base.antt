@@ -1,14 +1,14 @@
 -- What is sent of an open request, by what is the same of it for all its branches (RFC 3261 16.6).
 use Rattle.std.specs.Prelude.{ℕ, Bool, if◌then◌else◌, List, [], ◌∷◌, Option}
 use Rattle.std.specs.Option.{option_map_or}
-use Rattle.sip_form.specs.declared.message.Message.{Message}
-use Rattle.sip_form.specs.Text.{text_of}
-use Rattle.sip_edit.specs.OwnVia.{branch_text, own_via}
-use Rattle.sip_edit.specs.Onward.{onward_base, to_target}
-use Rattle.sip_edit.specs.OwnRequests.{ack_with, cancel_of}
-use Rattle.sip_event.specs.declared.packet.Packet.{Packet}
-use Rattle.sip_state.specs.declared.server.Server.{Server}
-use Rattle.sip_state.specs.declared.branch.Branch.{Branch}
+use Rattle.sip_context.specs.form.declared.message.Message.{Message}
+use Rattle.sip_context.specs.form.Text.{text_of}
+use Rattle.sip_context.specs.edit.OwnVia.{branch_text, own_via}
+use Rattle.sip_context.specs.edit.Onward.{onward_base, to_target}
+use Rattle.sip_context.specs.edit.OwnRequests.{ack_with, cancel_of}
+use Rattle.sip_context.specs.event.declared.packet.Packet.{Packet}
+use Rattle.sip_context.specs.state.declared.server.Server.{Server}
+use Rattle.sip_context.specs.state.declared.branch.Branch.{Branch}
 use Rattle.sip_context.specs.Sending.{ticket_branch}
 
 -- the value of this server's Via on the request to a target

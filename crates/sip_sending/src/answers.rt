@@ -1,19 +1,19 @@
 ghost use Rattle.std.specs.Prelude.{◌≡◌, [], IfOk};
-ghost use Rattle.sip_form.specs.Text.{text_of};
-ghost use Rattle.sip_edit.specs.ReceivedRequest.{response_address};
-ghost use Rattle.sip_reply.specs.Reply.{reply_of};
+ghost use Rattle.sip_context.specs.form.Text.{text_of};
+ghost use Rattle.sip_context.specs.edit.ReceivedRequest.{response_address};
+ghost use Rattle.sip_context.specs.reply.Reply.{reply_of};
 ghost use Rattle.sip_context.specs.Sending as Spec;
 
 use crate::received::received_value;
-use sip_edit::with_top_via;
-use sip_event::{Packet, Ticket};
-use sip_form::Kept;
-use sip_header::via_of;
-use sip_host::Addr;
+use sip_context::edit::with_top_via;
+use sip_context::event::{Packet, Ticket};
+use sip_context::form::Kept;
+use sip_context::header::via_of;
+use sip_context::host::Addr;
+use sip_context::reply::{reply_view, respond, to_tag};
+use sip_context::state::{OpenRequest, Server};
+use sip_context::text::Bytes;
 use sip_message::{FieldName, Fields, View, write_view};
-use sip_reply::{reply_view, respond, to_tag};
-use sip_state::{OpenRequest, Server};
-use sip_text::Bytes;
 use std::alloc::{AllocError, Global};
 
 /// Where the answers to a request go that came from an address.
@@ -24,7 +24,7 @@ fn response_address(alloc: Global, request: &View<'_>, from: Addr) -> Result<Add
         return Ok(from);
     };
     let via = via_of(alloc, value)?;
-    Ok(sip_edit::response_address(via.as_ref(), from))
+    Ok(sip_context::edit::response_address(via.as_ref(), from))
 }
 
 /// The packet of an answer, of which this is the text, to a request that came from an address in the datagram of a number

@@ -1,20 +1,20 @@
 ghost use Rattle.std.specs.Prelude.{◌≡◌, ◌++◌, IfOk, OnOk, is_some, not, ◌&&◌, if◌then◌else◌, option_map};
 ghost use Rattle.std.specs.List.{flat_map};
-ghost use Rattle.sip_form.specs.Text.{text_of};
-ghost use Rattle.sip_edit.specs.OwnRequests;
-ghost use Rattle.sip_state.specs.State.{is_invite};
-ghost use Rattle.sip_state.specs.Dialogs.{dialog_of};
+ghost use Rattle.sip_context.specs.form.Text.{text_of};
+ghost use Rattle.sip_context.specs.edit.OwnRequests;
+ghost use Rattle.sip_context.specs.state.State.{is_invite};
+ghost use Rattle.sip_context.specs.state.Dialogs.{dialog_of};
 ghost use Rattle.sip_context.specs.Sending as Spec;
 ghost use Rattle.sip_sending.specs.Base;
 
 use crate::received::received_value;
-use sip_edit::{ack_with, branch_text, cancel_of, own_via_value, with_top_via};
-use sip_event::{Packet, Ticket};
-use sip_header::{HeaderError, core_of, tag_of};
+use sip_context::edit::{ack_with, branch_text, cancel_of, own_via_value, with_top_via};
+use sip_context::event::{Packet, Ticket};
+use sip_context::header::{HeaderError, core_of, tag_of};
+use sip_context::state::{Branch, OpenRequest, Server};
+use sip_context::text::{Bytes, Items};
 use sip_message::{View, write_view};
 use sip_onward::{onward_base, to_target};
-use sip_state::{Branch, OpenRequest, Server};
-use sip_text::{Bytes, Items};
 use std::alloc::{AllocError, Global};
 
 /// Whether a request names a dialog.

@@ -9,3 +9,5 @@ mod received;
 pub use answers::{answer_packet, answer_to, kept_answer, made_answer};
 pub use branches::{ack_packets, branch_packets, packets_of_branches};
 pub use received::received_value;
+pub use sip_message as message;
+pub use sip_onward as onward;

@@ -1,13 +1,13 @@
 ghost use Rattle.std.specs.Prelude.{◌≡◌, IfOk};
-ghost use Rattle.sip_field.specs.declared.field_name.FieldName.TheVariants as Name;
-ghost use Rattle.sip_field.specs.Values.{with_first};
-ghost use Rattle.sip_edit.specs.ReceivedRequest.{received_fields};
+ghost use Rattle.sip_context.specs.field.declared.field_name.FieldName.TheVariants as Name;
+ghost use Rattle.sip_context.specs.field.Values.{with_first};
+ghost use Rattle.sip_context.specs.edit.ReceivedRequest.{received_fields};
 
-use sip_edit::received_via;
-use sip_header::via_of;
-use sip_host::Addr;
+use sip_context::edit::received_via;
+use sip_context::header::via_of;
+use sip_context::host::Addr;
+use sip_context::text::Bytes;
 use sip_message::{FieldName, View};
-use sip_text::Bytes;
 use std::alloc::{AllocError, Global};
 
 /// The value that the top Via of a request gets, which came from an address (RFC 3261 18.2.1); empty where there is no

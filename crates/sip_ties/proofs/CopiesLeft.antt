@@ -2,18 +2,18 @@
 use Rattle.std.proofs.Common.{◌≡◌, ℕ, zero, suc, ◌+◌, ◌*◌, ◌<◌, ◌≤◌, Bool, true, false, cond, List, [], ◌∷◌, Option, Some, None, refl, sym, ap, ap₂, ◌∙◌, subst, arith, leb, add_assoc}
 use Rattle.std.specs.Prelude.{min, count_by, ◌&&◌, not}
 use Rattle.std.proofs.lemmas.Bool.Decides.{nat_tests}
-use Rattle.sip_form.specs.Text.{text_of}
-use Rattle.sip_state.specs.State.{first_resend, is_invite, is_answering, is_final, is_success, is_failure, is_provisional}
-use Rattle.sip_state.specs.declared.branch.Phase.{Phase}
-use Rattle.sip_state.specs.declared.branch.Phase.TheVariants.{Unheard, Heard, Cancelled, Done, Ended}
-use Rattle.sip_state.specs.declared.open_request.LastAnswer.{LastAnswer}
-use Rattle.sip_state.specs.declared.open_request.OpenRequest.{OpenRequest}
-use Rattle.sip_state.specs.declared.open_request.Side.{Side}
-use Rattle.sip_state.specs.declared.open_request.Side.TheVariants.{Answering, Closing, Acknowledged, Closed}
-use Rattle.sip_state.specs.declared.open_request.Upward.{Upward}
-use Rattle.sip_state.specs.declared.resend.Resend.{Resend}
-use Rattle.sip_context.specs.Branches.{answered, acknowledged, acknowledged_side, other_heard, is_unheard, is_accepted, is_closing, has_success, was_refused}
-use Rattle.sip_retransmission.specs.Retransmission.{resend_after}
+use Rattle.sip_machines.specs.form.Text.{text_of}
+use Rattle.sip_machines.specs.state.State.{first_resend, is_invite, is_answering, is_final, is_success, is_failure, is_provisional}
+use Rattle.sip_machines.specs.state.declared.branch.Phase.{Phase}
+use Rattle.sip_machines.specs.state.declared.branch.Phase.TheVariants.{Unheard, Heard, Cancelled, Done, Ended}
+use Rattle.sip_machines.specs.state.declared.open_request.LastAnswer.{LastAnswer}
+use Rattle.sip_machines.specs.state.declared.open_request.OpenRequest.{OpenRequest}
+use Rattle.sip_machines.specs.state.declared.open_request.Side.{Side}
+use Rattle.sip_machines.specs.state.declared.open_request.Side.TheVariants.{Answering, Closing, Acknowledged, Closed}
+use Rattle.sip_machines.specs.state.declared.open_request.Upward.{Upward}
+use Rattle.sip_machines.specs.state.declared.resend.Resend.{Resend}
+use Rattle.sip_machines.specs.context.Branches.{answered, acknowledged, acknowledged_side, other_heard, is_unheard, is_accepted, is_closing, has_success, was_refused}
+use Rattle.sip_machines.specs.retransmission.Retransmission.{resend_after}
 use Rattle.sip_machines.specs.OtherClient.{steady}
 use Rattle.sip_ties.specs.Copies.{IsTimely, moments, copies_by, invite_copies_left, other_copies_left, answer_copies_left}
 use Rattle.sip_ties.proofs.Counted.{count-cons}

@@ -3,21 +3,21 @@ use Rattle.std.proofs.Common.{◌≡◌, ℕ, ◌+◌, ◌<◌, ◌≤◌, Bool,
 use Rattle.std.specs.Prelude.{◌&&◌, not, count_by}
 use Rattle.std.specs.List.{AllByRecursion}
 use Rattle.std.proofs.lemmas.Bool.Decides.{nat_tests}
-use Rattle.sip_transaction.specs.declared.letter.Letter.{Letter}
-use Rattle.sip_transaction.specs.declared.letter.Letter.TheVariants as By
-use Rattle.sip_client.specs.declared.client_other.ClientOther.{ClientOther}
-use Rattle.sip_server.specs.declared.server_other.ServerOther.{ServerOther}
+use Rattle.sip_machines.specs.transaction.declared.letter.Letter.{Letter}
+use Rattle.sip_machines.specs.transaction.declared.letter.Letter.TheVariants as By
+use Rattle.sip_machines.specs.client.declared.client_other.ClientOther.{ClientOther}
+use Rattle.sip_machines.specs.server.declared.server_other.ServerOther.{ServerOther}
 use Rattle.sip_timers.specs.declared.timer.Owner.{Owner}
 use Rattle.sip_timers.specs.declared.timer.Timer.{Timer}
-use Rattle.sip_state.specs.State.{is_success, phase_deadline, side_deadline}
-use Rattle.sip_state.specs.declared.branch.Phase.{Phase}
-use Rattle.sip_state.specs.declared.branch.Phase.TheVariants.{Unheard, Heard, Cancelled, Done, Ended}
-use Rattle.sip_state.specs.declared.open_request.LastAnswer.{LastAnswer}
-use Rattle.sip_state.specs.declared.open_request.Side.{Side}
-use Rattle.sip_state.specs.declared.open_request.Side.TheVariants.{Answering, Closing, Acknowledged, Closed}
-use Rattle.sip_state.specs.declared.resend.Resend.{Resend}
-use Rattle.sip_context.specs.Branches.{is_closing, was_refused}
-use Rattle.sip_retransmission.specs.Retransmission.{is_sent_again, is_cancelled_again}
+use Rattle.sip_machines.specs.state.State.{is_success, phase_deadline, side_deadline}
+use Rattle.sip_machines.specs.state.declared.branch.Phase.{Phase}
+use Rattle.sip_machines.specs.state.declared.branch.Phase.TheVariants.{Unheard, Heard, Cancelled, Done, Ended}
+use Rattle.sip_machines.specs.state.declared.open_request.LastAnswer.{LastAnswer}
+use Rattle.sip_machines.specs.state.declared.open_request.Side.{Side}
+use Rattle.sip_machines.specs.state.declared.open_request.Side.TheVariants.{Answering, Closing, Acknowledged, Closed}
+use Rattle.sip_machines.specs.state.declared.resend.Resend.{Resend}
+use Rattle.sip_machines.specs.context.Branches.{is_closing, was_refused}
+use Rattle.sip_machines.specs.retransmission.Retransmission.{is_sent_again, is_cancelled_again}
 use Rattle.sip_machines.specs.InviteClient.{invite_timers, call_timers}
 use Rattle.sip_machines.specs.OtherClient as Other
 use Rattle.sip_machines.specs.OtherClient.{RunsOtherClient, other_timers}

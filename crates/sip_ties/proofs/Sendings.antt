@@ -4,8 +4,8 @@ use Rattle.std.specs.Prelude.{min}
 use Rattle.std.proofs.lemmas.Bool.Decides.{nat_tests}
 use Rattle.std.proofs.Math.Nat.{pow-suc}
 use Rattle.std.proofs.Math.Pow.{pow_mono}
-use Rattle.sip_state.specs.declared.resend.Resend.{Resend}
-use Rattle.sip_retransmission.specs.Retransmission.{resend_after}
+use Rattle.sip_machines.specs.state.declared.resend.Resend.{Resend}
+use Rattle.sip_machines.specs.retransmission.Retransmission.{resend_after}
 use Rattle.sip_ties.specs.Copies.{IsSent, IsSteady, IsTimely}
 
 -- the next power of two

@@ -1,13 +1,13 @@
 -- How often what was sent goes again, and how often it still may (RFC 3261 17.1.1.2, 17.1.2.2, 17.2.1).
 use Rattle.std.specs.Prelude.{ℕ, zero, suc, ◌≡◌, ◌≤◌, ◌+◌, ◌-◌, ◌*◌, ◌^◌, nat_le, if◌then◌else◌, List, [], ◌∷◌, count_by, Option}
-use Rattle.sip_state.specs.declared.branch.Phase.{Phase}
-use Rattle.sip_state.specs.declared.branch.Phase.TheVariants.{Unheard, Heard, Cancelled, Done, Ended}
-use Rattle.sip_state.specs.declared.open_request.LastAnswer.{LastAnswer}
-use Rattle.sip_state.specs.declared.open_request.Side.{Side}
-use Rattle.sip_state.specs.declared.open_request.Side.TheVariants.{Answering, Closing, Acknowledged, Closed}
-use Rattle.sip_state.specs.declared.resend.Resend.{Resend}
-use Rattle.sip_context.specs.Branches.{was_refused}
-use Rattle.sip_retransmission.specs.Retransmission.{resend_after}
+use Rattle.sip_machines.specs.state.declared.branch.Phase.{Phase}
+use Rattle.sip_machines.specs.state.declared.branch.Phase.TheVariants.{Unheard, Heard, Cancelled, Done, Ended}
+use Rattle.sip_machines.specs.state.declared.open_request.LastAnswer.{LastAnswer}
+use Rattle.sip_machines.specs.state.declared.open_request.Side.{Side}
+use Rattle.sip_machines.specs.state.declared.open_request.Side.TheVariants.{Answering, Closing, Acknowledged, Closed}
+use Rattle.sip_machines.specs.state.declared.resend.Resend.{Resend}
+use Rattle.sip_machines.specs.context.Branches.{was_refused}
+use Rattle.sip_machines.specs.retransmission.Retransmission.{resend_after}
 use Rattle.sip_machines.specs.OtherClient.{steady}
 
 -- ---- moments

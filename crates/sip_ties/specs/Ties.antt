@@ -1,13 +1,13 @@
 -- The timers that an open request names: of its answering side, of its branches and of their CANCELs (RFC 3261 17).
 use Rattle.std.specs.Prelude.{ℕ, ◌≡◌, ◌<◌, ◌&&◌, not, if◌then◌else◌, List, [], ◌∷◌, ◌++◌, map, count_by, ◌==◌, Option, Some}
-use Rattle.sip_transaction.specs.declared.letter.Letter.{Letter}
-use Rattle.sip_transaction.specs.declared.letter.Letter.TheVariants.{A, C, E, G, Cancelled}
+use Rattle.sip_machines.specs.transaction.declared.letter.Letter.{Letter}
+use Rattle.sip_machines.specs.transaction.declared.letter.Letter.TheVariants.{A, C, E, G, Cancelled}
 use Rattle.sip_timers.specs.declared.timer.Owner.{Owner}
 use Rattle.sip_timers.specs.declared.timer.Owner.TheVariants as Of
 use Rattle.sip_timers.specs.declared.timer.Timer.{Timer}
-use Rattle.sip_state.specs.declared.branch.Branch.{Branch}
-use Rattle.sip_state.specs.declared.open_request.OpenRequest.{OpenRequest}
-use Rattle.sip_state.specs.State.{is_invite}
+use Rattle.sip_machines.specs.state.declared.branch.Branch.{Branch}
+use Rattle.sip_machines.specs.state.declared.open_request.OpenRequest.{OpenRequest}
+use Rattle.sip_machines.specs.state.State.{is_invite}
 use Rattle.sip_machines.specs.InviteClient.{invite_timers, call_timers}
 use Rattle.sip_machines.specs.OtherClient.{other_timers}
 use Rattle.sip_machines.specs.InviteServer.{invite_side_timers}

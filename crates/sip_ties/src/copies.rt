@@ -1,14 +1,14 @@
 ghost use Rattle.std.specs.Prelude.{◌≡◌, ◌≤◌, ◌<◌, ◌+◌, ℕ, true, false, Some};
-ghost use Rattle.sip_state.specs.State.{first_resend, is_answering, is_final, is_success};
-ghost use Rattle.sip_state.specs.declared.branch.Phase.{Phase};
-ghost use Rattle.sip_state.specs.declared.branch.Phase.TheVariants.{Unheard, Heard};
-ghost use Rattle.sip_state.specs.declared.open_request.LastAnswer.{LastAnswer};
-ghost use Rattle.sip_state.specs.declared.open_request.OpenRequest.{OpenRequest};
-ghost use Rattle.sip_state.specs.declared.open_request.Side.TheVariants.{Closing};
-ghost use Rattle.sip_state.specs.declared.open_request.Upward.{Upward};
-ghost use Rattle.sip_state.specs.declared.resend.Resend.{Resend};
-ghost use Rattle.sip_context.specs.Branches.{answered, acknowledged, other_heard, is_accepted, is_unheard, was_refused};
-ghost use Rattle.sip_retransmission.specs.Retransmission.{resend_after};
+ghost use Rattle.sip_machines.specs.state.State.{first_resend, is_answering, is_final, is_success};
+ghost use Rattle.sip_machines.specs.state.declared.branch.Phase.{Phase};
+ghost use Rattle.sip_machines.specs.state.declared.branch.Phase.TheVariants.{Unheard, Heard};
+ghost use Rattle.sip_machines.specs.state.declared.open_request.LastAnswer.{LastAnswer};
+ghost use Rattle.sip_machines.specs.state.declared.open_request.OpenRequest.{OpenRequest};
+ghost use Rattle.sip_machines.specs.state.declared.open_request.Side.TheVariants.{Closing};
+ghost use Rattle.sip_machines.specs.state.declared.open_request.Upward.{Upward};
+ghost use Rattle.sip_machines.specs.state.declared.resend.Resend.{Resend};
+ghost use Rattle.sip_machines.specs.context.Branches.{answered, acknowledged, other_heard, is_accepted, is_unheard, was_refused};
+ghost use Rattle.sip_machines.specs.retransmission.Retransmission.{resend_after};
 ghost use Rattle.sip_machines.specs.OtherClient.{steady};
 ghost use Rattle.sip_ties.specs.Copies.{IsSent, IsSteady, IsTimely, invite_copies_left, other_copies_left, answer_copies_left};
 

@@ -7,4 +7,6 @@ pub mod copies;
 pub mod ties;
 mod timer_keys;
 
+pub use sip_machines::transaction;
+pub use sip_timers as timers;
 pub use timer_keys::TimerKeys;

@@ -3,16 +3,16 @@ use Rattle.std.proofs.Common.{◌≡◌, ◌∙◌, ℕ, ◌≤◌, Bool, true, 
 use Rattle.std.specs.Prelude.{◌&&◌}
 use Rattle.std.specs.Result.{result_ok}
 use Rattle.std.specs.Str.{bytes_eq}
-use Rattle.sip_host.specs.declared.addr.Addr.{Addr}
-use Rattle.sip_form.specs.declared.message.Start.{Start}
-use Rattle.sip_form.specs.declared.message.Start.TheVariants.{Request, Status}
-use Rattle.sip_form.specs.declared.message.Message.{Message}
+use Rattle.sip_context.specs.host.declared.addr.Addr.{Addr}
+use Rattle.sip_context.specs.form.declared.message.Start.{Start}
+use Rattle.sip_context.specs.form.declared.message.Start.TheVariants.{Request, Status}
+use Rattle.sip_context.specs.form.declared.message.Message.{Message}
 use Rattle.sip_message.specs.Reading.{reading_of}
-use Rattle.sip_key.specs.declared.key.Key.{Key}
-use Rattle.sip_header.specs.declared.core_fields.CoreFields.{CoreFields}
-use Rattle.sip_key.specs.Key.{key_of}
-use Rattle.sip_header.specs.CoreFields.{core_of}
-use Rattle.sip_nonces.specs.declared.nonces.Nonce.{Nonce}
+use Rattle.sip_context.specs.key.declared.key.Key.{Key}
+use Rattle.sip_context.specs.header.declared.core_fields.CoreFields.{CoreFields}
+use Rattle.sip_context.specs.key.Key.{key_of}
+use Rattle.sip_context.specs.header.CoreFields.{core_of}
+use Rattle.sip_context.specs.nonces.declared.nonces.Nonce.{Nonce}
 use Rattle.sip_policy.specs.declared.decision.Decision.{Decision}
 use Rattle.sip_location.specs.declared.binding.Binding.{Binding}
 use Rattle.sip_location.specs.Sameness.{SameBindings}
@@ -22,14 +22,14 @@ use Rattle.sip_dialog.specs.declared.dialog.DialogId.{DialogId}
 use Rattle.sip_dialog.specs.declared.dialog.Dialog.{Dialog}
 use Rattle.sip_dialog.specs.Sameness.{SameDialogs}
 use Rattle.sip_dialog.proofs.Sameness.{in_dialog_same, dialogs_later}
-use Rattle.sip_state.specs.declared.server.Server.{Server}
-use Rattle.sip_state.specs.declared.open_request.OpenRequest.{OpenRequest}
-use Rattle.sip_state.specs.declared.proxy_state.ProxyState.{ProxyState}
-use Rattle.sip_state.specs.State.{has_key}
-use Rattle.sip_state.specs.SameState.{SameState}
-use Rattle.sip_state.specs.Dialogs.{dialog_of}
+use Rattle.sip_context.specs.state.declared.server.Server.{Server}
+use Rattle.sip_context.specs.state.declared.open_request.OpenRequest.{OpenRequest}
+use Rattle.sip_context.specs.state.declared.proxy_state.ProxyState.{ProxyState}
+use Rattle.sip_context.specs.state.State.{has_key}
+use Rattle.sip_context.specs.state.SameState.{SameState}
+use Rattle.sip_context.specs.state.Dialogs.{dialog_of}
 use Rattle.sip_context.specs.Branches.{is_accepted}
-use Rattle.sip_state.specs.Arrival.{Arrival}
+use Rattle.sip_context.specs.state.Arrival.{Arrival}
 use Rattle.sip_verdict.specs.declared.question.Question.{Question}
 use Rattle.sip_verdict.specs.Verdict.{Verdict, Drop, Copy, AckOn, Answer, InDialog, Challenge, Deny, Send, next_address, within_at, within, ack_verdict, is_full, cancel_verdict, is_register, question_of, answer_of, registration_by, let_through, decided, is_outside, core_verdict, refusal_fields, checked_verdict, new_verdict, by_open, by_key, by_start, response_verdict, responding, message_verdict, message_in, verdict_in, verdict_of}
 use Rattle.sip_verdict.specs.Sameness.{SameVerdict, Alike, AlikeRegister, SameSaid}

@@ -1,11 +1,11 @@
 -- Rows that say the same give the same targets, and the same outcomes of a REGISTER.
 use Rattle.std.proofs.Common.{◌≡◌, ℕ, List, [], map, cond, Bool, true, false, refl, sym, ◌∙◌, ap, subst, arith, Option, Some, None, Ok, Err}
 use Rattle.std.specs.Prelude.{◌&&◌, Result}
-use Rattle.sip_uri.specs.declared.uri.Uri.{Uri}
-use Rattle.sip_uri.specs.declared.aor.Aor.{Aor}
-use Rattle.sip_field.specs.declared.field.Field.{Field}
-use Rattle.sip_form.specs.declared.message.Message.{Message}
-use Rattle.sip_header.specs.declared.core_fields.CoreFields.{CoreFields}
+use Rattle.sip_context.specs.uri.declared.uri.Uri.{Uri}
+use Rattle.sip_context.specs.uri.declared.aor.Aor.{Aor}
+use Rattle.sip_context.specs.field.declared.field.Field.{Field}
+use Rattle.sip_context.specs.form.declared.message.Message.{Message}
+use Rattle.sip_context.specs.header.declared.core_fields.CoreFields.{CoreFields}
 use Rattle.sip_way.specs.Way.{request_uri_of}
 use Rattle.sip_policy.specs.declared.decision.Decision.{Decision}
 use Rattle.sip_policy.specs.User.{is_users_address}
@@ -17,8 +17,8 @@ use Rattle.sip_location.specs.Registration.{registered}
 use Rattle.sip_location.specs.Registering.{to_aor, registration_of}
 use Rattle.sip_location.specs.Sameness.{SameBindings, SameOutcome}
 use Rattle.sip_location.proofs.Sameness.{registered_same}
-use Rattle.sip_targets.specs.Targets.{targets_of}
-use Rattle.sip_state.specs.declared.server.Server.{Server}
+use Rattle.sip_context.specs.targets.Targets.{targets_of}
+use Rattle.sip_context.specs.state.declared.server.Server.{Server}
 use Rattle.sip_verdict.specs.declared.question.Question.{Question}
 use Rattle.sip_verdict.specs.Verdict.{Registered, Bound, Refused, refused_by, registered_by, is_own_uri, registration_by, targets_by, request_targets}
 use Rattle.sip_verdict.specs.Sameness.{SameRegistered}

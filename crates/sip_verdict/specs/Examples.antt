@@ -1,12 +1,12 @@
 -- What comes to a server of the sample configuration, and what it knows then, for the worked examples. Moments are in milliseconds.
 use Rattle.std.specs.Prelude.{ℕ, zero, suc, true, false, List, [], ◌∷◌, ◌++◌, codes, Option, None, Some}
-use Rattle.sip_host.specs.declared.addr.Addr.{Addr}
-use Rattle.sip_field.specs.declared.field_name.FieldName.TheVariants as Name
-use Rattle.sip_form.specs.declared.message.Start.TheVariants.{Request, Status}
-use Rattle.sip_form.specs.declared.message.Message.{Message}
-use Rattle.sip_header.specs.FieldExamples.{fields_of}
-use Rattle.sip_hops.specs.Examples.{local}
-use Rattle.sip_edit.specs.OwnVia.{branch_text}
+use Rattle.sip_context.specs.host.declared.addr.Addr.{Addr}
+use Rattle.sip_context.specs.field.declared.field_name.FieldName.TheVariants as Name
+use Rattle.sip_context.specs.form.declared.message.Start.TheVariants.{Request, Status}
+use Rattle.sip_context.specs.form.declared.message.Message.{Message}
+use Rattle.sip_context.specs.header.FieldExamples.{fields_of}
+use Rattle.sip_context.specs.hops.Examples.{local}
+use Rattle.sip_context.specs.edit.OwnVia.{branch_text}
 use Rattle.sip_policy.specs.declared.who.Who.{Who}
 use Rattle.sip_policy.specs.declared.operation.Operation.{Operation}
 use Rattle.sip_policy.specs.declared.operation.OperationPattern.TheVariants as Pattern
@@ -14,20 +14,20 @@ use Rattle.sip_policy.specs.declared.target_pattern.TargetPattern.TheVariants as
 use Rattle.sip_policy.specs.declared.rule_verdict.RuleVerdict.{RuleVerdict}
 use Rattle.sip_policy.specs.declared.rule.Rule.{Rule}
 use Rattle.sip_policy.specs.Examples as Policy
-use Rattle.sip_settings.specs.Sample as Settings
+use Rattle.sip_context.specs.settings.Sample as Settings
 use Rattle.sip_auth.specs.Proof.{Wrong}
 use Rattle.sip_auth.specs.Examples.{credential, used_often}
 use Rattle.sip_dialog.specs.declared.dialog.Dialog.{Dialog}
 use Rattle.sip_dialog.specs.Examples as Dialogs
-use Rattle.sip_state.specs.declared.server.Server.{Server}
-use Rattle.sip_state.specs.declared.branch.Branch.{Branch}
-use Rattle.sip_state.specs.declared.branch.Phase.TheVariants.{Unheard, Cancelled}
-use Rattle.sip_state.specs.declared.open_request.Side.TheVariants.{Closing}
-use Rattle.sip_state.specs.declared.open_request.OpenRequest.{OpenRequest}
-use Rattle.sip_state.specs.declared.proxy_state.ProxyState.{ProxyState}
-use Rattle.sip_state.specs.State.{first_state}
+use Rattle.sip_context.specs.state.declared.server.Server.{Server}
+use Rattle.sip_context.specs.state.declared.branch.Branch.{Branch}
+use Rattle.sip_context.specs.state.declared.branch.Phase.TheVariants.{Unheard, Cancelled}
+use Rattle.sip_context.specs.state.declared.open_request.Side.TheVariants.{Closing}
+use Rattle.sip_context.specs.state.declared.open_request.OpenRequest.{OpenRequest}
+use Rattle.sip_context.specs.state.declared.proxy_state.ProxyState.{ProxyState}
+use Rattle.sip_context.specs.state.State.{first_state}
 use Rattle.sip_context.specs.Calls as Calls
-use Rattle.sip_state.specs.Arrival.{Arrival}
+use Rattle.sip_context.specs.state.Arrival.{Arrival}
 use Rattle.sip_verdict.specs.declared.question.Question.{Question}
 use Rattle.sip_verdict.specs.Verdict.{Registered, Bound, Refused, Verdict, Register, message_verdict}
 

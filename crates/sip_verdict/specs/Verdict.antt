@@ -3,30 +3,30 @@ use Rattle.std.specs.Prelude.{ℕ, Bool, true, false, not, ◌&&◌, ◌||◌, �
 use Rattle.std.specs.Option.{option_and_then}
 use Rattle.std.specs.Result.{result_ok}
 use Rattle.std.specs.Str.{bytes_eq}
-use Rattle.sip_uri.specs.declared.uri.Uri.{Uri}
-use Rattle.sip_uri.specs.declared.aor.Aor.{Aor}
-use Rattle.sip_field.specs.declared.field.Field.{Field}
-use Rattle.sip_field.specs.declared.field_name.FieldName.TheVariants as Name
-use Rattle.sip_form.specs.declared.message.Start.{Start}
-use Rattle.sip_form.specs.declared.message.Start.TheVariants.{Request, Status}
-use Rattle.sip_form.specs.declared.message.Message.{Message}
-use Rattle.sip_form.specs.declared.error.ReadError.{ReadError}
-use Rattle.sip_form.specs.declared.error.ReadError.TheVariants as Refusal
+use Rattle.sip_context.specs.uri.declared.uri.Uri.{Uri}
+use Rattle.sip_context.specs.uri.declared.aor.Aor.{Aor}
+use Rattle.sip_context.specs.field.declared.field.Field.{Field}
+use Rattle.sip_context.specs.field.declared.field_name.FieldName.TheVariants as Name
+use Rattle.sip_context.specs.form.declared.message.Start.{Start}
+use Rattle.sip_context.specs.form.declared.message.Start.TheVariants.{Request, Status}
+use Rattle.sip_context.specs.form.declared.message.Message.{Message}
+use Rattle.sip_context.specs.form.declared.error.ReadError.{ReadError}
+use Rattle.sip_context.specs.form.declared.error.ReadError.TheVariants as Refusal
 use Rattle.sip_message.specs.Reading.{reading_of}
-use Rattle.sip_key.specs.declared.key.Key.{Key}
-use Rattle.sip_header.specs.declared.core_fields.CoreFields.{CoreFields}
-use Rattle.sip_header.specs.declared.via.Via.{Via}
-use Rattle.sip_key.specs.Key.{key_of}
-use Rattle.sip_field.specs.Values.{values_of, first_value}
-use Rattle.sip_header.specs.Via.{via_of}
-use Rattle.sip_header.specs.Parameters.{branch_of}
+use Rattle.sip_context.specs.key.declared.key.Key.{Key}
+use Rattle.sip_context.specs.header.declared.core_fields.CoreFields.{CoreFields}
+use Rattle.sip_context.specs.header.declared.via.Via.{Via}
+use Rattle.sip_context.specs.key.Key.{key_of}
+use Rattle.sip_context.specs.field.Values.{values_of, first_value}
+use Rattle.sip_context.specs.header.Via.{via_of}
+use Rattle.sip_context.specs.header.Parameters.{branch_of}
 use Rattle.sip_way.specs.Own.{is_own_via}
-use Rattle.sip_header.specs.CoreFields.{core_of, cseq_in}
+use Rattle.sip_context.specs.header.CoreFields.{core_of, cseq_in}
 use Rattle.sip_way.specs.Way.{way_of, request_uri_of, next_uri}
-use Rattle.sip_nonces.specs.declared.nonces.Nonce.{Nonce}
-use Rattle.sip_host.specs.declared.addr.Addr.{Addr}
-use Rattle.sip_hops.specs.HostAddress.{address_of}
-use Rattle.sip_reply.specs.Extras.{unsupported_field, min_expires}
+use Rattle.sip_context.specs.nonces.declared.nonces.Nonce.{Nonce}
+use Rattle.sip_context.specs.host.declared.addr.Addr.{Addr}
+use Rattle.sip_context.specs.hops.HostAddress.{address_of}
+use Rattle.sip_context.specs.reply.Extras.{unsupported_field, min_expires}
 use Rattle.sip_policy.specs.declared.decision.Decision.{Decision}
 use Rattle.sip_policy.specs.Operation.{operation_of}
 use Rattle.sip_policy.specs.User.{is_users_address, is_own_domain}
@@ -37,24 +37,24 @@ use Rattle.sip_location.specs.declared.error.LocationError.{LocationError}
 use Rattle.sip_location.specs.declared.error.LocationError.TheVariants.{NoMemory, BadStar, TooBrief, OldCSeq, TooMany}
 use Rattle.sip_location.specs.Binding.{contacts_of}
 use Rattle.sip_location.specs.Registration.{registered}
-use Rattle.sip_targets.specs.declared.targets.Targets.{Targets}
-use Rattle.sip_targets.specs.Targets.{targets_of}
+use Rattle.sip_context.specs.targets.declared.targets.Targets.{Targets}
+use Rattle.sip_context.specs.targets.Targets.{targets_of}
 use Rattle.sip_validate.specs.Refusal.{refusal_of, is_bad_request}
 use Rattle.sip_dialog.specs.declared.dialog.DialogId.{DialogId}
 use Rattle.sip_dialog.specs.DialogId.{id_of}
 use Rattle.sip_dialog.specs.Dialogs.{is_in_dialog}
-use Rattle.sip_state.specs.declared.server.Server.{Server}
+use Rattle.sip_context.specs.state.declared.server.Server.{Server}
 use Rattle.sip_auth.specs.Proof.{proof_of, proven}
 use Rattle.sip_verdict.specs.declared.question.Question.{Question}
 use Rattle.sip_location.specs.Registering.{aor_or_nobody, to_aor, registration_of}
-use Rattle.sip_state.specs.declared.proxy_state.ProxyState.{ProxyState}
-use Rattle.sip_state.specs.declared.open_request.OpenRequest.{OpenRequest}
-use Rattle.sip_state.specs.declared.branch.Branch.{Branch}
-use Rattle.sip_state.specs.Arrival.{Arrival}
-use Rattle.sip_state.specs.State.{has_key}
+use Rattle.sip_context.specs.state.declared.proxy_state.ProxyState.{ProxyState}
+use Rattle.sip_context.specs.state.declared.open_request.OpenRequest.{OpenRequest}
+use Rattle.sip_context.specs.state.declared.branch.Branch.{Branch}
+use Rattle.sip_context.specs.state.Arrival.{Arrival}
+use Rattle.sip_context.specs.state.State.{has_key}
 use Rattle.sip_context.specs.Branches.{is_accepted}
 use Rattle.sip_context.specs.FoundBranch.{found_branch}
-use Rattle.sip_state.specs.Dialogs.{dialog_of}
+use Rattle.sip_context.specs.state.Dialogs.{dialog_of}
 
 -- What a REGISTER that was let through comes to: the bindings after it, or the status that refuses it, with its extra fields.
 pub data Registered : Type 0 where

@@ -1,14 +1,14 @@
 ghost use Rattle.std.specs.Prelude.{◌≡◌, ◌≤◌, ℕ, List};
-ghost use Rattle.sip_state.specs.declared.server.Server.{Server};
-ghost use Rattle.sip_form.specs.declared.message.Message.{Message};
-ghost use Rattle.sip_header.specs.declared.core_fields.CoreFields.{CoreFields};
+ghost use Rattle.sip_context.specs.state.declared.server.Server.{Server};
+ghost use Rattle.sip_context.specs.form.declared.message.Message.{Message};
+ghost use Rattle.sip_context.specs.header.declared.core_fields.CoreFields.{CoreFields};
 ghost use Rattle.sip_policy.specs.declared.decision.Decision.{Decision};
 ghost use Rattle.sip_location.specs.declared.binding.Binding.{Binding};
 ghost use Rattle.sip_location.specs.Sameness.{SameBindings};
-ghost use Rattle.sip_state.specs.declared.proxy_state.ProxyState.{ProxyState};
-ghost use Rattle.sip_state.specs.SameState.{SameState};
+ghost use Rattle.sip_context.specs.state.declared.proxy_state.ProxyState.{ProxyState};
+ghost use Rattle.sip_context.specs.state.SameState.{SameState};
 ghost use Rattle.sip_verdict.specs.Sameness.{SameRegistered, SameSaid};
-ghost use Rattle.sip_state.specs.Arrival.{Arrival};
+ghost use Rattle.sip_context.specs.state.Arrival.{Arrival};
 ghost use Rattle.sip_verdict.specs.declared.question.Question.{Question};
 ghost use Rattle.sip_verdict.specs.Verdict.{request_targets, registration_by, verdict_of};
 

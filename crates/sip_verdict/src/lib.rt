@@ -7,3 +7,15 @@ pub mod laws;
 mod question;
 
 pub use question::Question;
+pub use sip_auth as auth;
+pub use sip_context as context;
+pub use sip_context::{
+    best, digest, edit, event, field, form, header, hops, host, key, nonces, reply, settings,
+    shared, state, targets, text, uri,
+};
+pub use sip_dialog as dialog;
+pub use sip_location as location;
+pub use sip_message as message;
+pub use sip_policy as policy;
+pub use sip_validate as validate;
+pub use sip_way as way;

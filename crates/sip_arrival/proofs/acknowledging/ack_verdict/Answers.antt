@@ -1,4 +1,4 @@
-use Rattle.sip_validate.specs.Refusal.{refusal_of}
+use Rattle.sip_judge.specs.validate.Refusal.{refusal_of}
 use Rattle.sip_arrival.proofs.Checking.{row_is}
 use Rattle.sip_arrival.proofs.Deciding.{ack_passes, ack_dropped}
 use Rattle.sip_arrival.proofs.acknowledging.ack_verdict.Goals as goal

@@ -1,5 +1,5 @@
 use Rattle.std.proofs.Common.{◌∙◌, ℕ, List, Option, Some, None, ap, sym}
-use Rattle.sip_validate.specs.Refusal.{refusal_of}
+use Rattle.sip_judge.specs.validate.Refusal.{refusal_of}
 use Rattle.sip_arrival.proofs.Checking.{row_is}
 use Rattle.sip_arrival.proofs.Deciding.{by_checks, by_refusal}
 use Rattle.sip_arrival.proofs.arriving.checked_verdict.Goals as goal

@@ -1,5 +1,5 @@
 use Rattle.std.proofs.Common.{◌∙◌, ap, sym}
-use Rattle.sip_state.specs.declared.server.Server.{Server}
+use Rattle.sip_judge.specs.state.declared.server.Server.{Server}
 use Rattle.sip_arrival.proofs.Deciding.{on_ack, on_cancel, on_other}
 use Rattle.sip_arrival.proofs.arriving.new_verdict.Goals as goal
 

@@ -1,6 +1,6 @@
 use Rattle.std.proofs.Common.{subst}
-use Rattle.sip_policy.specs.declared.decision.Decision.{Decision}
-use Rattle.sip_verdict.specs.Verdict as Definition
+use Rattle.sip_judge.specs.policy.declared.decision.Decision.{Decision}
+use Rattle.sip_judge.specs.verdict.Verdict as Definition
 use Rattle.sip_arrival.specs.Verdict.{IsOutcome}
 use Rattle.sip_arrival.proofs.policy.judged.Goals as goal
 

@@ -1,8 +1,8 @@
 use Rattle.std.proofs.Common.{◌≡◌, drop}
 use Rattle.std.specs.Prelude.{filter, not}
 use Rattle.std.specs.List.{list_all}
-use Rattle.sip_state.specs.declared.branch.Branch.{Branch}
-use Rattle.sip_state.specs.State.{is_final}
+use Rattle.sip_context.specs.state.declared.branch.Branch.{Branch}
+use Rattle.sip_context.specs.state.State.{is_final}
 use Rattle.sip_branches.proofs.branches.all_final.Given as goal
 
 abbrev pub invariant-loop-branch : goal.invariant-loop-branch

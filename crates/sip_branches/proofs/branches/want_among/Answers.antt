@@ -1,6 +1,6 @@
 use Rattle.std.proofs.Common.{arith, true}
 use Rattle.std.specs.Prelude.{if◌then◌else◌}
-use Rattle.sip_state.specs.declared.branch.Branch.{Branch}
+use Rattle.sip_context.specs.state.declared.branch.Branch.{Branch}
 use Rattle.sip_context.specs.Branches.{is_same_branch}
 use Rattle.sip_branches.proofs.Lists.{one_more}
 use Rattle.sip_branches.proofs.branches.want_among.Goals as goal

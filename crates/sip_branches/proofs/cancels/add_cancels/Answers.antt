@@ -1,6 +1,6 @@
 use Rattle.std.proofs.Common.{◌∙◌, List, sym, ap}
 use Rattle.std.specs.Prelude.{count_by}
-use Rattle.sip_state.specs.declared.branch.Branch.{Branch}
+use Rattle.sip_context.specs.state.declared.branch.Branch.{Branch}
 use Rattle.sip_context.specs.Branches.{is_cancellable}
 use Rattle.sip_branches.proofs.Lists.{none_cancelled}
 use Rattle.sip_branches.proofs.cancels.add_cancels.Goals as goal

@@ -1,5 +1,5 @@
 use Rattle.std.proofs.Common.{[]}
-use Rattle.sip_context.specs.Branches.{acknowledged}
+use Rattle.sip_processing.specs.context.Branches.{acknowledged}
 use Rattle.sip_inputs.proofs.Joined.{repeated}
 use Rattle.sip_inputs.proofs.events.acknowledge.Goals as goal
 

@@ -1,5 +1,5 @@
 use Rattle.std.proofs.Common.{[]}
-use Rattle.sip_context.specs.Branches.{overdue}
+use Rattle.sip_processing.specs.context.Branches.{overdue}
 use Rattle.sip_inputs.proofs.Joined.{changed}
 use Rattle.sip_inputs.proofs.events.expire_branch.Goals as goal
 

@@ -1,5 +1,5 @@
 use Rattle.std.proofs.Common.{[]}
-use Rattle.sip_context.specs.Branches.{side_overdue}
+use Rattle.sip_processing.specs.context.Branches.{side_overdue}
 use Rattle.sip_inputs.proofs.Joined.{changed}
 use Rattle.sip_inputs.proofs.events.expire_side.Goals as goal
 

@@ -1,5 +1,5 @@
 use Rattle.std.proofs.Common.{[]}
-use Rattle.sip_context.specs.Branches.{send_failed}
+use Rattle.sip_processing.specs.context.Branches.{send_failed}
 use Rattle.sip_inputs.proofs.Joined.{changed}
 use Rattle.sip_inputs.proofs.events.fail.Goals as goal
 

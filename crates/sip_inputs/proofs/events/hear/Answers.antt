@@ -1,5 +1,5 @@
-use Rattle.sip_context.specs.Branches.{responded}
-use Rattle.sip_retransmission.specs.Retransmission.{acked_again}
+use Rattle.sip_processing.specs.context.Branches.{responded}
+use Rattle.sip_resend.specs.retransmission.Retransmission.{acked_again}
 use Rattle.sip_inputs.proofs.Joined.{changed}
 use Rattle.sip_inputs.proofs.events.hear.Goals as goal
 

@@ -1,4 +1,4 @@
-use Rattle.sip_retransmission.specs.Retransmission.{answer_next, answers_again}
+use Rattle.sip_resend.specs.retransmission.Retransmission.{answer_next, answers_again}
 use Rattle.sip_inputs.proofs.Joined.{repeated}
 use Rattle.sip_inputs.proofs.events.repeat_answer.Goals as goal
 

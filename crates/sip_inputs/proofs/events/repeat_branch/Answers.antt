@@ -1,6 +1,6 @@
 use Rattle.std.proofs.Common.{true}
-use Rattle.sip_context.specs.Sending.{branch_packets}
-use Rattle.sip_retransmission.specs.Retransmission.{with_resend}
+use Rattle.sip_processing.specs.context.Sending.{branch_packets}
+use Rattle.sip_resend.specs.retransmission.Retransmission.{with_resend}
 use Rattle.sip_inputs.proofs.Joined.{repeated}
 use Rattle.sip_inputs.proofs.events.repeat_branch.Goals as goal
 

@@ -1,5 +1,5 @@
 use Rattle.std.proofs.Common.{[]}
-use Rattle.sip_header.specs.ContactItem.{contact_of}
+use Rattle.sip_verdict.specs.header.ContactItem.{contact_of}
 use Rattle.sip_judge.proofs.Contacts.{next}
 use Rattle.sip_judge.proofs.registration.contacts_in.Goals as goal
 

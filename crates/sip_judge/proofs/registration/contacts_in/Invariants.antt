@@ -1,6 +1,6 @@
 use Rattle.std.proofs.Common.{◌≡◌, map, take}
 use Rattle.std.specs.List.{filter_map}
-use Rattle.sip_header.specs.ContactItem.{contact_of}
+use Rattle.sip_verdict.specs.header.ContactItem.{contact_of}
 use Rattle.sip_judge.proofs.registration.contacts_in.Given as goal
 
 abbrev pub invariant-loop-value : goal.invariant-loop-value

@@ -1,9 +1,9 @@
 use Rattle.std.proofs.Common.{◌≡◌, ◌∙◌, true, false, sym}
 use Rattle.std.specs.Prelude.{◌&&◌}
-use Rattle.sip_location.specs.Registering.{to_aor}
-use Rattle.sip_policy.specs.User.{is_users_address}
+use Rattle.sip_verdict.specs.location.Registering.{to_aor}
+use Rattle.sip_verdict.specs.policy.User.{is_users_address}
 use Rattle.sip_verdict.specs.Verdict.{is_own_uri}
-use Rattle.sip_way.specs.Way.{request_uri_of}
+use Rattle.sip_verdict.specs.way.Way.{request_uri_of}
 use Rattle.sip_judge.proofs.registration.registering_by.Goals as goal
 
 pub returns-then-not-branch-clause-outcome : goal.returns-then-not-branch-clause-outcome

@@ -1,5 +1,5 @@
 use Rattle.std.proofs.Common.{◌≡◌, ◌++◌, drop}
-use Rattle.sip_hops.specs.HostAddress.{address_of}
+use Rattle.sip_state.specs.hops.HostAddress.{address_of}
 use Rattle.sip_dialog.specs.Addresses.{addresses_in}
 use Rattle.sip_learning.proofs.given.put_addresses.Given as goal
 

@@ -1,5 +1,5 @@
 use Rattle.std.proofs.Common.{◌+◌, refl}
-use Rattle.sip_state.specs.State.{first_resend}
+use Rattle.sip_retransmission.specs.state.State.{first_resend}
 use Rattle.sip_machines.specs.InviteClient.{WhileUnheard}
 use Rattle.sip_machines.proofs.invite_client.begins.Goals as goal
 

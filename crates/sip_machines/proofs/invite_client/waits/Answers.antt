@@ -1,6 +1,6 @@
 use Rattle.std.proofs.Common.{ℕ}
-use Rattle.sip_state.specs.declared.resend.Resend.{Resend}
-use Rattle.sip_state.specs.declared.branch.Phase.TheVariants.{Heard, Cancelled}
+use Rattle.sip_retransmission.specs.state.declared.resend.Resend.{Resend}
+use Rattle.sip_retransmission.specs.state.declared.branch.Phase.TheVariants.{Heard, Cancelled}
 use Rattle.sip_client.specs.declared.client_invite.ClientInvite.{ClientInvite}
 use Rattle.sip_machines.specs.InviteClient.{RunsInviteClient, WhileHeard, WhileCancelled}
 use Rattle.sip_machines.proofs.invite_client.waits.Goals as goal

@@ -4,12 +4,12 @@ use Rattle.std.specs.Option.{option_map_or}
 use Rattle.std.specs.Fmt.{digits}
 use Rattle.md5.specs.Md5.{block_words, rounds, compress, hash_after, digest_bytes, md5}
 use Rattle.hex.specs.Hex.{encode_with}
-use Rattle.sip_uri.specs.Reading.{rest_of, reading_of}
-use Rattle.sip_message.specs.Reading as Bytes
-use Rattle.sip_form.specs.Text.{text_of}
-use Rattle.sip_form.specs.declared.message.Message.{Message}
-use Rattle.sip_header.specs.CoreFields.{core_in}
-use Rattle.sip_nonces.specs.NonceText.{nonce_text}
+use Rattle.sip_state.specs.uri.Reading.{rest_of, reading_of}
+use Rattle.sip_verdict.specs.message.Reading as Bytes
+use Rattle.sip_state.specs.form.Text.{text_of}
+use Rattle.sip_state.specs.form.declared.message.Message.{Message}
+use Rattle.sip_state.specs.header.CoreFields.{core_in}
+use Rattle.sip_state.specs.nonces.NonceText.{nonce_text}
 use Rattle.sip_audit.specs.Lines.{line_of}
 use Rattle.sip_verdict.specs.Verdict.{message_in, verdict_in}
 use Rattle.sip_model.specs.Effect.{Effect, effect_of, counted, nothing}

@@ -1,4 +1,4 @@
-use Rattle.sip_state.specs.declared.branch.Branch.{Branch}
+use Rattle.sip_branches.specs.state.declared.branch.Branch.{Branch}
 use Rattle.sip_branches.specs.Early.{IsEarly}
 use Rattle.sip_moments.specs.Near.{IsBranchWithin}
 use Rattle.sip_moments.proofs.Lists.{all_weaker}

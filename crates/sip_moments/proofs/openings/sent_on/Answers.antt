@@ -1,5 +1,5 @@
 use Rattle.std.proofs.Common.{[], ◌∷◌}
-use Rattle.sip_context.specs.Opening.{branches_from, dialog_branch, forking}
+use Rattle.sip_branches.specs.context.Opening.{branches_from, dialog_branch, forking}
 use Rattle.sip_moments.proofs.Opened.{targets_within, dialog_within, forking_within, opening_within}
 use Rattle.sip_moments.proofs.openings.sent_on.Goals as goal
 

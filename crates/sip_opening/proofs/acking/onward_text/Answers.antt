@@ -1,6 +1,6 @@
 use Rattle.std.proofs.Common.{◌≡◌, IfOk, ℕ, List, ◌∙◌, subst}
-use Rattle.sip_form.specs.Text.{text_of}
-use Rattle.sip_context.specs.Sending.{onward_as}
+use Rattle.sip_branches.specs.form.Text.{text_of}
+use Rattle.sip_branches.specs.context.Sending.{onward_as}
 use Rattle.sip_opening.proofs.acking.onward_text.Goals as goal
 
 pub returns : goal.returns

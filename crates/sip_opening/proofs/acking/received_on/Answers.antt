@@ -1,12 +1,12 @@
 use Rattle.std.proofs.Common.{◌≡◌, IfOk, ℕ, List, ◌∙◌, ap, subst}
-use Rattle.sip_field.specs.declared.field.Field.{Field}
-use Rattle.sip_field.specs.declared.field_name.FieldName.TheVariants as Name
-use Rattle.sip_field.specs.Values.{with_first}
-use Rattle.sip_form.specs.declared.message.Message.{Message}
-use Rattle.sip_form.specs.Text.{text_of}
-use Rattle.sip_edit.specs.OwnVia.{branch_text}
-use Rattle.sip_edit.specs.Onward.{onward_of}
-use Rattle.sip_edit.specs.ReceivedRequest.{received}
+use Rattle.sip_branches.specs.field.declared.field.Field.{Field}
+use Rattle.sip_branches.specs.field.declared.field_name.FieldName.TheVariants as Name
+use Rattle.sip_branches.specs.field.Values.{with_first}
+use Rattle.sip_branches.specs.form.declared.message.Message.{Message}
+use Rattle.sip_branches.specs.form.Text.{text_of}
+use Rattle.sip_branches.specs.edit.OwnVia.{branch_text}
+use Rattle.sip_branches.specs.edit.Onward.{onward_of}
+use Rattle.sip_branches.specs.edit.ReceivedRequest.{received}
 use Rattle.sip_opening.proofs.acking.received_on.Goals as goal
 
 pub returns : goal.returns

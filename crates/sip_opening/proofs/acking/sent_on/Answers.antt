@@ -1,8 +1,8 @@
 use Rattle.std.proofs.Common.{◌≡◌, IfOk, ℕ, List, ◌∙◌, ap, subst, false}
-use Rattle.sip_form.specs.declared.message.Message.{Message}
-use Rattle.sip_form.specs.Text.{text_of}
-use Rattle.sip_edit.specs.OwnVia.{branch_text, own_via}
-use Rattle.sip_edit.specs.Onward.{onward_base, to_target}
+use Rattle.sip_branches.specs.form.declared.message.Message.{Message}
+use Rattle.sip_branches.specs.form.Text.{text_of}
+use Rattle.sip_branches.specs.edit.OwnVia.{branch_text, own_via}
+use Rattle.sip_branches.specs.edit.Onward.{onward_base, to_target}
 use Rattle.sip_opening.proofs.acking.sent_on.Goals as goal
 
 pub returns : goal.returns

@@ -1,5 +1,5 @@
 use Rattle.std.proofs.Common.{◌≡◌, ◌+◌, ◌++◌, drop}
-use Rattle.sip_context.specs.Opening.{branches_from}
+use Rattle.sip_branches.specs.context.Opening.{branches_from}
 use Rattle.sip_opening.proofs.branches.branches_from.Given as goal
 
 -- the branches so far, in front of those to the targets that are left

@@ -1,5 +1,5 @@
 use Rattle.std.proofs.Common.{◌≡◌, take}
-use Rattle.sip_context.specs.Opening as Definitions
+use Rattle.sip_branches.specs.context.Opening as Definitions
 use Rattle.sip_opening.proofs.forks.unsent.Given as goal
 
 -- the answers of the branches so far

@@ -1,7 +1,7 @@
 use Rattle.std.proofs.Common.{◌≡◌, drop}
 use Rattle.std.specs.Prelude.{is_some}
 use Rattle.std.specs.List.{list_any}
-use Rattle.sip_state.specs.declared.branch.Branch.{Branch}
+use Rattle.sip_branches.specs.state.declared.branch.Branch.{Branch}
 use Rattle.sip_opening.proofs.opening.goes_anywhere.Given as goal
 
 -- whether one of those that are left has an address

@@ -1,8 +1,8 @@
 use Rattle.std.proofs.Common.{◌≡◌, List, ◌++◌, ◌∙◌, ap, false}
 use Rattle.std.specs.List.{flat_map}
-use Rattle.sip_event.specs.declared.packet.Packet.{Packet}
-use Rattle.sip_context.specs.Opening.{opening, trying}
-use Rattle.sip_context.specs.Sending.{branch_packets}
+use Rattle.sip_branches.specs.event.declared.packet.Packet.{Packet}
+use Rattle.sip_branches.specs.context.Opening.{opening, trying}
+use Rattle.sip_branches.specs.context.Sending.{branch_packets}
 use Rattle.sip_model.specs.Effect.{upward_packets}
 use Rattle.sip_opening.proofs.Opened.{request_after, upward_after, all_packets}
 use Rattle.sip_opening.proofs.opening.take_opening.Goals as goal

@@ -1,5 +1,5 @@
 use Rattle.sip_processing.specs.Sent.{change_of}
-use Rattle.sip_context.specs.Branches.{acks_of, relayed_success, with_answer}
+use Rattle.sip_branches.specs.context.Branches.{acks_of, relayed_success, with_answer}
 use Rattle.sip_processing.proofs.Settled.{settled_alike}
 use Rattle.sip_processing.proofs.responses.hear_final.Goals as goal
 

@@ -1,6 +1,6 @@
 use Rattle.std.proofs.Common.{◌≡◌, List, ◌++◌, ap, ◌∙◌, option_map}
 use Rattle.std.proofs.lemmas.Result.{on_ok_weaker}
-use Rattle.sip_event.specs.declared.packet.Packet.{Packet}
+use Rattle.sip_context.specs.event.declared.packet.Packet.{Packet}
 use Rattle.sip_sending.proofs.Sent.{ack_from}
 use Rattle.sip_sending.proofs.branches.ack_packets.Goals as goal
 

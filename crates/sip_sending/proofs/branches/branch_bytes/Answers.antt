@@ -1,7 +1,7 @@
 use Rattle.std.proofs.Common.{◌≡◌, IfOk, cond, sym, subst}
-use Rattle.sip_form.specs.declared.message.Message.{Message}
-use Rattle.sip_form.specs.Text.{text_of}
-use Rattle.sip_edit.specs.OwnRequests.{cancel_of}
+use Rattle.sip_context.specs.form.declared.message.Message.{Message}
+use Rattle.sip_context.specs.form.Text.{text_of}
+use Rattle.sip_context.specs.edit.OwnRequests.{cancel_of}
 use Rattle.sip_sending.proofs.branches.branch_bytes.Goals as goal
 
 pub returns : goal.returns

@@ -1,4 +1,4 @@
-use Rattle.sip_state.specs.State.{is_invite}
+use Rattle.sip_machines.specs.state.State.{is_invite}
 use Rattle.sip_ties.proofs.Names.{invite_deadline, other_deadline, branch_moment, invite_side_deadline, other_side_deadline, answer_moment}
 use Rattle.sip_ties.proofs.ties.moments_are_named.Goals as goal
 

@@ -1,4 +1,4 @@
-use Rattle.sip_state.specs.State.{is_invite}
+use Rattle.sip_machines.specs.state.State.{is_invite}
 use Rattle.sip_ties.proofs.Names.{branch_reasons, side_reasons}
 use Rattle.sip_ties.proofs.ties.timers_have_reasons.Goals as goal
 

@@ -1,0 +1,30 @@
+pub use Rattle.sip_model.specs.digest
+pub use Rattle.sip_model.specs.shared
+pub use Rattle.sip_model.specs.text
+pub use Rattle.sip_model.specs.field
+pub use Rattle.sip_model.specs.host
+pub use Rattle.sip_model.specs.nonces
+pub use Rattle.sip_model.specs.uri
+pub use Rattle.sip_model.specs.audit
+pub use Rattle.sip_model.specs.form
+pub use Rattle.sip_model.specs.policy
+pub use Rattle.sip_model.specs.best
+pub use Rattle.sip_model.specs.event
+pub use Rattle.sip_model.specs.hops
+pub use Rattle.sip_model.specs.message
+pub use Rattle.sip_model.specs.header
+pub use Rattle.sip_model.specs.dialog
+pub use Rattle.sip_model.specs.key
+pub use Rattle.sip_location.specs as location
+pub use Rattle.sip_model.specs.way
+pub use Rattle.sip_model.specs.auth
+pub use Rattle.sip_model.specs.edit
+pub use Rattle.sip_model.specs.settings
+pub use Rattle.sip_model.specs.targets
+pub use Rattle.sip_model.specs.validate
+pub use Rattle.sip_model.specs.reply
+pub use Rattle.sip_model.specs.state
+pub use Rattle.sip_model.specs.context
+pub use Rattle.sip_model.specs.retransmission
+pub use Rattle.sip_model.specs.verdict
+pub use Rattle.sip_model.specs as model
