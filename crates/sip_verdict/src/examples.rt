@@ -31,7 +31,7 @@ pub fn dropped_responses()
 
 /// In the call a BYE goes to the first Route that is left without this server's own, and to the Request-URI
 /// where none is, if the dialog holds that address; else it gets 481.
-#[tactic(auto, unfolding(sip_context::specs::uri::Reading::reading_of, sip_context::specs::uri::Reading::rest_of, sip_context::specs::header::CoreFields::core_in))]
+#[tactic(auto, unfolding(sip_uri::specs::Reading::reading_of, sip_uri::specs::Reading::rest_of, sip_header::specs::CoreFields::core_in))]
 pub fn next_hop()
     ensures request_uri { Examples.verdict_on Examples.in_call (Examples.bye Examples.tagged (Examples.own_route ∷ [])) ≡ InDialog (local 5082) (Dialogs.call_of (codes "f1") (codes "t1")) }
     ensures route { Examples.verdict_on (Examples.knowing [] (Examples.call_holding (local 5070 ∷ local 5082 ∷ local 5091 ∷ []) ∷ [])) (Examples.bye Examples.tagged (Examples.own_route ∷ codes "<sip:pc.host.com;lr>" ∷ codes "<sip:127.0.0.1:5070;lr>" ∷ [])) ≡ InDialog (local 5091) (Dialogs.call_of (codes "f1") (codes "t1")) }
@@ -40,7 +40,7 @@ pub fn next_hop()
 
 /// A request with a To tag outside every dialog that is known gets 481: the tag of another call, no dialog
 /// at all, or one that was known for twelve hours.
-#[tactic(auto, unfolding(sip_context::specs::uri::Reading::reading_of, sip_context::specs::uri::Reading::rest_of, sip_context::specs::header::CoreFields::core_in))]
+#[tactic(auto, unfolding(sip_uri::specs::Reading::reading_of, sip_uri::specs::Reading::rest_of, sip_header::specs::CoreFields::core_in))]
 pub fn outside_dialogs()
     ensures other_tag { Examples.verdict_on Examples.in_call (Examples.bye (codes "<sip:help@host.com>;tag=t9") []) ≡ Answer 481 [] }
     ensures none_known { Examples.verdict_on (Examples.knowing [] []) (Examples.bye Examples.tagged []) ≡ Answer 481 [] }
@@ -50,7 +50,7 @@ pub fn outside_dialogs()
 
 /// A CANCEL finds the INVITE by its branch and both parts of its sent-by, if it comes from the same IP
 /// address, from whatever port. Of two requests that it names it finds the earlier.
-#[tactic(auto, unfolding(sip_context::specs::uri::Reading::reading_of, sip_context::specs::uri::Reading::rest_of, sip_context::specs::header::CoreFields::core_in))]
+#[tactic(auto, unfolding(sip_uri::specs::Reading::reading_of, sip_uri::specs::Reading::rest_of, sip_header::specs::CoreFields::core_in))]
 pub fn cancels()
     ensures found { Examples.verdict_on Examples.in_invite (Examples.cancel_with Examples.invite_via) ≡ Cancel (Some Calls.one_target) }
     ensures other_port { Examples.verdict_from (local 5099) Examples.in_invite (Examples.cancel_with Examples.invite_via) ≡ Cancel (Some Calls.one_target) }
@@ -64,7 +64,7 @@ pub fn cancels()
 
 /// With 1,023 open requests a REGISTER is served: it is challenged. With 1,024 it gets 503, and so does a
 /// CANCEL; a copy of an open request is still one.
-#[tactic(auto, unfolding(sip_context::specs::uri::Reading::reading_of, sip_context::specs::uri::Reading::rest_of, sip_context::specs::header::CoreFields::core_in))]
+#[tactic(auto, unfolding(sip_uri::specs::Reading::reading_of, sip_uri::specs::Reading::rest_of, sip_header::specs::CoreFields::core_in))]
 pub fn room()
     ensures served { Examples.verdict_on (Examples.knowing (Examples.times 1023 Calls.one_target) []) register ≡ Challenge Examples.unproven_register }
     ensures full { Examples.verdict_on (Examples.knowing (Examples.times 1024 Calls.one_target) []) register ≡ Answer 503 [] }
@@ -74,7 +74,7 @@ pub fn room()
 
 /// A copy of an open INVITE or MESSAGE belongs to it, also once it has its final answer; with another sent-by it is
 /// a new request, and without a binding of help's it has no target.
-#[tactic(auto, unfolding(sip_context::specs::uri::Reading::reading_of, sip_context::specs::uri::Reading::rest_of, sip_context::specs::header::CoreFields::core_in))]
+#[tactic(auto, unfolding(sip_uri::specs::Reading::reading_of, sip_uri::specs::Reading::rest_of, sip_header::specs::CoreFields::core_in))]
 pub fn copies()
     ensures invite { Examples.verdict_on Examples.in_invite Onward.invite ≡ Copy Calls.one_target }
     ensures message { Examples.verdict_on (Examples.knowing (Calls.message_to [] ∷ []) []) Onward.text_message ≡ Copy (Calls.message_to []) }
@@ -84,7 +84,7 @@ pub fn copies()
 
 /// An ACK with the key of an INVITE that was answered 486 belongs to it. With the key of one that was
 /// answered 200 it is sent on in the dialog, and dropped where none is known.
-#[tactic(auto, unfolding(sip_context::specs::uri::Reading::reading_of, sip_context::specs::uri::Reading::rest_of, sip_context::specs::header::CoreFields::core_in))]
+#[tactic(auto, unfolding(sip_uri::specs::Reading::reading_of, sip_uri::specs::Reading::rest_of, sip_header::specs::CoreFields::core_in))]
 pub fn acks()
     ensures refused { Examples.verdict_on (Examples.knowing (Examples.refused ∷ []) (Examples.call ∷ [])) Examples.ack ≡ Copy Examples.refused }
     ensures accepted { Examples.verdict_on (Examples.knowing (Examples.accepted ∷ []) (Examples.call ∷ [])) Examples.ack ≡ AckOn (local 5082) (Dialogs.call_of (codes "f1") (codes "t1")) }
