@@ -6,4 +6,7 @@
 pub mod events;
 pub mod machines;
 
-pub use sip_machines::{retransmission, transaction};
+/// Of `sip_transaction`.
+pub mod transaction {
+    pub use sip_machines::transaction::Letter;
+}

@@ -10,5 +10,7 @@ pub mod invite_server;
 pub mod other_client;
 pub mod other_server;
 
-pub use sip_retransmission as retransmission;
-pub use sip_transaction as transaction;
+/// Of `sip_transaction`.
+pub mod transaction {
+    pub use sip_transaction::Letter;
+}

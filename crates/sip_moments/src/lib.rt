@@ -9,4 +9,10 @@ pub mod events;
 pub mod openings;
 pub mod timers;
 
-pub use sip_branches as branches;
+/// Of `sip_branches`.
+pub mod branches {
+    pub use sip_branches::{
+        add_cancels, all_final, invite_heard, is_final, mark, new_cancels, other_heard, set_phase,
+        want_cancel,
+    };
+}

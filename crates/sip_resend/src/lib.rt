@@ -14,4 +14,3 @@ pub use answer::{answer_again, answer_due, answer_next};
 pub use branch::{branch_due, branch_next, goes_again, is_acked_again};
 pub use next::{NextResend, Resent, next_resend};
 pub use resent::{answer_went, branch_went};
-pub use sip_retransmission as retransmission;

@@ -4,4 +4,7 @@
 
 pub mod examples;
 
-pub use sip_context::state;
+/// Of `sip_state`.
+pub mod state {
+    pub use sip_context::state::{Branch, LastAnswer, OpenRequest, Phase, Resend, Side};
+}

@@ -16,18 +16,76 @@ pub use open_request::{LastAnswer, OpenRequest, Side, Upward};
 pub use proxy_state::ProxyState;
 pub use resend::Resend;
 pub use server::Server;
-pub use sip_best as best;
-pub use sip_dialog as dialog;
-pub use sip_digest as digest;
-pub use sip_field as field;
-pub use sip_form as form;
-pub use sip_header as header;
-pub use sip_hops as hops;
-pub use sip_host as host;
-pub use sip_key as key;
-pub use sip_location as location;
-pub use sip_nonces as nonces;
-pub use sip_settings as settings;
-pub use sip_shared as shared;
-pub use sip_text as text;
-pub use sip_uri as uri;
+
+/// Of `sip_shared`.
+pub mod shared {
+    pub use sip_shared::Shared;
+}
+
+/// Of `sip_text`.
+pub mod text {
+    pub use sip_text::{Bytes, Items, Text};
+}
+
+/// Of `sip_field`.
+pub mod field {
+    pub use sip_field::{Field, FieldName, Fields};
+}
+
+/// Of `sip_host`.
+pub mod host {
+    pub use sip_host::Addr;
+}
+
+/// Of `sip_nonces`.
+pub mod nonces {
+    pub use sip_nonces::{Nonce, Nonces, nonce_text};
+}
+
+/// Of `sip_uri`.
+pub mod uri {
+    pub use sip_uri::{Aor, Uri, aor_of, write_uri};
+}
+
+/// Of `sip_form`.
+pub mod form {
+    pub use sip_form::{Kept, View, ViewStart, write_view};
+}
+
+/// Of `sip_best`.
+pub mod best {
+    pub use sip_best::{Final, best};
+}
+
+/// Of `sip_hops`.
+pub mod hops {
+    pub use sip_hops::{Hop, Hops, HostAddress};
+}
+
+/// Of `sip_header`.
+pub mod header {
+    pub use sip_header::{
+        AnyUri, ContactItem, CoreFields, HeaderError, NameAddr, Parameter, contact_of, core_of,
+        expires_of, name_addr_of, route_of, tag_of, via_of,
+    };
+}
+
+/// Of `sip_dialog`.
+pub mod dialog {
+    pub use sip_dialog::{Dialog, DialogError, DialogId, Dialogs, InviteAnswer};
+}
+
+/// Of `sip_key`.
+pub mod key {
+    pub use sip_key::Key;
+}
+
+/// Of `sip_location`.
+pub mod location {
+    pub use sip_location::{Binding, LocationError, Locations, Plan, Registration};
+}
+
+/// Of `sip_settings`.
+pub mod settings {
+    pub use sip_settings::Config;
+}

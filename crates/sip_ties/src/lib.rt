@@ -7,6 +7,14 @@ pub mod copies;
 pub mod ties;
 mod timer_keys;
 
-pub use sip_machines::transaction;
-pub use sip_timers as timers;
 pub use timer_keys::TimerKeys;
+
+/// Of `sip_transaction`.
+pub mod transaction {
+    pub use sip_machines::transaction::Letter;
+}
+
+/// Of `sip_timers`.
+pub mod timers {
+    pub use sip_timers::{Name, Owner, Timer, TimerError, Timers};
+}

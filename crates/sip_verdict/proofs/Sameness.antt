@@ -1,11 +1,11 @@
 -- Rows that say the same give the same targets, and the same outcomes of a REGISTER.
 use Rattle.std.proofs.Common.{◌≡◌, ℕ, List, [], map, cond, Bool, true, false, refl, sym, ◌∙◌, ap, subst, arith, Option, Some, None, Ok, Err}
 use Rattle.std.specs.Prelude.{◌&&◌, Result}
-use Rattle.sip_context.specs.uri.declared.uri.Uri.{Uri}
-use Rattle.sip_context.specs.uri.declared.aor.Aor.{Aor}
+use Rattle.sip_uri.specs.declared.uri.Uri.{Uri}
+use Rattle.sip_uri.specs.declared.aor.Aor.{Aor}
 use Rattle.sip_context.specs.field.declared.field.Field.{Field}
 use Rattle.sip_context.specs.form.declared.message.Message.{Message}
-use Rattle.sip_context.specs.header.declared.core_fields.CoreFields.{CoreFields}
+use Rattle.sip_header.specs.declared.core_fields.CoreFields.{CoreFields}
 use Rattle.sip_way.specs.Way.{request_uri_of}
 use Rattle.sip_policy.specs.declared.decision.Decision.{Decision}
 use Rattle.sip_policy.specs.User.{is_users_address}

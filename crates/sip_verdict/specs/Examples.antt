@@ -4,7 +4,7 @@ use Rattle.sip_context.specs.host.declared.addr.Addr.{Addr}
 use Rattle.sip_context.specs.field.declared.field_name.FieldName.TheVariants as Name
 use Rattle.sip_context.specs.form.declared.message.Start.TheVariants.{Request, Status}
 use Rattle.sip_context.specs.form.declared.message.Message.{Message}
-use Rattle.sip_context.specs.header.FieldExamples.{fields_of}
+use Rattle.sip_header.specs.FieldExamples.{fields_of}
 use Rattle.sip_context.specs.hops.Examples.{local}
 use Rattle.sip_context.specs.edit.OwnVia.{branch_text}
 use Rattle.sip_policy.specs.declared.who.Who.{Who}

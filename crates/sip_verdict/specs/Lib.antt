@@ -7,14 +7,14 @@ pub use Rattle.sip_context.specs.text
 pub use Rattle.sip_context.specs.field
 pub use Rattle.sip_context.specs.host
 pub use Rattle.sip_context.specs.nonces
-pub use Rattle.sip_context.specs.uri
+pub use Rattle.sip_uri.specs as uri
 pub use Rattle.sip_context.specs.form
 pub use Rattle.sip_policy.specs as policy
 pub use Rattle.sip_context.specs.best
 pub use Rattle.sip_context.specs.event
 pub use Rattle.sip_context.specs.hops
 pub use Rattle.sip_message.specs as message
-pub use Rattle.sip_context.specs.header
+pub use Rattle.sip_header.specs as header
 pub use Rattle.sip_dialog.specs as dialog
 pub use Rattle.sip_context.specs.key
 pub use Rattle.sip_location.specs as location

@@ -3,8 +3,8 @@ use Rattle.std.specs.Prelude.{ℕ, Bool, true, false, not, ◌&&◌, ◌||◌, �
 use Rattle.std.specs.Option.{option_and_then}
 use Rattle.std.specs.Result.{result_ok}
 use Rattle.std.specs.Str.{bytes_eq}
-use Rattle.sip_context.specs.uri.declared.uri.Uri.{Uri}
-use Rattle.sip_context.specs.uri.declared.aor.Aor.{Aor}
+use Rattle.sip_uri.specs.declared.uri.Uri.{Uri}
+use Rattle.sip_uri.specs.declared.aor.Aor.{Aor}
 use Rattle.sip_context.specs.field.declared.field.Field.{Field}
 use Rattle.sip_context.specs.field.declared.field_name.FieldName.TheVariants as Name
 use Rattle.sip_context.specs.form.declared.message.Start.{Start}
@@ -14,14 +14,14 @@ use Rattle.sip_context.specs.form.declared.error.ReadError.{ReadError}
 use Rattle.sip_context.specs.form.declared.error.ReadError.TheVariants as Refusal
 use Rattle.sip_message.specs.Reading.{reading_of}
 use Rattle.sip_context.specs.key.declared.key.Key.{Key}
-use Rattle.sip_context.specs.header.declared.core_fields.CoreFields.{CoreFields}
-use Rattle.sip_context.specs.header.declared.via.Via.{Via}
+use Rattle.sip_header.specs.declared.core_fields.CoreFields.{CoreFields}
+use Rattle.sip_header.specs.declared.via.Via.{Via}
 use Rattle.sip_context.specs.key.Key.{key_of}
 use Rattle.sip_context.specs.field.Values.{values_of, first_value}
-use Rattle.sip_context.specs.header.Via.{via_of}
-use Rattle.sip_context.specs.header.Parameters.{branch_of}
+use Rattle.sip_header.specs.Via.{via_of}
+use Rattle.sip_header.specs.Parameters.{branch_of}
 use Rattle.sip_way.specs.Own.{is_own_via}
-use Rattle.sip_context.specs.header.CoreFields.{core_of, cseq_in}
+use Rattle.sip_header.specs.CoreFields.{core_of, cseq_in}
 use Rattle.sip_way.specs.Way.{way_of, request_uri_of, next_uri}
 use Rattle.sip_context.specs.nonces.declared.nonces.Nonce.{Nonce}
 use Rattle.sip_context.specs.host.declared.addr.Addr.{Addr}

@@ -1,6 +1,6 @@
 use sip_auth::Proof;
-use sip_context::uri::Aor;
 use sip_policy::Operation;
+use sip_uri::Aor;
 
 /// What policy is asked about a request.
 #[derive(Drop)]
