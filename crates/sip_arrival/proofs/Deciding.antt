@@ -8,8 +8,6 @@ use Rattle.sip_judge.specs.dialog.declared.dialog.Dialog.{Dialog}
 use Rattle.sip_judge.specs.form.declared.message.Message.{Message}
 use Rattle.sip_judge.specs.header.declared.core_fields.CoreFields.{CoreFields}
 use Rattle.sip_judge.specs.header.CoreFields.{core_of}
-use Rattle.sip_judge.specs.Registering.{ComesTo}
-use Rattle.sip_judge.specs.declared.registering.Registering.{Registering}
 use Rattle.sip_judge.specs.key.declared.key.Key.{Key}
 use Rattle.sip_judge.specs.location.declared.binding.Binding.{Binding}
 use Rattle.sip_judge.specs.nonces.declared.nonces.Nonce.{Nonce}
@@ -18,8 +16,7 @@ use Rattle.sip_judge.specs.state.Arrival.{Arrival}
 use Rattle.sip_judge.specs.state.declared.open_request.OpenRequest.{OpenRequest}
 use Rattle.sip_judge.specs.state.declared.proxy_state.ProxyState.{ProxyState}
 use Rattle.sip_judge.specs.state.declared.server.Server.{Server}
-use Rattle.sip_judge.specs.targets.declared.targets.Targets.{Targets}
-use Rattle.sip_judge.specs.validate.Refusal.{refusal_of, is_bad_request}
+use Rattle.sip_judge.specs.validate.Refusal.{refusal_of}
 use Rattle.sip_judge.specs.way.declared.own.Own.{Own}
 use Rattle.sip_judge.specs.verdict.declared.question.Question.{Question}
 use Rattle.sip_judge.specs.verdict.Verdict as Definition
@@ -27,31 +24,9 @@ use Rattle.sip_arrival.specs.declared.verdict.Verdict.{Verdict}
 use Rattle.sip_arrival.specs.declared.verdict.Verdict.TheVariants as Made
 use Rattle.sip_arrival.specs.declared.verdict.Judged.{Judged}
 use Rattle.sip_arrival.specs.declared.verdict.Outcome.{Outcome}
-use Rattle.sip_arrival.specs.Verdict.{Knows, IsRegistered, IsOutcome, Is}
+use Rattle.sip_arrival.specs.Verdict.{Knows, IsOutcome, Is}
 
 -- ---- policy
-
--- a REGISTER that was let through is taken
-pub registers : (server : Server) (rows : List Binding) (now : ℕ) (m : Message) (method : List ℕ) (core : CoreFields) (q : Question) (id : ℕ) (decision : Decision) (registering : Registering)
-    → Definition.is_register method ≡ true → ComesTo rows now (Definition.registration_by server rows now m core) registering → (state : ProxyState) → state.bindings ≡ rows
-    → IsRegistered rows now q id (Definition.let_through server state now m method core q id decision) registering
-registers server rows now m method core q id decision registering is comes state same =
-    record {
-      registered = Definition.registration_by server rows now m core;
-      verdict_is =
-          ap (λ (b : Bool). cond b (Definition.Register q id (Definition.registration_by server state.bindings now m core)) (Definition.Send q id (Definition.request_targets server state.bindings now m q decision))) is
-          ∙ ap (λ (rs : List Binding). Definition.Register q id (Definition.registration_by server rs now m core)) same;
-      comes_to = comes;
-    }
-
--- any other request is sent to its targets
-pub sends : (server : Server) (rows : List Binding) (now : ℕ) (m : Message) (method : List ℕ) (core : CoreFields) (q : Question) (id : ℕ) (decision : Decision) (targets : Targets)
-    → Definition.is_register method ≡ false → targets ≡ Definition.request_targets server rows now m q decision → (state : ProxyState) → state.bindings ≡ rows
-    → Definition.let_through server state now m method core q id decision ≡ Definition.Send q id targets
-sends server rows now m method core q id decision targets is are state same =
-    ap (λ (b : Bool). cond b (Definition.Register q id (Definition.registration_by server state.bindings now m core)) (Definition.Send q id (Definition.request_targets server state.bindings now m q decision))) is
-    ∙ ap (λ (rs : List Binding). Definition.Send q id (Definition.request_targets server rs now m q decision)) same
-    ∙ ap (λ (t : Targets). Definition.Send q id t) (sym are)
 
 -- what is decided about what policy is asked is what policy says
 pub asked : (result : Result Judged AllocError) (server : Server) (rows : List Binding) (nonces : List Nonce) (now : ℕ) (m : Message) (method : List ℕ) (core : CoreFields) (question : Question)
@@ -74,23 +49,6 @@ pub outside : (server : Server) (rows : List Binding) (nonces : List Nonce) (dia
     → Is server rows now named (Definition.core_verdict server state now m method (Some core)) (Made.Judged judged)
 outside server rows nonces dialogs now m method core judged is minute h state is_full knows named =
     (minute, subst (λ (b : Bool). IsOutcome rows now judged.question (cond b (Definition.policy_verdict server state now m method core) (Definition.within server state now m Definition.InDialog (Definition.Answer 481 []))) judged.outcome) (sym is) (h state knows.bindings_are knows.nonces_are))
-
-pub inside : (result : Result Verdict AllocError) (server : Server) (rows : List Binding) (nonces : List Nonce) (dialogs : List Dialog) (now : ℕ) (m : Message) (method : List ℕ) (core : CoreFields)
-    → Definition.is_outside method core ≡ false
-    → IfOk result (λ (v : Verdict). (state : ProxyState) → state.dialogs ≡ dialogs → (rows : List Binding) (named : Option OpenRequest)
-    → Is server rows now named (Definition.within server state now m Definition.InDialog (Definition.Answer 481 [])) v)
-    → IfOk result (λ (v : Verdict). (state : ProxyState) (is_full : Bool) → Knows state rows nonces dialogs is_full → (named : Option OpenRequest)
-    → Is server rows now named (Definition.core_verdict server state now m method (Some core)) v)
-inside (Ok v) server rows nonces dialogs now m method core is h =
-    λ state is_full knows named.
-    subst (λ (b : Bool). Is server rows now named (cond b (Definition.policy_verdict server state now m method core) (Definition.within server state now m Definition.InDialog (Definition.Answer 481 []))) v) (sym is) (h state knows.dialogs_are rows named)
-inside (Err e) server rows nonces dialogs now m method core is h = tt
-
--- without room it is answered 503
-pub without_room : (server : Server) (rows : List Binding) (nonces : List Nonce) (dialogs : List Dialog) (is_full : Bool) (now : ℕ) (m : Message) (method : List ℕ) → is_full ≡ true
-    → (state : ProxyState) → Knows state rows nonces dialogs is_full → (named : Option OpenRequest) → Definition.checked_verdict server state now m method None ≡ Definition.Answer 503 []
-without_room server rows nonces dialogs is_full now m method is state knows named =
-    ap (λ (b : Bool). cond b (Definition.Answer 503 []) (Definition.core_verdict server state now m method (result_ok (core_of m)))) (knows.fullness_is ∙ is)
 
 pub with_room : (result : Result Verdict AllocError) (server : Server) (rows : List Binding) (nonces : List Nonce) (dialogs : List Dialog) (is_full : Bool) (now : ℕ) (m : Message) (method : List ℕ) (core : CoreFields)
     → is_full ≡ false → result_ok (core_of m) ≡ Some core
@@ -166,28 +124,6 @@ on_other (Ok v) server rows nonces dialogs is_full now m short method not_ack no
     (subst (λ (b : Bool). Is server rows now (Definition.found_for_cancel state key a.from) (cond b (Definition.cancel_verdict server state a m short key) (Definition.checked_verdict server state a.now m method (refusal_of server.config.own m short))) v) (sym not_cancel)
     (subst (λ (t : ℕ). Is server rows now (Definition.found_for_cancel state key a.from) (Definition.checked_verdict server state t m method (refusal_of server.config.own m short)) v) (sym at) (h state knows (Definition.found_for_cancel state key a.from))))
 on_other (Err e) server rows nonces dialogs is_full now m short method not_ack not_cancel h = tt
-
--- ---- CANCEL
-
-pub bad_cancel : (own : Own) (is_full : Bool) (m : Message) (short : Bool) → is_bad_request own m short ≡ true
-    → (server : Server) (state : ProxyState) (a : Arrival) (key : Key) (rows : List Binding) (now : ℕ) → server.config.own ≡ own → Definition.is_full state ≡ is_full
-    → Definition.cancel_verdict server state a m short key ≡ Definition.Answer 400 []
-bad_cancel own is_full m short is server state a key rows now same full =
-    ap (λ (b : Bool). cond b (Definition.Answer 400 []) (cond (Definition.is_full state) (Definition.Answer 503 []) (Definition.Cancel (Definition.found_for_cancel state key a.from)))) (ap (λ (o : Own). is_bad_request o m short) same ∙ is)
-
-pub no_room_to_cancel : (own : Own) (is_full : Bool) (m : Message) (short : Bool) → is_bad_request own m short ≡ false → is_full ≡ true
-    → (server : Server) (state : ProxyState) (a : Arrival) (key : Key) (rows : List Binding) (now : ℕ) → server.config.own ≡ own → Definition.is_full state ≡ is_full
-    → Definition.cancel_verdict server state a m short key ≡ Definition.Answer 503 []
-no_room_to_cancel own is_full m short not is server state a key rows now same full =
-    ap (λ (b : Bool). cond b (Definition.Answer 400 []) (cond (Definition.is_full state) (Definition.Answer 503 []) (Definition.Cancel (Definition.found_for_cancel state key a.from)))) (ap (λ (o : Own). is_bad_request o m short) same ∙ not)
-    ∙ ap (λ (b : Bool). cond b (Definition.Answer 503 []) (Definition.Cancel (Definition.found_for_cancel state key a.from))) (full ∙ is)
-
-pub may_cancel : (own : Own) (is_full : Bool) (m : Message) (short : Bool) → is_bad_request own m short ≡ false → is_full ≡ false
-    → (server : Server) (state : ProxyState) (a : Arrival) (key : Key) (rows : List Binding) (now : ℕ) → server.config.own ≡ own → Definition.is_full state ≡ is_full
-    → Definition.cancel_verdict server state a m short key ≡ Definition.Cancel (Definition.found_for_cancel state key a.from)
-may_cancel own is_full m short not is server state a key rows now same full =
-    ap (λ (b : Bool). cond b (Definition.Answer 400 []) (cond (Definition.is_full state) (Definition.Answer 503 []) (Definition.Cancel (Definition.found_for_cancel state key a.from)))) (ap (λ (o : Own). is_bad_request o m short) same ∙ not)
-    ∙ ap (λ (b : Bool). cond b (Definition.Answer 503 []) (Definition.Cancel (Definition.found_for_cancel state key a.from))) (full ∙ is)
 
 -- ---- ACK
 

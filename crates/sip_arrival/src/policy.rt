@@ -29,6 +29,7 @@ fn let_through<R: Rules>(
 ) -> Result<Outcome, AllocError>
     requires moment { now < 2 ^ 62 }
     requires way { checked.now.way ≡ way_of judge.now.config.own request.now }
+    requires question { question.now.target ≡ Definition.target_of judge.now request.now method.now checked.now.core }
     ensures outcome { IfOk result (λ outcome. (state : ProxyState) → state.bindings ≡ locations.old.rows
         → IsOutcome locations.old.rows now question.now (Definition.let_through judge.now state now request.now method.now checked.now.core question.now id decision.now) outcome) }
     ensures unchanged { locations.new.rows ≡ locations.old.rows }
@@ -58,6 +59,7 @@ fn decided<R: Rules>(
 ) -> Result<Outcome, AllocError>
     requires moment { now < 2 ^ 62 }
     requires way { checked.now.way ≡ way_of judge.now.config.own request.now }
+    requires question { question.now.target ≡ Definition.target_of judge.now request.now method.now checked.now.core }
     ensures outcome { IfOk result (λ outcome. (state : ProxyState) → state.bindings ≡ locations.old.rows
         → IsOutcome locations.old.rows now question.now (Definition.decided judge.now state now request.now method.now checked.now.core question.now decision.now) outcome) }
     ensures unchanged { locations.new.rows ≡ locations.old.rows }
@@ -88,6 +90,7 @@ fn judged<'v, R: Rules>(
 ) -> Result<Judged<'v>, AllocError>
     requires moment { now < 2 ^ 62 }
     requires way { checked.now.way ≡ way_of judge.now.config.own request.now }
+    requires question { question.target ≡ Definition.target_of judge.now request.now method.now checked.now.core }
     ensures question { IfOk result (λ judged. judged.question ≡ question.entry) }
     ensures minute { IfOk result (λ judged. judged.minute ≡ Definition.minute_on judge.now judged.question) }
     ensures outcome { IfOk result (λ judged. (state : ProxyState) → state.bindings ≡ locations.old.rows

@@ -6,18 +6,20 @@ use Rattle.sip_verdict.specs.location.Locations.{Planned, IsPlan}
 use Rattle.sip_verdict.specs.location.Registration.{registered}
 use Rattle.sip_judge.specs.declared.registering.Registering.{Registering}
 use Rattle.sip_judge.specs.declared.registering.Registering.TheVariants as Judged
-use Rattle.sip_verdict.specs.Verdict.{Registered, Bound, Refused, registered_by}
+use Rattle.sip_verdict.specs.uri.declared.aor.Aor.{Aor}
+use Rattle.sip_verdict.specs.Verdict.{Registered, Refused, registered_by}
 
--- A plan is the one for a registration that isn't refused, and a REGISTER comes to what that makes of the rows.
-pub record IsPlanned (rows : List Binding) (now : ℕ) (outcome : Registered) (plan : Planned) : Type 0 where
+-- A plan is for an address of record, by a registration that isn't refused, and a REGISTER comes to what that makes of the rows.
+pub record IsPlanned (rows : List Binding) (now : ℕ) (aor : Aor) (outcome : Registered) (plan : Planned) : Type 0 where
+  pub is_for : plan.aor ≡ aor
   pub registration : Registration
   pub is_plan : IsPlan rows registration now plan
   pub comes_to : outcome ≡ registered_by (registered rows registration now)
 
--- What a REGISTER comes to over some rows, as it is judged: the same refusal, or the plan for it.
-abbrev pub ComesTo : List Binding → ℕ → Registered → Registering → Type 0
-ComesTo rows now outcome (Judged.Refused status extras) = outcome ≡ Refused status extras
-ComesTo rows now outcome (Judged.Planned plan) = IsPlanned rows now outcome plan
+-- What a REGISTER for an address of record comes to over some rows, as it is judged: the same refusal, or the plan for it.
+abbrev pub ComesTo : List Binding → ℕ → Aor → Registered → Registering → Type 0
+ComesTo rows now aor outcome (Judged.Refused status extras) = outcome ≡ Refused status extras
+ComesTo rows now aor outcome (Judged.Planned plan) = IsPlanned rows now aor outcome plan
 
 -- There is room for a plan, so that applying it takes no memory.
 abbrev pub HasRoom : ℕ → Registering → Type 0

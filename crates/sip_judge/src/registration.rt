@@ -6,6 +6,7 @@ ghost use Rattle.sip_verdict.specs.location.Registration.{registered};
 ghost use Rattle.sip_verdict.specs.location.declared.binding.Binding.{Binding};
 ghost use Rattle.sip_verdict.specs.location.declared.error.LocationError.TheVariants.{NoMemory};
 ghost use Rattle.sip_verdict.specs.policy.User.{is_users_address};
+ghost use Rattle.sip_verdict.specs.uri.declared.aor.Aor.{Aor};
 ghost use Rattle.sip_verdict.specs.way.Way.{way_of, request_uri_in, request_uri_of};
 ghost use Rattle.sip_verdict.specs.Verdict as Verdict;
 ghost use Rattle.sip_verdict.specs.reply.Extras;
@@ -83,7 +84,7 @@ fn brief_fields(alloc: Global) -> Result<Fields, AllocError>
 
 /// What refuses a REGISTER that the registrar refuses.
 fn refused_by(alloc: Global, error: LocationError) -> Result<Registering, AllocError>
-    ensures outcome { IfOk result (λ outcome. (rows : List Binding) (now : ℕ) → ComesTo rows now (Verdict.refused_by error) outcome) }
+    ensures outcome { IfOk result (λ outcome. (rows : List Binding) (now : ℕ) (aor : Aor) → ComesTo rows now aor (Verdict.refused_by error) outcome) }
     ensures memory { OnOk result (error ≢ NoMemory) }
     ensures room { IfOk result (λ outcome. (room : ℕ) → HasRoom room outcome) }
 {
@@ -104,7 +105,7 @@ fn planned(
     registration: Registration<'_>,
 ) -> Result<Registering, AllocError>
     requires { now < 2 ^ 62 }
-    ensures outcome { IfOk result (ComesTo locations.old.rows now (Verdict.registered_by (registered locations.old.rows registration.entry now))) }
+    ensures outcome { IfOk result (ComesTo locations.old.rows now registration.entry.aor (Verdict.registered_by (registered locations.old.rows registration.entry now))) }
     ensures unchanged { locations.new.rows ≡ locations.old.rows }
     ensures room { IfOk result (HasRoom locations.new.room) }
 {
@@ -123,7 +124,7 @@ fn planned_for(
     core: &CoreFields<'_>,
 ) -> Result<Registering, AllocError>
     requires { now < 2 ^ 62 }
-    ensures outcome { IfOk result (ComesTo locations.old.rows now (Verdict.registered_by (registered locations.old.rows (Naming.registration_of core.now request.now.fields) now))) }
+    ensures outcome { IfOk result (ComesTo locations.old.rows now (Naming.to_aor core.now) (Verdict.registered_by (registered locations.old.rows (Naming.registration_of core.now request.now.fields) now))) }
     ensures unchanged { locations.new.rows ≡ locations.old.rows }
     ensures room { IfOk result (HasRoom locations.new.room) }
 {
@@ -133,7 +134,7 @@ fn planned_for(
 
 /// The status that names nobody.
 fn not_found(alloc: Global) -> Registering
-    ensures outcome { (rows : List Binding) (now : ℕ) → ComesTo rows now (Verdict.Refused 404 []) result }
+    ensures outcome { (rows : List Binding) (now : ℕ) (aor : Aor) → ComesTo rows now aor (Verdict.Refused 404 []) result }
     ensures room { (room : ℕ) → HasRoom room result }
 {
     Registering::Refused(404, Fields::new(alloc))
@@ -187,7 +188,7 @@ fn registering_by(
 ) -> Result<Registering, AllocError>
     requires moment { now < 2 ^ 62 }
     requires read { checked.now.way ≡ way_of server.now.config.own request.now }
-    ensures outcome { IfOk result (ComesTo locations.old.rows now (Verdict.registration_by server.now locations.old.rows now request.now checked.now.core)) }
+    ensures outcome { IfOk result (ComesTo locations.old.rows now (Naming.to_aor checked.now.core) (Verdict.registration_by server.now locations.old.rows now request.now checked.now.core)) }
     ensures unchanged { locations.new.rows ≡ locations.old.rows }
     ensures room { IfOk result (HasRoom locations.new.room) }
 {
@@ -199,8 +200,8 @@ fn registering_by(
 
 impl<R: Rules> Judge<R> {
     /// What a REGISTER that was let through comes to, of which this was read: 404 unless its Request-URI names an own
-    /// domain and To a configured user of one, else what the registrar plans or refuses (RFC 3261 10.3). No binding
-    /// changes. `AllocError` is the only refusal. Moments are below 2^62.
+    /// domain and To a configured user of one, else what the registrar refuses, or plans for the address of record that
+    /// To names (RFC 3261 10.3). No binding changes. `AllocError` is the only refusal. Moments are below 2^62.
     pub fn registering(
         &self,
         alloc: Global,
@@ -211,7 +212,7 @@ impl<R: Rules> Judge<R> {
     ) -> Result<Registering, AllocError>
         requires moment { now < 2 ^ 62 }
         requires read { checked.now.way ≡ way_of self.now.config.own request.now }
-        ensures outcome { IfOk result (ComesTo locations.old.rows now (Verdict.registration_by self.now locations.old.rows now request.now checked.now.core)) }
+        ensures outcome { IfOk result (ComesTo locations.old.rows now (Naming.to_aor checked.now.core) (Verdict.registration_by self.now locations.old.rows now request.now checked.now.core)) }
         ensures unchanged { locations.new.rows ≡ locations.old.rows }
         ensures room { IfOk result (HasRoom locations.new.room) }
     {

@@ -9,7 +9,7 @@ use Rattle.sip_judge.proofs.registration.registering_by.Goals as goal
 pub returns-then-not-branch-clause-outcome : goal.returns-then-not-branch-clause-outcome
 returns-then-not-branch-clause-outcome c =
     let not : (is_own_uri c.args.server.now (request_uri_of c.args.server.now.config.own c.args.request.now) && is_users_address c.args.server.now.config.users c.args.server.now.config.own.domains (to_aor c.args.checked.now.core)) ≡ false = sym c.in_ok-is_registrable.ensures ∙ c.if-not-branch.true in
-    rw not (c.not_found.ensures.outcome c.args.locations.now.rows c.args.now)
+    rw not (c.not_found.ensures.outcome c.args.locations.now.rows c.args.now (to_aor c.args.checked.now.core))
 
 pub returns-clause-outcome : goal.returns-clause-outcome
 returns-clause-outcome c =
