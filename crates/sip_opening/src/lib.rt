@@ -149,14 +149,6 @@ pub mod onward {
     pub use sip_processing::onward::{onward_base, onward_uri, to_target};
 }
 
-/// Of `sip_reply`.
-pub mod reply {
-    pub use sip_branches::reply::{
-        challenge_fields, contact_value, denial_warning, min_expires, reply_view, respond, to_tag,
-        unsupported_field,
-    };
-}
-
 /// Of `sip_state`.
 pub mod state {
     pub use sip_branches::state::{
