@@ -1,0 +1,2 @@
+pub mod OneCSeq
+pub mod Deciding
