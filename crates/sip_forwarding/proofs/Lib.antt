@@ -1,0 +1,4 @@
+pub mod Drafts
+pub mod Few
+pub mod Marks
+pub mod Opened

@@ -1,0 +1,93 @@
+ghost use Rattle.std.specs.Prelude.{◌≡◌, ◌≤◌, ◌++◌, ℕ, count_by, IfOk, OnOk};
+ghost use Rattle.sip_opening.specs.state.declared.server.Server.{Server};
+ghost use Rattle.sip_opening.specs.state.declared.open_request.OpenRequest.{OpenRequest};
+ghost use Rattle.sip_opening.specs.model.Effect as Effects;
+ghost use Rattle.sip_learning.specs.Lessons.{beginnings};
+ghost use Rattle.sip_learning.specs.Telling.{is_early_or_success};
+ghost use Rattle.sip_inputs.specs.declared.input.Input.{Input};
+ghost use Rattle.sip_inputs.specs.Inputs.{outcome, outcome_of};
+ghost use Rattle.sip_forwarding.specs.Forwarding.{IsDraft, IsInputTo, Teach, change_of};
+
+use sip_inputs::Sending;
+use sip_inputs::processing::Sent;
+use sip_learning::Lessons;
+use sip_opening::change_packets;
+use sip_opening::event::Packet;
+use sip_opening::hops::Hops;
+use sip_opening::state::{OpenRequest, Upward};
+use sip_opening::text::Items;
+use std::alloc::{AllocError, Global};
+
+/// What is sent where an open request changes, and what the dialogs learn of it, before anything is changed.
+#[derive(Drop)]
+pub struct Drafted {
+    /// What is sent for the first time, in its order, and behind it what goes again.
+    pub packets: Items<Packet>,
+    pub lessons: Lessons,
+}
+
+/// Adds what goes again of a request.
+fn put_copies(
+    alloc: Global,
+    out: &mut Items<Packet>,
+    request: &OpenRequest,
+    copies: Items<Packet>,
+) -> Result<(), AllocError>
+    ensures { OnOk result (out.new ≡ out.old ++ copies) }
+{
+    let sent = Sent {
+        acks: copies,
+        upward: Items::new(alloc),
+        cancels: Items::new(alloc),
+    };
+    let _none = change_packets(alloc, out, request, sent)?;
+    Ok(())
+}
+
+/// Adds what an event makes a request send, and behind it what goes again. Gives what goes to the caller.
+fn put_sending(
+    alloc: Global,
+    out: &mut Items<Packet>,
+    request: &OpenRequest,
+    sending: Sending,
+) -> Result<Items<Upward>, AllocError>
+    ensures packets { OnOk result (out.new ≡ out.old ++ (Effects.change_packets (change_of (outcome request.now sending)) ++ sending.copies)) }
+    ensures upward { IfOk result (λ upward. upward ≡ sending.upward) }
+{
+    let Sending {
+        acks,
+        upward,
+        cancels,
+        copies,
+    } = sending;
+    let sent = Sent {
+        acks,
+        upward,
+        cancels,
+    };
+    let upward = change_packets(alloc, out, request, sent)?;
+    put_copies(alloc, out, request, copies)?;
+    Ok(upward)
+}
+
+/// What an event makes an open request send, given the request after it, and what that tells the dialogs (RFC 3261 12, 16.7):
+/// ACKs, then what goes to the caller, then CANCELs, all for the first time; then what goes again, marked so. Of an event
+/// of an open request at most one dialog begins. `AllocError` is the only refusal.
+pub fn draft_change(
+    alloc: Global,
+    hops: &Hops,
+    request: &OpenRequest,
+    sending: Sending,
+) -> Result<Drafted, AllocError>
+    ensures packets { IfOk result (λ drafted. drafted.packets ≡ Effects.change_packets (change_of (outcome request.now sending)) ++ sending.copies) }
+    ensures lessons { IfOk result (λ drafted. (server : Server) (now : ℕ) → Teach hops.now.addresses server now drafted.lessons (λ dialogs. Effects.dialogs_after server now (change_of (outcome request.now sending)) dialogs)) }
+    ensures beginnings { IfOk result (λ drafted. beginnings drafted.lessons ≤ count_by is_early_or_success sending.upward) }
+    ensures event { (server : Server) (now : ℕ) (before : OpenRequest) (input : Input) → IsInputTo before input → outcome request.now sending ≡ outcome_of server now before input
+        → IfOk result (IsDraft hops.now.addresses server now (outcome_of server now before input)) }
+{
+    let mut packets = Items::new(alloc);
+    let mut lessons = Lessons::new(alloc);
+    let upward = put_sending(alloc, &mut packets, request, sending)?;
+    lessons.add_change(alloc, hops, request, upward.as_slice())?;
+    Ok(Drafted { packets, lessons })
+}

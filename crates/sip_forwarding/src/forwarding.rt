@@ -1,0 +1,148 @@
+ghost use Rattle.std.specs.Prelude.{◌≡◌, ◌≤◌, ◌<◌, ◌+◌, ◌^◌, [], length, nat_lt, count_by, Some, IfOk};
+ghost use Rattle.sip_opening.specs.key.Key.{key_of};
+ghost use Rattle.sip_opening.specs.targets.Targets.{target_list};
+ghost use Rattle.sip_opening.specs.Arrivals.{arrival_of};
+ghost use Rattle.sip_opening.specs.state.Dialogs.{after_request};
+ghost use Rattle.sip_opening.specs.context.Opening as Openings;
+ghost use Rattle.sip_opening.specs.model.Effect.{opening_packets, dialogs_after};
+ghost use Rattle.sip_learning.specs.Lessons.{beginnings};
+ghost use Rattle.sip_learning.specs.Telling.{Adds, is_early_or_success};
+ghost use Rattle.sip_forwarding.specs.Forwarding.{AreSent, IsOpenable, Teach, call_to, call_within};
+
+use crate::laws::opens;
+use crate::renewing::renewing;
+use sip_learning::Lessons;
+use sip_opening::dialog::DialogId;
+use sip_opening::event::Packet;
+use sip_opening::form::Kept;
+use sip_opening::hops::Hops;
+use sip_opening::host::Addr;
+use sip_opening::key::Key;
+use sip_opening::shared::Shared;
+use sip_opening::state::{OpenRequest, Server};
+use sip_opening::targets::Targets;
+use sip_opening::text::Items;
+use sip_opening::{Arrival, fork_to, fork_within, take_opening};
+use std::alloc::{AllocError, Global};
+
+/// A request that is sent on, before anything is changed: what is sent, in its order; the request, which is open from
+/// then on; and what the dialogs learn.
+#[derive(Drop)]
+pub struct Forwarded {
+    pub packets: Items<Packet>,
+    pub request: OpenRequest,
+    pub lessons: Lessons,
+}
+
+/// What becomes of a request once its first packets go, and what the dialogs learn of that behind some lessons.
+fn begun(
+    alloc: Global,
+    server: &Server,
+    hops: &Hops,
+    now: u64,
+    call: OpenRequest,
+    lessons: Lessons,
+) -> Result<Forwarded, AllocError>
+    requires { now + 32000 < 2 ^ 64 }
+    ensures packets { IfOk result (λ forwarded. forwarded.packets ≡ opening_packets server.now now call) }
+    ensures request { IfOk result (λ forwarded. forwarded.request ≡ (Openings.opening server.now now call).request) }
+    ensures told { IfOk result (λ forwarded. Adds hops.now.addresses lessons forwarded.lessons (λ other moment dialogs. dialogs_after other moment (Openings.opening server.now now call) dialogs)) }
+    ensures room { IfOk result (λ forwarded. beginnings forwarded.lessons ≤ beginnings lessons + count_by is_early_or_success (Openings.opening server.now now call).upward) }
+{
+    let mut call = call;
+    let mut lessons = lessons;
+    let mut packets = Items::new(alloc);
+    let upward = take_opening(alloc, server, now, &mut call, &mut packets)?;
+    lessons.add_change(alloc, hops, &call, upward.as_slice())?;
+    Ok(Forwarded {
+        packets,
+        request: call,
+        lessons,
+    })
+}
+
+/// Whether the branches to the targets have numbers of 32 bits, and so has the next one.
+fn can_be_numbered(targets: &Targets) -> bool
+    ensures { result ≡ nat_lt (length (target_list targets.now)) 4294967295 }
+{
+    match targets {
+        Targets::Bindings(targets) => targets.as_slice().len() < u32::MAX as usize,
+        Targets::Hop(..) | Targets::NotFound | Targets::Unavailable => true,
+    }
+}
+
+/// A request that came, with its key, is sent to its targets (RFC 3261 16.5, 16.6): exactly the packets of its opening,
+/// the request after it, and what that tells the dialogs. The request can be opened, and no dialog begins. `AllocError` is
+/// the only refusal; it also comes where there are more targets than numbers of branches.
+pub fn forward_to(
+    alloc: Global,
+    server: &Server,
+    hops: &Hops,
+    arrival: Arrival,
+    key: Shared<Key>,
+    request: Shared<Kept>,
+    targets: &Targets,
+) -> Result<Forwarded, AllocError>
+    requires key { key_of request ≡ Some key }
+    requires now { arrival.now + 32000 < 2 ^ 64 }
+    ensures packets { IfOk result (λ forwarded. forwarded.packets ≡ opening_packets server.now arrival.now (call_to (arrival_of arrival) request targets.now)) }
+    ensures sent { IfOk result (λ forwarded. AreSent (opening_packets server.now arrival.now (call_to (arrival_of arrival) request targets.now)) [] forwarded.packets) }
+    ensures request { IfOk result (λ forwarded. forwarded.request ≡ (Openings.opening server.now arrival.now (call_to (arrival_of arrival) request targets.now)).request) }
+    ensures opens { IfOk result (λ forwarded. IsOpenable (arrival_of arrival) key forwarded.request) }
+    ensures lessons { IfOk result (λ forwarded. Teach hops.now.addresses server.now arrival.now forwarded.lessons
+        (λ dialogs. dialogs_after server.now arrival.now (Openings.opening server.now arrival.now (call_to (arrival_of arrival) request targets.now)) dialogs)) }
+    ensures none_begins { IfOk result (λ forwarded. beginnings forwarded.lessons ≡ 0) }
+{
+    if !can_be_numbered(targets) {
+        return Err(AllocError);
+    }
+    opens();
+    let call = fork_to(alloc, arrival, key, request, targets)?;
+    let forwarded = begun(alloc, server, hops, arrival.now, call, Lessons::new(alloc))?;
+    Ok(forwarded)
+}
+
+/// What a kept request of a dialog that is sent on tells that dialog.
+fn renewing_kept(
+    alloc: Global,
+    hops: &Hops,
+    id: DialogId,
+    request: &Kept,
+) -> Result<Lessons, AllocError>
+    ensures told { IfOk result (λ lessons. Adds hops.now.addresses [] lessons (λ server now dialogs. after_request server now id request.now dialogs)) }
+    ensures none_begins { IfOk result (λ lessons. beginnings lessons ≡ 0) }
+{
+    let request = request.view(alloc)?;
+    let lessons = renewing(alloc, hops, id, &request)?;
+    Ok(lessons)
+}
+
+/// A request of a dialog that came, with its key, is sent on to the address that the dialog holds (RFC 3261 16.12): exactly
+/// the packets of its opening, the request after it, and what that tells the dialogs, behind the renewal of its own (12.2).
+/// The request can be opened, and no dialog begins. `AllocError` is the only refusal.
+pub fn forward_within(
+    alloc: Global,
+    server: &Server,
+    hops: &Hops,
+    arrival: Arrival,
+    key: Shared<Key>,
+    request: Shared<Kept>,
+    address: Addr,
+    id: DialogId,
+) -> Result<Forwarded, AllocError>
+    requires key { key_of request ≡ Some key }
+    requires now { arrival.now + 32000 < 2 ^ 64 }
+    ensures packets { IfOk result (λ forwarded. forwarded.packets ≡ opening_packets server.now arrival.now (call_within server.now (arrival_of arrival) request address)) }
+    ensures sent { IfOk result (λ forwarded. AreSent (opening_packets server.now arrival.now (call_within server.now (arrival_of arrival) request address)) [] forwarded.packets) }
+    ensures request { IfOk result (λ forwarded. forwarded.request ≡ (Openings.opening server.now arrival.now (call_within server.now (arrival_of arrival) request address)).request) }
+    ensures opens { IfOk result (λ forwarded. IsOpenable (arrival_of arrival) key forwarded.request) }
+    ensures lessons { IfOk result (λ forwarded. Teach hops.now.addresses server.now arrival.now forwarded.lessons
+        (λ dialogs. dialogs_after server.now arrival.now (Openings.opening server.now arrival.now (call_within server.now (arrival_of arrival) request address)) (after_request server.now arrival.now id request dialogs))) }
+    ensures none_begins { IfOk result (λ forwarded. beginnings forwarded.lessons ≡ 0) }
+{
+    opens();
+    let lessons = renewing_kept(alloc, hops, id, request.get())?;
+    let call = fork_within(alloc, server, arrival, key, request, address)?;
+    let forwarded = begun(alloc, server, hops, arrival.now, call, lessons)?;
+    Ok(forwarded)
+}

@@ -1,0 +1,60 @@
+ghost use Rattle.std.specs.Prelude.{◌≡◌, [], IfOk};
+ghost use Rattle.sip_opening.specs.Arrivals.{arrival_of};
+ghost use Rattle.sip_opening.specs.state.Dialogs.{after_request};
+ghost use Rattle.sip_opening.specs.model.Effect as Effects;
+ghost use Rattle.sip_learning.specs.Lessons.{beginnings};
+ghost use Rattle.sip_learning.specs.Telling.{Adds};
+ghost use Rattle.sip_forwarding.specs.Forwarding.{Teach};
+
+use sip_learning::Lessons;
+use sip_opening::dialog::DialogId;
+use sip_opening::event::Packet;
+use sip_opening::form::View;
+use sip_opening::hops::Hops;
+use sip_opening::host::Addr;
+use sip_opening::state::Server;
+use sip_opening::{Arrival, ack_packet};
+use std::alloc::{AllocError, Global};
+
+/// What a request of a dialog that is sent on tells that dialog (RFC 3261 12.2).
+pub(crate) fn renewing(
+    alloc: Global,
+    hops: &Hops,
+    id: DialogId,
+    request: &View<'_>,
+) -> Result<Lessons, AllocError>
+    ensures told { IfOk result (λ lessons. Adds hops.now.addresses [] lessons (λ server now dialogs. after_request server now id request.now dialogs)) }
+    ensures none_begins { IfOk result (λ lessons. beginnings lessons ≡ 0) }
+{
+    let mut lessons = Lessons::new(alloc);
+    lessons.add_request(alloc, hops, id, request)?;
+    Ok(lessons)
+}
+
+/// An ACK that is sent on, before anything is changed: its packet, and what its dialog learns.
+#[derive(Drop)]
+pub struct ForwardedAck {
+    pub packet: Packet,
+    pub lessons: Lessons,
+}
+
+/// An ACK of a dialog goes on to the address that the dialog holds, without a transaction, and renews the dialog (RFC 3261
+/// 12.2, 16.11, 17): exactly its packet, and what that tells the dialogs, of which none begins. `AllocError` is the only
+/// refusal.
+pub fn forward_ack(
+    alloc: Global,
+    server: &Server,
+    hops: &Hops,
+    arrival: Arrival,
+    request: &View<'_>,
+    address: Addr,
+    id: DialogId,
+) -> Result<ForwardedAck, AllocError>
+    ensures packet { IfOk result (λ ack. ack.packet ≡ Effects.ack_packet server.now (arrival_of arrival) request.now address) }
+    ensures lessons { IfOk result (λ ack. Teach hops.now.addresses server.now arrival.now ack.lessons (λ dialogs. after_request server.now arrival.now id request.now dialogs)) }
+    ensures none_begins { IfOk result (λ ack. beginnings ack.lessons ≡ 0) }
+{
+    let lessons = renewing(alloc, hops, id, request)?;
+    let packet = ack_packet(alloc, server, arrival, request, address)?;
+    Ok(ForwardedAck { packet, lessons })
+}
