@@ -1,2 +1,16 @@
+mod Dues
+mod Earliest
+mod Firsts
+mod Later
+mod Lists
 mod Mapped
+mod Moments
+mod Named
+mod Nearness
 mod Ordering
+mod Parts
+mod Passing
+mod Reasons
+mod Sent
+mod Tying
+mod Walks

@@ -1,13 +1,16 @@
 -- Open requests with exactly the timers that they name (RFC 3261 16, 17).
-use Rattle.std.specs.Prelude.{ℕ, ◌≡◌, ◌<◌, ◌+◌, ◌^◌, Bool, List, count_by}
+use Rattle.std.specs.Prelude.{ℕ, ◌≡◌, ◌<◌, ◌≤◌, ◌+◌, ◌^◌, Bool, List, count_by}
 use Rattle.std.specs.List.{All, sum_by}
 use Rattle.sip_timers.specs.declared.timer.Timer.{Timer}
 use Rattle.sip_timers.specs.Timers.{KeysDiffer}
-use Rattle.sip_verdict.specs.state.declared.open_request.OpenRequest.{OpenRequest}
+use Rattle.sip_model.specs.state.declared.open_request.OpenRequest.{OpenRequest}
+use Rattle.sip_model.specs.context.BranchById.{HasNumbers}
 use Rattle.sip_moments.specs.Near.{IsWithin}
 use Rattle.sip_fitting.specs.Fits.{Fits}
 use Rattle.sip_request.specs.declared.request.Request.{Request}
 use Rattle.sip_request.specs.Named.{HasKeys, named_by}
+use Rattle.sip_request.specs.Near.{most_timers}
+use Rattle.sip_request.specs.declared.request.Plan.{Plan}
 
 -- What the table of open requests shows: them, in rising order of their numbers; the timers that stand, in the order in
 -- which they fire; the greatest moment that was told to have passed; and for how many more requests, and how many more
@@ -19,14 +22,27 @@ pub record Contexts : Type 0 where
   pub places : ℕ
   pub room : ℕ
 
+-- two open requests have one number and one key
+pub record IsSame (r x : OpenRequest) : Type 0 where
+  pub number : x.number ≡ r.number
+  pub key : x.key ≡ r.key
+
+-- An open request can become another one, or be opened: it fits, its moments are near the next one that may come, and
+-- there is room for its timers.
+pub record IsFitting (reached free : ℕ) (r : OpenRequest) : Type 0 where
+  pub fits : Fits r
+  pub within : IsWithin (reached + 1) r
+  pub room : most_timers r ≤ free
+
 -- ---- inside
 
--- An open request is kept: each branch has its keys, its parts fit their transactions, and its moments are near the next
--- one that may come.
+-- An open request is kept: its numbers are of their types, each branch has its keys, its parts fit their transactions, and
+-- its moments are near the next one that may come.
 pub record IsKept (reached : ℕ) (r : Request) : Type 0 where
   pub keys : HasKeys r.context r.branches
   pub fits : Fits r.context
   pub within : IsWithin (reached + 1) r.context
+  pub numbers : HasNumbers r.context
 
 -- Exactly the timers that open requests name stand, by every test as many, no two with one key; each request is kept; and
 -- moments are far below the end of their numbers.
@@ -35,3 +51,10 @@ pub record AreTied (pending : List Timer) (reached : ℕ) (rows : List Request) 
   pub keys_differ : KeysDiffer pending
   pub kept : All (IsKept reached) rows
   pub early : reached < 2 ^ 62
+
+-- A request as it is to be is prepared: there are keys for its branches, its numbers are of their types, and what stands in
+-- its place meanwhile has its number and its key.
+pub record IsPrepared (plan : Plan) (spare : Request) : Type 0 where
+  pub keys : HasKeys plan.request plan.keys
+  pub numbers : HasNumbers plan.request
+  pub same : IsSame plan.request spare.context

@@ -1,18 +1,34 @@
-ghost use Rattle.std.specs.Prelude.{◌≡◌, ◌<◌, ◌≤◌, ◌==◌, [], ℕ, false, length, position, find, nat_le, slice_get, Some, IfOk, IfErr, OnOk};
-ghost use Rattle.std.specs.List.{AllPairs};
+ghost use Rattle.std.specs.Prelude.{◌≡◌, ◌<◌, ◌≤◌, ◌==◌, [], ℕ, false, ◌+◌, ◌-◌, ◌^◌, max, length, position, find, nat_le, slice_get, option_map, None, Some, IfOk, IfErr, OnOk, MatchOption};
+ghost use Rattle.std.specs.List.{All, AllPairs};
 ghost use Rattle.std.specs.Option.{option_and_then};
-ghost use Rattle.sip_verdict.specs.key.Key.{same_key};
+ghost use Rattle.sip_model.specs.key.Key.{same_key};
 ghost use Rattle.sip_timers.specs.declared.error.TimerError.TheVariants.{NoMemory};
-ghost use Rattle.sip_verdict.specs.state.State.{has_key};
-ghost use Rattle.sip_verdict.specs.state.declared.open_request.OpenRequest.{OpenRequest};
-ghost use Rattle.sip_verdict.specs.Verdict.{is_cancelled_by};
+ghost use Rattle.sip_model.specs.state.State.{has_key, with_one_more};
+ghost use Rattle.sip_model.specs.state.declared.open_request.OpenRequest.{OpenRequest};
+ghost use Rattle.sip_model.specs.verdict.Verdict.{is_cancelled_by};
+ghost use Rattle.sip_model.specs.context.FoundBranch.{found_branch};
+ghost use Rattle.sip_model.specs.state.declared.branch.Branch.{Branch};
+ghost use Rattle.sip_model.specs.Effect.{replaced};
+ghost use Rattle.sip_model.specs.Step.{NoneBefore, NoneAgainBefore};
+ghost use Rattle.sip_request.specs.Near.{most_timers};
+ghost use Rattle.sip_fork.specs.Contexts.{IsFitting, IsSame};
+ghost use Rattle.sip_fork.specs.Due.{IsFirst, IsNothingDue};
+ghost use Rattle.sip_fork.specs.Places.{branch_at};
 
+use crate::change::Change;
+use crate::due::{First, what_at};
+use crate::lookup::place_of_sent;
+use crate::moving::{change_row, close_row, open_row};
 use crate::queue::Queue;
 use crate::row::Standing;
+use crate::timing::timers_stand_for_moments;
+use sip_context::laws::found_by_numbers;
+use sip_edit::branch_of_text;
+use sip_model::key::Key;
+use sip_model::state::{OpenRequest, Server};
+use sip_moments::bounds::time_passes;
 use sip_table::Table;
 use sip_timers::{TimerError, Timers};
-use sip_verdict::key::Key;
-use sip_verdict::state::OpenRequest;
 use std::alloc::{AllocError, Global};
 use std::marker::Model;
 
@@ -97,6 +113,21 @@ impl<T: Timers> Contexts<T> {
         self.table.find_cancelled(key)
     }
 
+    /// The open request, and its branch, that a response is to whose top Via has this text as its branch and whose CSeq has
+    /// this method, by their places (RFC 3261 17.1.3): found by the two numbers in the text, in the time of a bisection and of
+    /// a walk through the request's own branches. Takes no memory.
+    pub fn find_branch(&self, server: &Server, text: &[u8], method: &[u8]) -> Option<(usize, usize)>
+        ensures { option_map (branch_at self.now.requests) result ≡ option_map (λ (found : OpenRequest × Branch). Some found) (found_branch server.now text.now method.now self.now.requests) }
+    {
+        found_by_numbers();
+        let _rows = &self.table;
+        let _open = self.len();
+        let id = branch_of_text(server.word, text)?;
+        let place = self.find_number(id.number)?;
+        let branch = place_of_sent(self.get(place), id.target, method)?;
+        Some((place, branch))
+    }
+
     /// Makes room for one more request, so that the next one is opened with no memory for its place. `AllocError` is the
     /// only refusal.
     pub fn reserve_one(&mut self) -> Result<(), AllocError>
@@ -121,5 +152,71 @@ impl<T: Timers> Contexts<T> {
         ensures refused { IfErr result (λ e. e ≡ NoMemory) }
     {
         self.timers.reserve(timers)
+    }
+
+    /// The open request at a place becomes what was prepared, of its number and its key, and its timers follow; one that stays
+    /// open no longer is closed. Takes no memory.
+    pub fn change(&mut self, place: usize, change: Change)
+        requires place { place < length self.old.requests }
+        requires same { (r : OpenRequest) → slice_get self.old.requests place ≡ Some r → IsSame r change }
+        requires fitting { IsFitting self.old.reached self.old.room change }
+        ensures requests { self.new.requests ≡ replaced change self.old.requests }
+        ensures reached { self.new.reached ≡ self.old.reached }
+        ensures places { self.old.places ≤ self.new.places }
+        ensures room { self.old.room ≤ self.new.room + most_timers change }
+    {
+        let _stood = self.table.get(place);
+        if change.closes() {
+            close_row(&mut self.table, &mut self.timers, place);
+        } else {
+            change_row(&mut self.table, &mut self.timers, place, change);
+        }
+    }
+
+    /// Opens a request that was prepared, whose number is above all others and whose key isn't open. Takes no memory.
+    pub fn open(&mut self, change: Change)
+        requires few { length self.old.requests < 1024 }
+        requires places { 1 ≤ self.old.places }
+        requires last { All (λ (r : OpenRequest). r.number < change.number) self.old.requests }
+        requires alone { position (has_key change.key) self.old.requests ≡ None }
+        requires fitting { IsFitting self.old.reached self.old.room change }
+        ensures requests { self.new.requests ≡ with_one_more change self.old.requests }
+        ensures reached { self.new.reached ≡ self.old.reached }
+        ensures places { self.old.places ≤ self.new.places + 1 }
+        ensures room { self.old.room ≤ self.new.room + most_timers change }
+    {
+        open_row(&mut self.table, &mut self.timers, change);
+    }
+
+    /// What is due first of all open requests, if anything is: no deadline stands before it, and nothing is to go again before
+    /// it. None exactly where no deadline stands and nothing is to go again. Takes no memory.
+    pub fn first(&self) -> Option<First>
+        ensures { MatchOption result (IsNothingDue self.now.requests) (IsFirst self.now.requests) }
+    {
+        timers_stand_for_moments();
+        let _open = self.table.len();
+        let (due, name) = self.timers.first()?;
+        let place = self.table.find_number(name.request).unwrap();
+        let row = self.table.get(place);
+        let what = what_at(&row.request.context, name.owner, due).unwrap();
+        Some(First { due, place, what })
+    }
+
+    /// A moment comes before which nothing is due. Takes no memory.
+    pub fn reach(&mut self, moment: u64)
+        requires none { NoneBefore moment self.old.requests }
+        requires none_again { NoneAgainBefore moment self.old.requests }
+        requires early { moment < 2 ^ 62 }
+        ensures requests { self.new.requests ≡ self.old.requests }
+        ensures pending { self.new.pending ≡ self.old.pending }
+        ensures reached { self.new.reached ≡ max self.old.reached (moment - 1) }
+        ensures places { self.new.places ≡ self.old.places }
+        ensures room { self.old.room ≤ self.new.room }
+    {
+        timers_stand_for_moments();
+        time_passes();
+        if moment > 0 {
+            self.timers.reach(moment - 1);
+        }
     }
 }

@@ -1,22 +1,30 @@
 //! The table of open requests with their timers (RFC 3261 16: response contexts; 17): which request is open under a key
-//! or a number, and which one a CANCEL names. Exactly the timers that open requests name stand, in the order in which
-//! they fire.
+//! or a number, which one a CANCEL names, which branch a response is to, what is due first, and how a request is opened,
+//! changed and closed. Exactly the timers that open requests name stand, in the order in which they fire. Nothing that
+//! changes a request takes memory: who plans reserves before. No moment is read here; who reaches one says so.
 #![tactic(auto)]
 
+mod change;
 mod contexts;
+mod due;
+mod lookup;
+mod moving;
 mod queue;
 mod row;
+mod timing;
 
+pub use change::Change;
 pub use contexts::Contexts;
+pub use due::{Due, First};
 
 /// Of `sip_shared`.
 pub mod shared {
-    pub use sip_verdict::shared::Shared;
+    pub use sip_model::shared::Shared;
 }
 
 /// Of `sip_text`.
 pub mod text {
-    pub use sip_verdict::text::{Bytes, Items, Text};
+    pub use sip_model::text::{Bytes, Items, Text};
 }
 
 /// Of `sip_transaction`.
@@ -26,17 +34,17 @@ pub mod transaction {
 
 /// Of `sip_field`.
 pub mod field {
-    pub use sip_verdict::field::{Field, FieldName, Fields};
+    pub use sip_model::field::{Field, FieldName, Fields};
 }
 
 /// Of `sip_host`.
 pub mod host {
-    pub use sip_verdict::host::Addr;
+    pub use sip_model::host::Addr;
 }
 
 /// Of `sip_nonces`.
 pub mod nonces {
-    pub use sip_verdict::nonces::{Nonce, Nonces, nonce_text};
+    pub use sip_model::nonces::{Nonce, Nonces, nonce_text};
 }
 
 /// Of `sip_timers`.
@@ -46,44 +54,49 @@ pub mod timers {
 
 /// Of `sip_uri`.
 pub mod uri {
-    pub use sip_verdict::uri::{Aor, Uri, aor_of, write_uri};
+    pub use sip_model::uri::{Aor, Uri, aor_of, write_uri};
+}
+
+/// Of `sip_audit`.
+pub mod audit {
+    pub use sip_model::audit::{Operation, Outcome, Record};
 }
 
 /// Of `sip_form`.
 pub mod form {
-    pub use sip_verdict::form::{Kept, View, ViewStart, write_view};
+    pub use sip_model::form::{Kept, View, ViewStart, write_view};
 }
 
 /// Of `sip_policy`.
 pub mod policy {
-    pub use sip_verdict::policy::{
+    pub use sip_model::policy::{
         Decision, Operation, Rules, Ruling, is_own_domain, is_users_address, minute_of,
     };
 }
 
 /// Of `sip_best`.
 pub mod best {
-    pub use sip_verdict::best::{Final, best};
+    pub use sip_model::best::{Final, best};
 }
 
 /// Of `sip_event`.
 pub mod event {
-    pub use sip_verdict::event::{Packet, Ticket};
+    pub use sip_model::event::{Packet, Ticket};
 }
 
 /// Of `sip_hops`.
 pub mod hops {
-    pub use sip_verdict::hops::{Hop, Hops, HostAddress};
+    pub use sip_model::hops::{Hop, Hops, HostAddress};
 }
 
 /// Of `sip_message`.
 pub mod message {
-    pub use sip_verdict::message::{FieldName, Fields, View, write_view};
+    pub use sip_model::message::{FieldName, Fields, View, write_view};
 }
 
 /// Of `sip_header`.
 pub mod header {
-    pub use sip_verdict::header::{
+    pub use sip_model::header::{
         AnyUri, ContactItem, CoreFields, HeaderError, NameAddr, Parameter, contact_of, core_of,
         expires_of, name_addr_of, route_of, tag_of, via_of,
     };
@@ -91,32 +104,32 @@ pub mod header {
 
 /// Of `sip_dialog`.
 pub mod dialog {
-    pub use sip_verdict::dialog::{Dialog, DialogError, DialogId, Dialogs, InviteAnswer};
+    pub use sip_model::dialog::{Dialog, DialogError, DialogId, Dialogs, InviteAnswer};
 }
 
 /// Of `sip_key`.
 pub mod key {
-    pub use sip_verdict::key::Key;
+    pub use sip_model::key::Key;
 }
 
 /// Of `sip_location`.
 pub mod location {
-    pub use sip_verdict::location::{Binding, LocationError, Locations, Plan, Registration};
+    pub use sip_request::location::{Binding, LocationError, Locations, Plan, Registration};
 }
 
 /// Of `sip_way`.
 pub mod way {
-    pub use sip_verdict::way::{Own, Way};
+    pub use sip_model::way::{Own, Way};
 }
 
 /// Of `sip_auth`.
 pub mod auth {
-    pub use sip_verdict::auth::{Proof, offers_sha256, proof_of};
+    pub use sip_model::auth::{Proof, offers_sha256, proof_of};
 }
 
 /// Of `sip_edit`.
 pub mod edit {
-    pub use sip_verdict::edit::{
+    pub use sip_model::edit::{
         ack_with, branch_text, cancel_of, own_via_value, pop_via, received_via, response_address,
         with_top_via,
     };
@@ -124,7 +137,7 @@ pub mod edit {
 
 /// Of `sip_settings`.
 pub mod settings {
-    pub use sip_verdict::settings::Config;
+    pub use sip_model::settings::Config;
 }
 
 /// Of `sip_table`.
@@ -134,12 +147,12 @@ pub mod table {
 
 /// Of `sip_targets`.
 pub mod targets {
-    pub use sip_verdict::targets::{Target, Targets, targets_of};
+    pub use sip_model::targets::{Target, Targets, targets_of};
 }
 
 /// Of `sip_validate`.
 pub mod validate {
-    pub use sip_verdict::validate::{Checked, Refused, is_bad_request, laws, validate};
+    pub use sip_model::validate::{Checked, Refused, is_bad_request, laws, validate};
 }
 
 /// Of `sip_onward`.
@@ -149,7 +162,7 @@ pub mod onward {
 
 /// Of `sip_reply`.
 pub mod reply {
-    pub use sip_verdict::reply::{
+    pub use sip_model::reply::{
         challenge_fields, contact_value, denial_warning, min_expires, reply_view, respond, to_tag,
         unsupported_field,
     };
@@ -157,7 +170,7 @@ pub mod reply {
 
 /// Of `sip_state`.
 pub mod state {
-    pub use sip_verdict::state::{
+    pub use sip_model::state::{
         Branch, LastAnswer, OpenRequest, Phase, Resend, Server, Side, Upward,
     };
 }
@@ -172,7 +185,7 @@ pub mod branches {
 
 /// Of `sip_verdict`.
 pub mod verdict {
-    pub use sip_verdict::Question;
+    pub use sip_model::verdict::Question;
 }
 
 /// Of `sip_processing`.

@@ -1,10 +1,10 @@
 ghost use Rattle.std.specs.Prelude.{◌≡◌};
-ghost use Rattle.sip_verdict.specs.Verdict;
+ghost use Rattle.sip_model.specs.verdict.Verdict;
 
+use sip_model::key::Key;
+use sip_model::state::OpenRequest;
 use sip_request::Request;
 use sip_table::Row;
-use sip_verdict::key::Key;
-use sip_verdict::state::OpenRequest;
 use std::marker::Model;
 
 /// An open request as a row of the table, seen as the request.

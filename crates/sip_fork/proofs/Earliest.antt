@@ -1,0 +1,120 @@
+-- The first timer is of what is due first of all open requests.
+use Rattle.std.proofs.Common.{◌≡◌, ℕ, ◌<◌, ◌≤◌, Bool, true, false, cond, List, [], ◌∷◌, slice_get, position, Option, Some, None, IsSome, refl, sym, ◌∙◌, ap, subst, arith, eqb}
+use Rattle.std.specs.Prelude.{◌&&◌, count_by, IfNone}
+use Rattle.std.specs.List.{AllPairs, sum_by}
+use Rattle.std.specs.Option.{option_map}
+use Rattle.std.proofs.lemmas.Bool.Decides.{nat_tests}
+use Rattle.std.proofs.lemmas.List.{length-map}
+use Rattle.std.proofs.lemmas.List.Sums.{get_or-le-sum_by}
+use Rattle.std.proofs.lemmas.List.Quantifiers.{position-Some}
+use Rattle.std.proofs.lemmas.Option.{slice_get_within, slice_get-map, get_or_from_slice_get}
+use Rattle.sip_timers.specs.declared.timer.Name.{Name}
+use Rattle.sip_timers.specs.declared.timer.Timer.{Timer}
+use Rattle.sip_timers.specs.Timers.{AreOrdered, first_named}
+use Rattle.sip_model.specs.state.declared.open_request.OpenRequest.{OpenRequest}
+use Rattle.sip_request.specs.Named.{named_by}
+use Rattle.sip_request.specs.declared.request.Request.{Request}
+use Rattle.sip_fork.specs.Contexts.{AreTied}
+use Rattle.sip_fork.specs.Due.{IsDue, IsFirst, IsNotDue, IsNothingDue}
+use Rattle.sip_fork.specs.Queue.{IsQueue}
+use Rattle.sip_fork.specs.Timing.{Timing}
+use Rattle.sip_fork.specs.declared.due.Due.{Due}
+use Rattle.sip_fork.proofs.Firsts.{first_le, none_before, none_again_before}
+use Rattle.sip_fork.proofs.Lists.{count-cons}
+use Rattle.sip_fork.proofs.Moments.{due_then}
+use Rattle.sip_fork.proofs.Named.{is_itself, is_owner, is_timer, row_none, is_found, is_due}
+use Rattle.sip_fork.proofs.Tying.{at_place, kept_at, contexts}
+
+-- ---- the first timer
+
+same_number : (n : ℕ) → eqb n n ≡ true
+same_number n = grind (arith, nat_tests)
+
+three : (a b c : Bool) → a ≡ true → b ≡ true → c ≡ true → (a && (b && c)) ≡ true
+three true true true x y z = refl
+three false b c x y z = absurd (cc)
+three true false c x y z = absurd (cc)
+three true true false x y z = absurd (cc)
+
+some_same : {X : Type 0} (a b : X) → Some a ≡ Some b → a ≡ b
+some_same a b e = cc
+
+-- a timer of its moment and its part stands
+is_there : (pending : List Timer) (due : ℕ) (name : Name) → first_named pending ≡ Some (due, name) → 1 ≤ count_by (is_timer due name.owner name.request) pending
+is_there [] due name e = absurd (cc)
+is_there (t ∷ ts) due name e =
+    let both : (t.due, t.name) ≡ (due, name) = some_same {X = ℕ × Name} (t.due, t.name) (due, name) e in
+    let passes : is_timer t.due t.name.owner t.name.request t ≡ true = three (eqb t.due t.due) (is_owner t.name.owner t.name.owner) (eqb t.name.request t.name.request) (same_number t.due) (is_itself t.name.owner) (same_number t.name.request) in
+    let one : cond {A = ℕ} (is_timer t.due t.name.owner t.name.request t) 1 0 ≡ 1 = ap (λ (b : Bool). cond {A = ℕ} b 1 0) passes in
+    let here : 1 ≤ count_by (is_timer t.due t.name.owner t.name.request) (t ∷ ts) = omega (arith, one, count-cons (is_timer t.due t.name.owner t.name.request) t ts) in
+    subst (λ (x : ℕ × Name). 1 ≤ count_by (is_timer x.0 x.1.owner x.1.request) (t ∷ ts)) both here
+
+-- and none that is due earlier
+none_earlier : (pending : List Timer) (due : ℕ) (name : Name) (m : ℕ) → AreOrdered pending → first_named pending ≡ Some (due, name) → 1 ≤ count_by (due_then m) pending → due ≤ m
+none_earlier [] due name m ordered e some = absurd (cc)
+none_earlier (t ∷ ts) due name m ordered e some =
+    let both : (t.due, t.name) ≡ (due, name) = some_same {X = ℕ × Name} (t.due, t.name) (due, name) e in
+    subst (λ (x : ℕ × Name). x.0 ≤ m) both (first_le t ts m ordered some)
+
+no_moment : (pending : List Timer) (m : ℕ) → first_named pending ≡ None → count_by (due_then m) pending ≡ 0
+no_moment [] m e = refl
+no_moment (t ∷ ts) m e = absurd (cc)
+
+-- ---- open requests
+
+module _ (timing : Timing) (pending : List Timer) (reached : ℕ) (rows : List Request) (tied : AreTied pending reached rows) where
+  -- where no timer stands, nothing is due
+  pub nothing_due : first_named pending ≡ None → IsNothingDue (contexts rows)
+  nothing_due none = record {
+    none = λ moment. none_before timing reached moment rows tied.kept (late moment);
+    none_again = λ moment. none_again_before timing reached moment rows tied.kept (late moment);
+  } where
+    late : (bound m : ℕ) → 1 ≤ sum_by (λ (r : Request). count_by (due_then m) (named_by r)) rows → bound ≤ m
+    late bound m some = absurd (omega (arith, some, tied.same (due_then m), no_moment pending m none))
+
+  module _ (due : ℕ) (name : Name) (queue : IsQueue pending) (first : first_named pending ≡ Some (due, name)) where
+    stands : 1 ≤ sum_by (λ (r : Request). count_by (is_timer due name.owner name.request) (named_by r)) rows
+    stands = omega (arith, is_there pending due name first, tied.same (is_timer due name.owner name.request))
+
+    late : (m : ℕ) → 1 ≤ sum_by (λ (r : Request). count_by (due_then m) (named_by r)) rows → due ≤ m
+    late m some = none_earlier pending due name m queue.ordered first (omega (arith, some, tied.same (due_then m)))
+
+    late_at : (i : ℕ) (r : Request) → slice_get rows i ≡ Some r → (m : ℕ) → 1 ≤ count_by (due_then m) (named_by r) → due ≤ m
+    late_at i r at m some = late m (omega (arith, some, get_or-le-sum_by (λ (x : Request). count_by (due_then m) (named_by x)) rows i r (slice_get_within rows i r at), at_place (due_then m) rows i r at))
+
+    -- the request of the first timer is open
+    pub first_found : IsSome (position (λ (r : Request). eqb r.context.number name.request) rows)
+    first_found = is_found due name.owner name.request rows stands
+
+    -- something of the part that the timer names is due then
+    pub first_due : (i : ℕ) (r : Request) → AllPairs (λ (a b : Request). a.context.number < b.context.number) rows → slice_get rows i ≡ Some r → r.context.number ≡ name.request → IsNotDue r.context due name.owner → ⊥
+    first_due i r rise at same none =
+        omega (
+          arith,
+          stands,
+          is_due due name.owner name.request reached rows i r rise at same
+              (row_none timing due name.request reached r (kept_at pending reached rows i r tied at) (late_at i r at) name.owner none),
+        )
+
+    -- and nothing before
+    pub is_first : (i : ℕ) (r : Request) (what : Due) → slice_get rows i ≡ Some r → IsDue r.context due what → IsFirst (contexts rows) (record { due = due; place = i; what = what })
+    is_first i r what at is = record {
+      within = omega (arith, slice_get_within rows i r at, length-map rows (λ (x : Request). x.context));
+      due = λ x there. subst (λ (y : OpenRequest). IsDue y due what) (some_same r.context x (sym (ap (option_map (λ (y : Request). y.context)) at) ∙ sym (slice_get-map (λ (y : Request). y.context) rows i) ∙ there)) is;
+      none_before = none_before timing reached due rows tied.kept late;
+      none_again = none_again_before timing reached due rows tied.kept late;
+    }
+
+-- ---- what calls answer
+
+-- what isn't refused is something
+pub some_of : {X : Type 0} {P : Type 0} (o : Option X) → IfNone o P → (P → ⊥) → IsSome o
+some_of None none not = absurd (not none)
+some_of (Some x) none not = refl
+
+-- what was found has the number
+pub number_there : (number : ℕ) (rows : List Request) (i : ℕ) (r : Request) → position (λ (x : Request). eqb x.context.number number) rows ≡ Some i → slice_get rows i ≡ Some r → r.context.number ≡ number
+number_there number rows i r found at =
+    let is = position-Some (λ (x : Request). eqb x.context.number number) rows i r found in
+    let passes : eqb r.context.number number ≡ true = subst (λ (x : Request). eqb x.context.number number ≡ true) (get_or_from_slice_get rows i r r at) is.1 in
+    grind (arith, nat_tests, passes)

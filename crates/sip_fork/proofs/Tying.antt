@@ -1,0 +1,155 @@
+-- Exactly the timers that open requests name stand, also after one was opened, changed or closed.
+use Rattle.std.proofs.Common.{◌≡◌, ℕ, ◌+◌, ◌<◌, ◌^◌, zero, Bool, true, false, cond, List, [], ◌∷◌, ◌++◌, map, length, take, drop, suc, get_or, set, remove, slice_get, position, Some, refl, sym, ◌∙◌, ap, subst, arith, eqb}
+use Rattle.std.specs.Prelude.{count_by}
+use Rattle.std.specs.Option.{option_map}
+use Rattle.std.proofs.lemmas.List.{map-append, drop-map, take-map, get_or-set_same, set-set}
+use Rattle.std.proofs.lemmas.List.Elements.{All-get_or, All-append, All-take, All-drop, All-set, All-push}
+use Rattle.std.proofs.lemmas.List.Sums.{sum_by_push, sum_by-set, sum_by-remove, get_or-le-sum_by}
+use Rattle.std.proofs.lemmas.Option.{slice_get_within, slice_get-map, get_or_from_slice_get}
+use Rattle.sip_timers.specs.declared.timer.Timer.{Timer}
+use Rattle.sip_running.specs.Moves.{IsHeld, Moves}
+use Rattle.sip_model.specs.state.declared.open_request.OpenRequest.{OpenRequest}
+use Rattle.sip_model.specs.state.State.{has_left}
+use Rattle.sip_model.specs.Effect.{replaced}
+use Rattle.sip_fork.proofs.Walks.{removed_at, replaced_at}
+use Rattle.sip_model.specs.context.BranchById.{HasNumbers}
+use Rattle.sip_request.specs.Named.{HasKeys, IsReady, named_by}
+use Rattle.sip_request.specs.Near.{IsNear}
+use Rattle.sip_request.specs.declared.request.Plan.{Plan}
+use Rattle.sip_request.specs.declared.request.Request.{Request}
+use Rattle.sip_fork.specs.Contexts.{AreTied, IsFitting, IsKept, IsSame}
+use Rattle.sip_fork.proofs.Nearness.{IsNear-within}
+use Rattle.sip_fork.proofs.Mapped.{position-map}
+
+-- what a request names at a place
+pub at_place : (p : Timer → Bool) (rows : List Request) (i : ℕ) (r : Request) → slice_get rows i ≡ Some r → count_by p (named_by (get_or rows i r)) ≡ count_by p (named_by r)
+at_place p rows i r at = ap (λ (x : Request). count_by p (named_by x)) (get_or_from_slice_get rows i r r at)
+
+-- the request at a place is kept
+pub kept_at : (pending : List Timer) (reached : ℕ) (rows : List Request) (i : ℕ) (r : Request) → AreTied pending reached rows → slice_get rows i ≡ Some r → IsKept reached r
+kept_at pending reached rows i r h at =
+    subst (λ (x : Request). IsKept reached x) (get_or_from_slice_get rows i r r at) (All-get_or (IsKept reached) rows i r (slice_get_within rows i r at) h.kept)
+
+-- its timers stand
+pub held_at : (pending : List Timer) (reached : ℕ) (rows : List Request) (i : ℕ) (r : Request) → AreTied pending reached rows → slice_get rows i ≡ Some r → IsHeld pending (named_by r)
+held_at pending reached rows i r h at = record {
+  stand = λ p. omega (arith, h.same p, get_or-le-sum_by (λ (x : Request). count_by p (named_by x)) rows i r (slice_get_within rows i r at), at_place p rows i r at);
+  keys_differ = h.keys_differ;
+}
+
+-- its moments are numbers of 64 bits
+pub timed_at : (pending : List Timer) (reached : ℕ) (rows : List Request) (i : ℕ) (r : Request) → AreTied pending reached rows → slice_get rows i ≡ Some r → IsNear (2 ^ 64) r.context
+timed_at pending reached rows i r h at =
+    let kept : IsKept reached r = kept_at pending reached rows i r h at in
+    let early : reached < 2 ^ 62 = h.early in
+    IsNear-within (reached + 1) (2 ^ 64) (omega (arith, early)) r.context kept.within
+
+-- a request that fits can be kept
+pub ready : (pending : List Timer) (reached room : ℕ) (rows : List Request) (plan : Plan) → AreTied pending reached rows → HasKeys plan.request plan.keys → IsFitting reached room plan.request → IsReady reached room plan
+ready pending reached room rows plan h keys fitting =
+    let early : reached < 2 ^ 62 = h.early in
+    record {
+      keys = keys;
+      near = IsNear-within (reached + 1) (reached + 2 ^ 30) (omega arith) plan.request fitting.within;
+      room = fitting.room;
+      moments = omega (arith, early);
+    }
+
+pub kept_new : (reached room : ℕ) (r : Request) (next : OpenRequest) → r.context ≡ next → HasKeys r.context r.branches → HasNumbers next → IsFitting reached room next → IsKept reached r
+kept_new reached room r next is keys numbers fitting = record { keys = keys; fits = rw is fitting.fits; within = rw is fitting.within; numbers = rw is numbers }
+
+-- one was closed
+pub closed : (old new : List Timer) (reached later : ℕ) (rows : List Request) (i : ℕ) (r : Request) → AreTied old reached rows → slice_get rows i ≡ Some r → later ≡ reached → Moves old (named_by r) new [] → AreTied new later (remove rows i)
+closed old new reached later rows i r h at still m = rw still (record {
+  same = λ p. omega (arith, h.same p, m.same p, sum_by-remove (λ (x : Request). count_by p (named_by x)) rows i r (slice_get_within rows i r at), at_place p rows i r at);
+  keys_differ = m.keys_differ h.keys_differ;
+  kept = All-append (IsKept reached) (take i rows) (drop (suc i) rows) (All-take (IsKept reached) i rows h.kept) (All-drop (IsKept reached) (suc i) rows h.kept);
+  early = h.early;
+})
+
+-- one was changed
+pub changed : (old new : List Timer) (reached later : ℕ) (rows : List Request) (i : ℕ) (r next : Request) → AreTied old reached rows → slice_get rows i ≡ Some r → later ≡ reached → IsKept reached next
+    → Moves old (named_by r) new (named_by next) → AreTied new later (set rows i next)
+changed old new reached later rows i r next h at still kept m = rw still (record {
+  same = λ p. omega (arith, h.same p, m.same p, sum_by-set (λ (x : Request). count_by p (named_by x)) rows i next r (slice_get_within rows i r at), at_place p rows i r at);
+  keys_differ = m.keys_differ h.keys_differ;
+  kept = All-set (IsKept reached) rows i next kept h.kept;
+  early = h.early;
+})
+
+-- one was opened
+pub opened : (old new : List Timer) (reached later : ℕ) (rows : List Request) (next : Request) → AreTied old reached rows → later ≡ reached → IsKept reached next → Moves old [] new (named_by next) → AreTied new later (rows ++ next ∷ [])
+opened old new reached later rows next h still kept m = rw still (record {
+  same = λ p. omega (arith, h.same p, m.same p, sum_by_push (λ (x : Request). count_by p (named_by x)) rows next);
+  keys_differ = m.keys_differ h.keys_differ;
+  kept = All-push (IsKept reached) rows next h.kept kept;
+  early = h.early;
+})
+
+-- ---- what the model says
+
+-- what is seen of a list in which one takes another's place
+pub set-map : (rows : List Request) (i : ℕ) (next : Request) → map (λ (r : Request). r.context) (set rows i next) ≡ set (map (λ (r : Request). r.context) rows) i next.context
+set-map [] i next = refl
+set-map (r ∷ rows) zero next = refl
+set-map (r ∷ rows) (suc i) next = ap (λ (xs : List OpenRequest). r.context ∷ xs) (set-map rows i next)
+
+remove-map : (rows : List Request) (i : ℕ) → map (λ (r : Request). r.context) (remove rows i) ≡ remove (map (λ (r : Request). r.context) rows) i
+remove-map rows i =
+    let f : Request → OpenRequest = λ r. r.context in
+    map-append f (take i rows) (drop (suc i) rows) ∙ ap (λ xs. xs ++ map f (drop (suc i) rows)) (sym (take-map f i rows)) ∙ ap (λ ys. take i (map f rows) ++ ys) (sym (drop-map f (suc i) rows))
+
+walks_out : (next : OpenRequest) → has_left next ≡ true → (x : OpenRequest) (xs : List OpenRequest) → replaced next (x ∷ xs) ≡ cond (eqb x.number next.number) xs (x ∷ replaced next xs)
+walks_out next left x xs = ap (λ (t : Bool). cond (eqb x.number next.number) (cond t xs (next ∷ xs)) (x ∷ replaced next xs)) left
+
+walks_in : (next : OpenRequest) → has_left next ≡ false → (x : OpenRequest) (xs : List OpenRequest) → replaced next (x ∷ xs) ≡ cond (eqb x.number next.number) (next ∷ xs) (x ∷ replaced next xs)
+walks_in next stays x xs = ap (λ (t : Bool). cond (eqb x.number next.number) (cond t xs (next ∷ xs)) (x ∷ replaced next xs)) stays
+
+-- one that has left is taken out
+pub replaced_out : (next : OpenRequest) (rows : List Request) (i : ℕ) → has_left next ≡ true → position (λ (x : OpenRequest). eqb x.number next.number) (map (λ (r : Request). r.context) rows) ≡ Some i
+    → map (λ (r : Request). r.context) (remove rows i) ≡ replaced next (map (λ (r : Request). r.context) rows)
+replaced_out next rows i left found =
+    remove-map rows i ∙ sym (removed_at (λ (x : OpenRequest). eqb x.number next.number) (replaced next) (walks_out next left) (map (λ (r : Request). r.context) rows) i next found)
+
+-- another one takes its place again
+pub replaced_in : (next : OpenRequest) (requests : List OpenRequest) (i : ℕ) → has_left next ≡ false → position (λ (x : OpenRequest). eqb x.number next.number) requests ≡ Some i → set requests i next ≡ replaced next requests
+replaced_in next requests i stays found = sym (replaced_at (λ (x : OpenRequest). eqb x.number next.number) (replaced next) next (walks_in next stays) requests i found)
+
+-- the place of a request of this number
+pub place_of : (next : OpenRequest) (rows : List Request) (i : ℕ) (r : Request) → next.number ≡ r.context.number → position (λ (x : Request). eqb x.context.number r.context.number) rows ≡ Some i
+    → position (λ (x : OpenRequest). eqb x.number next.number) (map (λ (r : Request). r.context) rows) ≡ Some i
+place_of next rows i r same found =
+    position-map (λ (x : Request). x.context) (λ (x : OpenRequest). eqb x.number next.number) rows ∙ subst (λ (n : ℕ). position (λ (x : Request). eqb x.context.number n) rows ≡ Some i) (sym same) found
+
+-- ---- one in another's place, and back
+
+abbrev pub contexts : List Request → List OpenRequest
+contexts rows = map (λ (r : Request). r.context) rows
+
+-- what stands at a place where something was put
+put_there : (rows : List Request) (i : ℕ) (spare r : Request) → i < length rows → slice_get (set rows i spare) i ≡ Some r → r ≡ spare
+put_there rows i spare r lt at = sym (get_or_from_slice_get (set rows i spare) i r r at) ∙ get_or-set_same rows i spare r lt
+
+pub same_before : (request : OpenRequest) (spare r : Request) → IsSame request spare.context → IsSame r.context request → IsSame r.context spare.context
+same_before request spare r prepared same = record { number = prepared.number ∙ same.number; key = prepared.key ∙ same.key }
+
+pub same_back : (rows mid : List Request) (i : ℕ) (spare r next : Request) (request : OpenRequest) → i < length rows → mid ≡ set rows i spare → slice_get mid i ≡ Some r → IsSame request spare.context → next.context ≡ request → IsSame r.context next.context
+same_back rows mid i spare r next request lt put at prepared is =
+    let there : r ≡ spare = put_there rows i spare r lt (subst (λ (xs : List Request). slice_get xs i ≡ Some r) put at) in
+    record {
+      number = ap (λ (x : OpenRequest). x.number) is ∙ sym prepared.number ∙ ap (λ (x : Request). x.context.number) (sym there);
+      key = ap (λ (x : OpenRequest). x.key) is ∙ sym prepared.key ∙ ap (λ (x : Request). x.context.key) (sym there);
+    }
+
+pub put_back : (rows mid new : List Request) (i : ℕ) (spare next : Request) → mid ≡ set rows i spare → new ≡ set mid i next → new ≡ set rows i next
+put_back rows mid new i spare next put back = back ∙ ap (λ (xs : List Request). set xs i next) put ∙ set-set rows i spare next
+
+pub seen_changed : (rows new : List Request) (i : ℕ) (next : Request) (request : OpenRequest) → new ≡ set rows i next → next.context ≡ request → contexts new ≡ set (contexts rows) i request
+seen_changed rows new i next request e is = ap (λ (xs : List Request). contexts xs) e ∙ set-map rows i next ∙ ap (λ (x : OpenRequest). set (contexts rows) i x) is
+
+pub seen_opened : (rows new : List Request) (next : Request) (request : OpenRequest) → new ≡ rows ++ next ∷ [] → next.context ≡ request → contexts new ≡ contexts rows ++ request ∷ []
+seen_opened rows new next request e is = ap (λ (xs : List Request). contexts xs) e ∙ map-append (λ (r : Request). r.context) rows (next ∷ []) ∙ ap (λ (x : OpenRequest). contexts rows ++ x ∷ []) is
+
+-- what is seen at a place
+pub seen_at : (rows : List Request) (i : ℕ) (r : Request) → slice_get rows i ≡ Some r → slice_get (contexts rows) i ≡ Some r.context
+seen_at rows i r at = slice_get-map (λ (x : Request). x.context) rows i ∙ ap (option_map (λ (x : Request). x.context)) at

@@ -1,0 +1,67 @@
+-- What of an open request is due at a moment (RFC 3261 17).
+use Rattle.std.specs.Prelude.{ℕ, ◌≡◌, ◌<◌, ◌&&◌, ◌||◌, ◌==◌, not, Bool, false, List, length, position, slice_get, Option, Some, None}
+use Rattle.sip_timers.specs.declared.timer.Owner.{Owner}
+use Rattle.sip_timers.specs.declared.timer.Owner.TheVariants as Of
+use Rattle.sip_model.specs.state.declared.branch.Branch.{Branch}
+use Rattle.sip_model.specs.state.declared.open_request.OpenRequest.{OpenRequest}
+use Rattle.sip_model.specs.state.State.{phase_deadline, side_deadline}
+use Rattle.sip_model.specs.retransmission.Retransmission.{answer_due, branch_due}
+use Rattle.sip_model.specs.Step.{NoneBefore, NoneAgainBefore}
+use Rattle.sip_fork.specs.declared.due.Due.{Due}
+use Rattle.sip_fork.specs.declared.due.Due.TheVariants as What
+use Rattle.sip_fork.specs.declared.due.First.{First}
+
+-- the branch at a place has this moment
+pub record IsBranchAt (moment_of : Branch → Option ℕ) (branches : List Branch) (place due : ℕ) : Type 0 where
+  pub within : place < length branches
+  pub is : (b : Branch) → slice_get branches place ≡ Some b → moment_of b ≡ Some due
+
+-- at this moment the last answer goes again, or what a branch sends; or the deadline of the answering side passes, or that of a branch
+abbrev pub IsDue : OpenRequest → ℕ → Due → Type 0
+IsDue r due What.AnswerAgain = answer_due r ≡ Some due
+IsDue r due What.AnswerEnds = side_deadline r.side ≡ Some due
+IsDue r due (What.BranchAgain place) = IsBranchAt (branch_due r) r.branches place due
+IsDue r due (What.BranchEnds place) = IsBranchAt (λ b. phase_deadline b.phase) r.branches place due
+
+-- This is due first: of the open request at a place, and no deadline stands before that moment, and nothing is to go again before it.
+pub record IsFirst (requests : List OpenRequest) (first : First) : Type 0 where
+  pub within : first.place < length requests
+  pub due : (r : OpenRequest) → slice_get requests first.place ≡ Some r → IsDue r first.due first.what
+  pub none_before : NoneBefore first.due requests
+  pub none_again : NoneAgainBefore first.due requests
+
+-- Nothing is due before any moment: no deadline stands, and nothing is to go again.
+pub record IsNothingDue (requests : List OpenRequest) : Type 0 where
+  pub none : (moment : ℕ) → NoneBefore moment requests
+  pub none_again : (moment : ℕ) → NoneAgainBefore moment requests
+
+-- ---- inside
+
+-- whether a moment is this one
+abbrev pub is_at : Option ℕ → ℕ → Bool
+is_at None due = false
+is_at (Some moment) due = moment == due
+
+-- whether what goes again, or a deadline, is at a moment
+abbrev pub is_either : Option ℕ → Option ℕ → ℕ → Bool
+is_either again deadline due = is_at again due || is_at deadline due
+
+-- whether timers of this owner are those of a branch of a number, or of its CANCEL
+abbrev pub is_part : Owner → Bool → ℕ → Bool
+is_part Of.Server cancel number = false
+is_part (Of.Branch n) cancel number = not cancel && number == n
+is_part (Of.Cancel n) cancel number = cancel && number == n
+
+-- whether timers of this owner are those of a branch
+abbrev pub is_of : Owner → Branch → Bool
+is_of owner b = is_part owner b.is_cancel b.number
+
+-- whether something of a branch of this owner is due at a moment
+abbrev pub is_branch_due : OpenRequest → Owner → ℕ → Branch → Bool
+is_branch_due r owner due b = is_of owner b && is_either (branch_due r b) (phase_deadline b.phase) due
+
+-- nothing of a part is due at a moment
+abbrev pub IsNotDue : OpenRequest → ℕ → Owner → Type 0
+IsNotDue r due Of.Server = is_either (answer_due r) (side_deadline r.side) due ≡ false
+IsNotDue r due (Of.Branch number) = position (is_branch_due r (Of.Branch number) due) r.branches ≡ None
+IsNotDue r due (Of.Cancel number) = position (is_branch_due r (Of.Cancel number) due) r.branches ≡ None

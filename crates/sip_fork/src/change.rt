@@ -1,0 +1,145 @@
+ghost use Rattle.std.specs.Prelude.{◌≡◌, ◌<◌, ◌^◌, IfOk};
+ghost use Rattle.std.specs.List.{AllByRecursion, list_all};
+ghost use Rattle.sip_model.specs.context.BranchById.{HasNumbers};
+ghost use Rattle.sip_model.specs.state.State as States;
+ghost use Rattle.sip_model.specs.state.declared.branch.Branch.{Branch};
+ghost use Rattle.sip_fork.specs.Contexts.{IsSame};
+
+use crate::row::Standing;
+use sip_model::state::{Branch, OpenRequest, Phase, Side};
+use sip_model::text::Items;
+use sip_request::{Plan, Request};
+use sip_table::Held;
+use sip_ties::TimerKeys;
+use std::alloc::{AllocError, Global};
+use std::marker::Model;
+
+/// An open request as it is to be, with all the memory that it takes to open it, or to change the one of its number and
+/// its key; seen as the request.
+#[derive(Drop)]
+pub struct Change {
+    pub(crate) plan: Plan,
+    /// Stands in the request's place while its timers move.
+    pub(crate) spare: Held<Standing>,
+}
+
+impl Model for Change {
+    ghost use Rattle.sip_model.specs.state.declared.open_request.OpenRequest.{OpenRequest};
+    ghost use Rattle.sip_fork.specs.Contexts.{IsPrepared};
+
+    ghost Value = { OpenRequest };
+
+    ghost view = { λ c. c.plan.request };
+
+    ghost invariant = { λ c. IsPrepared c.plan c.spare };
+}
+
+/// Keys that mean nothing.
+const NO_KEYS: TimerKeys = TimerKeys {
+    again: 0,
+    last: 0,
+    call: 0,
+};
+
+/// A closed request of the same number and key, without answers and branches.
+fn closed_like(alloc: Global, call: &OpenRequest) -> Result<OpenRequest, AllocError>
+    ensures { IfOk result (IsSame call.now) }
+{
+    let key = call.key.clone()?;
+    let request = call.request.clone()?;
+    Ok(OpenRequest {
+        key,
+        request,
+        source: call.source,
+        number: call.number,
+        arrived_at: call.arrived_at,
+        answer: None,
+        side: Side::Closed,
+        again: call.again,
+        finals: Items::new(alloc),
+        branches: Items::new(alloc),
+    })
+}
+
+/// What stands in a request's place while its timers move.
+fn spare_of(alloc: Global, call: &OpenRequest) -> Result<Held<Standing>, AllocError>
+    ensures { IfOk result (λ spare. IsSame call.now spare.context) }
+{
+    let context = closed_like(alloc, call)?;
+    let request = Request {
+        context,
+        side: NO_KEYS,
+        branches: Items::new(alloc),
+    };
+    Held::new(alloc, Standing { request })
+}
+
+/// Whether the transactions of all branches have ended.
+fn have_ended(branches: &[Branch]) -> bool
+    ensures { result ≡ list_all (λ (b : Branch). States.is_ended b.phase) branches.now }
+{
+    branches
+        .iter()
+        .all(|branch| matches!(branch.phase, Phase::Ended))
+}
+
+/// Whether a request stays open no longer.
+fn has_left(call: &OpenRequest) -> bool
+    ensures { result ≡ States.has_left call.now }
+{
+    matches!(call.side, Side::Closed) && have_ended(call.branches.as_slice())
+}
+
+/// The number of a branch is one of 32 bits.
+fn number_of(branch: &Branch) -> u32
+    ensures same { result ≡ branch.now.number }
+    ensures fits { branch.now.number < 2 ^ 32 }
+{
+    branch.number
+}
+
+/// The numbers of branches are of 32 bits.
+fn numbers_fit(branches: &[Branch])
+    ensures { AllByRecursion (λ (b : Branch). b.number < 2 ^ 32) branches.now }
+{
+    for branch in branches {
+        let _number = number_of(branch);
+    }
+}
+
+/// The number of a request is one of 64 bits, and those of its branches are of 32.
+fn has_numbers(call: &OpenRequest) -> u64
+    ensures same { result ≡ call.now.number }
+    ensures fits { HasNumbers call.now }
+{
+    numbers_fit(call.branches.as_slice());
+    call.number
+}
+
+impl Change {
+    /// An open request as it is to be. `AllocError` is the only refusal.
+    pub fn of(alloc: Global, request: OpenRequest) -> Result<Self, AllocError>
+        ensures { IfOk result (λ change. change ≡ request) }
+    {
+        let _number = has_numbers(&request);
+        let spare = spare_of(alloc, &request)?;
+        let plan = Plan::of(alloc, request)?;
+        Ok(Change { plan, spare })
+    }
+
+    /// The request.
+    pub fn request(&self) -> &OpenRequest
+        ensures { result.now ≡ self.now }
+    {
+        let _spare = &self.spare;
+        &self.plan.request
+    }
+
+    /// Whether it stays open no longer.
+    pub(crate) fn closes(&self) -> bool
+        ensures { result ≡ States.has_left self.now }
+    {
+        let _spare = &self.spare;
+        has_left(&self.plan.request)
+    }
+}
