@@ -1,0 +1,5 @@
+pub mod Replying
+pub mod Answered
+pub mod Serving
+pub mod Final
+pub mod Planned
