@@ -25,14 +25,14 @@ pub(crate) struct Head {
 }
 
 fn version_at(table: &Table) -> Result<u32, ConfigError>
-    ensures { Reads (λ version. version) result (Definitions.version_at (table_view table.now)) }
+    ensures { result ≡ Definitions.version_at (table_view table.now) }
 {
     number_between(needed(table, "version")?, 1, 2)
 }
 
 /// Minutes ahead of UTC.
 fn offset_within(number: i64) -> Result<i16, ConfigError>
-    ensures { Reads (λ offset. offset) result (Definitions.offset_within number) }
+    ensures { result ≡ Definitions.offset_within number }
 {
     match i16::try_from(number) {
         Ok(offset) if -720 <= offset && offset <= 840 => Ok(offset),
@@ -42,7 +42,7 @@ fn offset_within(number: i64) -> Result<i16, ConfigError>
 
 /// The offset, which version 1 doesn't know.
 fn offset_at(version: u32, table: &Table) -> Result<i16, ConfigError>
-    ensures { Reads (λ offset. offset) result (Definitions.offset_at version (table_view table.now)) }
+    ensures { result ≡ Definitions.offset_at version (table_view table.now) }
 {
     if version == 1 {
         return Ok(0);
@@ -60,13 +60,13 @@ fn domains_at(alloc: Global, table: &Table) -> Result<Items<Bytes>, ConfigError>
 }
 
 fn port_at(table: &Table) -> Result<u16, ConfigError>
-    ensures { Reads (λ port. port) result (Definitions.port_at (table_view table.now)) }
+    ensures { result ≡ Definitions.port_at (table_view table.now) }
 {
     port_of(needed(table, "port")?)
 }
 
 fn address_at(table: &Table) -> Result<Addr, ConfigError>
-    ensures { Reads (λ address. address) result (Definitions.address_at (table_view table.now)) }
+    ensures { result ≡ Definitions.address_at (table_view table.now) }
 {
     address_of(needed(table, "address")?)
 }

@@ -17,7 +17,7 @@ use toml::{Table, Value};
 
 /// The port of a row, 5060 where none is there (RFC 3261 19.1.2).
 fn row_port(table: &Table) -> Result<u16, ConfigError>
-    ensures { Reads (λ port. port) result (Definitions.port_in (get_member (codes "port") (table_view table.now))) }
+    ensures { result ≡ Definitions.port_in (get_member (codes "port") (table_view table.now)) }
 {
     match find(table, "port") {
         Some(value) => port_of(value),

@@ -45,13 +45,13 @@ fn names_of(alloc: Global, items: &[Value]) -> Result<Names, ConfigError>
 }
 
 fn a1_at(table: &Table) -> Result<[u8; 32], ConfigError>
-    ensures { Reads (λ a1. a1) result (Definitions.a1_at (table_view table.now)) }
+    ensures { result ≡ Definitions.a1_at (table_view table.now) }
 {
     digest_of(needed(table, "a1")?)
 }
 
 fn a1_sha256_at(table: &Table) -> Result<Option<[u8; 64]>, ConfigError>
-    ensures { Reads (λ a1. a1) result (Definitions.a1_sha256_at (table_view table.now)) }
+    ensures { result ≡ Definitions.a1_sha256_at (table_view table.now) }
 {
     match find(table, "a1_sha256") {
         Some(value) => Ok(Some(digest_of(value)?)),
