@@ -7,6 +7,7 @@ mod Mapped
 mod Moments
 mod Named
 mod Nearness
+mod OnTime
 mod Ordering
 mod Parts
 mod Passing

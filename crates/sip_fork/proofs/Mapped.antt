@@ -46,3 +46,10 @@ pairs-map f R (x ∷ xs) pairs i j d lt inside =
 -- what holds of all that is seen of elements holds of what is seen of each
 pub all-map : {X Y : Type 0} (f : X → Y) (P : Y → Type 0) (xs : List X) → All P (map f xs) → All (λ x. P (f x)) xs
 all-map f P xs all i d inside = subst P (get_or-map f xs i d (f d) inside) (all i (f d) (omega (arith, inside, length-map xs f)))
+
+-- what holds of what is seen of each element holds of all that is seen
+pub map-all : {X Y : Type 0} (f : X → Y) (P : Y → Type 0) (xs : List X) → All (λ x. P (f x)) xs → All P (map f xs)
+map-all f P [] all i d inside = absurd (omega (arith, inside))
+map-all f P (x ∷ xs) all i d inside =
+    let early : i < length (x ∷ xs) = omega (arith, inside, length-map (x ∷ xs) f) in
+    subst P (sym (get_or-map f (x ∷ xs) i x d early)) (all i x early)

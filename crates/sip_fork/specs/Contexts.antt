@@ -1,5 +1,5 @@
 -- Open requests with exactly the timers that they name (RFC 3261 16, 17).
-use Rattle.std.specs.Prelude.{ℕ, ◌≡◌, ◌<◌, ◌≤◌, ◌+◌, ◌^◌, Bool, List, count_by}
+use Rattle.std.specs.Prelude.{ℕ, ◌≡◌, ◌<◌, ◌≤◌, ◌+◌, ◌^◌, Bool, List, count_by, map}
 use Rattle.std.specs.List.{All, sum_by}
 use Rattle.sip_timers.specs.declared.timer.Timer.{Timer}
 use Rattle.sip_timers.specs.Timers.{KeysDiffer}
@@ -13,11 +13,12 @@ use Rattle.sip_request.specs.Near.{most_timers}
 use Rattle.sip_request.specs.declared.request.Plan.{Plan}
 
 -- What the table of open requests shows: them, in rising order of their numbers; the timers that stand, in the order in
--- which they fire; the greatest moment that was told to have passed; and for how many more requests, and how many more
--- timers, no memory is taken.
+-- which they fire; the last moment that came, and the greatest by which timers were told that they aren't due; and for how
+-- many more requests, and how many more timers, no memory is taken.
 pub record Contexts : Type 0 where
   pub requests : List OpenRequest
   pub pending : List Timer
+  pub moment : ℕ
   pub reached : ℕ
   pub places : ℕ
   pub room : ℕ
@@ -58,3 +59,15 @@ pub record IsPrepared (plan : Plan) (spare : Request) : Type 0 where
   pub keys : HasKeys plan.request plan.keys
   pub numbers : HasNumbers plan.request
   pub same : IsSame plan.request spare.context
+
+-- The moments of each open request are near the last one that came, which is at most a millisecond behind the one by which
+-- timers were told that they aren't due.
+pub record AreOnTime (moment reached : ℕ) (requests : List OpenRequest) : Type 0 where
+  pub soon : moment ≤ reached + 1
+  pub small : moment < 2 ^ 62
+  pub within : All (IsWithin moment) requests
+
+-- The whole: exactly the timers that open requests name stand, and all moments are near.
+pub record AreWhole (pending : List Timer) (moment reached : ℕ) (rows : List Request) : Type 0 where
+  pub tied : AreTied pending reached rows
+  pub on_time : AreOnTime moment reached (map (λ (r : Request). r.context) rows)

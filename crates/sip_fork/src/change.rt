@@ -1,16 +1,21 @@
-ghost use Rattle.std.specs.Prelude.{◌≡◌, ◌<◌, ◌^◌, IfOk};
+ghost use Rattle.std.specs.Prelude.{◌≡◌, ◌≤◌, ◌<◌, ◌^◌, IfOk, IfErr, OnOk};
 ghost use Rattle.std.specs.List.{AllByRecursion, list_all};
 ghost use Rattle.sip_model.specs.context.BranchById.{HasNumbers};
 ghost use Rattle.sip_model.specs.state.State as States;
 ghost use Rattle.sip_model.specs.state.declared.branch.Branch.{Branch};
+ghost use Rattle.sip_request.specs.Named.{HasKeys};
+ghost use Rattle.sip_request.specs.Near.{most_timers};
+ghost use Rattle.sip_timers.specs.declared.error.TimerError.TheVariants.{NoMemory};
 ghost use Rattle.sip_fork.specs.Contexts.{IsSame};
 
 use crate::row::Standing;
 use sip_model::state::{Branch, OpenRequest, Phase, Side};
 use sip_model::text::Items;
+use sip_request::inputs::Sending;
 use sip_request::{Plan, Request};
 use sip_table::Held;
 use sip_ties::TimerKeys;
+use sip_timers::{TimerError, Timers};
 use std::alloc::{AllocError, Global};
 use std::marker::Model;
 
@@ -32,6 +37,13 @@ impl Model for Change {
     ghost view = { λ c. c.plan.request };
 
     ghost invariant = { λ c. IsPrepared c.plan c.spare };
+}
+
+/// What an input makes of an open request: the request as it is to be, and what is sent.
+#[derive(Drop)]
+pub struct Prepared {
+    pub change: Change,
+    pub sending: Sending,
 }
 
 /// Keys that mean nothing.
@@ -121,10 +133,30 @@ impl Change {
     pub fn of(alloc: Global, request: OpenRequest) -> Result<Self, AllocError>
         ensures { IfOk result (λ change. change ≡ request) }
     {
-        let _number = has_numbers(&request);
-        let spare = spare_of(alloc, &request)?;
         let plan = Plan::of(alloc, request)?;
+        Change::of_plan(alloc, plan)
+    }
+
+    /// An open request as it was planned. `AllocError` is the only refusal.
+    pub(crate) fn of_plan(alloc: Global, plan: Plan) -> Result<Self, AllocError>
+        requires { HasKeys plan.request plan.keys }
+        ensures { IfOk result (λ change. change ≡ plan.request) }
+    {
+        let _number = has_numbers(&plan.request);
+        let spare = spare_of(alloc, &plan.request)?;
         Ok(Change { plan, spare })
+    }
+
+    /// Makes room for the timers that the request may name. `NoMemory` is the only refusal.
+    pub(crate) fn reserve<T: Timers>(&self, timers: &mut T) -> Result<(), TimerError>
+        ensures ok { OnOk result (most_timers self.now ≤ T.room timers.new) }
+        ensures kept { T.room timers.old ≤ T.room timers.new }
+        ensures same { T.pending timers.new ≡ T.pending timers.old }
+        ensures still { T.reached timers.new ≡ T.reached timers.old }
+        ensures refused { IfErr result (λ e. e ≡ NoMemory) }
+    {
+        let _spare = &self.spare;
+        self.plan.reserve(timers)
     }
 
     /// The request.

@@ -10,12 +10,15 @@ ghost use Rattle.sip_model.specs.context.FoundBranch.{found_branch};
 ghost use Rattle.sip_model.specs.state.declared.branch.Branch.{Branch};
 ghost use Rattle.sip_model.specs.Effect.{replaced};
 ghost use Rattle.sip_model.specs.Step.{NoneBefore, NoneAgainBefore};
+ghost use Rattle.sip_keeping.specs.Keeping.{IsKeptAs, IsOf};
+ghost use Rattle.sip_moments.specs.Near.{IsWithin};
 ghost use Rattle.sip_request.specs.Near.{most_timers};
+ghost use Rattle.sip_request.specs.inputs.Inputs.{outcome, outcome_of};
 ghost use Rattle.sip_fork.specs.Contexts.{IsFitting, IsSame};
 ghost use Rattle.sip_fork.specs.Due.{IsFirst, IsNothingDue};
 ghost use Rattle.sip_fork.specs.Places.{branch_at};
 
-use crate::change::Change;
+use crate::change::{Change, Prepared};
 use crate::due::{First, what_at};
 use crate::lookup::place_of_sent;
 use crate::moving::{change_row, close_row, open_row};
@@ -24,6 +27,8 @@ use crate::row::Standing;
 use crate::timing::timers_stand_for_moments;
 use sip_context::laws::found_by_numbers;
 use sip_edit::branch_of_text;
+use sip_keeping::inputs::Input;
+use sip_keeping::keeping::{inputs_fit, inputs_keep};
 use sip_model::key::Key;
 use sip_model::state::{OpenRequest, Server};
 use sip_moments::bounds::time_passes;
@@ -38,30 +43,46 @@ use std::marker::Model;
 pub struct Contexts<T: Timers> {
     table: Table<Standing>,
     timers: Queue<T>,
+    moment: u64,
 }
 
 impl<T: Timers> Model for Contexts<T> {
     ghost use Rattle.std.specs.Prelude.{map};
     ghost use Rattle.sip_request.specs.declared.request.Request.{Request};
-    ghost use Rattle.sip_fork.specs.Contexts.{Contexts, AreTied};
+    ghost use Rattle.sip_fork.specs.Contexts.{Contexts, AreWhole};
 
     ghost Value = { Contexts };
 
-    ghost view = { λ c. record { requests = map (λ (r : Request). r.context) c.table.rows; pending = c.timers.pending; reached = c.timers.reached; places = c.table.room; room = c.timers.room } };
+    ghost view = { λ c. record { requests = map (λ (r : Request). r.context) c.table.rows; pending = c.timers.pending; moment = c.moment; reached = c.timers.reached; places = c.table.room; room = c.timers.room } };
 
-    ghost invariant = { λ c. AreTied c.timers.pending c.timers.reached c.table.rows };
+    ghost invariant = { λ c. AreWhole c.timers.pending c.moment c.timers.reached c.table.rows };
 }
 
 impl<T: Timers> Contexts<T> {
     /// No open request. Keys are hashed under the secret `keys`. `NoMemory` is the only refusal.
     pub fn new(alloc: Global, keys: u128) -> Result<Self, TimerError>
         ensures requests { IfOk result (λ contexts. contexts.requests ≡ []) }
+        ensures pending { IfOk result (λ contexts. contexts.pending ≡ []) }
+        ensures moment { IfOk result (λ contexts. contexts.moment ≡ 0) }
         ensures reached { IfOk result (λ contexts. contexts.reached ≡ 0) }
         ensures refused { IfErr result (λ e. e ≡ NoMemory) }
     {
         let table = Table::new(alloc, keys)?;
         let timers = Queue::new(alloc)?;
-        Ok(Contexts { table, timers })
+        Ok(Contexts {
+            table,
+            timers,
+            moment: 0,
+        })
+    }
+
+    /// The last moment that came, in milliseconds.
+    pub fn moment(&self) -> u64
+        ensures value { result ≡ self.now.moment }
+        ensures small { result < 2 ^ 62 }
+    {
+        let _open = &self.table;
+        self.moment
     }
 
     /// How many requests are open: at most 1,024. Their numbers rise, and their keys differ.
@@ -133,6 +154,7 @@ impl<T: Timers> Contexts<T> {
     pub fn reserve_one(&mut self) -> Result<(), AllocError>
         ensures requests { self.new.requests ≡ self.old.requests }
         ensures pending { self.new.pending ≡ self.old.pending }
+        ensures moment { self.new.moment ≡ self.old.moment }
         ensures reached { self.new.reached ≡ self.old.reached }
         ensures ok { OnOk result (1 ≤ self.new.places) }
         ensures places { self.old.places ≤ self.new.places }
@@ -145,6 +167,7 @@ impl<T: Timers> Contexts<T> {
     pub fn reserve(&mut self, timers: usize) -> Result<(), TimerError>
         ensures requests { self.new.requests ≡ self.old.requests }
         ensures pending { self.new.pending ≡ self.old.pending }
+        ensures moment { self.new.moment ≡ self.old.moment }
         ensures reached { self.new.reached ≡ self.old.reached }
         ensures places { self.new.places ≡ self.old.places }
         ensures ok { OnOk result (timers ≤ self.new.room) }
@@ -154,13 +177,62 @@ impl<T: Timers> Contexts<T> {
         self.timers.reserve(timers)
     }
 
+    /// Plans what an input makes of the open request at a place, at a moment in milliseconds, and what is sent then (RFC 3261
+    /// 16.7 to 16.10, 17). Nothing is changed. `AllocError` is the only refusal.
+    pub fn plan(
+        &self,
+        alloc: Global,
+        server: &Server,
+        now: u64,
+        place: usize,
+        input: Input<'_>,
+    ) -> Result<Prepared, AllocError>
+        requires place { place < length self.now.requests }
+        requires later { self.now.moment ≤ now }
+        requires small { now < 2 ^ 62 }
+        requires about { (r : OpenRequest) → slice_get self.now.requests place ≡ Some r → IsOf r now input }
+        ensures outcome { IfOk result (λ prepared. (r : OpenRequest) → slice_get self.now.requests place ≡ Some r → outcome prepared.change prepared.sending ≡ outcome_of server.now now r input.entry) }
+        ensures kept { IfOk result (λ prepared. (r : OpenRequest) → slice_get self.now.requests place ≡ Some r → IsKeptAs now r prepared.change) }
+    {
+        inputs_fit();
+        inputs_keep();
+        let _moment = self.moment;
+        let planned = self
+            .table
+            .get(place)
+            .request
+            .plan(alloc, server, now, input)?;
+        let change = Change::of_plan(alloc, planned.plan)?;
+        Ok(Prepared {
+            change,
+            sending: planned.sending,
+        })
+    }
+
+    /// Makes room for the timers of a request as it is to be. `NoMemory` is the only refusal; room that was there stays.
+    pub fn prepare(&mut self, change: &Change) -> Result<(), TimerError>
+        ensures requests { self.new.requests ≡ self.old.requests }
+        ensures pending { self.new.pending ≡ self.old.pending }
+        ensures moment { self.new.moment ≡ self.old.moment }
+        ensures reached { self.new.reached ≡ self.old.reached }
+        ensures places { self.new.places ≡ self.old.places }
+        ensures ok { OnOk result (most_timers change.now ≤ self.new.room) }
+        ensures room { self.old.room ≤ self.new.room }
+        ensures refused { IfErr result (λ e. e ≡ NoMemory) }
+    {
+        let _open = &self.table;
+        change.reserve(&mut self.timers)
+    }
+
     /// The open request at a place becomes what was prepared, of its number and its key, and its timers follow; one that stays
     /// open no longer is closed. Takes no memory.
     pub fn change(&mut self, place: usize, change: Change)
         requires place { place < length self.old.requests }
         requires same { (r : OpenRequest) → slice_get self.old.requests place ≡ Some r → IsSame r change }
+        requires within { IsWithin self.old.moment change }
         requires fitting { IsFitting self.old.reached self.old.room change }
         ensures requests { self.new.requests ≡ replaced change self.old.requests }
+        ensures moment { self.new.moment ≡ self.old.moment }
         ensures reached { self.new.reached ≡ self.old.reached }
         ensures places { self.old.places ≤ self.new.places }
         ensures room { self.old.room ≤ self.new.room + most_timers change }
@@ -179,8 +251,10 @@ impl<T: Timers> Contexts<T> {
         requires places { 1 ≤ self.old.places }
         requires last { All (λ (r : OpenRequest). r.number < change.number) self.old.requests }
         requires alone { position (has_key change.key) self.old.requests ≡ None }
+        requires within { IsWithin self.old.moment change }
         requires fitting { IsFitting self.old.reached self.old.room change }
         ensures requests { self.new.requests ≡ with_one_more change self.old.requests }
+        ensures moment { self.new.moment ≡ self.old.moment }
         ensures reached { self.new.reached ≡ self.old.reached }
         ensures places { self.old.places ≤ self.new.places + 1 }
         ensures room { self.old.room ≤ self.new.room + most_timers change }
@@ -209,12 +283,14 @@ impl<T: Timers> Contexts<T> {
         requires early { moment < 2 ^ 62 }
         ensures requests { self.new.requests ≡ self.old.requests }
         ensures pending { self.new.pending ≡ self.old.pending }
+        ensures moment { self.new.moment ≡ max self.old.moment moment }
         ensures reached { self.new.reached ≡ max self.old.reached (moment - 1) }
         ensures places { self.new.places ≡ self.old.places }
         ensures room { self.old.room ≤ self.new.room }
     {
         timers_stand_for_moments();
         time_passes();
+        self.moment = self.moment.max(moment);
         if moment > 0 {
             self.timers.reach(moment - 1);
         }

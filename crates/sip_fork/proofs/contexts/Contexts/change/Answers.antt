@@ -2,7 +2,9 @@ use Rattle.std.proofs.Common.{◌≡◌, ◌==◌, Some, position, slice_get, sy
 use Rattle.sip_model.specs.Effect.{replaced}
 use Rattle.sip_model.specs.state.declared.open_request.OpenRequest.{OpenRequest}
 use Rattle.sip_request.specs.declared.request.Request.{Request}
+use Rattle.sip_moments.specs.Near.{IsWithin}
 use Rattle.sip_fork.specs.Contexts.{Contexts, IsSame}
+use Rattle.sip_fork.proofs.OnTime.{whole}
 use Rattle.sip_fork.proofs.Tying.{contexts, place_of, replaced_in, replaced_out, seen_at}
 use Rattle.sip_fork.proofs.contexts.Contexts.change.Goals as goal
 
@@ -27,3 +29,15 @@ returns-else-closes-clause-requests g c =
     place_of c.args.change c.self.inside.table.rows c.args.place c.get-stood.result.now same.number c.get-stood.ensures.number in
     subst (λ (v : Contexts). contexts c.change_row.new.table.rows ≡ replaced c.args.change v.requests) c.self.view_is
     (c.change_row.ensures.rows ∙ replaced_in c.args.change (contexts c.self.inside.table.rows) c.args.place (sym c.closes.ensures ∙ c.if-closes.false) found)
+
+pub invariant_of-self : goal.invariant_of-self
+invariant_of-self g c =
+    let same : IsSame c.get-stood.result.now.context c.args.change =
+    c.requires.same c.get-stood.result.now.context (subst (λ (v : Contexts). slice_get v.requests c.args.place ≡ Some c.get-stood.result.now.context) c.self.view_is (seen_at c.self.inside.table.rows c.args.place c.get-stood.result.now c.get-stood.ensures.row)) in
+    let found : position (λ (x : OpenRequest). x.number == c.args.change.number) (contexts c.self.inside.table.rows) ≡ Some c.args.place =
+    place_of c.args.change c.self.inside.table.rows c.args.place c.get-stood.result.now same.number c.get-stood.ensures.number in
+    let near : IsWithin c.self.inside.moment c.args.change = subst (λ (v : Contexts). IsWithin v.moment c.args.change) (sym c.self.view_is) c.requires.within in
+    whole c.self.inside.moment c.self.inside.timers.reached c.args.change (contexts c.self.inside.table.rows) c.close_row.new.timers.pending c.close_row.new.timers.reached c.close_row.new.table.rows near c.self.invariant.on_time
+    (ap (λ (xs : List Request). contexts xs) c.close_row.ensures.rows ∙ replaced_out c.args.change c.self.inside.table.rows c.args.place (sym c.closes.ensures ∙ c.if-closes.true) found)
+    c.close_row.ensures.still
+    c.close_row.ensures.tied
