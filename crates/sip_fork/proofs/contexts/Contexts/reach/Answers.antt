@@ -17,9 +17,9 @@ invariant_of-self g c =
     let later : c.self.inside.timers.reached ≤ c.reach.new.self.reached = no_less c.self.inside.timers.reached _ c.reach.new.self.reached c.reach.ensures.later in
     record {
       tied = tied_later c.time_passes.ensures.request c.self.inside.timers.pending c.reach.new.self.pending c.self.inside.timers.reached c.reach.new.self.reached c.self.inside.table.rows c.self.invariant.tied c.reach.ensures.same
-        later
-        (still_early c.self.inside.timers.reached c.args.moment c.reach.new.self.reached c.reach.ensures.later c.self.invariant.tied.early c.requires.early);
+          later
+          (still_early c.self.inside.timers.reached c.args.moment c.reach.new.self.reached c.reach.ensures.later c.self.invariant.tied.early c.requires.early);
       on_time = subst (λ (n : ℕ). AreOnTime n c.reach.new.self.reached (contexts c.self.inside.table.rows)) (sym c.max-self-inside.ensures) (come c.time_passes.ensures.request c.self.inside.moment c.self.inside.timers.reached c.args.moment c.reach.new.self.reached (contexts c.self.inside.table.rows) c.self.invariant.on_time c.requires.early
-        later
-        (told c.self.inside.timers.reached c.args.moment c.reach.new.self.reached c.reach.ensures.later));
+          later
+          (told c.self.inside.timers.reached c.args.moment c.reach.new.self.reached c.reach.ensures.later));
     }
