@@ -1,0 +1,29 @@
+-- Inputs, and what is drafted of them.
+use Rattle.std.proofs.Common.{◌≡◌, ℕ, List, ap}
+use Rattle.sip_forwarding.specs.Forwarding.{IsDraft, IsInputTo}
+use Rattle.sip_forwarding.specs.hops.declared.host_address.HostAddress.{HostAddress}
+use Rattle.sip_forwarding.specs.inputs.declared.input.Input.{Input}
+use Rattle.sip_forwarding.specs.inputs.declared.input.Input.TheVariants.{Response, BranchDeadline, SideDeadline, SendFault, Cancel, Ack, BranchAgain, AnswerAgain}
+use Rattle.sip_forwarding.specs.inputs.declared.sending.Sending.{Sending}
+use Rattle.sip_forwarding.specs.inputs.Inputs.{Outcome, outcome, outcome_of}
+use Rattle.sip_forwarding.specs.state.declared.open_request.OpenRequest.{OpenRequest}
+use Rattle.sip_forwarding.specs.state.declared.server.Server.{Server}
+use Rattle.sip_keeping.specs.Keeping.{IsKeptAs, IsOf}
+use Rattle.sip_proxy.specs.declared.drafting.Draft.{Draft}
+use Rattle.sip_proxy.specs.Drafts.{IsDrafted}
+
+-- an input about a request is one to it
+pub input_to : (r : OpenRequest) (now : ℕ) (input : Input) → IsOf r now input → IsInputTo r input
+input_to r now (Response branch status response) of = of
+input_to r now (BranchDeadline branch) of = tt
+input_to r now SideDeadline of = tt
+input_to r now (SendFault branch) of = tt
+input_to r now Cancel of = tt
+input_to r now Ack of = tt
+input_to r now (BranchAgain branch) of = tt
+input_to r now AnswerAgain of = tt
+
+-- what was planned and drafted
+pub drafted_is : (rows : List HostAddress) (server : Server) (now : ℕ) (r : OpenRequest) (input : Input) (draft : Draft) (sending : Sending) → outcome draft.change sending ≡ outcome_of server now r input
+    → IsKeptAs now r draft.change → IsDraft rows server now (outcome_of server now r input) draft.drafted → IsDrafted rows server now r input draft
+drafted_is rows server now r input draft sending same kept drafted = record { request = ap (λ (o : Outcome). o.request) same; kept = kept; drafted = drafted }

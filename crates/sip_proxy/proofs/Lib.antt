@@ -1,0 +1,2 @@
+mod Drafts
+mod Fitting

@@ -1,0 +1,54 @@
+-- What a proxy knows while it runs (RFC 3261 16).
+use Rattle.std.specs.Prelude.{ℕ, ◌≡◌, ◌≤◌, ◌<◌, ◌+◌, ◌^◌, List}
+use Rattle.sip_fork.specs.timers.declared.timer.Timer.{Timer}
+use Rattle.sip_forwarding.specs.dialog.Sameness.{SameDialogs}
+use Rattle.sip_forwarding.specs.learning.declared.lesson.Lesson.{Lesson}
+use Rattle.sip_forwarding.specs.learning.Lessons.{after_lessons}
+use Rattle.sip_forwarding.specs.location.declared.binding.Binding.{Binding}
+use Rattle.sip_forwarding.specs.model.Step.{NoneBefore, NoneAgainBefore}
+use Rattle.sip_forwarding.specs.nonces.declared.nonces.Nonce.{Nonce}
+use Rattle.sip_forwarding.specs.state.declared.open_request.OpenRequest.{OpenRequest}
+use Rattle.sip_forwarding.specs.state.declared.proxy_state.ProxyState.{ProxyState}
+
+-- the state of the proxy, the timers that stand, in the order in which they fire, and for how many more addresses of record no memory is taken
+pub record Proxy : Type 0 where
+  pub state : ProxyState
+  pub timers : List Timer
+  pub room : ℕ
+
+-- A moment may come: it isn't before the last one, and nothing stands before it.
+pub record MayCome (state : ProxyState) (now : ℕ) : Type 0 where
+  pub later : state.moment ≤ now
+  pub small : now < 2 ^ 62
+  pub none_before : NoneBefore now state.requests
+  pub none_again : NoneAgainBefore now state.requests
+
+-- ---- changes
+
+-- At a moment the state became another one by these open requests and these lessons, and nothing else of it changed.
+pub record Becomes (now : ℕ) (requests : List OpenRequest) (lessons : List Lesson) (old new : ProxyState) : Type 0 where
+  pub moment_is : new.moment ≡ now
+  pub next_is : new.next ≡ old.next
+  pub bindings_are : new.bindings ≡ old.bindings
+  pub nonces_are : new.nonces ≡ old.nonces
+  pub requests_are : new.requests ≡ requests
+  pub dialogs_are : SameDialogs now new.dialogs (after_lessons now lessons old.dialogs)
+
+-- The next number was taken, and nothing else of the state changed.
+pub record IsCounted (old new : ProxyState) : Type 0 where
+  pub moment_is : new.moment ≡ old.moment
+  pub next_is : new.next ≡ old.next + 1
+  pub bindings_are : new.bindings ≡ old.bindings
+  pub nonces_are : new.nonces ≡ old.nonces
+  pub requests_are : new.requests ≡ old.requests
+  pub dialogs_are : new.dialogs ≡ old.dialogs
+
+-- ---- nonces and bindings
+
+-- a state with these nonces
+abbrev pub with_nonces : List Nonce → ProxyState → ProxyState
+with_nonces nonces state = record state { nonces = nonces }
+
+-- a state with these bindings
+abbrev pub with_bindings : List Binding → ProxyState → ProxyState
+with_bindings bindings state = record state { bindings = bindings }

@@ -1,0 +1,163 @@
+ghost use Rattle.std.specs.Prelude.{◌≡◌, ◌<◌, ◌≤◌, ◌+◌, ◌-◌, ◌^◌, ℕ, max, length, position, slice_get, None, Some, IfOk, OnOk, OnErr};
+ghost use Rattle.std.specs.List.{All};
+ghost use Rattle.sip_fork.specs.Contexts.{IsFitting};
+ghost use Rattle.sip_fork.specs.request.Near.{most_timers};
+ghost use Rattle.sip_forwarding.specs.fitting.Fits.{Fits};
+ghost use Rattle.sip_forwarding.specs.learning.Lessons.{beginnings};
+ghost use Rattle.sip_forwarding.specs.model.Effect.{replaced};
+ghost use Rattle.sip_forwarding.specs.model.Step.{NoneBefore, NoneAgainBefore};
+ghost use Rattle.sip_forwarding.specs.moments.Near.{IsWithin};
+ghost use Rattle.sip_forwarding.specs.state.State.{has_key, with_one_more};
+ghost use Rattle.sip_forwarding.specs.state.declared.open_request.OpenRequest.{OpenRequest};
+ghost use Rattle.sip_keeping.specs.Keeping.{IsKeptAs};
+ghost use Rattle.sip_proxy.specs.Proxy.{Becomes, MayCome};
+
+use crate::drafting::Draft;
+use crate::proxy::Proxy;
+use sip_fork::timers::Timers;
+use sip_fork::{Change, Contexts};
+use sip_forwarding::Drafted;
+use sip_forwarding::dialog::Dialogs;
+use sip_forwarding::event::Packet;
+use sip_forwarding::learning::Lessons;
+use sip_forwarding::text::Items;
+use sip_keeping::moments::time_passes;
+use std::alloc::AllocError;
+
+/// Makes room for the timers of a request. `AllocError` is the only refusal.
+fn reserve_timers<T: Timers>(contexts: &mut Contexts<T>, change: &Change) -> Result<(), AllocError>
+    ensures requests { contexts.new.requests ≡ contexts.old.requests }
+    ensures pending { contexts.new.pending ≡ contexts.old.pending }
+    ensures moment { contexts.new.moment ≡ contexts.old.moment }
+    ensures places { contexts.new.places ≡ contexts.old.places }
+    ensures ok { OnOk result (most_timers change.now ≤ contexts.new.room) }
+{
+    match contexts.prepare(change) {
+        Ok(()) => Ok(()),
+        Err(_) => Err(AllocError),
+    }
+}
+
+/// Makes room for a dialog that lessons may make known. `AllocError` is the only refusal.
+fn reserve_dialog(dialogs: &mut Dialogs, lessons: &Lessons) -> Result<(), AllocError>
+    requires few { beginnings lessons.now ≤ 1 }
+    ensures dialogs { dialogs.new.dialogs ≡ dialogs.old.dialogs }
+    ensures ok { OnOk result (beginnings lessons.now ≤ dialogs.new.room) }
+{
+    match lessons.reserve(dialogs) {
+        Ok(()) => Ok(()),
+        Err(_) => Err(AllocError),
+    }
+}
+
+/// What is near a moment fits once the moment has come.
+fn fits_once_it_came()
+    ensures fitting { (old now reached free : ℕ) (r : OpenRequest) → reached ≡ max old (now - 1) → Fits r → IsWithin now r → most_timers r ≤ free → IsFitting reached free r }
+    ensures within { (old now moment : ℕ) (r : OpenRequest) → moment ≡ max old now → IsWithin now r → IsWithin moment r }
+{
+    time_passes();
+}
+
+/// A moment comes, and the open request at a place becomes what was prepared. Takes no memory.
+fn change_at<T: Timers>(contexts: &mut Contexts<T>, now: u64, place: usize, change: Change)
+    requires place { place < length contexts.old.requests }
+    requires later { contexts.old.moment ≤ now }
+    requires small { now < 2 ^ 62 }
+    requires none_before { NoneBefore now contexts.old.requests }
+    requires none_again { NoneAgainBefore now contexts.old.requests }
+    requires kept { (r : OpenRequest) → slice_get contexts.old.requests place ≡ Some r → IsKeptAs now r change }
+    requires room { most_timers change ≤ contexts.old.room }
+    ensures requests { contexts.new.requests ≡ replaced change contexts.old.requests }
+    ensures moment { contexts.new.moment ≡ now }
+{
+    fits_once_it_came();
+    let _stood = contexts.get(place);
+    contexts.reach(now);
+    contexts.change(place, change);
+}
+
+/// A moment comes, and a request is opened. Takes no memory.
+fn open_at<T: Timers>(contexts: &mut Contexts<T>, now: u64, change: Change)
+    requires few { length contexts.old.requests < 1024 }
+    requires places { 1 ≤ contexts.old.places }
+    requires last { All (λ (r : OpenRequest). r.number < change.number) contexts.old.requests }
+    requires alone { position (has_key change.key) contexts.old.requests ≡ None }
+    requires later { contexts.old.moment ≤ now }
+    requires small { now < 2 ^ 62 }
+    requires none_before { NoneBefore now contexts.old.requests }
+    requires none_again { NoneAgainBefore now contexts.old.requests }
+    requires fits { Fits change }
+    requires within { IsWithin now change }
+    requires room { most_timers change ≤ contexts.old.room }
+    ensures requests { contexts.new.requests ≡ with_one_more change contexts.old.requests }
+    ensures moment { contexts.new.moment ≡ now }
+{
+    fits_once_it_came();
+    contexts.reach(now);
+    contexts.open(change);
+}
+
+/// Makes room for one more request. `AllocError` is the only refusal.
+fn reserve_open<T: Timers>(contexts: &mut Contexts<T>, change: &Change) -> Result<(), AllocError>
+    ensures requests { contexts.new.requests ≡ contexts.old.requests }
+    ensures pending { contexts.new.pending ≡ contexts.old.pending }
+    ensures moment { contexts.new.moment ≡ contexts.old.moment }
+    ensures places { OnOk result (1 ≤ contexts.new.places) }
+    ensures room { OnOk result (most_timers change.now ≤ contexts.new.room) }
+{
+    contexts.reserve_one()?;
+    reserve_timers(contexts, change)
+}
+
+impl<T: Timers> Proxy<T> {
+    /// At a moment in milliseconds the open request at a place becomes what was drafted, of its number and its key, and the
+    /// dialogs learn of it; one that stays open no longer is closed. Gives what is sent. Refused with `AllocError` where
+    /// there is no memory for timers or a dialog; nothing is changed then.
+    pub fn change(
+        &mut self,
+        now: u64,
+        place: usize,
+        draft: Draft,
+    ) -> Result<Items<Packet>, AllocError>
+        requires place { place < length self.old.state.requests }
+        requires moment { MayCome self.old.state now }
+        requires kept { (r : OpenRequest) → slice_get self.old.state.requests place ≡ Some r → IsKeptAs now r draft.change }
+        requires few { beginnings draft.drafted.lessons ≤ 1 }
+        ensures becomes { OnOk result (Becomes now (replaced draft.change self.old.state.requests) draft.drafted.lessons self.old.state self.new.state) }
+        ensures sent { IfOk result (λ packets. packets ≡ draft.drafted.packets) }
+        ensures unchanged { OnErr result (self.new.state ≡ self.old.state) }
+        ensures timers { OnErr result (self.new.timers ≡ self.old.timers) }
+        ensures room { self.new.room ≡ self.old.room }
+    {
+        let Draft { change, drafted } = draft;
+        let Drafted { packets, lessons } = drafted;
+        reserve_timers(&mut self.contexts, &change)?;
+        reserve_dialog(&mut self.dialogs, &lessons)?;
+        change_at(&mut self.contexts, now, place, change);
+        lessons.take(&mut self.dialogs, now);
+        Ok(packets)
+    }
+
+    /// At a moment in milliseconds a request is opened whose number is above all others and whose key isn't open, and the
+    /// dialogs learn of it. Refused with `AllocError` where there is no memory for it, its timers or a dialog; nothing is
+    /// changed then.
+    pub fn open(&mut self, now: u64, change: Change, lessons: Lessons) -> Result<(), AllocError>
+        requires space { length self.old.state.requests < 1024 }
+        requires moment { MayCome self.old.state now }
+        requires last { All (λ (r : OpenRequest). r.number < change.number) self.old.state.requests }
+        requires alone { position (has_key change.key) self.old.state.requests ≡ None }
+        requires fits { Fits change }
+        requires within { IsWithin now change }
+        requires few { beginnings lessons ≤ 1 }
+        ensures becomes { OnOk result (Becomes now (with_one_more change self.old.state.requests) lessons self.old.state self.new.state) }
+        ensures unchanged { OnErr result (self.new.state ≡ self.old.state) }
+        ensures timers { OnErr result (self.new.timers ≡ self.old.timers) }
+        ensures room { self.new.room ≡ self.old.room }
+    {
+        reserve_open(&mut self.contexts, &change)?;
+        reserve_dialog(&mut self.dialogs, &lessons)?;
+        open_at(&mut self.contexts, now, change);
+        lessons.take(&mut self.dialogs, now);
+        Ok(())
+    }
+}

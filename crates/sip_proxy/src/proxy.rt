@@ -1,0 +1,187 @@
+ghost use Rattle.std.specs.Prelude.{◌≡◌, ◌<◌, ◌≤◌, ◌==◌, ◌+◌, ◌^◌, ℕ, [], false, length, position, slice_get, nat_le, find, option_map, MatchOption, Some, IfOk};
+ghost use Rattle.std.specs.List.{AllPairs};
+ghost use Rattle.std.specs.Option.{option_and_then};
+ghost use Rattle.sip_fork.specs.Due.{IsFirst, IsNothingDue};
+ghost use Rattle.sip_fork.specs.Places.{branch_at};
+ghost use Rattle.sip_forwarding.specs.context.FoundBranch.{found_branch};
+ghost use Rattle.sip_forwarding.specs.key.Key.{same_key};
+ghost use Rattle.sip_forwarding.specs.state.State.{first_state, has_key};
+ghost use Rattle.sip_forwarding.specs.state.declared.branch.Branch.{Branch};
+ghost use Rattle.sip_forwarding.specs.state.declared.open_request.OpenRequest.{OpenRequest};
+ghost use Rattle.sip_forwarding.specs.verdict.Verdict.{is_cancelled_by};
+ghost use Rattle.sip_proxy.specs.Proxy.{Becomes, IsCounted, MayCome};
+
+use sip_fork::timers::Timers;
+use sip_fork::{Contexts, First};
+use sip_forwarding::dialog::Dialogs;
+use sip_forwarding::key::Key;
+use sip_forwarding::location::Locations;
+use sip_forwarding::nonces::Nonces;
+use sip_forwarding::state::{OpenRequest, Server};
+use std::alloc::{AllocError, Global};
+use std::marker::Model;
+
+/// What a proxy knows while it runs: its open requests with their timers, the bindings, nonces and dialogs, the last
+/// moment, in milliseconds, and the number of the next datagram.
+#[derive(Drop)]
+pub struct Proxy<T: Timers> {
+    pub(crate) contexts: Contexts<T>,
+    pub(crate) locations: Locations,
+    pub(crate) nonces: Nonces,
+    pub(crate) dialogs: Dialogs,
+    next: u64,
+}
+
+impl<T: Timers> Model for Proxy<T> {
+    ghost use Rattle.sip_proxy.specs.Proxy.{Proxy};
+
+    ghost Value = { Proxy };
+
+    ghost view = { λ p. record { state = record { moment = p.contexts.moment; next = p.next; bindings = p.locations.rows; nonces = p.nonces; requests = p.contexts.requests; dialogs = p.dialogs.dialogs }; timers = p.contexts.pending; room = p.locations.room } };
+}
+
+/// No open request. `AllocError` is the only refusal.
+fn no_requests<T: Timers>(alloc: Global, keys: u128) -> Result<Contexts<T>, AllocError>
+    ensures requests { IfOk result (λ contexts. contexts.requests ≡ []) }
+    ensures pending { IfOk result (λ contexts. contexts.pending ≡ []) }
+    ensures moment { IfOk result (λ contexts. contexts.moment ≡ 0) }
+{
+    match Contexts::new(alloc, keys) {
+        Ok(contexts) => Ok(contexts),
+        Err(_) => Err(AllocError),
+    }
+}
+
+/// No binding. `AllocError` is the only refusal.
+fn no_bindings(alloc: Global) -> Result<Locations, AllocError>
+    ensures { IfOk result (λ locations. locations.rows ≡ []) }
+{
+    match Locations::new(alloc) {
+        Ok(locations) => Ok(locations),
+        Err(_) => Err(AllocError),
+    }
+}
+
+impl<T: Timers> Proxy<T> {
+    /// It knows nothing yet. Keys that peers choose are hashed under the secret `keys`; the first datagram gets the number
+    /// `first`. `AllocError` is the only refusal.
+    pub fn new(alloc: Global, keys: u128, first: u64) -> Result<Self, AllocError>
+        ensures state { IfOk result (λ proxy. proxy.state ≡ first_state first) }
+        ensures timers { IfOk result (λ proxy. proxy.timers ≡ []) }
+    {
+        let contexts = no_requests(alloc, keys)?;
+        let locations = no_bindings(alloc)?;
+        let nonces = Nonces::new(alloc)?;
+        Ok(Proxy {
+            contexts,
+            locations,
+            nonces,
+            dialogs: Dialogs::new(alloc, keys),
+            next: first,
+        })
+    }
+
+    /// The last moment, in milliseconds.
+    pub fn moment(&self) -> u64
+        ensures value { result ≡ self.now.state.moment }
+        ensures small { result < 2 ^ 62 }
+    {
+        self.contexts.moment()
+    }
+
+    /// The number of the next datagram.
+    pub fn next(&self) -> u64
+        ensures { result ≡ self.now.state.next }
+    {
+        let _open = &self.contexts;
+        self.next
+    }
+
+    /// How many requests are open: at most 1,024. Their numbers rise, and their keys differ.
+    pub fn len(&self) -> usize
+        ensures value { result ≡ length self.now.state.requests }
+        ensures few { result ≤ 1024 }
+        ensures rise { AllPairs (λ (a b : OpenRequest). a.number < b.number) self.now.state.requests }
+        ensures apart { AllPairs (λ (a b : OpenRequest). same_key a.key b.key ≡ false) self.now.state.requests }
+    {
+        self.contexts.len()
+    }
+
+    /// Whether no more can be opened.
+    pub fn is_full(&self) -> bool
+        ensures { result ≡ nat_le 1024 (length self.now.state.requests) }
+    {
+        self.contexts.is_full()
+    }
+
+    /// The open request at a place.
+    pub fn get(&self, place: usize) -> &OpenRequest
+        requires { place < length self.now.state.requests }
+        ensures { slice_get self.now.state.requests place ≡ Some result.now }
+    {
+        self.contexts.get(place)
+    }
+
+    /// The place of the open request with a number, by bisection.
+    pub fn find_number(&self, number: u64) -> Option<usize>
+        ensures place { result ≡ position (λ (r : OpenRequest). r.number == number) self.now.state.requests }
+        ensures request { option_and_then (slice_get self.now.state.requests) result ≡ find (λ (r : OpenRequest). r.number == number) self.now.state.requests }
+    {
+        self.contexts.find_number(number)
+    }
+
+    /// The place of the open request with a key (RFC 3261 17.2.3).
+    pub fn find(&self, key: &Key) -> Option<usize>
+        ensures place { result ≡ position (has_key key.now) self.now.state.requests }
+        ensures request { option_and_then (slice_get self.now.state.requests) result ≡ find (has_key key.now) self.now.state.requests }
+    {
+        self.contexts.find(key)
+    }
+
+    /// The place of the earliest open request that a CANCEL with this key names (RFC 3261 9.2).
+    pub fn find_cancelled(&self, key: &Key) -> Option<usize>
+        ensures place { result ≡ position (is_cancelled_by key.now) self.now.state.requests }
+        ensures request { option_and_then (slice_get self.now.state.requests) result ≡ find (is_cancelled_by key.now) self.now.state.requests }
+    {
+        self.contexts.find_cancelled(key)
+    }
+
+    /// The open request, and its branch, that a response is to whose top Via has this text as its branch and whose CSeq has
+    /// this method, by their places (RFC 3261 17.1.3). Takes no memory.
+    pub fn find_branch(&self, server: &Server, text: &[u8], method: &[u8]) -> Option<(usize, usize)>
+        ensures { option_map (branch_at self.now.state.requests) result ≡ option_map (λ (found : OpenRequest × Branch). Some found) (found_branch server.now text.now method.now self.now.state.requests) }
+    {
+        self.contexts.find_branch(server, text, method)
+    }
+
+    /// What is due first of all open requests: no deadline stands before it, and nothing is to go again before it. None
+    /// exactly where no deadline stands and nothing is to go again. Takes no memory.
+    pub fn first(&self) -> Option<First>
+        ensures { MatchOption result (IsNothingDue self.now.state.requests) (IsFirst self.now.state.requests) }
+    {
+        self.contexts.first()
+    }
+
+    /// A moment comes at which nothing happens. Takes no memory.
+    pub fn wait(&mut self, now: u64)
+        requires { MayCome self.old.state now }
+        ensures becomes { Becomes now self.old.state.requests [] self.old.state self.new.state }
+        ensures timers { self.new.timers ≡ self.old.timers }
+        ensures room { self.new.room ≡ self.old.room }
+    {
+        self.contexts.reach(now);
+    }
+
+    /// A datagram takes the next number, which is given; the one after it is next. Takes no memory.
+    pub fn count(&mut self) -> u64
+        requires { self.old.state.next < 2 ^ 62 }
+        ensures number { result ≡ self.old.state.next }
+        ensures counted { IsCounted self.old.state self.new.state }
+        ensures timers { self.new.timers ≡ self.old.timers }
+        ensures room { self.new.room ≡ self.old.room }
+    {
+        let number = self.next;
+        self.next = number + 1;
+        number
+    }
+}
