@@ -3,11 +3,11 @@ use Rattle.std.proofs.Common.{◌≡◌, ℕ, Bool, true, false, cond, List, [],
 use Rattle.std.specs.Prelude.{find, is_some, ◌&&◌, ◌||◌}
 use Rattle.std.specs.List.{AllByRecursion}
 use Rattle.std.specs.Option.{option_and_then}
-use Rattle.sip_digest.specs.declared.algorithm.Algorithm.{Algorithm}
-use Rattle.sip_digest.specs.declared.algorithm.Algorithm.TheVariants.{Md5, Sha256}
+use Rattle.sip_nonces.specs.digest.declared.algorithm.Algorithm.{Algorithm}
+use Rattle.sip_nonces.specs.digest.declared.algorithm.Algorithm.TheVariants.{Md5, Sha256}
 use Rattle.sip_nonces.specs.declared.nonces.Nonce.{Nonce}
-use Rattle.sip_digest.specs.Protection.{Protection}
-use Rattle.sip_digest.specs.Credential.{count_of}
+use Rattle.sip_nonces.specs.digest.Protection.{Protection}
+use Rattle.sip_nonces.specs.digest.Credential.{count_of}
 use Rattle.sip_credentials.specs.declared.credentials.Credentials.{Credentials}
 use Rattle.sip_policy.specs.declared.user.User.{User}
 use Rattle.sip_policy.specs.User.{is_named}

@@ -1,12 +1,12 @@
 -- What a right proof rests on.
 use Rattle.std.specs.Prelude.{◌≡◌, ◌<◌, ℕ, true, List, Contains, Some}
-use Rattle.sip_form.specs.declared.message.Start.TheVariants.{Request}
-use Rattle.sip_form.specs.declared.message.Message.{Message}
-use Rattle.sip_field.specs.Values.{values_of}
+use Rattle.sip_credentials.specs.form.declared.message.Start.TheVariants.{Request}
+use Rattle.sip_credentials.specs.form.declared.message.Message.{Message}
+use Rattle.sip_credentials.specs.field.Values.{values_of}
 use Rattle.sip_credentials.specs.declared.credentials.Credentials.{Credentials}
 use Rattle.sip_credentials.specs.Credentials.{credentials_of, is_realm}
-use Rattle.sip_digest.specs.Answers.{answer_of}
-use Rattle.sip_digest.specs.Credential.{Credential, count_of}
+use Rattle.sip_nonces.specs.digest.Answers.{answer_of}
+use Rattle.sip_nonces.specs.digest.Credential.{Credential, count_of}
 use Rattle.sip_nonces.specs.NonceText.{nonce_text}
 use Rattle.sip_nonces.specs.Nonces.{IsLive}
 use Rattle.sip_nonces.specs.declared.nonces.Nonce.{Nonce}

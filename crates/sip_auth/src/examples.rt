@@ -1,5 +1,5 @@
 ghost use Rattle.std.specs.Prelude.{◌≡◌, [], codes, true, false, Some, None};
-ghost use Rattle.sip_field.specs.declared.field_name.FieldName.TheVariants as Name;
+ghost use Rattle.sip_credentials.specs.field.declared.field_name.FieldName.TheVariants as Name;
 ghost use Rattle.sip_way.specs.Examples.{sample_realm};
 ghost use Rattle.sip_policy.specs.Examples.{mufasas_a1, alices_a1, sample_users};
 ghost use Rattle.sip_auth.specs.Proof.{Proof, proof_of, proven, is_stale, used};

@@ -4,7 +4,7 @@ use Rattle.std.specs.List.{flat_map}
 use Rattle.std.proofs.lemmas.Grind.{flat_map-append}
 use Rattle.std.proofs.lemmas.List.{drop_more}
 use Rattle.std.proofs.lemmas.Bool.Decides.{nat_tests}
-use Rattle.sip_field.specs.declared.field.Field.{Field}
+use Rattle.sip_form.specs.field.declared.field.Field.{Field}
 use Rattle.sip_form.specs.declared.message.Message.{Message}
 use Rattle.sip_form.specs.Text.{field_text, field_line, text_of}
 use Rattle.sip_best.specs.Best.{with_field, fits, taking_along}

@@ -1,7 +1,7 @@
 -- Final answers of the worked examples.
 use Rattle.std.specs.Prelude.{ℕ, List, [], ◌∷◌, codes, Some, None}
-use Rattle.sip_field.specs.declared.field.Field.{Field}
-use Rattle.sip_field.specs.declared.field_name.FieldName.TheVariants as Name
+use Rattle.sip_form.specs.field.declared.field.Field.{Field}
+use Rattle.sip_form.specs.field.declared.field_name.FieldName.TheVariants as Name
 use Rattle.sip_form.specs.declared.message.Start.TheVariants.{Status}
 use Rattle.sip_best.specs.declared.final_answer.Final.{Final}
 

@@ -4,9 +4,9 @@ ghost use Rattle.sip_form.specs.Text.{field_text, text_of};
 ghost use Rattle.sip_best.specs.Best.{is_challenge_status, is_challenge_field, challenges_of, taking_along};
 
 use crate::final_answer::Final;
-use sip_field::FieldName;
 use sip_form::Kept;
-use sip_view::{ViewField, ViewFields};
+use sip_form::field::FieldName;
+use sip_form::view::{ViewField, ViewFields};
 use std::alloc::{AllocError, Global};
 
 /// The greatest number of bytes that a datagram holds.

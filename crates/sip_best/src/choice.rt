@@ -7,8 +7,8 @@ use crate::challenges::{challenges_in, fields_along, is_challenge_status};
 use crate::final_answer::Final;
 use crate::rank::better;
 use sip_form::Kept;
+use sip_form::view::ViewField;
 use sip_shared::Shared;
-use sip_view::ViewField;
 use std::alloc::{AllocError, Global};
 
 /// The answer that goes up of some, and those that came before it and behind it.

@@ -1,5 +1,5 @@
 ghost use Rattle.std.specs.Prelude.{◌≡◌, ◌↔◌, ◌≤◌, List, ◌∷◌, length, true, Some, IsSome};
-ghost use Rattle.sip_field.specs.declared.field.Field.{Field};
+ghost use Rattle.sip_form.specs.field.declared.field.Field.{Field};
 ghost use Rattle.sip_form.specs.declared.message.Message.{Message};
 ghost use Rattle.sip_form.specs.Text.{text_of};
 ghost use Rattle.sip_best.specs.declared.final_answer.Final.{Final};

@@ -83,7 +83,9 @@ pub mod key {
 
 /// Of `sip_location`.
 pub mod location {
-    pub use sip_context::location::{Binding, LocationError, Locations, Plan, Registration};
+    pub use sip_context::location::{
+        Binding, LiveBindings, LocationError, Locations, Plan, Registration,
+    };
 }
 
 /// Of `sip_edit`.

@@ -12,3 +12,8 @@ pub mod laws;
 pub use actions::{Action, Report};
 pub use client_invite::{ClientInvite, ClientInviteInput};
 pub use client_other::{ClientOther, ClientOtherInput};
+
+/// Of `sip_transaction`.
+pub mod transaction {
+    pub use sip_transaction::Letter;
+}

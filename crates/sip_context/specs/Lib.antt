@@ -24,3 +24,4 @@ pub use Rattle.sip_state.specs.settings
 pub use Rattle.sip_targets.specs as targets
 pub use Rattle.sip_reply.specs as reply
 pub use Rattle.sip_state.specs as state
+pub use Rattle.sip_event.specs.audit

@@ -76,14 +76,16 @@ pub mod key {
 
 /// Of `sip_location`.
 pub mod location {
-    pub use sip_state::location::{Binding, LocationError, Locations, Plan, Registration};
+    pub use sip_state::location::{
+        Binding, LiveBindings, LocationError, Locations, Plan, Registration,
+    };
 }
 
 /// Of `sip_edit`.
 pub mod edit {
     pub use sip_edit::{
-        ack_with, branch_text, cancel_of, own_via_value, pop_via, received_via, response_address,
-        with_top_via,
+        ack_with, branch_of_text, branch_text, cancel_of, own_via_value, pop_via, received_via,
+        response_address, with_top_via,
     };
 }
 
@@ -108,4 +110,9 @@ pub mod reply {
 /// Of `sip_state`.
 pub mod state {
     pub use sip_state::{Branch, LastAnswer, OpenRequest, Phase, Resend, Server, Side, Upward};
+}
+
+/// Of `sip_audit`.
+pub mod audit {
+    pub use sip_event::audit::{Operation, Outcome, Record};
 }

@@ -7,3 +7,43 @@ pub mod examples;
 pub mod laws;
 
 pub use credentials::{Credentials, credentials_of};
+
+/// Of `sip_field`.
+pub mod field {
+    pub use sip_view::field::{Field, FieldName};
+}
+
+/// Of `sip_host`.
+pub mod host {
+    pub use sip_header::host::{Addr, ip_text};
+}
+
+/// Of `sip_uri`.
+pub mod uri {
+    pub use sip_header::uri::{UriError, parse_uri, write_uri};
+}
+
+/// Of `sip_view`.
+pub mod view {
+    pub use sip_view::{Value, ViewField, ViewFields};
+}
+
+/// Of `sip_form`.
+pub mod form {
+    pub use sip_header::form::{View, ViewStart};
+}
+
+/// Of `sip_message`.
+pub mod message {
+    pub use sip_header::message::{
+        Field, FieldName, Fields, Value, View, ViewField, ViewFields, ViewName, ViewStart,
+        write_view,
+    };
+}
+
+/// Of `sip_header`.
+pub mod header {
+    pub use sip_header::{
+        MaxForwards, Via, cseq_of, max_forwards_of, name_addr_of, parameter_of, tag_of,
+    };
+}

@@ -8,3 +8,6 @@ pub mod Naming
 pub mod SameNames
 pub mod Table
 pub mod Rows
+pub use Rattle.sip_header.specs.host
+pub use Rattle.sip_header.specs.uri
+pub use Rattle.sip_header.specs as header

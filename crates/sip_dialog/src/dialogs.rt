@@ -8,7 +8,7 @@ use crate::error::DialogError;
 use crate::rows::{self, Rows};
 use indexmap::IndexMap;
 use sip_hasher::Keyed;
-use sip_host::Addr;
+use sip_header::host::Addr;
 use std::alloc::Global;
 use std::marker::Model;
 

@@ -11,7 +11,7 @@ use crate::error::DialogError;
 use crate::standing::Standing;
 use indexmap::IndexMap;
 use sip_hasher::Keyed;
-use sip_host::Addr;
+use sip_header::host::Addr;
 
 /// The dialogs that stand in a table, by their names.
 pub(crate) type Rows = IndexMap<DialogId, Standing, Keyed>;

@@ -2,20 +2,20 @@
 use Rattle.std.specs.Prelude.{ℕ, ◌-◌, Bool, false, ◌&&◌, not, if◌then◌else◌, List, [], ◌∷◌, ◌++◌, filter, decimal, codes}
 use Rattle.std.specs.Option.{option_map_or}
 use Rattle.std.specs.Result.{result_ok}
-use Rattle.sip_uri.specs.Uri.{text_of}
-use Rattle.sip_uri.specs.Reading.{reading_of}
-use Rattle.sip_field.specs.declared.field_name.FieldName.{FieldName}
-use Rattle.sip_field.specs.declared.field_name.FieldName.TheVariants as Name
-use Rattle.sip_field.specs.declared.field.Field.{Field}
-use Rattle.sip_form.specs.declared.message.Start.{Start}
-use Rattle.sip_form.specs.declared.message.Start.TheVariants.{Request, Status}
-use Rattle.sip_form.specs.declared.message.Message.{Message}
-use Rattle.sip_field.specs.FieldName.{is_same_name}
-use Rattle.sip_header.specs.declared.max_forwards.MaxForwards.{MaxForwards}
-use Rattle.sip_header.specs.declared.max_forwards.MaxForwards.TheVariants.{Absent, Hops, Malformed}
+use Rattle.sip_credentials.specs.uri.Uri.{text_of}
+use Rattle.sip_credentials.specs.uri.Reading.{reading_of}
+use Rattle.sip_credentials.specs.field.declared.field_name.FieldName.{FieldName}
+use Rattle.sip_credentials.specs.field.declared.field_name.FieldName.TheVariants as Name
+use Rattle.sip_credentials.specs.field.declared.field.Field.{Field}
+use Rattle.sip_credentials.specs.form.declared.message.Start.{Start}
+use Rattle.sip_credentials.specs.form.declared.message.Start.TheVariants.{Request, Status}
+use Rattle.sip_credentials.specs.form.declared.message.Message.{Message}
+use Rattle.sip_credentials.specs.field.FieldName.{is_same_name}
+use Rattle.sip_credentials.specs.header.declared.max_forwards.MaxForwards.{MaxForwards}
+use Rattle.sip_credentials.specs.header.declared.max_forwards.MaxForwards.TheVariants.{Absent, Hops, Malformed}
 use Rattle.sip_way.specs.declared.own.Own.{Own}
 use Rattle.sip_credentials.specs.Credentials.{credentials_of, is_realm}
-use Rattle.sip_header.specs.MaxForwards.{max_forwards_of}
+use Rattle.sip_credentials.specs.header.MaxForwards.{max_forwards_of}
 use Rattle.sip_way.specs.Own.{record_route_uri}
 use Rattle.sip_way.specs.Way.{request_uri, fields_left, way_of}
 use Rattle.sip_edit.specs.OwnVia.{own_via}

@@ -1,9 +1,9 @@
 -- Requests that go on, for the worked examples.
 use Rattle.std.specs.Prelude.{ℕ, List, [], ◌∷◌, ◌++◌, codes}
-use Rattle.sip_field.specs.declared.field_name.FieldName.TheVariants as Name
-use Rattle.sip_field.specs.declared.field.Field.{Field}
-use Rattle.sip_form.specs.declared.message.Start.TheVariants.{Request, Status}
-use Rattle.sip_form.specs.declared.message.Message.{Message}
+use Rattle.sip_credentials.specs.field.declared.field_name.FieldName.TheVariants as Name
+use Rattle.sip_credentials.specs.field.declared.field.Field.{Field}
+use Rattle.sip_credentials.specs.form.declared.message.Start.TheVariants.{Request, Status}
+use Rattle.sip_credentials.specs.form.declared.message.Message.{Message}
 use Rattle.sip_way.specs.Examples.{own, sample_realm}
 use Rattle.sip_edit.specs.Examples.{client}
 use Rattle.sip_edit.specs.ReceivedRequest.{received}

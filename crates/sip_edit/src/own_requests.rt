@@ -1,17 +1,19 @@
 ghost use Rattle.std.specs.Prelude.{◌≡◌, ◌++◌, ◌∷◌, [], decimal, codes, option_map, IfOk, OnOk};
 ghost use Rattle.std.specs.Option.{option_and_then, option_to_list};
-ghost use Rattle.sip_field.specs.declared.field_name.FieldName.TheVariants as Name;
-ghost use Rattle.sip_field.specs.Named.{all_named};
-ghost use Rattle.sip_field.specs.Values.{first_value};
-ghost use Rattle.sip_form.specs.ViewStart.{start_seen};
-ghost use Rattle.sip_header.specs.CSeq as CSeqs;
+ghost use Rattle.sip_credentials.specs.field.declared.field_name.FieldName.TheVariants as Name;
+ghost use Rattle.sip_credentials.specs.field.Named.{all_named};
+ghost use Rattle.sip_credentials.specs.field.Values.{first_value};
+ghost use Rattle.sip_credentials.specs.form.ViewStart.{start_seen};
+ghost use Rattle.sip_credentials.specs.header.CSeq as CSeqs;
 ghost use Rattle.sip_way.specs.Way as Ways;
 ghost use Rattle.sip_edit.specs.FirstField.{first_of};
 ghost use Rattle.sip_edit.specs.Onward.{seventy};
 ghost use Rattle.sip_edit.specs.OwnRequests;
 
-use sip_header::cseq_of;
-use sip_message::{FieldName, Value, View, ViewField, ViewFields, ViewName, ViewStart};
+use sip_credentials::header::cseq_of;
+use sip_credentials::message::{
+    FieldName, Value, View, ViewField, ViewFields, ViewName, ViewStart,
+};
 use sip_text::Bytes;
 use std::alloc::{AllocError, Global};
 

@@ -1,11 +1,11 @@
 ghost use Rattle.std.specs.Prelude.{◌≡◌, IfOk, option_map};
-ghost use Rattle.sip_field.specs.declared.field_name.FieldName.TheVariants as Name;
-ghost use Rattle.sip_field.specs.Values.{with_first};
+ghost use Rattle.sip_credentials.specs.field.declared.field_name.FieldName.TheVariants as Name;
+ghost use Rattle.sip_credentials.specs.field.Values.{with_first};
 ghost use Rattle.sip_edit.specs.ReceivedRequest.{address_by, response_port};
 
-use sip_header::{Via, parameter_of};
-use sip_host::Addr;
-use sip_message::{FieldName, View};
+use sip_credentials::header::{Via, parameter_of};
+use sip_credentials::host::Addr;
+use sip_credentials::message::{FieldName, View};
 use std::alloc::{AllocError, Global};
 
 /// A request whose top Via has another value, as `received_via` gives it (RFC 3261 18.2.1). No byte is copied.

@@ -2,8 +2,8 @@ ghost use Rattle.std.specs.Prelude.{◌≡◌, ◌++◌, length, decimal, codes,
 ghost use Rattle.sip_text.specs.Cuts.{parts_at};
 ghost use Rattle.sip_edit.specs.TopVia;
 
-use sip_header::Via;
-use sip_host::{Addr, ip_text};
+use sip_credentials::header::Via;
+use sip_credentials::host::{Addr, ip_text};
 use sip_text::{Bytes, first_part, same_no_case, without_blanks};
 use std::alloc::{AllocError, Global};
 

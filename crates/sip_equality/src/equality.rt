@@ -4,7 +4,7 @@ ghost use Rattle.sip_equality.specs.Equality as Definitions;
 use crate::headers::are_same_headers;
 use crate::parameters::are_same_parameters;
 use crate::texts::{says_same, says_same_no_case};
-use sip_text::Bytes;
+use sip_uri::text::Bytes;
 use sip_uri::{Scheme, Uri, UserInfo};
 
 fn is_same_scheme(left: Scheme, right: Scheme) -> bool

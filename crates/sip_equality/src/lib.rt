@@ -14,3 +14,18 @@ mod texts;
 
 pub use equality::same;
 pub use texts::{says_same, says_same_no_case};
+
+/// Of `sip_text`.
+pub mod text {
+    pub use sip_uri::text::{Bytes, Items, Text, same_bytes, same_no_case};
+}
+
+/// Of `sip_host`.
+pub mod host {
+    pub use sip_uri::host::{Addr, ip_of, port_value};
+}
+
+/// Of `sip_uri`.
+pub mod uri {
+    pub use sip_uri::{Aor, Parameter, Scheme, Uri, same_aor};
+}

@@ -5,8 +5,8 @@ ghost use Rattle.sip_equality.specs.Equality as Definitions;
 use crate::parameter_order::{many_are_same, some_are_same};
 use crate::places::{FEW, MOST, SOME};
 use crate::texts::says_same_no_case;
-use sip_text::Bytes;
 use sip_uri::Parameter;
+use sip_uri::text::Bytes;
 
 /// Whether two values say the same without case, or neither parameter has one.
 pub(crate) fn are_same_values(left: &Option<Bytes>, right: &Option<Bytes>) -> bool

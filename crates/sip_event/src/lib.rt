@@ -6,3 +6,8 @@ mod packet;
 
 pub use event::{Boot, Event, StepOut};
 pub use packet::{Packet, Ticket};
+
+/// Of `sip_audit`.
+pub mod audit {
+    pub use sip_audit::{Operation, Outcome, Record};
+}

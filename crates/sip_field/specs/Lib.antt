@@ -1,3 +1,4 @@
 pub mod FieldName
 pub mod Named
 pub mod Values
+pub use Rattle.sip_text.specs as text

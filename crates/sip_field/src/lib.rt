@@ -10,3 +10,8 @@ mod named;
 pub use field::Field;
 pub use field_name::{FieldName, known_name};
 pub use fields::Fields;
+
+/// Of `sip_text`.
+pub mod text {
+    pub use sip_text::{Bytes, Items, Span, Text, same_no_case};
+}

@@ -12,8 +12,8 @@ use Rattle.sip_timers.specs.declared.timer.Name.{Name}
 use Rattle.sip_timers.specs.declared.timer.Timer.{Timer}
 use Rattle.sip_timers.specs.Timers.{AreOrdered, first_named}
 use Rattle.sip_model.specs.state.declared.open_request.OpenRequest.{OpenRequest}
-use Rattle.sip_request.specs.Named.{named_by}
-use Rattle.sip_request.specs.declared.request.Request.{Request}
+use Rattle.sip_keeping.specs.request.Named.{named_by}
+use Rattle.sip_keeping.specs.request.declared.request.Request.{Request}
 use Rattle.sip_fork.specs.Contexts.{AreTied}
 use Rattle.sip_fork.specs.Due.{IsDue, IsFirst, IsNotDue, IsNothingDue}
 use Rattle.sip_fork.specs.Queue.{IsQueue}

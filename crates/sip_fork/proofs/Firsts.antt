@@ -11,8 +11,8 @@ use Rattle.sip_fork.proofs.Lists.{count-cons, count_le, all_append, all_weaker}
 use Rattle.sip_model.specs.state.State.{deadlines_of}
 use Rattle.sip_model.specs.retransmission.Retransmission.{resends_of}
 use Rattle.sip_model.specs.Step.{NoneBefore, NoneAgainBefore}
-use Rattle.sip_request.specs.Named.{named_by}
-use Rattle.sip_request.specs.declared.request.Request.{Request}
+use Rattle.sip_keeping.specs.request.Named.{named_by}
+use Rattle.sip_keeping.specs.request.declared.request.Request.{Request}
 use Rattle.sip_fork.specs.Contexts.{IsKept}
 use Rattle.sip_fork.proofs.Moments.{due_then, deadlines_named, resends_named}
 use Rattle.sip_fork.specs.Timing.{Timing}

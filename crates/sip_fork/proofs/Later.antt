@@ -5,8 +5,8 @@ use Rattle.sip_timers.specs.declared.timer.Timer.{Timer}
 use Rattle.sip_timers.specs.Timers.{due_by}
 use Rattle.sip_model.specs.state.declared.open_request.OpenRequest.{OpenRequest}
 use Rattle.sip_model.specs.Step.{NoneBefore, NoneAgainBefore}
-use Rattle.sip_moments.specs.Near.{IsWithin}
-use Rattle.sip_request.specs.declared.request.Request.{Request}
+use Rattle.sip_keeping.specs.moments.Near.{IsWithin}
+use Rattle.sip_keeping.specs.request.declared.request.Request.{Request}
 use Rattle.sip_fork.specs.Contexts.{AreTied, IsKept}
 use Rattle.sip_fork.specs.Timing.{Timing}
 use Rattle.sip_fork.proofs.Passing.{rows_pass}

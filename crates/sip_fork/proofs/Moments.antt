@@ -9,13 +9,13 @@ use Rattle.sip_model.specs.state.declared.branch.Branch.{Branch}
 use Rattle.sip_model.specs.state.declared.open_request.OpenRequest.{OpenRequest}
 use Rattle.sip_model.specs.state.State.{is_invite, phase_deadline, side_deadline, deadlines_of}
 use Rattle.sip_model.specs.retransmission.Retransmission.{answer_due, branch_due, resends_of}
-use Rattle.sip_ties.specs.Ties.{branch_timers, branches_timers, due_at, owner_of, part_timers, side_timers}
-use Rattle.sip_ties.specs.declared.timer_keys.TimerKeys.{TimerKeys}
+use Rattle.sip_keeping.specs.ties.Ties.{branch_timers, branches_timers, due_at, owner_of, part_timers, side_timers}
+use Rattle.sip_keeping.specs.ties.declared.timer_keys.TimerKeys.{TimerKeys}
 use Rattle.sip_fork.proofs.Lists.{count-append, all_append, all_weaker}
 use Rattle.sip_fork.proofs.Parts.{count_part}
-use Rattle.sip_fitting.specs.Fits.{BranchFits}
-use Rattle.sip_request.specs.Named.{named_by}
-use Rattle.sip_request.specs.declared.request.Request.{Request}
+use Rattle.sip_keeping.specs.fitting.Fits.{BranchFits}
+use Rattle.sip_keeping.specs.request.Named.{named_by}
+use Rattle.sip_keeping.specs.request.declared.request.Request.{Request}
 use Rattle.sip_fork.specs.Contexts.{IsKept}
 use Rattle.sip_fork.specs.Timing.{Timing}
 

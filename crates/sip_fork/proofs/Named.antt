@@ -7,7 +7,7 @@ use Rattle.std.proofs.lemmas.Bool.Decides.{nat_tests}
 use Rattle.std.proofs.lemmas.List.Elements.{All-head, All-tail}
 use Rattle.std.proofs.lemmas.List.Sums.{sum_by-le, fails_before_first}
 use Rattle.std.proofs.lemmas.Option.{slice_get_within, get_or_from_slice_get}
-use Rattle.sip_ties.specs.transaction.declared.letter.Letter.{Letter}
+use Rattle.sip_keeping.specs.ties.transaction.declared.letter.Letter.{Letter}
 use Rattle.sip_timers.specs.declared.timer.Owner.{Owner}
 use Rattle.sip_timers.specs.declared.timer.Owner.TheVariants as Of
 use Rattle.sip_timers.specs.declared.timer.Timer.{Timer}
@@ -15,14 +15,14 @@ use Rattle.sip_model.specs.state.declared.branch.Branch.{Branch}
 use Rattle.sip_model.specs.state.declared.open_request.OpenRequest.{OpenRequest}
 use Rattle.sip_model.specs.state.State.{is_invite, phase_deadline, side_deadline}
 use Rattle.sip_model.specs.retransmission.Retransmission.{answer_due, branch_due}
-use Rattle.sip_ties.specs.Ties.{IsFor, due_at, branch_timers, branches_timers, owner_of, part_timers, side_timers}
-use Rattle.sip_ties.specs.declared.timer_keys.TimerKeys.{TimerKeys}
+use Rattle.sip_keeping.specs.ties.Ties.{IsFor, due_at, branch_timers, branches_timers, owner_of, part_timers, side_timers}
+use Rattle.sip_keeping.specs.ties.declared.timer_keys.TimerKeys.{TimerKeys}
 use Rattle.sip_fork.proofs.Lists.{count-append}
 use Rattle.sip_fork.proofs.Parts.{count_part}
-use Rattle.sip_request.specs.Named.{named_by}
-use Rattle.sip_request.specs.declared.request.Request.{Request}
+use Rattle.sip_keeping.specs.request.Named.{named_by}
+use Rattle.sip_keeping.specs.request.declared.request.Request.{Request}
 use Rattle.sip_fork.specs.Due.{IsNotDue, is_at, is_branch_due, is_either, is_of, is_part}
-use Rattle.sip_fitting.specs.Fits.{BranchFits}
+use Rattle.sip_keeping.specs.fitting.Fits.{BranchFits}
 use Rattle.sip_fork.specs.Contexts.{IsKept}
 use Rattle.sip_fork.specs.Timing.{Timing}
 use Rattle.sip_fork.proofs.Moments.{due_then}

@@ -2,7 +2,7 @@
 use Rattle.std.proofs.Common.{ℕ, ◌+◌, ◌<◌, ◌≤◌, Bool, true, false, cond, List, [], ◌∷◌, ◌++◌, Option, arith}
 use Rattle.std.specs.Prelude.{◌&&◌, not}
 use Rattle.std.specs.List.{AllByRecursion}
-use Rattle.sip_ties.specs.transaction.declared.letter.Letter.TheVariants as By
+use Rattle.sip_keeping.specs.ties.transaction.declared.letter.Letter.TheVariants as By
 use Rattle.sip_model.specs.state.State.{is_invite, is_success}
 use Rattle.sip_model.specs.state.declared.branch.Branch.{Branch}
 use Rattle.sip_model.specs.state.declared.branch.Phase.{Phase}
@@ -13,13 +13,13 @@ use Rattle.sip_model.specs.state.declared.open_request.Side.{Side}
 use Rattle.sip_model.specs.state.declared.open_request.Side.TheVariants.{Answering, Closing, Acknowledged, Closed}
 use Rattle.sip_model.specs.state.declared.resend.Resend.{Resend}
 use Rattle.sip_model.specs.context.Branches.{was_refused}
-use Rattle.sip_ties.specs.machines.InviteClient.{invite_timers, call_timers}
-use Rattle.sip_ties.specs.machines.OtherClient.{other_timers}
-use Rattle.sip_ties.specs.machines.InviteServer.{invite_side_timers}
-use Rattle.sip_ties.specs.machines.OtherServer.{other_side_timers}
-use Rattle.sip_moments.specs.Near.{IsBranchWithin, IsPhaseNear, IsSideNear, IsWithin}
-use Rattle.sip_ties.specs.Ties.{branch_timers, side_timers}
-use Rattle.sip_request.specs.Near.{AreBefore, IsNear}
+use Rattle.sip_keeping.specs.ties.machines.InviteClient.{invite_timers, call_timers}
+use Rattle.sip_keeping.specs.ties.machines.OtherClient.{other_timers}
+use Rattle.sip_keeping.specs.ties.machines.InviteServer.{invite_side_timers}
+use Rattle.sip_keeping.specs.ties.machines.OtherServer.{other_side_timers}
+use Rattle.sip_keeping.specs.moments.Near.{IsBranchWithin, IsPhaseNear, IsSideNear, IsWithin}
+use Rattle.sip_keeping.specs.ties.Ties.{branch_timers, side_timers}
+use Rattle.sip_keeping.specs.request.Near.{AreBefore, IsNear}
 
 -- of a bound, timers are due before a moment more than 185,000 ms behind it
 module _ (bound moment : ℕ) (far : bound + 185000 < moment) where

@@ -7,9 +7,9 @@ use Rattle.std.proofs.lemmas.List.Elements.{All-append, All-get_or, All-cons, Al
 use Rattle.sip_model.specs.Effect.{replaced}
 use Rattle.sip_model.specs.state.State.{has_left}
 use Rattle.sip_model.specs.state.declared.open_request.OpenRequest.{OpenRequest}
-use Rattle.sip_moments.specs.Near.{IsWithin}
+use Rattle.sip_keeping.specs.moments.Near.{IsWithin}
 use Rattle.sip_timers.specs.declared.timer.Timer.{Timer}
-use Rattle.sip_request.specs.declared.request.Request.{Request}
+use Rattle.sip_keeping.specs.request.declared.request.Request.{Request}
 use Rattle.sip_fork.specs.Contexts.{AreOnTime, AreTied, AreWhole}
 use Rattle.sip_fork.proofs.Later.{Passes}
 use Rattle.sip_fork.proofs.Tying.{contexts}

@@ -5,20 +5,20 @@ use Rattle.std.specs.Option.{option_to_list}
 use Rattle.std.specs.List.{AllByRecursion, filter_map, cons_option, sum_by}
 use Rattle.std.proofs.lemmas.Bool.Decides.{nat_tests}
 use Rattle.std.proofs.lemmas.List.Sums.{sum_by-cons}
-use Rattle.sip_ties.specs.transaction.declared.letter.Letter.{Letter}
+use Rattle.sip_keeping.specs.ties.transaction.declared.letter.Letter.{Letter}
 use Rattle.sip_timers.specs.declared.timer.Owner.TheVariants as Of
 use Rattle.sip_timers.specs.declared.timer.Timer.{Timer}
 use Rattle.sip_model.specs.state.declared.branch.Branch.{Branch}
 use Rattle.sip_model.specs.state.declared.open_request.OpenRequest.{OpenRequest}
 use Rattle.sip_model.specs.state.State.{phase_deadline, side_deadline, deadlines_of}
 use Rattle.sip_model.specs.retransmission.Retransmission.{answer_due, branch_due, resends_of}
-use Rattle.sip_ties.specs.Ties.{branch_timers, branches_timers, owner_of, part_timers, side_timers}
-use Rattle.sip_ties.specs.declared.timer_keys.TimerKeys.{TimerKeys}
+use Rattle.sip_keeping.specs.ties.Ties.{branch_timers, branches_timers, owner_of, part_timers, side_timers}
+use Rattle.sip_keeping.specs.ties.declared.timer_keys.TimerKeys.{TimerKeys}
 use Rattle.sip_fork.proofs.Lists.{count-append}
 use Rattle.sip_fork.proofs.Parts.{count_part}
 use Rattle.sip_model.specs.Step.{NoneBefore, NoneAgainBefore}
-use Rattle.sip_request.specs.Named.{named_by}
-use Rattle.sip_request.specs.declared.request.Request.{Request}
+use Rattle.sip_keeping.specs.request.Named.{named_by}
+use Rattle.sip_keeping.specs.request.declared.request.Request.{Request}
 use Rattle.sip_fork.specs.Timing.{Timing}
 use Rattle.sip_fork.proofs.Reasons.{none_of_part}
 

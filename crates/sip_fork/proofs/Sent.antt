@@ -14,7 +14,7 @@ use Rattle.sip_model.specs.edit.declared.branch_id.BranchId.{BranchId}
 use Rattle.sip_model.specs.state.declared.server.Server.{Server}
 use Rattle.sip_model.specs.context.BranchById.{is_of_datagram, is_sent, sent_in, branch_by_id, HasNumbers}
 use Rattle.sip_model.specs.context.FoundBranch.{found_branch}
-use Rattle.sip_request.specs.declared.request.Request.{Request}
+use Rattle.sip_keeping.specs.request.declared.request.Request.{Request}
 use Rattle.sip_fork.specs.Contexts.{IsKept}
 use Rattle.sip_fork.specs.Places.{branch_at}
 use Rattle.sip_fork.proofs.Lists.{count-cons}

@@ -7,16 +7,16 @@ use Rattle.std.proofs.lemmas.List.Elements.{All-get_or, All-append, All-take, Al
 use Rattle.std.proofs.lemmas.List.Sums.{sum_by_push, sum_by-set, sum_by-remove, get_or-le-sum_by}
 use Rattle.std.proofs.lemmas.Option.{slice_get_within, slice_get-map, get_or_from_slice_get}
 use Rattle.sip_timers.specs.declared.timer.Timer.{Timer}
-use Rattle.sip_running.specs.Moves.{IsHeld, Moves}
+use Rattle.sip_keeping.specs.running.Moves.{IsHeld, Moves}
 use Rattle.sip_model.specs.state.declared.open_request.OpenRequest.{OpenRequest}
 use Rattle.sip_model.specs.state.State.{has_left}
 use Rattle.sip_model.specs.Effect.{replaced}
 use Rattle.sip_fork.proofs.Walks.{removed_at, replaced_at}
 use Rattle.sip_model.specs.context.BranchById.{HasNumbers}
-use Rattle.sip_request.specs.Named.{HasKeys, IsReady, named_by}
-use Rattle.sip_request.specs.Near.{IsNear}
-use Rattle.sip_request.specs.declared.request.Plan.{Plan}
-use Rattle.sip_request.specs.declared.request.Request.{Request}
+use Rattle.sip_keeping.specs.request.Named.{HasKeys, IsReady, named_by}
+use Rattle.sip_keeping.specs.request.Near.{IsNear}
+use Rattle.sip_keeping.specs.request.declared.request.Plan.{Plan}
+use Rattle.sip_keeping.specs.request.declared.request.Request.{Request}
 use Rattle.sip_fork.specs.Contexts.{AreTied, IsFitting, IsKept, IsSame}
 use Rattle.sip_fork.proofs.Nearness.{IsNear-within}
 use Rattle.sip_fork.proofs.Mapped.{position-map}

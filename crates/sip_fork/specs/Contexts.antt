@@ -5,12 +5,12 @@ use Rattle.sip_timers.specs.declared.timer.Timer.{Timer}
 use Rattle.sip_timers.specs.Timers.{KeysDiffer}
 use Rattle.sip_model.specs.state.declared.open_request.OpenRequest.{OpenRequest}
 use Rattle.sip_model.specs.context.BranchById.{HasNumbers}
-use Rattle.sip_moments.specs.Near.{IsWithin}
-use Rattle.sip_fitting.specs.Fits.{Fits}
-use Rattle.sip_request.specs.declared.request.Request.{Request}
-use Rattle.sip_request.specs.Named.{HasKeys, named_by}
-use Rattle.sip_request.specs.Near.{most_timers}
-use Rattle.sip_request.specs.declared.request.Plan.{Plan}
+use Rattle.sip_keeping.specs.moments.Near.{IsWithin}
+use Rattle.sip_keeping.specs.fitting.Fits.{Fits}
+use Rattle.sip_keeping.specs.request.declared.request.Request.{Request}
+use Rattle.sip_keeping.specs.request.Named.{HasKeys, named_by}
+use Rattle.sip_keeping.specs.request.Near.{most_timers}
+use Rattle.sip_keeping.specs.request.declared.request.Plan.{Plan}
 
 -- What the table of open requests shows: them, in rising order of their numbers; the timers that stand, in the order in
 -- which they fire; the last moment that came, and the greatest by which timers were told that they aren't due; and for how

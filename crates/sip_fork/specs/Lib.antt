@@ -6,7 +6,7 @@ pub mod Timing
 pub use Rattle.sip_model.specs.digest
 pub use Rattle.sip_model.specs.shared
 pub use Rattle.sip_model.specs.text
-pub use Rattle.sip_fitting.specs.transaction
+pub use Rattle.sip_keeping.specs.fitting.transaction
 pub use Rattle.sip_model.specs.field
 pub use Rattle.sip_model.specs.host
 pub use Rattle.sip_model.specs.nonces
@@ -21,7 +21,7 @@ pub use Rattle.sip_model.specs.message
 pub use Rattle.sip_model.specs.header
 pub use Rattle.sip_model.specs.dialog
 pub use Rattle.sip_model.specs.key
-pub use Rattle.sip_request.specs.location
+pub use Rattle.sip_keeping.specs.request.location
 pub use Rattle.sip_model.specs.way
 pub use Rattle.sip_model.specs.auth
 pub use Rattle.sip_model.specs.edit
@@ -29,16 +29,17 @@ pub use Rattle.sip_model.specs.settings
 pub use Rattle.sip_table.specs as table
 pub use Rattle.sip_model.specs.targets
 pub use Rattle.sip_model.specs.validate
-pub use Rattle.sip_request.specs.onward
+pub use Rattle.sip_keeping.specs.request.onward
 pub use Rattle.sip_model.specs.reply
 pub use Rattle.sip_model.specs.state
 pub use Rattle.sip_model.specs.context
-pub use Rattle.sip_moments.specs.branches
-pub use Rattle.sip_fitting.specs.retransmission
+pub use Rattle.sip_keeping.specs.moments.branches
+pub use Rattle.sip_keeping.specs.fitting.retransmission
 pub use Rattle.sip_model.specs as model
 pub use Rattle.sip_model.specs.verdict
 pub use Rattle.sip_model.specs.audit
-pub use Rattle.sip_request.specs.processing
-pub use Rattle.sip_request.specs.resend
-pub use Rattle.sip_request.specs.inputs
-pub use Rattle.sip_request.specs as request
+pub use Rattle.sip_keeping.specs.request.processing
+pub use Rattle.sip_keeping.specs.request.resend
+pub use Rattle.sip_keeping.specs.request.inputs
+pub use Rattle.sip_keeping.specs.request
+pub use Rattle.sip_keeping.specs as keeping

@@ -11,9 +11,9 @@ ghost use Rattle.sip_model.specs.state.declared.branch.Branch.{Branch};
 ghost use Rattle.sip_model.specs.Effect.{replaced};
 ghost use Rattle.sip_model.specs.Step.{NoneBefore, NoneAgainBefore};
 ghost use Rattle.sip_keeping.specs.Keeping.{IsKeptAs, IsOf};
-ghost use Rattle.sip_moments.specs.Near.{IsWithin};
-ghost use Rattle.sip_request.specs.Near.{most_timers};
-ghost use Rattle.sip_request.specs.inputs.Inputs.{outcome, outcome_of};
+ghost use Rattle.sip_keeping.specs.moments.Near.{IsWithin};
+ghost use Rattle.sip_keeping.specs.request.Near.{most_timers};
+ghost use Rattle.sip_keeping.specs.request.inputs.Inputs.{outcome, outcome_of};
 ghost use Rattle.sip_fork.specs.Contexts.{IsFitting, IsSame};
 ghost use Rattle.sip_fork.specs.Due.{IsFirst, IsNothingDue};
 ghost use Rattle.sip_fork.specs.Places.{branch_at};
@@ -25,13 +25,13 @@ use crate::moving::{change_row, close_row, open_row};
 use crate::queue::Queue;
 use crate::row::Standing;
 use crate::timing::timers_stand_for_moments;
-use sip_context::laws::found_by_numbers;
-use sip_edit::branch_of_text;
 use sip_keeping::inputs::Input;
 use sip_keeping::keeping::{inputs_fit, inputs_keep};
+use sip_keeping::moments::bounds::time_passes;
+use sip_model::context::laws::found_by_numbers;
+use sip_model::edit::branch_of_text;
 use sip_model::key::Key;
 use sip_model::state::{OpenRequest, Server};
-use sip_moments::bounds::time_passes;
 use sip_table::Table;
 use sip_timers::{TimerError, Timers};
 use std::alloc::{AllocError, Global};
@@ -48,7 +48,7 @@ pub struct Contexts<T: Timers> {
 
 impl<T: Timers> Model for Contexts<T> {
     ghost use Rattle.std.specs.Prelude.{map};
-    ghost use Rattle.sip_request.specs.declared.request.Request.{Request};
+    ghost use Rattle.sip_keeping.specs.request.declared.request.Request.{Request};
     ghost use Rattle.sip_fork.specs.Contexts.{Contexts, AreWhole};
 
     ghost Value = { Contexts };

@@ -3,8 +3,8 @@ ghost use Rattle.sip_model.specs.state.State.{side_deadline, phase_deadline};
 ghost use Rattle.sip_model.specs.retransmission.Retransmission.{answer_due, branch_due};
 ghost use Rattle.sip_fork.specs.Due.{IsDue, IsNotDue, is_at, is_branch_due, is_either, is_of};
 
+use sip_keeping::resend::{answer_due, branch_due};
 use sip_model::state::{Branch, OpenRequest, Phase, Side};
-use sip_resend::{answer_due, branch_due};
 use sip_timers::Owner;
 
 /// What of an open request is due: something goes again, or a deadline passes, of its answering side or of the branch at

@@ -29,7 +29,7 @@ pub mod text {
 
 /// Of `sip_transaction`.
 pub mod transaction {
-    pub use sip_fitting::transaction::Letter;
+    pub use sip_keeping::fitting::transaction::Letter;
 }
 
 /// Of `sip_field`.
@@ -114,7 +114,9 @@ pub mod key {
 
 /// Of `sip_location`.
 pub mod location {
-    pub use sip_request::location::{Binding, LocationError, Locations, Plan, Registration};
+    pub use sip_keeping::request::location::{
+        Binding, LocationError, Locations, Plan, Registration,
+    };
 }
 
 /// Of `sip_way`.
@@ -157,7 +159,7 @@ pub mod validate {
 
 /// Of `sip_onward`.
 pub mod onward {
-    pub use sip_request::onward::{onward_base, onward_uri, to_target};
+    pub use sip_keeping::request::onward::{onward_base, onward_uri, to_target};
 }
 
 /// Of `sip_reply`.
@@ -177,7 +179,7 @@ pub mod state {
 
 /// Of `sip_branches`.
 pub mod branches {
-    pub use sip_moments::branches::{
+    pub use sip_keeping::moments::branches::{
         add_cancels, all_final, invite_heard, is_final, mark, new_cancels, other_heard, set_phase,
         want_cancel,
     };
@@ -190,7 +192,7 @@ pub mod verdict {
 
 /// Of `sip_processing`.
 pub mod processing {
-    pub use sip_request::processing::{
+    pub use sip_keeping::request::processing::{
         Sent, answered, first_resend, is_invite, pass_branch, pass_side, settle_alone, take_ack,
         take_cancel, take_fault, take_response,
     };
@@ -198,15 +200,22 @@ pub mod processing {
 
 /// Of `sip_resend`.
 pub mod resend {
-    pub use sip_request::resend::{answer_again, answer_went, branch_went, is_acked_again};
+    pub use sip_keeping::request::resend::{
+        answer_again, answer_went, branch_went, is_acked_again,
+    };
 }
 
 /// Of `sip_inputs`.
 pub mod inputs {
-    pub use sip_request::inputs::{Input, Sending, take_input};
+    pub use sip_keeping::request::inputs::{Input, Sending, take_input};
 }
 
 /// Of `sip_request`.
 pub mod request {
-    pub use sip_request::Request;
+    pub use sip_keeping::request::Request;
+}
+
+/// Of `sip_keeping`.
+pub mod keeping {
+    pub use sip_keeping::moments;
 }

@@ -1,14 +1,14 @@
 ghost use Rattle.std.specs.Prelude.{◌≡◌, ◌<◌, ◌≤◌, ◌+◌, ◌++◌, ◌∷◌, [], length, map, position, remove, slice_get, slice_set, Some, None};
 ghost use Rattle.std.specs.List.{All};
 ghost use Rattle.sip_model.specs.key.Key.{same_key};
-ghost use Rattle.sip_request.specs.Near.{most_timers};
-ghost use Rattle.sip_request.specs.declared.request.Request.{Request};
+ghost use Rattle.sip_keeping.specs.request.Near.{most_timers};
+ghost use Rattle.sip_keeping.specs.request.declared.request.Request.{Request};
 ghost use Rattle.sip_fork.specs.Contexts.{AreTied, IsFitting, IsSame};
 
 use crate::change::Change;
 use crate::queue::Queue;
 use crate::row::Standing;
-use sip_request::Request;
+use sip_keeping::request::Request;
 use sip_table::Table;
 use sip_timers::Timers;
 

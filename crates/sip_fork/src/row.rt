@@ -1,9 +1,9 @@
 ghost use Rattle.std.specs.Prelude.{◌≡◌};
 ghost use Rattle.sip_model.specs.verdict.Verdict;
 
+use sip_keeping::request::Request;
 use sip_model::key::Key;
 use sip_model::state::OpenRequest;
-use sip_request::Request;
 use sip_table::Row;
 use std::marker::Model;
 
@@ -14,7 +14,7 @@ pub(crate) struct Standing {
 }
 
 impl Model for Standing {
-    ghost use Rattle.sip_request.specs.declared.request.Request.{Request};
+    ghost use Rattle.sip_keeping.specs.request.declared.request.Request.{Request};
 
     ghost Value = { Request };
 

@@ -1,9 +1,9 @@
 -- A message put into one store: first line, body, fields.
 use Rattle.std.proofs.Common.{◌≡◌, ℕ, List, Option, Some, None, map, ap, ◌∙◌}
 use Rattle.std.specs.Option.{option_map_or}
-use Rattle.sip_text.specs.declared.span.Span.{Span}
-use Rattle.sip_text.specs.Span.{part}
-use Rattle.sip_field.specs.declared.field.Field.{Field}
+use Rattle.sip_view.specs.text.declared.span.Span.{Span}
+use Rattle.sip_view.specs.text.Span.{part}
+use Rattle.sip_view.specs.field.declared.field.Field.{Field}
 use Rattle.sip_view.specs.declared.kept_field.KeptField.{KeptField}
 use Rattle.sip_view.specs.KeptField.{field_kept, Keeps, IsPut, AreFieldsPut}
 use Rattle.sip_form.specs.declared.message.Start.{Start}

@@ -1,11 +1,11 @@
 -- The written form of a message (RFC 3261 7).
 use Rattle.std.specs.Prelude.{ℕ, List, ◌++◌, length, codes, decimal}
 use Rattle.std.specs.List.{flat_map}
-use Rattle.sip_field.specs.declared.field.Field.{Field}
+use Rattle.sip_view.specs.field.declared.field.Field.{Field}
 use Rattle.sip_form.specs.declared.message.Start.{Start}
 use Rattle.sip_form.specs.declared.message.Start.TheVariants.{Request, Status}
 use Rattle.sip_form.specs.declared.message.Message.{Message}
-use Rattle.sip_field.specs.FieldName.{spelling}
+use Rattle.sip_view.specs.field.FieldName.{spelling}
 
 -- a start line without its CRLF (RFC 3261 7.1, 7.2)
 abbrev pub start_text : Start → List ℕ

@@ -3,7 +3,7 @@ ghost use Rattle.sip_view.specs.KeptField.{field_kept, IsStored};
 
 use crate::kept_start::{KeptStart, put_start, start_in};
 use crate::message_view::View;
-use sip_text::{Bytes, Span};
+use sip_view::text::{Bytes, Span};
 use sip_view::{KeptField, ViewFields, fields_in, put, put_fields};
 use std::alloc::{AllocError, Global};
 use std::marker::Model;

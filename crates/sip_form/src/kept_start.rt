@@ -4,7 +4,7 @@ ghost use Rattle.sip_form.specs.KeptStart.{start_kept, IsStartStored, IsStartPut
 
 use crate::message::Start;
 use crate::view_start::ViewStart;
-use sip_text::{Bytes, Span};
+use sip_view::text::{Bytes, Span};
 use sip_view::{Value, put};
 use std::alloc::AllocError;
 

@@ -25,3 +25,18 @@ pub use view_refusal::ViewRefusal;
 pub use view_start::ViewStart;
 pub use view_writing::write_view;
 pub use writing::{write, written_length};
+
+/// Of `sip_text`.
+pub mod text {
+    pub use sip_view::text::{Bytes, Items, Text};
+}
+
+/// Of `sip_field`.
+pub mod field {
+    pub use sip_view::field::{Field, FieldName, Fields};
+}
+
+/// Of `sip_view`.
+pub mod view {
+    pub use sip_view::{Piece, Value, ViewField, ViewFields, ViewName, slice_before, slice_from};
+}

@@ -3,8 +3,8 @@ ghost use Rattle.sip_form.specs.ViewStart.{start_seen};
 
 use crate::message::Message;
 use crate::view_start::ViewStart;
-use sip_text::Bytes;
 use sip_view::ViewFields;
+use sip_view::text::Bytes;
 use std::alloc::{AllocError, Global};
 use std::marker::Model;
 

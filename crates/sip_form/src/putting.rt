@@ -2,7 +2,7 @@ ghost use Rattle.std.specs.Prelude.{◌≡◌, ◌++◌, length, codes, decimal,
 ghost use Rattle.sip_form.specs.declared.message.Start.TheVariants.{Request, Status};
 ghost use Rattle.sip_form.specs.Text.{start_text};
 
-use sip_text::Bytes;
+use sip_view::text::Bytes;
 use std::alloc::AllocError;
 
 /// Puts a request line of these parts without its CRLF.

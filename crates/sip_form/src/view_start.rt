@@ -2,8 +2,8 @@ ghost use Rattle.std.specs.Prelude.{◌≡◌, IfOk};
 ghost use Rattle.sip_form.specs.ViewStart.{start_seen};
 
 use crate::message::Start;
-use sip_text::Bytes;
 use sip_view::Value;
+use sip_view::text::Bytes;
 use std::alloc::{AllocError, Global};
 
 /// The first line of a view. A version that was written in lower case has bytes of its own.

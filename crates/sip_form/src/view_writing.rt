@@ -6,8 +6,8 @@ ghost use Rattle.sip_form.specs.ViewStart.{start_seen};
 use crate::message_view::View;
 use crate::putting::{put_body, put_line, put_request_line, put_status_line};
 use crate::view_start::ViewStart;
-use sip_text::Bytes;
 use sip_view::ViewField;
+use sip_view::text::Bytes;
 use std::alloc::{AllocError, Global};
 
 /// Puts a start line without its CRLF.

@@ -5,8 +5,8 @@ ghost use Rattle.sip_form.specs.Text.{start_text, field_line, field_text, text_o
 use crate::lengths::{line_length, request_length, status_length, whole_length};
 use crate::message::{Message, Start};
 use crate::putting::{put_body, put_line, put_request_line, put_status_line};
-use sip_field::Field;
-use sip_text::Bytes;
+use sip_view::field::Field;
+use sip_view::text::Bytes;
 use std::alloc::{AllocError, Global};
 
 /// Puts a start line without its CRLF.

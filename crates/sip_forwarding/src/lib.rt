@@ -99,7 +99,9 @@ pub mod key {
 
 /// Of `sip_location`.
 pub mod location {
-    pub use sip_opening::location::{Binding, LocationError, Locations, Plan, Registration};
+    pub use sip_opening::location::{
+        Binding, LiveBindings, LocationError, Locations, Plan, Registration,
+    };
 }
 
 /// Of `sip_way`.

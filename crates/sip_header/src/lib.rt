@@ -26,3 +26,31 @@ pub use name_addr::{AnyUri, NameAddr, name_addr_of};
 pub use parameters::{Parameter, branch_of, parameter_of, tag_of, value_of};
 pub use route::route_of;
 pub use via::{Via, via_of};
+
+/// Of `sip_text`.
+pub mod text {
+    pub use sip_text::{Bytes, Items, lower_case};
+}
+
+/// Of `sip_host`.
+pub mod host {
+    pub use sip_uri::host::{Addr, ip_text};
+}
+
+/// Of `sip_uri`.
+pub mod uri {
+    pub use sip_uri::{Aor, Uri, UriError, aor_of, parse_uri, write_uri};
+}
+
+/// Of `sip_form`.
+pub mod form {
+    pub use sip_message::form::{View, ViewStart};
+}
+
+/// Of `sip_message`.
+pub mod message {
+    pub use sip_message::{
+        Field, FieldName, Fields, Value, View, ViewError, ViewField, ViewFields, ViewName,
+        ViewRefusal, ViewStart, view, write_view,
+    };
+}

@@ -4,10 +4,10 @@ ghost use Rattle.sip_text.specs.Cuts.{parts_behind};
 ghost use Rattle.std.specs.Option.{option_copied};
 ghost use Rattle.sip_header.specs.Parameters.{is_value, needs_value, bare_parameter, valued_parameter, parameter_in, parameters_in, parameter_of, value_of, tag_of, branch_of};
 
-use sip_host::is_host;
 use sip_text::{
     Items, Text, first_part, is_quoted, is_token, same_no_case, split_outside, without_blanks,
 };
+use sip_uri::host::is_host;
 use std::alloc::{AllocError, Global};
 
 /// A header parameter: its name, and its value as it was written, quotes included.

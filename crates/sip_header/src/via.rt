@@ -2,10 +2,10 @@ ghost use Rattle.std.specs.Prelude.{◌≡◌, IfOk};
 ghost use Rattle.sip_header.specs.Via.{sender_behind, versioned, sender_of, via_of};
 
 use crate::parameters::{Parameter, parameters_from};
-use sip_host::host_port;
 use sip_text::{
     Items, Text, first_part, is_token, same_no_case, split_outside, split_word, without_blanks,
 };
+use sip_uri::host::host_port;
 use std::alloc::{AllocError, Global};
 
 /// What a Via says.

@@ -8,9 +8,9 @@ use crate::error::HopsError;
 use crate::hop::Hop;
 use crate::host_address::HostAddress;
 use crate::way::{is_by_udp, port_or_default};
-use sip_host::{Addr, ip_of};
-use sip_text::Items;
-use sip_uri::Uri;
+use sip_equality::host::{Addr, ip_of};
+use sip_equality::text::Items;
+use sip_equality::uri::Uri;
 use std::alloc::Global;
 use std::marker::Model;
 

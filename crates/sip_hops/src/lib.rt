@@ -15,3 +15,8 @@ pub use error::HopsError;
 pub use hop::Hop;
 pub use hops::Hops;
 pub use host_address::HostAddress;
+
+/// Of `sip_equality`.
+pub mod equality {
+    pub use sip_equality::says_same_no_case;
+}

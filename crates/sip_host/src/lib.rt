@@ -11,3 +11,11 @@ mod port;
 pub use addr::{Addr, addr_of, addr_text, ip_of, ip_text};
 pub use host::{host_port, is_host, place_in};
 pub use port::port_value;
+
+/// Of `sip_text`.
+pub mod text {
+    pub use sip_text::{
+        Bytes, FEW_TEXTS, Items, Text, TextError, all_differ, hex_text, is_token, lower_case,
+        same_bytes, same_no_case, split_once, unescape,
+    };
+}

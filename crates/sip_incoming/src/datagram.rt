@@ -4,7 +4,7 @@ ghost use Rattle.sip_verdict.specs.form.ViewStart.{start_seen};
 ghost use Rattle.sip_verdict.specs.message.Reading.{reading_of};
 ghost use Rattle.sip_verdict.specs.Verdict.{message_in};
 
-use sip_message::{View, ViewError, ViewField, ViewFields, ViewRefusal, ViewStart, view};
+use sip_verdict::message::{View, ViewError, ViewField, ViewFields, ViewRefusal, ViewStart, view};
 use std::alloc::{AllocError, Global};
 
 /// The same first line, of which no byte of the datagram is copied.

@@ -5,9 +5,9 @@ ghost use Rattle.sip_verdict.specs.field.Values.{first_value};
 ghost use Rattle.sip_verdict.specs.header.Via.{via_of};
 ghost use Rattle.sip_verdict.specs.key.Key as Keys;
 
-use sip_header::{Via, via_of};
 use sip_verdict::field::FieldName;
 use sip_verdict::form::{View, ViewStart};
+use sip_verdict::header::{Via, via_of};
 use sip_verdict::key::Key;
 use std::alloc::{AllocError, Global};
 

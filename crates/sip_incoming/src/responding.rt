@@ -13,9 +13,9 @@ ghost use Rattle.sip_verdict.specs.way.Own.{is_own_via};
 
 use crate::incoming::Incoming;
 use crate::key_reading::top_via;
-use sip_header::{Via, branch_of, cseq_of};
 use sip_verdict::field::FieldName;
 use sip_verdict::form::View;
+use sip_verdict::header::{Via, branch_of, cseq_of};
 use sip_verdict::way::Own;
 use std::alloc::{AllocError, Global};
 

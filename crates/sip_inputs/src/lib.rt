@@ -145,5 +145,7 @@ pub mod processing {
 
 /// Of `sip_resend`.
 pub mod resend {
-    pub use sip_resend::{answer_again, answer_went, branch_went, is_acked_again};
+    pub use sip_resend::{
+        answer_again, answer_due, answer_went, branch_due, branch_went, is_acked_again,
+    };
 }

@@ -7,7 +7,7 @@ pub use Rattle.sip_verdict.specs.field
 pub use Rattle.sip_verdict.specs.host
 pub use Rattle.sip_verdict.specs.nonces
 pub use Rattle.sip_verdict.specs.uri
-pub use Rattle.sip_view.specs as view
+pub use Rattle.sip_verdict.specs.view
 pub use Rattle.sip_verdict.specs.form
 pub use Rattle.sip_verdict.specs.policy
 pub use Rattle.sip_verdict.specs.best

@@ -46,7 +46,7 @@ pub mod uri {
 
 /// Of `sip_view`.
 pub mod view {
-    pub use sip_view::{ViewField, ViewFields};
+    pub use sip_verdict::view::{ViewField, ViewFields};
 }
 
 /// Of `sip_form`.

@@ -24,8 +24,8 @@ use sip_verdict::reply::min_expires;
 use sip_verdict::state::Server;
 use sip_verdict::text::{Items, Text};
 use sip_verdict::validate::Checked;
+use sip_verdict::view::ViewFields;
 use sip_verdict::way::Way;
-use sip_view::ViewFields;
 use std::alloc::{AllocError, Global};
 
 /// Adds what a value of Contact says, if it can be read.

@@ -32,3 +32,5 @@ pub use Rattle.sip_fitting.specs as fitting
 pub use Rattle.sip_learning.specs as learning
 pub use Rattle.sip_moments.specs as moments
 pub use Rattle.sip_request.specs as request
+pub use Rattle.sip_request.specs.running
+pub use Rattle.sip_moments.specs.ties

@@ -39,6 +39,7 @@ pub mod learning {
 /// Of `sip_fitting`.
 pub mod fitting {
     pub use sip_fitting::machines::{branches_have_states, sides_have_states};
+    pub use sip_fitting::{machines, transaction};
 }
 
 /// Of `sip_inputs`.
@@ -49,9 +50,20 @@ pub mod inputs {
 /// Of `sip_moments`.
 pub mod moments {
     pub use sip_moments::bounds::{moments_are_near, time_passes};
+    pub use sip_moments::{bounds, branches};
 }
 
 /// Of `sip_request`.
 pub mod request {
-    pub use sip_request::{Plan, Planned, Request};
+    pub use sip_request::{Plan, Planned, Request, inputs, location, onward, processing, resend};
+}
+
+/// Of `sip_resend`.
+pub mod resend {
+    pub use sip_request::resend::{answer_due, branch_due};
+}
+
+/// Of `sip_ties`.
+pub mod ties {
+    pub use sip_moments::ties::{TimerKeys, ties};
 }

@@ -1,8 +1,8 @@
 -- Requests with one Via for the worked examples.
 use Rattle.std.specs.Prelude.{ℕ, List, [], ◌∷◌, codes}
-use Rattle.sip_field.specs.declared.field_name.FieldName.TheVariants as Name
-use Rattle.sip_form.specs.declared.message.Start.TheVariants.{Request}
-use Rattle.sip_form.specs.declared.message.Message.{Message}
+use Rattle.sip_header.specs.field.declared.field_name.FieldName.TheVariants as Name
+use Rattle.sip_header.specs.form.declared.message.Start.TheVariants.{Request}
+use Rattle.sip_header.specs.form.declared.message.Message.{Message}
 
 -- a request of a method whose one field is this Via
 abbrev pub request_by : List ℕ → List ℕ → Message

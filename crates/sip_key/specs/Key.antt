@@ -3,13 +3,13 @@ use Rattle.std.specs.Prelude.{ℕ, Bool, ◌&&◌, ◌==◌, nat_eq, if◌then�
 use Rattle.std.specs.Option.{option_and_then, unwrap_or}
 use Rattle.std.specs.List.{starts_with}
 use Rattle.std.specs.Str.{bytes_eq}
-use Rattle.sip_text.specs.Words.{without_case}
-use Rattle.sip_field.specs.declared.field.Field.{Field}
-use Rattle.sip_field.specs.declared.field_name.FieldName.TheVariants as Name
-use Rattle.sip_form.specs.declared.message.Start.{Start}
-use Rattle.sip_form.specs.declared.message.Start.TheVariants.{Request, Status}
-use Rattle.sip_form.specs.declared.message.Message.{Message}
-use Rattle.sip_field.specs.Values.{first_value}
+use Rattle.sip_header.specs.text.Words.{without_case}
+use Rattle.sip_header.specs.field.declared.field.Field.{Field}
+use Rattle.sip_header.specs.field.declared.field_name.FieldName.TheVariants as Name
+use Rattle.sip_header.specs.form.declared.message.Start.{Start}
+use Rattle.sip_header.specs.form.declared.message.Start.TheVariants.{Request, Status}
+use Rattle.sip_header.specs.form.declared.message.Message.{Message}
+use Rattle.sip_header.specs.field.Values.{first_value}
 use Rattle.sip_header.specs.Parameters.{branch_of}
 use Rattle.sip_header.specs.Via.{via_of}
 use Rattle.sip_header.specs.declared.via.Via.{Via}

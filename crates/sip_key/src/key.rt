@@ -1,8 +1,8 @@
 ghost use Rattle.std.specs.Prelude.{◌≡◌, ◌↔◌, IsTrue, IfOk};
 ghost use Rattle.sip_key.specs.Key.{key_method, key_from, same_key};
 
+use sip_header::text::{Bytes, lower_case};
 use sip_header::{Via, branch_of};
-use sip_text::{Bytes, lower_case};
 use std::alloc::{AllocError, Global};
 
 /// What a request's server transaction is found by (RFC 3261 17.2.3).

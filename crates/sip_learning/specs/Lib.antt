@@ -7,7 +7,7 @@ pub use Rattle.sip_state.specs.field
 pub use Rattle.sip_state.specs.host
 pub use Rattle.sip_state.specs.nonces
 pub use Rattle.sip_state.specs.uri
-pub use Rattle.sip_view.specs as view
+pub use Rattle.sip_state.specs.view
 pub use Rattle.sip_state.specs.form
 pub use Rattle.sip_state.specs.best
 pub use Rattle.sip_state.specs.hops

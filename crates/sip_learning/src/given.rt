@@ -8,7 +8,7 @@ use sip_state::form::{Kept, View};
 use sip_state::hops::Hops;
 use sip_state::host::Addr;
 use sip_state::text::Items;
-use sip_view::ViewField;
+use sip_state::view::ViewField;
 use std::alloc::{AllocError, Global};
 
 /// The address of a SIP URI; another has none.

@@ -49,7 +49,7 @@ pub mod uri {
 
 /// Of `sip_view`.
 pub mod view {
-    pub use sip_view::{ViewField, ViewFields};
+    pub use sip_state::view::{ViewField, ViewFields};
 }
 
 /// Of `sip_form`.

@@ -13,7 +13,7 @@ use sip_state::OpenRequest;
 use sip_state::field::FieldName;
 use sip_state::form::View;
 use sip_state::text::Bytes;
-use sip_view::ViewFields;
+use sip_state::view::ViewFields;
 use std::alloc::{AllocError, Global};
 
 /// The tag, or an empty one.

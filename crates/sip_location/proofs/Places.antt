@@ -2,7 +2,7 @@
 use Rattle.std.proofs.Common.{◌≡◌, ℕ, suc, ◌+◌, ◌≤◌, List, [], ◌∷◌, length, Bool, true, false, refl, ◌∙◌, ap, arith}
 use Rattle.std.specs.Prelude.{insert}
 use Rattle.std.specs.List.{position_or_len}
-use Rattle.sip_uri.specs.declared.uri.Uri.{Uri}
+use Rattle.sip_equality.specs.uri.declared.uri.Uri.{Uri}
 use Rattle.sip_equality.specs.Equality.{same}
 use Rattle.sip_location.specs.declared.binding.Binding.{Binding}
 use Rattle.sip_location.specs.Binding.{without_contact, put}

@@ -1,5 +1,5 @@
-use sip_text::Bytes;
-use sip_uri::{Aor, Uri};
+use sip_equality::text::Bytes;
+use sip_equality::uri::{Aor, Uri};
 
 /// A binding: an address of record, the URI of a contact where its user can be reached, the Call-ID and
 /// the CSeq number of the REGISTER that made it, and the moment at which it expires, in milliseconds

@@ -8,8 +8,8 @@ use crate::binding::Binding;
 use crate::interval::seconds_for;
 use crate::registration::Registration;
 use crate::rows::Rows;
+use sip_equality::uri::Uri;
 use sip_header::{AnyUri, ContactItem};
-use sip_uri::Uri;
 use std::alloc::{AllocError, Global};
 
 /// A binding as it is asked for.

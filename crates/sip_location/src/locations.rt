@@ -1,8 +1,8 @@
 ghost use Rattle.std.specs.Prelude.{◌≡◌, ◌≤◌, ◌<◌, ◌^◌, ℕ, [], true, false, length, filter, Ok, IsOk, IfOk, IfErr, OnOk, OnErr};
 ghost use Rattle.std.specs.List.{AllByRecursion};
 ghost use Rattle.indexmap.specs.IndexMap.{spare};
-ghost use Rattle.sip_uri.specs.declared.aor.Aor.{Aor};
-ghost use Rattle.sip_uri.specs.Aor.{is_same_aor};
+ghost use Rattle.sip_equality.specs.uri.declared.aor.Aor.{Aor};
+ghost use Rattle.sip_equality.specs.uri.Aor.{is_same_aor};
 ghost use Rattle.sip_location.specs.declared.error.LocationError.TheVariants.{NoMemory};
 ghost use Rattle.sip_location.specs.declared.registration.Registration.{Registration};
 ghost use Rattle.sip_location.specs.Binding.{is_of, is_live, live};
@@ -20,7 +20,7 @@ use crate::refusals::{has_bad_star, has_old_cseq, is_too_brief};
 use crate::registration::Registration;
 use crate::rows::{Rows, is_live};
 use indexmap::IndexMap;
-use sip_uri::Aor;
+use sip_equality::uri::Aor;
 use std::alloc::Global;
 use std::marker::Model;
 

@@ -2,7 +2,7 @@ ghost use Rattle.std.specs.Prelude.{◌≡◌};
 
 use crate::binding::Binding;
 use crate::rows::Rows;
-use sip_uri::Aor;
+use sip_equality::uri::Aor;
 use std::marker::Model;
 
 /// The bindings that an address of record is to have, as [`Locations::plan`](crate::Locations::plan) makes it

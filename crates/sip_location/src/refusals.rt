@@ -8,8 +8,8 @@ use crate::binding::Binding;
 use crate::interval::{is_brief, is_zero, seconds_for};
 use crate::registration::Registration;
 use sip_equality::same;
+use sip_equality::text::same_bytes;
 use sip_header::{AnyUri, ContactItem, Expires};
-use sip_text::same_bytes;
 
 fn is_star(contact: &ContactItem<'_>) -> bool
     ensures { result ≡ Definitions.is_star contact.now }

@@ -1,6 +1,6 @@
+use sip_equality::text::{Items, Text};
+use sip_equality::uri::Aor;
 use sip_header::{ContactItem, Expires};
-use sip_text::{Items, Text};
-use sip_uri::Aor;
 
 /// What a registrar reads of a REGISTER (RFC 3261 10.3). Without contacts it is a query.
 #[derive(Drop)]

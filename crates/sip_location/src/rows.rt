@@ -5,7 +5,7 @@ ghost use Rattle.sip_location.specs.Binding.{is_live, live, without_contact, put
 
 use crate::binding::Binding;
 use sip_equality::same;
-use sip_uri::{Aor, Uri, same_aor};
+use sip_equality::uri::{Aor, Uri, same_aor};
 use std::alloc::{AllocError, Global};
 use std::marker::Model;
 

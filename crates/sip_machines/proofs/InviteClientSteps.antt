@@ -2,9 +2,9 @@
 use Rattle.std.proofs.Common.{◌≡◌, ℕ, ◌+◌, ◌<◌, ◌≤◌, ◌==◌, Bool, true, false, cond, List, [], ◌∷◌, map, Option, Some, None, refl, sym, subst, inl, inr, eqb, ap}
 use Rattle.std.specs.Prelude.{◌&&◌, not}
 use Rattle.std.specs.List.{list_any, list_all}
-use Rattle.sip_transaction.specs.Machine.{IsOneOf}
-use Rattle.sip_transaction.specs.declared.letter.Letter.{Letter}
-use Rattle.sip_transaction.specs.declared.letter.Letter.TheVariants as By
+use Rattle.sip_client.specs.transaction.Machine.{IsOneOf}
+use Rattle.sip_client.specs.transaction.declared.letter.Letter.{Letter}
+use Rattle.sip_client.specs.transaction.declared.letter.Letter.TheVariants as By
 use Rattle.sip_client.specs.Action.{acks_again}
 use Rattle.sip_client.specs.ClientInvite.{client_invite, invite_machine, row, runs, Heard, provisional, success, failure}
 use Rattle.sip_client.specs.declared.actions.Action.{Action}

@@ -2,9 +2,9 @@
 use Rattle.std.proofs.Common.{◌≡◌, ℕ, ◌+◌, ◌<◌, ◌≤◌, Bool, true, false, cond, List, [], ◌∷◌, map, refl, sym, inl, inr}
 use Rattle.std.specs.Prelude.{◌&&◌, not}
 use Rattle.std.specs.List.{list_all}
-use Rattle.sip_transaction.specs.Machine.{IsOneOf}
-use Rattle.sip_transaction.specs.declared.letter.Letter.{Letter}
-use Rattle.sip_transaction.specs.declared.letter.Letter.TheVariants as By
+use Rattle.sip_client.specs.transaction.Machine.{IsOneOf}
+use Rattle.sip_client.specs.transaction.declared.letter.Letter.{Letter}
+use Rattle.sip_client.specs.transaction.declared.letter.Letter.TheVariants as By
 use Rattle.sip_client.specs.ClientOther.{client_other, other_machine, row, runs, provisional, final}
 use Rattle.sip_client.specs.declared.actions.Action.TheVariants.{SendAgain, Up, Start}
 use Rattle.sip_client.specs.declared.actions.Report.TheVariants.{Response, Timeout, Unavailable}

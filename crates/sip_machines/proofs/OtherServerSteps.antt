@@ -2,7 +2,7 @@
 use Rattle.std.proofs.Common.{◌≡◌, ℕ, ◌+◌, ◌<◌, ◌≤◌, Bool, true, false, cond, List, [], ◌∷◌, Option, Some, None, refl}
 use Rattle.std.specs.Prelude.{◌&&◌, not}
 use Rattle.sip_retransmission.specs.form.Text.{text_of}
-use Rattle.sip_transaction.specs.declared.letter.Letter.TheVariants as By
+use Rattle.sip_client.specs.transaction.declared.letter.Letter.TheVariants as By
 use Rattle.sip_server.specs.Action.{copy_actions}
 use Rattle.sip_server.specs.ServerOther.{server_other, other_machine, answers_copy}
 use Rattle.sip_server.specs.declared.server_other.ServerOther.{ServerOther}

@@ -1,8 +1,8 @@
 -- The client transaction that runs a branch to a target of an INVITE, and how it fits the branch (RFC 3261 17.1.1;
 -- RFC 6026 7.2).
 use Rattle.std.specs.Prelude.{ℕ, ◌≡◌, ◌+◌, Bool, true, false, if◌then◌else◌, List, [], ◌∷◌}
-use Rattle.sip_transaction.specs.declared.letter.Letter.{Letter}
-use Rattle.sip_transaction.specs.declared.letter.Letter.TheVariants as By
+use Rattle.sip_client.specs.transaction.declared.letter.Letter.{Letter}
+use Rattle.sip_client.specs.transaction.declared.letter.Letter.TheVariants as By
 use Rattle.sip_client.specs.declared.actions.Action.{Action}
 use Rattle.sip_client.specs.declared.actions.Action.TheVariants.{Ack, AckAgain, Up, Start}
 use Rattle.sip_client.specs.declared.actions.Report.TheVariants.{Response}

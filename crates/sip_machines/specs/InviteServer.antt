@@ -3,8 +3,8 @@
 use Rattle.std.specs.Prelude.{ℕ, ◌≡◌, ◌&&◌, Bool, true, false, if◌then◌else◌, List, [], ◌∷◌, Option, Some, None}
 use Rattle.std.specs.Option.{option_map_or}
 use Rattle.sip_retransmission.specs.event.declared.packet.Packet.{Packet}
-use Rattle.sip_transaction.specs.declared.letter.Letter.{Letter}
-use Rattle.sip_transaction.specs.declared.letter.Letter.TheVariants as By
+use Rattle.sip_client.specs.transaction.declared.letter.Letter.{Letter}
+use Rattle.sip_client.specs.transaction.declared.letter.Letter.TheVariants as By
 use Rattle.sip_server.specs.declared.actions.Action.{Action}
 use Rattle.sip_server.specs.declared.actions.Action.TheVariants.{Send, Up, Start}
 use Rattle.sip_server.specs.declared.server_invite.ServerInvite.{ServerInvite}

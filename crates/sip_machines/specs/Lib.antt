@@ -3,7 +3,7 @@ pub mod InviteClient
 pub mod OtherClient
 pub mod InviteServer
 pub mod OtherServer
-pub use Rattle.sip_transaction.specs as transaction
+pub use Rattle.sip_client.specs.transaction
 pub use Rattle.sip_client.specs as client
 pub use Rattle.sip_retransmission.specs.host
 pub use Rattle.sip_server.specs as server

@@ -1,8 +1,8 @@
 -- The server transaction of a request that isn't an INVITE, and how it fits the answering side of its open request
 -- (RFC 3261 17.2.2).
 use Rattle.std.specs.Prelude.{ℕ, ◌≡◌, true, false, if◌then◌else◌, List, [], ◌∷◌, Option, Some, None}
-use Rattle.sip_transaction.specs.declared.letter.Letter.{Letter}
-use Rattle.sip_transaction.specs.declared.letter.Letter.TheVariants as By
+use Rattle.sip_client.specs.transaction.declared.letter.Letter.{Letter}
+use Rattle.sip_client.specs.transaction.declared.letter.Letter.TheVariants as By
 use Rattle.sip_server.specs.declared.actions.Action.{Action}
 use Rattle.sip_server.specs.declared.actions.Action.TheVariants.{Send, Start}
 use Rattle.sip_server.specs.declared.server_other.ServerOther.{ServerOther}

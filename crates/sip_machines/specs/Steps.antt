@@ -2,8 +2,8 @@
 -- as a list: the letter of each, and the moment at which it is due, in milliseconds.
 use Rattle.std.specs.Prelude.{ℕ, ◌≡◌, ◌+◌, List, ◌++◌, map, filter}
 use Rattle.std.specs.List.{filter_map}
-use Rattle.sip_transaction.specs.Machine.{Machine}
-use Rattle.sip_transaction.specs.declared.letter.Letter.{Letter}
+use Rattle.sip_client.specs.transaction.Machine.{Machine}
+use Rattle.sip_client.specs.transaction.declared.letter.Letter.{Letter}
 
 -- the timers that are started at a moment, each with the milliseconds after which it fires
 abbrev pub started_at : ℕ → List (Letter × ℕ) → List (Letter × ℕ)

@@ -1,8 +1,8 @@
 ghost use Rattle.std.specs.Prelude.{◌≡◌, ◌≤◌, ◌<◌, ◌+◌, ℕ, map, true, false, List, [], ◌∷◌, Option, None};
 ghost use Rattle.std.specs.List.{list_all};
-ghost use Rattle.sip_transaction.specs.Machine.{IsOneOf};
-ghost use Rattle.sip_transaction.specs.declared.letter.Letter.{Letter};
-ghost use Rattle.sip_transaction.specs.declared.letter.Letter.TheVariants as By;
+ghost use Rattle.sip_client.specs.transaction.Machine.{IsOneOf};
+ghost use Rattle.sip_client.specs.transaction.declared.letter.Letter.{Letter};
+ghost use Rattle.sip_client.specs.transaction.declared.letter.Letter.TheVariants as By;
 ghost use Rattle.sip_server.specs.Action.{copy_actions};
 ghost use Rattle.sip_server.specs.ServerInvite.{server_invite, invite_machine, runs, answers_copy};
 ghost use Rattle.sip_server.specs.declared.actions.Action.TheVariants.{Send, SendAgain, Start};

@@ -12,5 +12,5 @@ pub mod other_server;
 
 /// Of `sip_transaction`.
 pub mod transaction {
-    pub use sip_transaction::Letter;
+    pub use sip_client::transaction::Letter;
 }

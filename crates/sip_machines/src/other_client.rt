@@ -1,8 +1,8 @@
 ghost use Rattle.std.specs.Prelude.{◌≡◌, ◌≤◌, ◌<◌, ◌+◌, ◌&&◌, ℕ, not, map, true, false, [], ◌∷◌};
 ghost use Rattle.std.specs.List.{list_all};
-ghost use Rattle.sip_transaction.specs.Machine.{IsOneOf};
-ghost use Rattle.sip_transaction.specs.declared.letter.Letter.{Letter};
-ghost use Rattle.sip_transaction.specs.declared.letter.Letter.TheVariants as By;
+ghost use Rattle.sip_client.specs.transaction.Machine.{IsOneOf};
+ghost use Rattle.sip_client.specs.transaction.declared.letter.Letter.{Letter};
+ghost use Rattle.sip_client.specs.transaction.declared.letter.Letter.TheVariants as By;
 ghost use Rattle.sip_client.specs.ClientOther.{client_other, start, other_machine, runs};
 ghost use Rattle.sip_client.specs.declared.actions.Action.TheVariants.{Send, SendAgain, Up, Start};
 ghost use Rattle.sip_client.specs.declared.actions.Report.TheVariants.{Response, Timeout, Unavailable};

@@ -10,8 +10,8 @@ use Rattle.std.proofs.lemmas.List.{append-nil, take_all}
 use Rattle.std.proofs.lemmas.Fmt.{decimal_is_IsNumeral, digits_decimal, digits_value-decimal}
 use Rattle.sip_text.specs.Words.{decimal_of}
 use Rattle.sip_text.proofs.Trims.{IsTight}
-use Rattle.sip_field.specs.declared.field.Field.{Field}
-use Rattle.sip_field.specs.declared.field_name.FieldName.TheVariants.{ContentLength}
+use Rattle.sip_form.specs.field.declared.field.Field.{Field}
+use Rattle.sip_form.specs.field.declared.field_name.FieldName.TheVariants.{ContentLength}
 use Rattle.sip_form.specs.declared.message.Message.{Message}
 use Rattle.sip_message.specs.Lines.{unfolded_on, unfolded, IsLine, as_lines}
 use Rattle.sip_message.specs.Field.{is_text, entries_of, kept}

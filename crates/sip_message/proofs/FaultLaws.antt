@@ -6,7 +6,7 @@ use Rattle.std.specs.Result.{result_err}
 use Rattle.std.proofs.lemmas.Bool.{le-ltb}
 use Rattle.sip_form.specs.declared.error.ReadError.{ReadError}
 use Rattle.sip_form.specs.declared.error.ReadError.TheVariants.{NotSip, BadField, TooManyFields, TooLong, ShortBody}
-use Rattle.sip_field.specs.declared.field.Field.{Field}
+use Rattle.sip_form.specs.field.declared.field.Field.{Field}
 use Rattle.sip_form.specs.declared.message.Start.{Start}
 use Rattle.sip_form.specs.declared.message.Message.{Message}
 use Rattle.sip_message.specs.Lines.{after_blanks, line_at, lines_at, unfolded, as_lines, head_at}

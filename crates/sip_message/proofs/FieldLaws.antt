@@ -6,9 +6,9 @@ use Rattle.std.specs.List.{list_all, AllByRecursion, AllZip}
 use Rattle.sip_text.specs.Words.{is_token_byte, is_token_text}
 use Rattle.sip_text.specs.Lists.{is_blank, trimmed, end_trimmed}
 use Rattle.sip_text.proofs.Trims.{EndSplit, end_split, end_without, ends_full}
-use Rattle.sip_field.specs.declared.field.Field.{Field}
+use Rattle.sip_form.specs.field.declared.field.Field.{Field}
 use Rattle.sip_text.specs.Splits.{split_at_byte}
-use Rattle.sip_field.specs.FieldName.{name_of}
+use Rattle.sip_form.specs.field.FieldName.{name_of}
 use Rattle.sip_message.specs.Field.{is_text, field_from, field_of, entries_of, IsField}
 use Rattle.sip_message.proofs.CutLaws.{some_is}
 use Rattle.sip_message.proofs.FieldsAgain.{all_join, differs, is_other, others, split_again, split_is, token_bytes, full_end}

@@ -2,7 +2,7 @@
 use Rattle.std.proofs.Common.{◌≡◌, ℕ, Bool, true, false, List, [], ◌∷◌, map, Option, Some, None, refl, sym, ap, subst, ◌∙◌}
 use Rattle.std.specs.Prelude.{option_map}
 use denote.Ref.{Bor}
-use Rattle.sip_view.specs.Slice.{IsSliceOf, IsCutFrom}
+use Rattle.sip_form.specs.view.Slice.{IsSliceOf, IsCutFrom}
 use Rattle.sip_message.specs.declared.line.Line.{Line}
 use Rattle.sip_message.specs.Lines.{line_at, lines_at, head_at, folds_of, folds_after}
 use Rattle.sip_message.specs.Line.{line_bytes, has_fold, AreLinesOf, IsTaken, IsHeadCut}

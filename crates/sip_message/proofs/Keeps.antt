@@ -8,12 +8,12 @@ use denote.Ref.{Bor}
 use Rattle.sip_text.specs.declared.span.Span.{Span}
 use Rattle.sip_text.specs.Span.{part}
 use Rattle.sip_text.specs.Lists.{cut}
-use Rattle.sip_view.specs.Piece.{bytes_of}
-use Rattle.sip_view.specs.Slice.{IsPieceOf, IsPieceCutFrom, is_joined}
+use Rattle.sip_form.specs.view.Piece.{bytes_of}
+use Rattle.sip_form.specs.view.Slice.{IsPieceOf, IsPieceCutFrom, is_joined}
 use Rattle.sip_form.specs.declared.error.ReadError.{ReadError}
 use Rattle.sip_form.specs.declared.error.ReadError.TheVariants.{NoMemory, BadField}
-use Rattle.sip_field.specs.declared.field.Field.{Field}
-use Rattle.sip_field.specs.FieldName.{is_length, is_list}
+use Rattle.sip_form.specs.field.declared.field.Field.{Field}
+use Rattle.sip_form.specs.field.FieldName.{is_length, is_list}
 use Rattle.sip_message.specs.declared.line.Line.{Line}
 use Rattle.sip_message.specs.declared.part_field.PartField.{PartField}
 use Rattle.sip_message.specs.Field.{pieces, kept}

@@ -8,7 +8,7 @@ use Rattle.std.proofs.lemmas.List.{length-take, length-take-le}
 use Rattle.sip_text.specs.Words.{decimal_of}
 use Rattle.sip_form.specs.declared.error.ReadError.{ReadError}
 use Rattle.sip_form.specs.declared.error.ReadError.TheVariants.{NoMemory, TooLong, NotSip, BadField, TooManyFields, ShortBody}
-use Rattle.sip_field.specs.declared.field.Field.{Field}
+use Rattle.sip_form.specs.field.declared.field.Field.{Field}
 use Rattle.sip_form.specs.declared.message.Start.{Start}
 use Rattle.sip_form.specs.declared.message.Message.{Message}
 use Rattle.sip_message.specs.Lines.{after_blanks, line_at, lines_at, unfolded, head_at, as_lines}

@@ -3,8 +3,8 @@ use Rattle.std.proofs.Common.{◌≡◌, ℕ, ◌-◌, Bool, false, List, length
 use Rattle.std.specs.Prelude.{option_map}
 use Rattle.std.specs.Option.{option_and_then}
 use denote.Ref.{Bor}
-use Rattle.sip_field.specs.declared.field.Field.{Field}
-use Rattle.sip_view.specs.Slice.{IsSliceOf, IsCutFrom}
+use Rattle.sip_form.specs.field.declared.field.Field.{Field}
+use Rattle.sip_form.specs.view.Slice.{IsSliceOf, IsCutFrom}
 use Rattle.std.proofs.lemmas.List.{take_all}
 use Rattle.sip_message.specs.declared.line.Line.{Line}
 use Rattle.sip_message.specs.declared.part_field.PartField.{PartField}

@@ -7,8 +7,8 @@ use Rattle.sip_text.specs.Span.{part}
 use Rattle.sip_text.specs.Lists.{cut}
 use Rattle.sip_form.specs.declared.error.ReadError.{ReadError}
 use Rattle.sip_form.specs.declared.error.ReadError.TheVariants.{NoMemory, BadField}
-use Rattle.sip_field.specs.declared.field.Field.{Field}
-use Rattle.sip_field.specs.FieldName.{is_length, is_list}
+use Rattle.sip_form.specs.field.declared.field.Field.{Field}
+use Rattle.sip_form.specs.field.FieldName.{is_length, is_list}
 use Rattle.sip_message.specs.Field.{field_of, entries_of, pieces, kept}
 use Rattle.sip_message.specs.Body.{one_length}
 

@@ -3,9 +3,9 @@ use Rattle.std.proofs.Common.{◌≡◌, ℕ, Bool, true, false, List, [], ◌�
 use Rattle.std.specs.List.{AllByRecursion}
 use Rattle.std.proofs.lemmas.List.{map-append}
 use denote.Ref.{Bor}
-use Rattle.sip_view.specs.declared.piece.Piece.{Piece}
-use Rattle.sip_view.specs.declared.piece.Piece.TheVariants as Whole
-use Rattle.sip_view.specs.Slice.{IsPieceOf, is_joined}
+use Rattle.sip_form.specs.view.declared.piece.Piece.{Piece}
+use Rattle.sip_form.specs.view.declared.piece.Piece.TheVariants as Whole
+use Rattle.sip_form.specs.view.Slice.{IsPieceOf, is_joined}
 use Rattle.sip_message.specs.declared.line.Line.{Line}
 use Rattle.sip_message.specs.declared.line.Line.TheVariants.{Part}
 use Rattle.sip_message.specs.Lines.{is_fold, joined, folds_on, folds_after}

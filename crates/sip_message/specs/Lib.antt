@@ -7,3 +7,5 @@ pub mod Reading
 pub mod Seen
 pub mod Line
 pub mod Parts
+pub use Rattle.sip_form.specs.field
+pub use Rattle.sip_form.specs as form

@@ -2,11 +2,11 @@
 use Rattle.std.specs.Prelude.{◌≡◌, ℕ, Bool, false, List, ◌∷◌, map, option_map, Some}
 use Rattle.std.specs.List.{AllByRecursion}
 use denote.Ref.{Bor}
-use Rattle.sip_view.specs.declared.piece.Piece.{Piece}
-use Rattle.sip_view.specs.declared.piece.Piece.TheVariants.{Joined}
-use Rattle.sip_view.specs.declared.piece.Piece.TheVariants as Whole
-use Rattle.sip_view.specs.Piece.{bytes_of}
-use Rattle.sip_view.specs.Slice.{IsSliceOf, IsCutFrom, IsPieceOf, is_joined}
+use Rattle.sip_form.specs.view.declared.piece.Piece.{Piece}
+use Rattle.sip_form.specs.view.declared.piece.Piece.TheVariants.{Joined}
+use Rattle.sip_form.specs.view.declared.piece.Piece.TheVariants as Whole
+use Rattle.sip_form.specs.view.Piece.{bytes_of}
+use Rattle.sip_form.specs.view.Slice.{IsSliceOf, IsCutFrom, IsPieceOf, is_joined}
 use Rattle.sip_message.specs.declared.line.Line.{Line}
 use Rattle.sip_message.specs.declared.line.Line.TheVariants.{Part, Unfolded}
 use Rattle.sip_message.specs.Lines.{unfolded_after, lines_at, folds_of, folds_after}

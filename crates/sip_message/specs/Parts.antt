@@ -5,11 +5,11 @@ use Rattle.std.specs.List.{AllByRecursion, AllZip}
 use denote.Ref.{Bor}
 use Rattle.sip_text.specs.declared.span.Span.{Span}
 use Rattle.sip_text.specs.Span.{part}
-use Rattle.sip_field.specs.declared.field.Field.{Field}
+use Rattle.sip_form.specs.field.declared.field.Field.{Field}
 use Rattle.sip_form.specs.declared.message.Message.{Message}
 use Rattle.sip_form.specs.ViewStart.{start_seen}
-use Rattle.sip_view.specs.Piece.{bytes_of}
-use Rattle.sip_view.specs.Slice.{IsSliceOf, IsCutFrom, IsPieceOf, IsPieceCutFrom, is_joined}
+use Rattle.sip_form.specs.view.Piece.{bytes_of}
+use Rattle.sip_form.specs.view.Slice.{IsSliceOf, IsCutFrom, IsPieceOf, IsPieceCutFrom, is_joined}
 use Rattle.sip_message.specs.declared.part_field.PartField.{PartField}
 use Rattle.sip_message.specs.declared.datagram_parts.Parts.{Parts}
 use Rattle.sip_message.specs.declared.line.Line.{Line}

@@ -2,7 +2,7 @@
 use Rattle.std.specs.Prelude.{◌≡◌, ◌⊎◌, ℕ, Bool, nat_lt, List, length, Option, Result, Ok, Err, if◌then◌else◌}
 use Rattle.std.specs.Option.{ok_or}
 use Rattle.std.specs.Result.{result_err}
-use Rattle.sip_field.specs.declared.field.Field.{Field}
+use Rattle.sip_form.specs.field.declared.field.Field.{Field}
 use Rattle.sip_form.specs.declared.message.Start.{Start}
 use Rattle.sip_form.specs.declared.message.Message.{Message}
 use Rattle.sip_form.specs.declared.error.ReadError.{ReadError}

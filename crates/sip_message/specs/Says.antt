@@ -1,7 +1,7 @@
 -- The grammar of a message as a relation: what it is that bytes say a message (RFC 3261 7, 25.1).
 use Rattle.std.specs.Prelude.{◌≡◌, ℕ, ◌≤◌, List, length, Option, Some}
 use Rattle.std.specs.List.{AllZip}
-use Rattle.sip_field.specs.declared.field.Field.{Field}
+use Rattle.sip_form.specs.field.declared.field.Field.{Field}
 use Rattle.sip_form.specs.declared.message.Start.{Start}
 use Rattle.sip_form.specs.declared.message.Message.{Message}
 use Rattle.sip_message.specs.Lines.{unfolded, IsCut}

@@ -1,15 +1,15 @@
 ghost use Rattle.std.specs.Prelude.{◌≡◌, Some, None, Err};
 ghost use Rattle.std.specs.Option.{ok_or};
-ghost use Rattle.sip_view.specs.Slice.{IsCutFrom};
+ghost use Rattle.sip_form.specs.view.Slice.{IsCutFrom};
 ghost use Rattle.sip_message.specs.Body.{lengths, one_length, body_of, is_short};
 ghost use Rattle.sip_message.specs.Parts.{fields_seen};
 ghost use Rattle.sip_message.specs.Reading.{Gives};
 ghost use Rattle.sip_form.specs.declared.error.ReadError.TheVariants.{BadField};
 
 use crate::part_field::PartField;
+use sip_form::view::slice_before;
 use sip_form::{ViewError, ViewRefusal};
 use sip_text::decimal;
-use sip_view::slice_before;
 
 /// The one Content-Length, if there is one (RFC 3261 20.14).
 pub(crate) fn length_of<'a>(entries: &[PartField<'a>]) -> Result<Option<u64>, ViewError<'a>>

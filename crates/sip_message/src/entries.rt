@@ -3,8 +3,8 @@ ghost use Rattle.std.specs.List.{list_all};
 ghost use Rattle.std.specs.Option.{ok_or};
 ghost use Rattle.sip_text.specs.Lists.{trimmed};
 ghost use Rattle.sip_text.specs.Splits.{split_at_byte};
-ghost use Rattle.sip_view.specs.declared.piece.Piece.TheVariants.{Part, Joined};
-ghost use Rattle.sip_view.specs.Slice.{IsCutFrom, IsPieceCutFrom};
+ghost use Rattle.sip_form.specs.view.declared.piece.Piece.TheVariants.{Part, Joined};
+ghost use Rattle.sip_form.specs.view.Slice.{IsCutFrom, IsPieceCutFrom};
 ghost use Rattle.sip_message.specs.Field.{is_text, field_from, field_of, entries_of};
 ghost use Rattle.sip_message.specs.Line.{line_piece, line_bytes};
 ghost use Rattle.sip_message.specs.Parts.{field_seen, fields_seen, AreFieldsOf};
@@ -14,11 +14,11 @@ ghost use Rattle.sip_form.specs.declared.error.ReadError.TheVariants.{BadField};
 
 use crate::line::Line;
 use crate::part_field::PartField;
+use sip_form::view::{Piece, ViewName, slice_before, slice_from};
 use sip_form::{ViewError, ViewRefusal};
 use sip_text::{
     Bytes, is_token, split_once, without_blanks, without_end_blanks, without_front_blanks,
 };
-use sip_view::{Piece, ViewName, slice_before, slice_from};
 use std::alloc::{AllocError, Global};
 
 /// Whether a byte may stand in a value.

@@ -1,10 +1,10 @@
 ghost use Rattle.std.specs.Prelude.{◌≡◌, [], ◌∷◌, true, false, length, map, IfOk, OnOk, All, None, MatchResult, ◌⊎◌};
 ghost use Rattle.std.specs.Option.{ok_or};
-ghost use Rattle.sip_field.specs.FieldName.{is_length, is_list};
+ghost use Rattle.sip_form.specs.field.FieldName.{is_length, is_list};
 ghost use Rattle.sip_text.specs.Lists.{cut};
 ghost use Rattle.sip_text.specs.Span.{part, IsWithin};
-ghost use Rattle.sip_view.specs.Piece.{bytes_of};
-ghost use Rattle.sip_view.specs.Slice.{IsPieceCutFrom};
+ghost use Rattle.sip_form.specs.view.Piece.{bytes_of};
+ghost use Rattle.sip_form.specs.view.Slice.{IsPieceCutFrom};
 ghost use Rattle.sip_message.specs.Field.{pieces, kept};
 ghost use Rattle.sip_message.specs.Parts.{field_seen, fields_seen, IsKept, AreItemsKept, AreKept};
 ghost use Rattle.sip_message.specs.Reading.{Gives};

@@ -21,10 +21,15 @@ pub use datagram_parts::Parts;
 pub use part_field::PartField;
 pub use parting::parts;
 pub use reading::read;
-pub use sip_field::{Field, FieldName, Fields};
+pub use sip_form::field::{Field, FieldName, Fields};
+pub use sip_form::view::{Piece, Value, ViewField, ViewFields, ViewName};
 pub use sip_form::{
     Kept, Message, ReadError, Start, View, ViewError, ViewRefusal, ViewStart, write, write_view,
     written_length,
 };
-pub use sip_view::{Piece, Value, ViewField, ViewFields, ViewName};
 pub use viewing::view;
+
+/// Of `sip_form`.
+pub mod form {
+    pub use sip_form::{View, ViewStart};
+}

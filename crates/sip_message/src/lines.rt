@@ -1,6 +1,6 @@
 ghost use Rattle.std.specs.Prelude.{◌≡◌, ◌+◌, ◌<◌, slice_index, ◌∷◌, ◌++◌, [], length, map, IfOk, IfSome, OnOk, OnErr, List, ℕ, MatchOption, option_map, Some, None};
 ghost use Rattle.std.specs.Option.{ok_or};
-ghost use Rattle.sip_view.specs.Slice.{IsCutFrom};
+ghost use Rattle.sip_form.specs.view.Slice.{IsCutFrom};
 ghost use Rattle.sip_message.specs.Line.{line_bytes, IsTaken, IsHeadCut};
 ghost use Rattle.sip_message.specs.Lines.{after_blanks, is_crlf, line_at, is_fold, joined, unfolded_after, head_at};
 ghost use Rattle.sip_message.specs.Reading.{Gives};
@@ -8,9 +8,9 @@ ghost use Rattle.sip_form.specs.declared.error.ReadError.TheVariants.{NotSip};
 
 use crate::line::Line;
 use memchr::memmem;
+use sip_form::view::{slice_before, slice_from};
 use sip_form::{ViewError, ViewRefusal};
 use sip_text::is_space_or_tab;
-use sip_view::{slice_before, slice_from};
 use std::alloc::{AllocError, Global};
 
 /// A slice with its place: of a variable that is a reference, an invariant sees what it points to, and not where

@@ -1,4 +1,4 @@
-use sip_view::{Piece, ViewName};
+use sip_form::view::{Piece, ViewName};
 
 /// A field as it stands in a datagram: its name, and its value as a part of the datagram, or joined where its line
 /// has a fold.

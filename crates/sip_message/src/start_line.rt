@@ -8,9 +8,9 @@ ghost use Rattle.sip_form.specs.ViewStart.{start_seen};
 ghost use Rattle.sip_message.specs.Reading.{Gives};
 ghost use Rattle.sip_form.specs.declared.error.ReadError.TheVariants.{NotSip};
 
+use sip_form::view::Value;
 use sip_form::{ViewError, ViewRefusal, ViewStart};
 use sip_text::{Bytes, decimal, is_token, same_bytes, same_no_case, split_once};
-use sip_view::Value;
 use std::alloc::Global;
 
 /// Whether each byte is one from `!` to `~`.

@@ -8,8 +8,8 @@ ghost use Rattle.sip_form.specs.declared.error.ReadError.TheVariants.{NoMemory};
 use crate::datagram_parts::Parts;
 use crate::part_field::PartField;
 use crate::parting::parts;
+use sip_form::view::{Value, ViewField, ViewFields};
 use sip_form::{View, ViewError, ViewRefusal};
-use sip_view::{Value, ViewField, ViewFields};
 use std::alloc::{AllocError, Global};
 
 /// The view, if it is within the limits and its body is whole.

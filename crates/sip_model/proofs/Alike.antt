@@ -13,7 +13,7 @@ use Rattle.sip_dialog.proofs.Sameness.{dialogs_later}
 use Rattle.sip_state.specs.nonces.declared.nonces.Nonce.{Nonce}
 use Rattle.sip_state.specs.nonces.Nonces.{issued}
 use Rattle.sip_auth.specs.Proof.{used}
-use Rattle.sip_audit.specs.declared.record.Record.{Record}
+use Rattle.sip_context.specs.audit.declared.record.Record.{Record}
 use Rattle.sip_state.specs.declared.server.Server.{Server}
 use Rattle.sip_state.specs.declared.open_request.OpenRequest.{OpenRequest}
 use Rattle.sip_state.specs.declared.proxy_state.ProxyState.{ProxyState}

@@ -17,7 +17,7 @@ use Rattle.sip_context.specs.targets.declared.target.Target.{Target}
 use Rattle.sip_context.specs.targets.declared.targets.Targets.{Targets}
 use Rattle.sip_context.specs.targets.Targets.{target_list}
 use Rattle.sip_dialog.specs.declared.dialog.DialogId.{DialogId}
-use Rattle.sip_audit.specs.declared.record.Record.{Record}
+use Rattle.sip_context.specs.audit.declared.record.Record.{Record}
 use Rattle.sip_context.specs.event.declared.packet.Packet.{Packet}
 use Rattle.sip_state.specs.declared.server.Server.{Server}
 use Rattle.sip_state.specs.declared.branch.Branch.{Branch}

@@ -7,7 +7,7 @@ use Rattle.std.proofs.lemmas.List.Elements.{filter-append}
 use Rattle.sip_state.specs.form.Text.{text_of}
 use Rattle.sip_state.specs.host.declared.addr.Addr.{Addr}
 use Rattle.sip_context.specs.targets.declared.target.Target.{Target}
-use Rattle.sip_audit.specs.declared.record.Record.{Record}
+use Rattle.sip_context.specs.audit.declared.record.Record.{Record}
 use Rattle.sip_context.specs.event.declared.packet.Packet.{Packet}
 use Rattle.sip_state.specs.declared.server.Server.{Server}
 use Rattle.sip_state.specs.declared.proxy_state.ProxyState.{ProxyState}

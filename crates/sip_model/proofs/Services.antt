@@ -13,7 +13,7 @@ use Rattle.sip_location.specs.declared.binding.Binding.{Binding}
 use Rattle.sip_context.specs.targets.declared.target.Target.{Target}
 use Rattle.sip_context.specs.targets.declared.targets.Targets.{Targets}
 use Rattle.sip_context.specs.targets.Targets.{target_list}
-use Rattle.sip_audit.specs.declared.record.Outcome.{Outcome}
+use Rattle.sip_context.specs.audit.declared.record.Outcome.{Outcome}
 use Rattle.sip_context.specs.event.declared.event.StepOut.{StepOut}
 use Rattle.sip_context.specs.event.declared.event.Event.TheVariants.{Datagram, Time, Fault}
 use Rattle.sip_context.specs.event.declared.packet.Packet.{Packet}

@@ -14,7 +14,7 @@ use Rattle.sip_context.specs.edit.OwnRequests.{ack_with}
 use Rattle.sip_context.specs.targets.declared.target.Target.{Target}
 use Rattle.sip_context.specs.targets.declared.targets.Targets.{Targets}
 use Rattle.sip_best.specs.declared.final_answer.Final.{Final}
-use Rattle.sip_audit.specs.declared.record.Record.{Record}
+use Rattle.sip_context.specs.audit.declared.record.Record.{Record}
 use Rattle.sip_context.specs.event.declared.packet.Packet.{Packet}
 use Rattle.sip_context.specs.event.declared.packet.Ticket.{Ticket}
 use Rattle.sip_context.specs.event.declared.event.StepOut.{StepOut}

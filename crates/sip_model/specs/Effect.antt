@@ -28,10 +28,10 @@ use Rattle.sip_context.specs.targets.declared.targets.Targets.{Targets}
 use Rattle.sip_context.specs.targets.Targets.{target_list}
 use Rattle.sip_dialog.specs.declared.dialog.DialogId.{DialogId}
 use Rattle.sip_dialog.specs.declared.dialog.Dialog.{Dialog}
-use Rattle.sip_audit.specs.declared.record.Record.{Record}
-use Rattle.sip_audit.specs.declared.record.Operation.TheVariants as RecordedAs
-use Rattle.sip_audit.specs.declared.record.Operation as AuditOperation
-use Rattle.sip_audit.specs.declared.record.Outcome.{Outcome}
+use Rattle.sip_context.specs.audit.declared.record.Record.{Record}
+use Rattle.sip_context.specs.audit.declared.record.Operation.TheVariants as RecordedAs
+use Rattle.sip_context.specs.audit.declared.record.Operation as AuditOperation
+use Rattle.sip_context.specs.audit.declared.record.Outcome.{Outcome}
 use Rattle.sip_context.specs.event.declared.packet.Packet.{Packet}
 use Rattle.sip_state.specs.declared.server.Server.{Server}
 use Rattle.sip_auth.specs.Proof.{proven, is_stale, used}

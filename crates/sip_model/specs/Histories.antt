@@ -11,8 +11,8 @@ use Rattle.sip_state.specs.nonces.Nonces.{issued}
 use Rattle.sip_auth.specs.Proof.{Proof, Right, Stale, Wrong, used}
 use Rattle.sip_context.specs.targets.declared.targets.Targets.{Targets}
 use Rattle.sip_context.specs.targets.Targets.{target_list}
-use Rattle.sip_audit.specs.declared.record.Outcome.{Outcome}
-use Rattle.sip_audit.specs.declared.record.Record.{Record}
+use Rattle.sip_context.specs.audit.declared.record.Outcome.{Outcome}
+use Rattle.sip_context.specs.audit.declared.record.Record.{Record}
 use Rattle.sip_dialog.specs.declared.dialog.Dialog.{Dialog}
 use Rattle.sip_context.specs.event.declared.packet.Ticket.{Ticket}
 use Rattle.sip_context.specs.event.declared.event.StepOut.{StepOut}

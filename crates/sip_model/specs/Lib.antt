@@ -18,7 +18,7 @@ pub use Rattle.sip_state.specs.field
 pub use Rattle.sip_state.specs.host
 pub use Rattle.sip_state.specs.nonces
 pub use Rattle.sip_state.specs.uri
-pub use Rattle.sip_audit.specs as audit
+pub use Rattle.sip_context.specs.audit
 pub use Rattle.sip_state.specs.form
 pub use Rattle.sip_verdict.specs.policy
 pub use Rattle.sip_best.specs as best

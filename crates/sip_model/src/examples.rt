@@ -1,6 +1,6 @@
 ghost use Rattle.std.specs.Prelude.{◌≡◌, ◌∷◌, [], codes, length, map, None, Some};
-ghost use Rattle.sip_audit.specs.declared.record.Outcome.TheVariants.{Challenge, Deny, Sent, Answer};
-ghost use Rattle.sip_audit.specs.Lines.{line_of};
+ghost use Rattle.sip_context.specs.audit.declared.record.Outcome.TheVariants.{Challenge, Deny, Sent, Answer};
+ghost use Rattle.sip_context.specs.audit.Lines.{line_of};
 ghost use Rattle.sip_context.specs.reply.Examples as Replies;
 ghost use Rattle.sip_context.specs.reply.ExtrasExamples as Extras;
 ghost use Rattle.sip_context.specs.edit.OnwardExamples as Onward;

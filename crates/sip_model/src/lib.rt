@@ -42,7 +42,7 @@ pub mod uri {
 
 /// Of `sip_audit`.
 pub mod audit {
-    pub use sip_audit::{Operation, Outcome, Record};
+    pub use sip_context::audit::{Operation, Outcome, Record};
 }
 
 /// Of `sip_form`.
@@ -108,8 +108,8 @@ pub mod auth {
 /// Of `sip_edit`.
 pub mod edit {
     pub use sip_context::edit::{
-        ack_with, branch_text, cancel_of, own_via_value, pop_via, received_via, response_address,
-        with_top_via,
+        ack_with, branch_of_text, branch_text, cancel_of, own_via_value, pop_via, received_via,
+        response_address, with_top_via,
     };
 }
 
@@ -144,4 +144,9 @@ pub mod state {
 /// Of `sip_verdict`.
 pub mod verdict {
     pub use sip_verdict::Question;
+}
+
+/// Of `sip_context`.
+pub mod context {
+    pub use sip_context::laws;
 }

@@ -16,3 +16,8 @@ pub mod branches {
         want_cancel,
     };
 }
+
+/// Of `sip_ties`.
+pub mod ties {
+    pub use sip_ties::{TimerKeys, ties};
+}

@@ -9,3 +9,8 @@ mod nonces;
 
 pub use nonce_texts::{nonce_text, word_of};
 pub use nonces::{Nonce, Nonces, Worth};
+
+/// Of `sip_digest`.
+pub mod digest {
+    pub use sip_digest::{Algorithm, Credential, Protection};
+}

@@ -1,17 +1,17 @@
 -- The fields of a request that goes on.
 use Rattle.std.proofs.Common.{◌≡◌, ℕ, Bool, true, false, not, cond, List, [], ◌∷◌, ◌++◌, refl, ap, ◌∙◌, append-nil, Option, Some, None}
 use Rattle.std.specs.Prelude.{decimal}
-use Rattle.sip_field.specs.declared.field.Field.{Field}
-use Rattle.sip_field.specs.declared.field_name.FieldName.TheVariants as Name
-use Rattle.sip_field.specs.FieldName.{is_same_name}
-use Rattle.sip_form.specs.declared.message.Message.{Message}
-use Rattle.sip_header.specs.declared.max_forwards.MaxForwards.{MaxForwards}
-use Rattle.sip_header.specs.declared.max_forwards.MaxForwards.TheVariants.{Absent, Hops, Malformed}
-use Rattle.sip_header.specs.MaxForwards.{max_forwards_of}
-use Rattle.sip_way.specs.declared.own.Own.{Own}
-use Rattle.sip_way.specs.declared.routes_kept.RoutesKept.{RoutesKept}
-use Rattle.sip_way.specs.RoutesKept.{stays, behind, fields_kept}
-use Rattle.sip_way.specs.Way.{fields_left, request_uri}
+use Rattle.sip_edit.specs.field.declared.field.Field.{Field}
+use Rattle.sip_edit.specs.field.declared.field_name.FieldName.TheVariants as Name
+use Rattle.sip_edit.specs.field.FieldName.{is_same_name}
+use Rattle.sip_edit.specs.form.declared.message.Message.{Message}
+use Rattle.sip_edit.specs.header.declared.max_forwards.MaxForwards.{MaxForwards}
+use Rattle.sip_edit.specs.header.declared.max_forwards.MaxForwards.TheVariants.{Absent, Hops, Malformed}
+use Rattle.sip_edit.specs.header.MaxForwards.{max_forwards_of}
+use Rattle.sip_edit.specs.way.declared.own.Own.{Own}
+use Rattle.sip_edit.specs.way.declared.routes_kept.RoutesKept.{RoutesKept}
+use Rattle.sip_edit.specs.way.RoutesKept.{stays, behind, fields_kept}
+use Rattle.sip_edit.specs.way.Way.{fields_left, request_uri}
 use Rattle.sip_edit.specs.Onward.{is_for_realm, without_credentials, lowered, onward_fields, with_value}
 use Rattle.sip_onward.specs.Lowering.{hops_left, default_hops, with_hops, lowered_field, hops_behind, fields_on}
 

@@ -1,1 +1,2 @@
 pub mod Lowering
+pub use Rattle.sip_edit.specs.message

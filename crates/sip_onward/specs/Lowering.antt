@@ -1,12 +1,12 @@
 -- The fields of a request that goes on, field by field.
 use Rattle.std.specs.Prelude.{ℕ, ◌-◌, if◌then◌else◌, List, [], ◌∷◌, decimal, Option, Some, None}
-use Rattle.sip_field.specs.declared.field_name.FieldName.TheVariants as Name
-use Rattle.sip_field.specs.declared.field.Field.{Field}
-use Rattle.sip_field.specs.FieldName.{is_same_name}
-use Rattle.sip_header.specs.declared.max_forwards.MaxForwards.{MaxForwards}
-use Rattle.sip_header.specs.declared.max_forwards.MaxForwards.TheVariants.{Absent, Hops, Malformed}
-use Rattle.sip_way.specs.declared.routes_kept.RoutesKept.{RoutesKept}
-use Rattle.sip_way.specs.RoutesKept.{fields_kept}
+use Rattle.sip_edit.specs.field.declared.field_name.FieldName.TheVariants as Name
+use Rattle.sip_edit.specs.field.declared.field.Field.{Field}
+use Rattle.sip_edit.specs.field.FieldName.{is_same_name}
+use Rattle.sip_edit.specs.header.declared.max_forwards.MaxForwards.{MaxForwards}
+use Rattle.sip_edit.specs.header.declared.max_forwards.MaxForwards.TheVariants.{Absent, Hops, Malformed}
+use Rattle.sip_edit.specs.way.declared.routes_kept.RoutesKept.{RoutesKept}
+use Rattle.sip_edit.specs.way.RoutesKept.{fields_kept}
 use Rattle.sip_edit.specs.Onward.{seventy, with_value, without_credentials}
 
 -- the hops that are left to a request, if it says how many it has

@@ -1,17 +1,17 @@
 ghost use Rattle.std.specs.Prelude.{◌≡◌, ◌∷◌, ◌++◌, IfOk, OnOk, [], decimal, option_map};
-ghost use Rattle.sip_form.specs.ViewStart.{start_seen};
-ghost use Rattle.sip_field.specs.declared.field_name.FieldName.TheVariants as Name;
+ghost use Rattle.sip_edit.specs.form.ViewStart.{start_seen};
+ghost use Rattle.sip_edit.specs.field.declared.field_name.FieldName.TheVariants as Name;
 ghost use Rattle.sip_edit.specs.Onward as Spec;
 ghost use Rattle.sip_onward.specs.Lowering as Lowering;
-ghost use Rattle.sip_credentials.specs.Credentials.{is_realm};
+ghost use Rattle.sip_edit.specs.credentials.Credentials.{is_realm};
 
 use crate::record_route::record_route;
-use sip_credentials::credentials_of;
-use sip_header::{MaxForwards, max_forwards_of};
-use sip_message::{FieldName, Value, View, ViewField, ViewFields, ViewName, ViewStart};
-use sip_text::Bytes;
-use sip_uri::{UriError, parse_uri, write_uri};
-use sip_way::{Own, RoutesKept, kept_routes, way_of};
+use sip_edit::credentials::credentials_of;
+use sip_edit::header::{MaxForwards, max_forwards_of};
+use sip_edit::message::{FieldName, Value, View, ViewField, ViewFields, ViewName, ViewStart};
+use sip_edit::text::Bytes;
+use sip_edit::uri::{UriError, parse_uri, write_uri};
+use sip_edit::way::{Own, RoutesKept, kept_routes, way_of};
 use std::alloc::{AllocError, Global};
 
 /// The most fields that a request gets on its way: this server's Via and Record-Route, and a Max-Forwards.

@@ -2,9 +2,9 @@ ghost use Rattle.std.specs.Prelude.{◌≡◌, ◌++◌, IfOk, OnOk};
 ghost use Rattle.sip_edit.specs.Onward as Spec;
 
 use crate::onward::put_all;
-use sip_message::{FieldName, Value, View, ViewField, ViewFields, ViewName};
-use sip_text::Bytes;
-use sip_way::Own;
+use sip_edit::message::{FieldName, Value, View, ViewField, ViewFields, ViewName};
+use sip_edit::text::Bytes;
+use sip_edit::way::Own;
 use std::alloc::{AllocError, Global};
 
 /// The value of this server's Record-Route.

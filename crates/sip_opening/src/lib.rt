@@ -108,7 +108,9 @@ pub mod key {
 
 /// Of `sip_location`.
 pub mod location {
-    pub use sip_branches::location::{Binding, LocationError, Locations, Plan, Registration};
+    pub use sip_branches::location::{
+        Binding, LiveBindings, LocationError, Locations, Plan, Registration,
+    };
 }
 
 /// Of `sip_way`.

@@ -9,3 +9,6 @@ pub mod Decision
 pub mod Policy
 pub mod PolicyError
 pub mod Examples
+pub use Rattle.sip_uri.specs.text
+pub use Rattle.sip_uri.specs.host
+pub use Rattle.sip_uri.specs as uri

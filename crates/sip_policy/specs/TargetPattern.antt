@@ -2,7 +2,7 @@
 use Rattle.std.specs.Prelude.{ℕ, Bool, true, ◌&&◌, nat_eq, List, Option, Some, None}
 use Rattle.std.specs.List.{starts_with}
 use Rattle.std.specs.Str.{bytes_eq}
-use Rattle.sip_text.specs.Words.{is_same_text}
+use Rattle.sip_uri.specs.text.Words.{is_same_text}
 use Rattle.sip_uri.specs.declared.aor.Aor.{Aor}
 use Rattle.sip_policy.specs.declared.user.User.{User}
 use Rattle.sip_policy.specs.declared.target_pattern.TargetPattern.{TargetPattern}

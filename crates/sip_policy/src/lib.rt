@@ -34,3 +34,18 @@ pub use user::User;
 pub use users::Users;
 pub use who::Who;
 pub use window::{Window, holds, minute_of};
+
+/// Of `sip_text`.
+pub mod text {
+    pub use sip_uri::text::{Bytes, Items, same_bytes, same_no_case};
+}
+
+/// Of `sip_host`.
+pub mod host {
+    pub use sip_uri::host::Addr;
+}
+
+/// Of `sip_uri`.
+pub mod uri {
+    pub use sip_uri::{Parameter, Uri, UriError, UserInfo, parse_uri};
+}

@@ -10,8 +10,8 @@ use crate::rules::Rules;
 use crate::ruling::{Ruling, ruling_by};
 use crate::texts::copy_texts;
 use crate::users::Users;
-use sip_text::{Bytes, Items};
 use sip_uri::Aor;
+use sip_uri::text::{Bytes, Items};
 use std::alloc::{AllocError, Global};
 use std::marker::Model;
 

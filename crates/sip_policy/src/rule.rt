@@ -10,8 +10,8 @@ use crate::target_pattern::TargetPattern;
 use crate::users::Users;
 use crate::who::Who;
 use crate::window::{Window, holds};
-use sip_text::Bytes;
 use sip_uri::Aor;
+use sip_uri::text::Bytes;
 use std::alloc::AllocError;
 
 /// A policy rule.

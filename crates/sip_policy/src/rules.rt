@@ -9,8 +9,8 @@ use crate::operation::Operation;
 use crate::rule::Rule;
 use crate::ruling::Ruling;
 use crate::users::Users;
-use sip_text::{Bytes, Items};
 use sip_uri::Aor;
+use sip_uri::text::{Bytes, Items};
 use std::alloc::Global;
 
 /// Rules in the order of the file, of which the first that holds at the minute of a request and matches it

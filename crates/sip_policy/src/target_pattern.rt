@@ -5,8 +5,8 @@ ghost use Rattle.sip_policy.specs.TargetPattern.{is_own_name, matches_target};
 
 use crate::domains::is_own_domain;
 use crate::users::Users;
-use sip_text::{Bytes, same_bytes, same_no_case};
 use sip_uri::Aor;
+use sip_uri::text::{Bytes, same_bytes, same_no_case};
 use std::alloc::AllocError;
 
 /// The target pattern of a rule: addresses of record.

@@ -1,6 +1,6 @@
 ghost use Rattle.std.specs.Prelude.{◌≡◌, IfOk};
 
-use sip_text::{Bytes, Items};
+use sip_uri::text::{Bytes, Items};
 use std::alloc::{AllocError, Global};
 
 /// Texts, copied.

@@ -3,7 +3,7 @@ ghost use Rattle.std.specs.List.{list_any};
 ghost use Rattle.std.specs.Str.{bytes_eq};
 
 use crate::texts::copy_texts;
-use sip_text::{Bytes, Items, same_bytes};
+use sip_uri::text::{Bytes, Items, same_bytes};
 use std::alloc::{AllocError, Global};
 
 /// A configured user.

@@ -10,7 +10,7 @@ ghost use Rattle.sip_policy.specs.declared.error.PolicyError.TheVariants.{NoMemo
 use crate::error::PolicyError;
 use crate::user::User;
 use indexmap::IndexSet;
-use sip_text::Items;
+use sip_uri::text::Items;
 use std::alloc::{AllocError, Global};
 use std::marker::Model;
 

@@ -4,7 +4,7 @@ ghost use Rattle.sip_policy.specs.Rule.{is_anyone};
 ghost use Rattle.sip_policy.specs.Who.{matches_who};
 
 use crate::users::Users;
-use sip_text::{Bytes, same_bytes};
+use sip_uri::text::{Bytes, same_bytes};
 use std::alloc::AllocError;
 
 /// The user pattern of a rule.

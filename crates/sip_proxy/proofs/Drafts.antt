@@ -8,7 +8,7 @@ use Rattle.sip_forwarding.specs.inputs.declared.sending.Sending.{Sending}
 use Rattle.sip_forwarding.specs.inputs.Inputs.{Outcome, outcome, outcome_of}
 use Rattle.sip_forwarding.specs.state.declared.open_request.OpenRequest.{OpenRequest}
 use Rattle.sip_forwarding.specs.state.declared.server.Server.{Server}
-use Rattle.sip_keeping.specs.Keeping.{IsKeptAs, IsOf}
+use Rattle.sip_fork.specs.keeping.Keeping.{IsKeptAs, IsOf}
 use Rattle.sip_proxy.specs.declared.drafting.Draft.{Draft}
 use Rattle.sip_proxy.specs.Drafts.{IsDrafted}
 

@@ -1,2 +1,4 @@
 mod Drafts
-mod Fitting
+mod OnTime
+mod Places
+mod Verdicts

@@ -6,7 +6,7 @@ use Rattle.sip_forwarding.specs.inputs.declared.input.Input.{Input}
 use Rattle.sip_forwarding.specs.inputs.Inputs.{outcome_of}
 use Rattle.sip_forwarding.specs.state.declared.open_request.OpenRequest.{OpenRequest}
 use Rattle.sip_forwarding.specs.state.declared.server.Server.{Server}
-use Rattle.sip_keeping.specs.Keeping.{IsKeptAs}
+use Rattle.sip_fork.specs.keeping.Keeping.{IsKeptAs}
 use Rattle.sip_proxy.specs.declared.drafting.Draft.{Draft}
 
 -- What was drafted of an input to an open request: the request as it becomes, which is kept, with what is sent and what the dialogs learn.

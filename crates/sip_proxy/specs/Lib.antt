@@ -1,2 +1,47 @@
 pub mod Drafts
 pub mod Proxy
+pub use Rattle.sip_forwarding.specs.digest
+pub use Rattle.sip_forwarding.specs.shared
+pub use Rattle.sip_forwarding.specs.text
+pub use Rattle.sip_forwarding.specs.field
+pub use Rattle.sip_forwarding.specs.host
+pub use Rattle.sip_forwarding.specs.nonces
+pub use Rattle.sip_forwarding.specs.uri
+pub use Rattle.sip_forwarding.specs.view
+pub use Rattle.sip_forwarding.specs.audit
+pub use Rattle.sip_forwarding.specs.form
+pub use Rattle.sip_forwarding.specs.policy
+pub use Rattle.sip_forwarding.specs.best
+pub use Rattle.sip_forwarding.specs.event
+pub use Rattle.sip_forwarding.specs.hops
+pub use Rattle.sip_forwarding.specs.message
+pub use Rattle.sip_forwarding.specs.header
+pub use Rattle.sip_forwarding.specs.dialog
+pub use Rattle.sip_forwarding.specs.key
+pub use Rattle.sip_forwarding.specs.location
+pub use Rattle.sip_forwarding.specs.way
+pub use Rattle.sip_forwarding.specs.auth
+pub use Rattle.sip_forwarding.specs.edit
+pub use Rattle.sip_forwarding.specs.settings
+pub use Rattle.sip_forwarding.specs.targets
+pub use Rattle.sip_forwarding.specs.validate
+pub use Rattle.sip_forwarding.specs.onward
+pub use Rattle.sip_forwarding.specs.reply
+pub use Rattle.sip_forwarding.specs.state
+pub use Rattle.sip_forwarding.specs.context
+pub use Rattle.sip_forwarding.specs.retransmission
+pub use Rattle.sip_forwarding.specs.verdict
+pub use Rattle.sip_forwarding.specs.model
+pub use Rattle.sip_forwarding.specs.processing
+pub use Rattle.sip_forwarding.specs.resend
+pub use Rattle.sip_forwarding.specs.fitting
+pub use Rattle.sip_forwarding.specs.moments
+pub use Rattle.sip_forwarding.specs.inputs
+pub use Rattle.sip_forwarding.specs.learning
+pub use Rattle.sip_forwarding.specs.opening
+pub use Rattle.sip_fork.specs.timers
+pub use Rattle.sip_arrival.specs.judge
+pub use Rattle.sip_arrival.specs as arrival
+pub use Rattle.sip_fork.specs as fork
+pub use Rattle.sip_fork.specs.keeping
+pub use Rattle.sip_forwarding.specs as forwarding

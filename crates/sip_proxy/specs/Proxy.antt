@@ -1,5 +1,6 @@
 -- What a proxy knows while it runs (RFC 3261 16).
 use Rattle.std.specs.Prelude.{ℕ, ◌≡◌, ◌≤◌, ◌<◌, ◌+◌, ◌^◌, List}
+use Rattle.std.specs.List.{All}
 use Rattle.sip_fork.specs.timers.declared.timer.Timer.{Timer}
 use Rattle.sip_forwarding.specs.dialog.Sameness.{SameDialogs}
 use Rattle.sip_forwarding.specs.learning.declared.lesson.Lesson.{Lesson}
@@ -7,6 +8,7 @@ use Rattle.sip_forwarding.specs.learning.Lessons.{after_lessons}
 use Rattle.sip_forwarding.specs.location.declared.binding.Binding.{Binding}
 use Rattle.sip_forwarding.specs.model.Step.{NoneBefore, NoneAgainBefore}
 use Rattle.sip_forwarding.specs.nonces.declared.nonces.Nonce.{Nonce}
+use Rattle.sip_forwarding.specs.opening.declared.arrival.Arrival.{Arrival}
 use Rattle.sip_forwarding.specs.state.declared.open_request.OpenRequest.{OpenRequest}
 use Rattle.sip_forwarding.specs.state.declared.proxy_state.ProxyState.{ProxyState}
 
@@ -22,6 +24,13 @@ pub record MayCome (state : ProxyState) (now : ℕ) : Type 0 where
   pub small : now < 2 ^ 62
   pub none_before : NoneBefore now state.requests
   pub none_again : NoneAgainBefore now state.requests
+
+-- A datagram may come: it has the next number, which all open requests are below, and its moment may come.
+pub record IsComing (state : ProxyState) (a : Arrival) : Type 0 where
+  pub number_is : a.number ≡ state.next
+  pub small : state.next < 2 ^ 62
+  pub moment : MayCome state a.now
+  pub below : All (λ (r : OpenRequest). r.number < state.next) state.requests
 
 -- ---- changes
 

@@ -9,11 +9,12 @@ ghost use Rattle.sip_forwarding.specs.model.Step.{NoneBefore, NoneAgainBefore};
 ghost use Rattle.sip_forwarding.specs.moments.Near.{IsWithin};
 ghost use Rattle.sip_forwarding.specs.state.State.{has_key, with_one_more};
 ghost use Rattle.sip_forwarding.specs.state.declared.open_request.OpenRequest.{OpenRequest};
-ghost use Rattle.sip_keeping.specs.Keeping.{IsKeptAs};
+ghost use Rattle.sip_fork.specs.keeping.Keeping.{IsKeptAs};
 ghost use Rattle.sip_proxy.specs.Proxy.{Becomes, MayCome};
 
 use crate::drafting::Draft;
 use crate::proxy::Proxy;
+use sip_fork::keeping::moments::time_passes;
 use sip_fork::timers::Timers;
 use sip_fork::{Change, Contexts};
 use sip_forwarding::Drafted;
@@ -21,7 +22,6 @@ use sip_forwarding::dialog::Dialogs;
 use sip_forwarding::event::Packet;
 use sip_forwarding::learning::Lessons;
 use sip_forwarding::text::Items;
-use sip_keeping::moments::time_passes;
 use std::alloc::AllocError;
 
 /// Makes room for the timers of a request. `AllocError` is the only refusal.
@@ -39,7 +39,7 @@ fn reserve_timers<T: Timers>(contexts: &mut Contexts<T>, change: &Change) -> Res
 }
 
 /// Makes room for a dialog that lessons may make known. `AllocError` is the only refusal.
-fn reserve_dialog(dialogs: &mut Dialogs, lessons: &Lessons) -> Result<(), AllocError>
+pub(crate) fn reserve_dialog(dialogs: &mut Dialogs, lessons: &Lessons) -> Result<(), AllocError>
     requires few { beginnings lessons.now ≤ 1 }
     ensures dialogs { dialogs.new.dialogs ≡ dialogs.old.dialogs }
     ensures ok { OnOk result (beginnings lessons.now ≤ dialogs.new.room) }
@@ -51,7 +51,7 @@ fn reserve_dialog(dialogs: &mut Dialogs, lessons: &Lessons) -> Result<(), AllocE
 }
 
 /// What is near a moment fits once the moment has come.
-fn fits_once_it_came()
+pub(crate) fn fits_once_it_came()
     ensures fitting { (old now reached free : ℕ) (r : OpenRequest) → reached ≡ max old (now - 1) → Fits r → IsWithin now r → most_timers r ≤ free → IsFitting reached free r }
     ensures within { (old now moment : ℕ) (r : OpenRequest) → moment ≡ max old now → IsWithin now r → IsWithin moment r }
 {
@@ -77,7 +77,7 @@ fn change_at<T: Timers>(contexts: &mut Contexts<T>, now: u64, place: usize, chan
 }
 
 /// A moment comes, and a request is opened. Takes no memory.
-fn open_at<T: Timers>(contexts: &mut Contexts<T>, now: u64, change: Change)
+pub(crate) fn open_at<T: Timers>(contexts: &mut Contexts<T>, now: u64, change: Change)
     requires few { length contexts.old.requests < 1024 }
     requires places { 1 ≤ contexts.old.places }
     requires last { All (λ (r : OpenRequest). r.number < change.number) contexts.old.requests }
@@ -91,6 +91,8 @@ fn open_at<T: Timers>(contexts: &mut Contexts<T>, now: u64, change: Change)
     requires room { most_timers change ≤ contexts.old.room }
     ensures requests { contexts.new.requests ≡ with_one_more change contexts.old.requests }
     ensures moment { contexts.new.moment ≡ now }
+    ensures reached { contexts.new.reached ≡ max contexts.old.reached (now - 1) }
+    ensures room { contexts.old.room ≤ contexts.new.room + most_timers change }
 {
     fits_once_it_came();
     contexts.reach(now);
@@ -157,6 +159,22 @@ impl<T: Timers> Proxy<T> {
         reserve_open(&mut self.contexts, &change)?;
         reserve_dialog(&mut self.dialogs, &lessons)?;
         open_at(&mut self.contexts, now, change);
+        lessons.take(&mut self.dialogs, now);
+        Ok(())
+    }
+
+    /// At a moment in milliseconds the dialogs learn, and no open request changes: an ACK that goes on renews its dialog (RFC
+    /// 3261 12.2, 13.2.2.4). Refused with `AllocError` where there is no memory for a dialog; nothing is changed then.
+    pub fn learn(&mut self, now: u64, lessons: Lessons) -> Result<(), AllocError>
+        requires moment { MayCome self.old.state now }
+        requires few { beginnings lessons ≤ 1 }
+        ensures becomes { OnOk result (Becomes now self.old.state.requests lessons self.old.state self.new.state) }
+        ensures unchanged { OnErr result (self.new.state ≡ self.old.state) }
+        ensures timers { self.new.timers ≡ self.old.timers }
+        ensures room { self.new.room ≡ self.old.room }
+    {
+        reserve_dialog(&mut self.dialogs, &lessons)?;
+        self.contexts.reach(now);
         lessons.take(&mut self.dialogs, now);
         Ok(())
     }

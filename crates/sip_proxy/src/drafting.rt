@@ -1,5 +1,5 @@
 ghost use Rattle.std.specs.Prelude.{◌≡◌, ◌≤◌, ◌<◌, ◌^◌, ℕ, length, slice_get, Some, IfOk};
-ghost use Rattle.sip_keeping.specs.Keeping.{IsOf};
+ghost use Rattle.sip_fork.specs.keeping.Keeping.{IsOf};
 ghost use Rattle.sip_forwarding.specs.Forwarding.{IsInputTo};
 ghost use Rattle.sip_forwarding.specs.inputs.declared.input.Input.{Input};
 ghost use Rattle.sip_forwarding.specs.state.declared.open_request.OpenRequest.{OpenRequest};

@@ -5,6 +5,7 @@ ghost use Rattle.sip_fork.specs.Due.{IsFirst, IsNothingDue};
 ghost use Rattle.sip_fork.specs.Places.{branch_at};
 ghost use Rattle.sip_forwarding.specs.context.FoundBranch.{found_branch};
 ghost use Rattle.sip_forwarding.specs.key.Key.{same_key};
+ghost use Rattle.sip_forwarding.specs.location.Binding.{live};
 ghost use Rattle.sip_forwarding.specs.state.State.{first_state, has_key};
 ghost use Rattle.sip_forwarding.specs.state.declared.branch.Branch.{Branch};
 ghost use Rattle.sip_forwarding.specs.state.declared.open_request.OpenRequest.{OpenRequest};
@@ -15,9 +16,10 @@ use sip_fork::timers::Timers;
 use sip_fork::{Contexts, First};
 use sip_forwarding::dialog::Dialogs;
 use sip_forwarding::key::Key;
-use sip_forwarding::location::Locations;
+use sip_forwarding::location::{LiveBindings, Locations};
 use sip_forwarding::nonces::Nonces;
 use sip_forwarding::state::{OpenRequest, Server};
+use sip_forwarding::uri::Aor;
 use std::alloc::{AllocError, Global};
 use std::marker::Model;
 
@@ -95,6 +97,14 @@ impl<T: Timers> Proxy<T> {
     {
         let _open = &self.contexts;
         self.next
+    }
+
+    /// The live bindings of an address of record at the last moment, in their order, lent. Takes no memory.
+    pub fn bindings(&self, aor: &Aor) -> LiveBindings<'_>
+        ensures { result ≡ live aor.now self.now.state.moment self.now.state.bindings }
+    {
+        let moment = self.contexts.moment();
+        self.locations.live(aor, moment)
     }
 
     /// How many requests are open: at most 1,024. Their numbers rise, and their keys differ.

@@ -1,9 +1,9 @@
 -- Worked examples.
 use Rattle.std.specs.Prelude.{ℕ, Bool, List, [], ◌∷◌, ◌++◌, codes, false}
-use Rattle.sip_field.specs.declared.field_name.FieldName.TheVariants as Name
-use Rattle.sip_field.specs.declared.field.Field.{Field}
-use Rattle.sip_form.specs.declared.message.Start.TheVariants.{Request}
-use Rattle.sip_form.specs.declared.message.Message.{Message}
+use Rattle.sip_edit.specs.field.declared.field_name.FieldName.TheVariants as Name
+use Rattle.sip_edit.specs.field.declared.field.Field.{Field}
+use Rattle.sip_edit.specs.form.declared.message.Start.TheVariants.{Request}
+use Rattle.sip_edit.specs.form.declared.message.Message.{Message}
 use Rattle.sip_edit.specs.Examples.{client}
 use Rattle.sip_edit.specs.ReceivedRequest.{received}
 use Rattle.sip_reply.specs.Challenges.{challenge_fields}

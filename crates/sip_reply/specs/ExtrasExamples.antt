@@ -1,10 +1,10 @@
 -- Requests that are refused, for the worked examples.
 use Rattle.std.specs.Prelude.{ℕ, List, [], ◌∷◌, ◌++◌, codes}
-use Rattle.sip_field.specs.declared.field_name.FieldName.TheVariants as Name
-use Rattle.sip_field.specs.declared.field.Field.{Field}
-use Rattle.sip_form.specs.declared.message.Start.TheVariants.{Request}
-use Rattle.sip_form.specs.declared.message.Message.{Message}
-use Rattle.sip_form.specs.Text.{text_of}
+use Rattle.sip_edit.specs.field.declared.field_name.FieldName.TheVariants as Name
+use Rattle.sip_edit.specs.field.declared.field.Field.{Field}
+use Rattle.sip_edit.specs.form.declared.message.Start.TheVariants.{Request}
+use Rattle.sip_edit.specs.form.declared.message.Message.{Message}
+use Rattle.sip_edit.specs.form.Text.{text_of}
 use Rattle.sip_edit.specs.Examples.{client}
 use Rattle.sip_edit.specs.ReceivedRequest.{received}
 use Rattle.sip_reply.specs.Reply.{reply_of}

@@ -2,8 +2,8 @@ ghost use Rattle.std.specs.Prelude.{◌≡◌, [], ◌∷◌, ◌++◌, IfOk, On
 ghost use Rattle.sip_reply.specs.Challenges;
 
 use sip_digest::Algorithm;
-use sip_message::{Field, FieldName, Fields};
-use sip_text::Bytes;
+use sip_edit::message::{Field, FieldName, Fields};
+use sip_uri::text::Bytes;
 use std::alloc::{AllocError, Global};
 
 /// What says that only the nonce was wrong.

@@ -1,7 +1,7 @@
 ghost use Rattle.std.specs.Prelude.{◌≡◌, IfOk};
 ghost use Rattle.sip_reply.specs.Contacts;
 
-use sip_text::Bytes;
+use sip_uri::text::Bytes;
 use std::alloc::{AllocError, Global};
 
 /// The value of Contact that lists a binding of a URI, given as its text, with the whole seconds that it

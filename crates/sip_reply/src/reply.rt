@@ -1,16 +1,16 @@
 ghost use Rattle.std.specs.Prelude.{◌≡◌, ◌++◌, map, option_map, IfOk, OnOk};
 ghost use Rattle.std.specs.Option.{option_to_list};
-ghost use Rattle.sip_field.specs.Named.{first_named};
+ghost use Rattle.sip_edit.specs.field.Named.{first_named};
 ghost use Rattle.sip_edit.specs.FirstField.{first_of};
-ghost use Rattle.sip_form.specs.Text.{text_of};
+ghost use Rattle.sip_edit.specs.form.Text.{text_of};
 ghost use Rattle.sip_reply.specs.Reply;
-ghost use Rattle.sip_header.specs.NameAddr.{name_addr_of};
+ghost use Rattle.sip_edit.specs.header.NameAddr.{name_addr_of};
 
 use crate::reasons::reason_of;
-use sip_header::{name_addr_of, tag_of};
-use sip_message::{FieldName, Fields, View, ViewStart, write_view};
-use sip_text::Bytes;
-use sip_view::{Value, ViewField, ViewFields};
+use sip_edit::header::{name_addr_of, tag_of};
+use sip_edit::message::{FieldName, Fields, View, ViewStart, write_view};
+use sip_edit::view::{Value, ViewField, ViewFields};
+use sip_uri::text::Bytes;
 use std::alloc::{AllocError, Global};
 
 /// The most fields of a response that stand once: From, To, Call-ID, CSeq and Timestamp.

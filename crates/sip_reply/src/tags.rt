@@ -1,7 +1,7 @@
 ghost use Rattle.std.specs.Prelude.{◌≡◌, IfOk};
 ghost use Rattle.sip_reply.specs.Tags;
 
-use sip_text::{Bytes, hex_text};
+use sip_uri::text::{Bytes, hex_text};
 use std::alloc::{AllocError, Global};
 
 /// The To tag of the answers to the request that the datagram with this number brought, of the run of the

@@ -31,3 +31,4 @@ pub use Rattle.sip_inputs.specs.retransmission
 pub use Rattle.sip_inputs.specs.processing
 pub use Rattle.sip_inputs.specs.resend
 pub use Rattle.sip_inputs.specs as inputs
+pub use Rattle.sip_running.specs as running

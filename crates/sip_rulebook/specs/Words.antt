@@ -1,8 +1,8 @@
 -- The texts of a rule (this project's profile).
 use Rattle.std.specs.Prelude.{ℕ, Bool, true, false, ◌&&◌, ◌||◌, is_some, if◌then◌else◌, position, List, [], ◌∷◌, codes, Option, None, Some, Result, Ok, Err}
 use Rattle.std.specs.Str.{byte, bytes_eq}
-use Rattle.sip_text.specs.Splits.{split_at_byte}
-use Rattle.sip_host.specs.Host.{is_host}
+use Rattle.sip_values.specs.text.Splits.{split_at_byte}
+use Rattle.sip_values.specs.host.Host.{is_host}
 use Rattle.sip_hops.specs.declared.hop.Hop.{Hop}
 use Rattle.sip_policy.specs.declared.user.User.{User}
 use Rattle.sip_policy.specs.User.{is_users_name}

@@ -10,7 +10,7 @@ ghost use Rattle.sip_rulebook.specs.Rules as Definitions;
 use crate::words::{is_verdict, operation_of, target_of, verdict_of, who_of};
 use sip_hops::Hop;
 use sip_policy::{OperationPattern, Rule, RuleVerdict, TargetPattern, User, Users, Who, Window};
-use sip_text::{Bytes, Items};
+use sip_values::text::{Bytes, Items};
 use sip_values::{ConfigError, Names, confirm, find, needed, number_between, table_of, text_of};
 use std::alloc::Global;
 use toml::{Table, Value};

@@ -5,9 +5,9 @@ ghost use Rattle.sip_rulebook.specs.Words as Definitions;
 ghost use Rattle.sip_rulebook.specs.Words.{is_hop};
 
 use sip_hops::Hop;
-use sip_host::is_host;
 use sip_policy::{OperationPattern, RuleVerdict, TargetPattern, Users, Who};
-use sip_text::{Bytes, same_bytes, split_once};
+use sip_values::host::is_host;
+use sip_values::text::{Bytes, same_bytes, split_once};
 use sip_values::{ConfigError, is_name, is_sent_method};
 use std::alloc::Global;
 

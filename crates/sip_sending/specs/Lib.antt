@@ -1,3 +1,3 @@
 pub mod Base
-pub use Rattle.sip_message.specs as message
+pub use Rattle.sip_onward.specs.message
 pub use Rattle.sip_onward.specs as onward

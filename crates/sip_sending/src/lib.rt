@@ -12,7 +12,7 @@ pub use received::received_value;
 
 /// Of `sip_message`.
 pub mod message {
-    pub use sip_message::{FieldName, Fields, View, write_view};
+    pub use sip_onward::message::{FieldName, Fields, View, write_view};
 }
 
 /// Of `sip_onward`.

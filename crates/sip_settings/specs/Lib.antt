@@ -1,1 +1,2 @@
 pub mod Sample
+pub use Rattle.sip_hops.specs as hops

@@ -1,6 +1,6 @@
 use sip_hops::{Hop, HostAddress};
+use sip_policy::text::{Bytes, Items};
 use sip_policy::{Rule, Users};
-use sip_text::{Bytes, Items};
 use sip_way::Own;
 
 /// What a server is told before it starts.

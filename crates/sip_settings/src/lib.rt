@@ -6,3 +6,13 @@ mod samples;
 
 pub use config::Config;
 pub use samples::sample;
+
+/// Of `sip_hops`.
+pub mod hops {
+    pub use sip_hops::{Hop, Hops, HostAddress};
+}
+
+/// Of `sip_way`.
+pub mod way {
+    pub use sip_way::Own;
+}

@@ -10,9 +10,9 @@ ghost use Rattle.sip_settings.specs.Sample;
 
 use crate::config::Config;
 use sip_hops::{Hop, HostAddress};
-use sip_host::Addr;
+use sip_policy::host::Addr;
+use sip_policy::text::{Bytes, Items};
 use sip_policy::{OperationPattern, Rule, RuleVerdict, TargetPattern, User, Users, Who};
-use sip_text::{Bytes, Items};
 use sip_way::Own;
 use std::alloc::{AllocError, Global};
 

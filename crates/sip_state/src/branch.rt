@@ -1,7 +1,7 @@
 use crate::resend::Resend;
-use sip_host::Addr;
-use sip_shared::Shared;
-use sip_text::Bytes;
+use sip_best::shared::Shared;
+use sip_best::text::Bytes;
+use sip_dialog::host::Addr;
 
 /// How far a branch is, with its deadline in milliseconds.
 #[derive(Clone, Copy)]

@@ -19,22 +19,22 @@ pub use server::Server;
 
 /// Of `sip_shared`.
 pub mod shared {
-    pub use sip_shared::Shared;
+    pub use sip_best::shared::Shared;
 }
 
 /// Of `sip_text`.
 pub mod text {
-    pub use sip_text::{Bytes, Items, Text};
+    pub use sip_best::text::{Bytes, Items, Text};
 }
 
 /// Of `sip_field`.
 pub mod field {
-    pub use sip_field::{Field, FieldName, Fields};
+    pub use sip_best::field::{Field, FieldName, Fields};
 }
 
 /// Of `sip_host`.
 pub mod host {
-    pub use sip_host::Addr;
+    pub use sip_dialog::host::Addr;
 }
 
 /// Of `sip_nonces`.
@@ -44,12 +44,12 @@ pub mod nonces {
 
 /// Of `sip_uri`.
 pub mod uri {
-    pub use sip_uri::{Aor, Uri, aor_of, write_uri};
+    pub use sip_dialog::uri::{Aor, Uri, aor_of, write_uri};
 }
 
 /// Of `sip_form`.
 pub mod form {
-    pub use sip_form::{Kept, View, ViewStart, write_view};
+    pub use sip_best::form::{Kept, View, ViewStart, write_view};
 }
 
 /// Of `sip_best`.
@@ -59,12 +59,12 @@ pub mod best {
 
 /// Of `sip_hops`.
 pub mod hops {
-    pub use sip_hops::{Hop, Hops, HostAddress};
+    pub use sip_settings::hops::{Hop, Hops, HostAddress};
 }
 
 /// Of `sip_header`.
 pub mod header {
-    pub use sip_header::{
+    pub use sip_dialog::header::{
         AnyUri, ContactItem, CoreFields, HeaderError, NameAddr, Parameter, contact_of, core_of,
         expires_of, name_addr_of, route_of, tag_of, via_of,
     };
@@ -82,10 +82,15 @@ pub mod key {
 
 /// Of `sip_location`.
 pub mod location {
-    pub use sip_location::{Binding, LocationError, Locations, Plan, Registration};
+    pub use sip_location::{Binding, LiveBindings, LocationError, Locations, Plan, Registration};
 }
 
 /// Of `sip_settings`.
 pub mod settings {
     pub use sip_settings::Config;
+}
+
+/// Of `sip_view`.
+pub mod view {
+    pub use sip_best::view::{ViewField, ViewFields};
 }

@@ -1,11 +1,11 @@
 use crate::branch::Branch;
 use crate::resend::Resend;
 use sip_best::Final;
-use sip_form::Kept;
-use sip_host::Addr;
+use sip_best::form::Kept;
+use sip_best::shared::Shared;
+use sip_best::text::{Bytes, Items};
+use sip_dialog::host::Addr;
 use sip_key::Key;
-use sip_shared::Shared;
-use sip_text::{Bytes, Items};
 
 /// How far the answering side of a request is, with its deadline in milliseconds.
 #[derive(Clone, Copy)]

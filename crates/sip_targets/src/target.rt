@@ -2,11 +2,11 @@ ghost use Rattle.std.specs.Prelude.{◌≡◌, not, filter, IfOk};
 ghost use Rattle.sip_targets.specs.Target as Definitions;
 ghost use Rattle.sip_targets.specs.Target.{target_for};
 
-use sip_equality::says_same_no_case;
 use sip_hops::Hops;
-use sip_host::Addr;
-use sip_text::{Bytes, Items};
-use sip_uri::{Parameter, Uri, UserInfo};
+use sip_hops::equality::says_same_no_case;
+use sip_policy::host::Addr;
+use sip_policy::text::{Bytes, Items};
+use sip_policy::uri::{Parameter, Uri, UserInfo};
 use std::alloc::{AllocError, Global};
 
 /// A place that a request is sent to (RFC 3261 16.5).

@@ -5,11 +5,11 @@ ghost use Rattle.sip_targets.specs.Targets as Definitions;
 use crate::target::Target;
 use crate::targets::Targets;
 use sip_hops::Hops;
-use sip_host::Addr;
 use sip_location::LiveBindings;
 use sip_policy::Decision;
-use sip_text::Items;
-use sip_uri::Uri;
+use sip_policy::host::Addr;
+use sip_policy::text::Items;
+use sip_policy::uri::Uri;
 use std::alloc::{AllocError, Global};
 
 /// One target for each binding, in their order.

@@ -1,7 +1,7 @@
 use crate::target::Target;
-use sip_host::Addr;
-use sip_text::Items;
-use sip_uri::Uri;
+use sip_policy::host::Addr;
+use sip_policy::text::Items;
+use sip_policy::uri::Uri;
 
 /// Where a request goes that policy lets through.
 #[derive(Drop)]

@@ -5,3 +5,5 @@ pub mod Reading
 pub mod Aor
 pub mod Examples
 pub mod UriError
+pub use Rattle.sip_host.specs.text
+pub use Rattle.sip_host.specs as host

@@ -2,8 +2,8 @@
 use Rattle.std.specs.Prelude.{◌≡◌, ◌⊎◌, ℕ, ◌==◌, List, [], ◌∷◌, Option, Some, None, option_map, Result, Ok, Err, if◌then◌else◌}
 use Rattle.std.specs.Option.{ok_or, option_and_then}
 use Rattle.std.specs.Str.{byte}
-use Rattle.sip_text.specs.Lists.{onto}
-use Rattle.sip_text.specs.Splits.{split_at_byte}
+use Rattle.sip_host.specs.text.Lists.{onto}
+use Rattle.sip_host.specs.text.Splits.{split_at_byte}
 use Rattle.sip_uri.specs.declared.error.UriError.{UriError}
 use Rattle.sip_uri.specs.declared.error.UriError.TheVariants.{NoMemory, Syntax}
 use Rattle.sip_uri.specs.declared.scheme.Scheme.{Scheme}

@@ -2,7 +2,7 @@
 use Rattle.std.specs.Prelude.{◌≡◌, ℕ, Bool, true, ◌&&◌, not, List, [], ◌∷◌, ◌++◌, codes, Option, Some, None}
 use Rattle.std.specs.List.{flat_map, list_all, list_any}
 use Rattle.std.specs.Str.{byte}
-use Rattle.sip_text.specs.Words.{is_same_text}
+use Rattle.sip_host.specs.text.Words.{is_same_text}
 use Rattle.sip_uri.specs.declared.user.UserInfo.{UserInfo}
 use Rattle.sip_uri.specs.declared.parameters.Parameter.{Parameter}
 use Rattle.sip_uri.specs.declared.headers.UriHeader.{UriHeader}

@@ -27,3 +27,13 @@ pub use sip_host::{host_port, is_host};
 pub use uri::Uri;
 pub use user::UserInfo;
 pub use writing::write_uri;
+
+/// Of `sip_text`.
+pub mod text {
+    pub use sip_host::text::{Bytes, Items, Text, hex_text, same_bytes, same_no_case, split_once};
+}
+
+/// Of `sip_host`.
+pub mod host {
+    pub use sip_host::{Addr, host_port, ip_of, ip_text, is_host, port_value};
+}

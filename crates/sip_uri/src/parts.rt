@@ -1,7 +1,7 @@
 ghost use Rattle.std.specs.Prelude.{◌≡◌, IfOk, option_map};
 ghost use Rattle.sip_uri.specs.Reading;
 
-use sip_text::{Bytes, split_once};
+use sip_host::text::{Bytes, split_once};
 use std::alloc::{AllocError, Global};
 
 /// A text as a value's own, if there is one.

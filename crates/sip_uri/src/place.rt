@@ -6,7 +6,7 @@ ghost use Rattle.sip_uri.specs.declared.error.UriError.TheVariants.{Syntax};
 use crate::error::UriError;
 use crate::parts::copy_part;
 use sip_host::place_in;
-use sip_text::Bytes;
+use sip_host::text::Bytes;
 use std::alloc::Global;
 
 /// The host that a text writes, and perhaps the digits of a port behind it, as a value's own.

@@ -5,7 +5,7 @@ use crate::parameters::Parameter;
 use crate::scheme::Scheme;
 use crate::user::UserInfo;
 use sip_host::port_value;
-use sip_text::{Bytes, Items};
+use sip_host::text::{Bytes, Items};
 use std::alloc::AllocError;
 
 /// A SIP or SIPS URI (RFC 3261 19.1.1). Each text is kept as it was written, with its escapes.

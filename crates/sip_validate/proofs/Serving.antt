@@ -2,10 +2,10 @@
 use Rattle.std.proofs.Common.{◌≡◌, ◌↔◌, ℕ, Bool, true, false, not, ◌||◌, cond, is_some, List, [], Option, Some, None, option_map, Result, Ok, Err, refl, sym, ap, ◌∙◌}
 use Rattle.std.specs.Option.{ok_or, option_map_or}
 use Rattle.std.specs.Result.{result_ok}
-use Rattle.sip_form.specs.declared.message.Message.{Message}
-use Rattle.sip_form.specs.declared.message.Start.{Start}
-use Rattle.sip_form.specs.declared.message.Start.TheVariants.{Request, Status}
-use Rattle.sip_field.specs.declared.field.Field.{Field}
+use Rattle.sip_header.specs.form.declared.message.Message.{Message}
+use Rattle.sip_header.specs.form.declared.message.Start.{Start}
+use Rattle.sip_header.specs.form.declared.message.Start.TheVariants.{Request, Status}
+use Rattle.sip_view.specs.field.declared.field.Field.{Field}
 use Rattle.sip_way.specs.declared.own.Own.{Own}
 use Rattle.sip_header.specs.declared.core_fields.CoreFields.{CoreFields}
 use Rattle.sip_header.specs.CoreFields.{core_in, core_of}

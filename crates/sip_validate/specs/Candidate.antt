@@ -1,9 +1,9 @@
 -- A request that is checked.
 use Rattle.std.specs.Prelude.{ℕ, Bool, true, false, List, codes, Option, Some, None}
 use Rattle.std.specs.Str.{bytes_eq}
-use Rattle.sip_field.specs.declared.field.Field.{Field}
-use Rattle.sip_form.specs.declared.message.Start.{Start}
-use Rattle.sip_form.specs.declared.message.Start.TheVariants.{Request, Status}
+use Rattle.sip_view.specs.field.declared.field.Field.{Field}
+use Rattle.sip_header.specs.form.declared.message.Start.{Start}
+use Rattle.sip_header.specs.form.declared.message.Start.TheVariants.{Request, Status}
 use Rattle.sip_way.specs.declared.own.Own.{Own}
 use Rattle.sip_header.specs.declared.core_fields.CoreFields.{CoreFields}
 use Rattle.sip_way.specs.declared.way.Way.{Way}

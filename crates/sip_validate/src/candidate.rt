@@ -1,9 +1,9 @@
 ghost use Rattle.std.specs.Prelude.{◌≡◌, Some};
 ghost use Rattle.sip_validate.specs.Candidate.{candidate_with};
 
-use sip_form::{View, ViewStart};
 use sip_header::CoreFields;
-use sip_text::same_bytes;
+use sip_header::form::{View, ViewStart};
+use sip_uri::text::same_bytes;
 use sip_view::ViewFields;
 use sip_way::Own;
 use std::marker::Model;

@@ -1,6 +1,6 @@
 ghost use Rattle.std.specs.Prelude.{◌≡◌, IfOk, is_some, is_ok, false};
 ghost use Rattle.std.specs.List.{list_all};
-ghost use Rattle.sip_field.specs.Values.{values_of};
+ghost use Rattle.sip_view.specs.field.Values.{values_of};
 ghost use Rattle.sip_uri.specs.Reading.{reading_of};
 ghost use Rattle.sip_header.specs.Via as Vias;
 ghost use Rattle.sip_header.specs.Route as Routes;
@@ -8,11 +8,11 @@ ghost use Rattle.sip_header.specs.ContactItem as Contacts;
 ghost use Rattle.sip_validate.specs.Faults as Definition;
 
 use crate::candidate::Candidate;
-use sip_field::FieldName;
 use sip_header::{AnyUri, ContactItem, MaxForwards, contact_of, max_forwards_of, route_of, via_of};
-use sip_text::{same_bytes, same_no_case, split_once};
+use sip_uri::text::{same_bytes, same_no_case, split_once};
 use sip_uri::{UriError, parse_uri, write_uri};
 use sip_view::ViewField;
+use sip_view::field::FieldName;
 use std::alloc::{AllocError, Global};
 
 /// The most bytes of a contact's URI.

@@ -1,6 +1,6 @@
 ghost use Rattle.std.specs.Prelude.{◌≡◌, ◌↔◌, ℕ, Bool, List, Some, None, Ok, Err};
-ghost use Rattle.sip_form.specs.declared.message.Message.{Message};
-ghost use Rattle.sip_form.specs.declared.message.Start.TheVariants.{Request};
+ghost use Rattle.sip_header.specs.form.declared.message.Message.{Message};
+ghost use Rattle.sip_header.specs.form.declared.message.Start.TheVariants.{Request};
 ghost use Rattle.sip_way.specs.declared.own.Own.{Own};
 ghost use Rattle.sip_validate.specs.declared.checked.Checked.{Checked};
 ghost use Rattle.sip_validate.specs.declared.refused.Refused.{Refused};

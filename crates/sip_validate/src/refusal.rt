@@ -1,7 +1,7 @@
 ghost use Rattle.std.specs.Prelude.{◌≡◌, ◌++◌, IfOk, OnOk, codes, false, map, option_map};
 ghost use Rattle.std.specs.List.{list_any, flat_map, join_by};
 ghost use Rattle.std.specs.Option.{option_map_or};
-ghost use Rattle.sip_field.specs.Values.{values_of};
+ghost use Rattle.sip_view.specs.field.Values.{values_of};
 ghost use Rattle.sip_header.specs.Via as Vias;
 ghost use Rattle.sip_way.specs.Own as Owns;
 ghost use Rattle.sip_validate.specs.Candidate.{on_way};
@@ -11,10 +11,10 @@ ghost use Rattle.sip_validate.specs.Refused.{refused_with};
 use crate::candidate::Candidate;
 use crate::faults::has_sip_scheme;
 use crate::refused::Refused;
-use sip_field::FieldName;
 use sip_header::{MaxForwards, max_forwards_of, tag_of, via_of};
-use sip_text::{Bytes, same_bytes};
+use sip_uri::text::{Bytes, same_bytes};
 use sip_view::ViewField;
+use sip_view::field::FieldName;
 use sip_way::{Own, Way};
 use std::alloc::{AllocError, Global};
 

@@ -11,7 +11,7 @@ ghost use Rattle.sip_validate.specs.Checked.{Validates, validation_of};
 use crate::candidate::Candidate;
 use crate::checked::Checked;
 use crate::refused::Refused;
-use sip_form::{View, ViewStart};
+use sip_header::form::{View, ViewStart};
 use sip_header::{CoreFields, HeaderError, core_of};
 use sip_way::{Own, Way, way_of};
 use std::alloc::{AllocError, Global};

@@ -3,7 +3,7 @@ use Rattle.std.specs.Prelude.{ℕ, Bool, false, ◌&&◌, ◌||◌, ◌==◌, no
 use Rattle.std.specs.Char.{is_ascii_alphanumeric, is_ascii_digit}
 use Rattle.std.specs.List.{list_all, list_any}
 use Rattle.std.specs.Str.{byte, bytes_eq}
-use Rattle.sip_text.specs.Words.{is_token_text}
+use Rattle.sip_host.specs.text.Words.{is_token_text}
 use Rattle.sip_host.specs.Host.{is_host, begins_bracket}
 use Rattle.sip_values.specs.declared.grammar.Grammar.{Grammar}
 use Rattle.sip_values.specs.declared.grammar.Grammar.TheVariants.{Realm, OwnHost, HostName, Host, Name}

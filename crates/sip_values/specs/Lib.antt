@@ -3,3 +3,5 @@ pub mod Refusals
 pub mod Grammar
 pub mod Values
 pub mod Rows
+pub use Rattle.sip_host.specs.text
+pub use Rattle.sip_host.specs as host

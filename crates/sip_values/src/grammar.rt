@@ -4,7 +4,7 @@ ghost use Rattle.sip_host.specs.Host.{begins_bracket};
 ghost use Rattle.sip_values.specs.Grammar as Definitions;
 
 use sip_host::is_host;
-use sip_text::{is_token, same_bytes};
+use sip_host::text::{is_token, same_bytes};
 
 /// What a text of a configuration has to be.
 #[derive(Clone, Copy)]

@@ -6,7 +6,7 @@ ghost use Rattle.sip_values.specs.Rows as Definitions;
 use crate::error::ConfigError;
 use crate::grammar::Grammar;
 use crate::values::text_as;
-use sip_text::{Bytes, Items};
+use sip_host::text::{Bytes, Items};
 use std::alloc::Global;
 use toml::Value;
 

@@ -7,13 +7,13 @@ use Rattle.sip_context.specs.host.declared.addr.Addr.{Addr}
 use Rattle.sip_context.specs.form.declared.message.Start.{Start}
 use Rattle.sip_context.specs.form.declared.message.Start.TheVariants.{Request, Status}
 use Rattle.sip_context.specs.form.declared.message.Message.{Message}
-use Rattle.sip_message.specs.Reading.{reading_of}
+use Rattle.sip_header.specs.message.Reading.{reading_of}
 use Rattle.sip_context.specs.key.declared.key.Key.{Key}
 use Rattle.sip_header.specs.declared.core_fields.CoreFields.{CoreFields}
 use Rattle.sip_context.specs.key.Key.{key_of}
 use Rattle.sip_header.specs.CoreFields.{core_of}
 use Rattle.sip_context.specs.nonces.declared.nonces.Nonce.{Nonce}
-use Rattle.sip_policy.specs.declared.decision.Decision.{Decision}
+use Rattle.sip_auth.specs.policy.declared.decision.Decision.{Decision}
 use Rattle.sip_location.specs.declared.binding.Binding.{Binding}
 use Rattle.sip_location.specs.Sameness.{SameBindings}
 use Rattle.sip_location.proofs.Sameness.{same_later}

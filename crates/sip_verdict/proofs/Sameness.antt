@@ -6,9 +6,9 @@ use Rattle.sip_uri.specs.declared.aor.Aor.{Aor}
 use Rattle.sip_context.specs.field.declared.field.Field.{Field}
 use Rattle.sip_context.specs.form.declared.message.Message.{Message}
 use Rattle.sip_header.specs.declared.core_fields.CoreFields.{CoreFields}
-use Rattle.sip_way.specs.Way.{request_uri_of}
-use Rattle.sip_policy.specs.declared.decision.Decision.{Decision}
-use Rattle.sip_policy.specs.User.{is_users_address}
+use Rattle.sip_auth.specs.way.Way.{request_uri_of}
+use Rattle.sip_auth.specs.policy.declared.decision.Decision.{Decision}
+use Rattle.sip_auth.specs.policy.User.{is_users_address}
 use Rattle.sip_location.specs.declared.binding.Binding.{Binding}
 use Rattle.sip_location.specs.declared.error.LocationError.{LocationError}
 use Rattle.sip_location.specs.declared.error.LocationError.TheVariants.{NoMemory, BadStar, TooBrief, OldCSeq, TooMany}

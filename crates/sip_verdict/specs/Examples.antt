@@ -7,13 +7,13 @@ use Rattle.sip_context.specs.form.declared.message.Message.{Message}
 use Rattle.sip_header.specs.FieldExamples.{fields_of}
 use Rattle.sip_context.specs.hops.Examples.{local}
 use Rattle.sip_context.specs.edit.OwnVia.{branch_text}
-use Rattle.sip_policy.specs.declared.who.Who.{Who}
-use Rattle.sip_policy.specs.declared.operation.Operation.{Operation}
-use Rattle.sip_policy.specs.declared.operation.OperationPattern.TheVariants as Pattern
-use Rattle.sip_policy.specs.declared.target_pattern.TargetPattern.TheVariants as Target
-use Rattle.sip_policy.specs.declared.rule_verdict.RuleVerdict.{RuleVerdict}
-use Rattle.sip_policy.specs.declared.rule.Rule.{Rule}
-use Rattle.sip_policy.specs.Examples as Policy
+use Rattle.sip_auth.specs.policy.declared.who.Who.{Who}
+use Rattle.sip_auth.specs.policy.declared.operation.Operation.{Operation}
+use Rattle.sip_auth.specs.policy.declared.operation.OperationPattern.TheVariants as Pattern
+use Rattle.sip_auth.specs.policy.declared.target_pattern.TargetPattern.TheVariants as Target
+use Rattle.sip_auth.specs.policy.declared.rule_verdict.RuleVerdict.{RuleVerdict}
+use Rattle.sip_auth.specs.policy.declared.rule.Rule.{Rule}
+use Rattle.sip_auth.specs.policy.Examples as Policy
 use Rattle.sip_context.specs.settings.Sample as Settings
 use Rattle.sip_auth.specs.Proof.{Wrong}
 use Rattle.sip_auth.specs.Examples.{credential, used_often}

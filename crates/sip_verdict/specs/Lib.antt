@@ -9,16 +9,16 @@ pub use Rattle.sip_context.specs.host
 pub use Rattle.sip_context.specs.nonces
 pub use Rattle.sip_uri.specs as uri
 pub use Rattle.sip_context.specs.form
-pub use Rattle.sip_policy.specs as policy
+pub use Rattle.sip_auth.specs.policy
 pub use Rattle.sip_context.specs.best
 pub use Rattle.sip_context.specs.event
 pub use Rattle.sip_context.specs.hops
-pub use Rattle.sip_message.specs as message
+pub use Rattle.sip_header.specs.message
 pub use Rattle.sip_header.specs as header
 pub use Rattle.sip_dialog.specs as dialog
 pub use Rattle.sip_context.specs.key
 pub use Rattle.sip_location.specs as location
-pub use Rattle.sip_way.specs as way
+pub use Rattle.sip_auth.specs.way
 pub use Rattle.sip_auth.specs as auth
 pub use Rattle.sip_context.specs.edit
 pub use Rattle.sip_context.specs.settings
@@ -27,3 +27,4 @@ pub use Rattle.sip_validate.specs as validate
 pub use Rattle.sip_context.specs.reply
 pub use Rattle.sip_context.specs.state
 pub use Rattle.sip_context.specs as context
+pub use Rattle.sip_auth.specs.view

@@ -12,7 +12,7 @@ use Rattle.sip_context.specs.form.declared.message.Start.TheVariants.{Request, S
 use Rattle.sip_context.specs.form.declared.message.Message.{Message}
 use Rattle.sip_context.specs.form.declared.error.ReadError.{ReadError}
 use Rattle.sip_context.specs.form.declared.error.ReadError.TheVariants as Refusal
-use Rattle.sip_message.specs.Reading.{reading_of}
+use Rattle.sip_header.specs.message.Reading.{reading_of}
 use Rattle.sip_context.specs.key.declared.key.Key.{Key}
 use Rattle.sip_header.specs.declared.core_fields.CoreFields.{CoreFields}
 use Rattle.sip_header.specs.declared.via.Via.{Via}
@@ -20,18 +20,18 @@ use Rattle.sip_context.specs.key.Key.{key_of}
 use Rattle.sip_context.specs.field.Values.{values_of, first_value}
 use Rattle.sip_header.specs.Via.{via_of}
 use Rattle.sip_header.specs.Parameters.{branch_of}
-use Rattle.sip_way.specs.Own.{is_own_via}
+use Rattle.sip_auth.specs.way.Own.{is_own_via}
 use Rattle.sip_header.specs.CoreFields.{core_of, cseq_in}
-use Rattle.sip_way.specs.Way.{way_of, request_uri_of, next_uri}
+use Rattle.sip_auth.specs.way.Way.{way_of, request_uri_of, next_uri}
 use Rattle.sip_context.specs.nonces.declared.nonces.Nonce.{Nonce}
 use Rattle.sip_context.specs.host.declared.addr.Addr.{Addr}
 use Rattle.sip_context.specs.hops.HostAddress.{address_of}
 use Rattle.sip_context.specs.reply.Extras.{unsupported_field, min_expires}
-use Rattle.sip_policy.specs.declared.decision.Decision.{Decision}
-use Rattle.sip_policy.specs.Operation.{operation_of}
-use Rattle.sip_policy.specs.User.{is_users_address, is_own_domain}
-use Rattle.sip_policy.specs.Window.{minute_of}
-use Rattle.sip_policy.specs.Decision.{decision_of, recorded_minute}
+use Rattle.sip_auth.specs.policy.declared.decision.Decision.{Decision}
+use Rattle.sip_auth.specs.policy.Operation.{operation_of}
+use Rattle.sip_auth.specs.policy.User.{is_users_address, is_own_domain}
+use Rattle.sip_auth.specs.policy.Window.{minute_of}
+use Rattle.sip_auth.specs.policy.Decision.{decision_of, recorded_minute}
 use Rattle.sip_location.specs.declared.binding.Binding.{Binding}
 use Rattle.sip_location.specs.declared.error.LocationError.{LocationError}
 use Rattle.sip_location.specs.declared.error.LocationError.TheVariants.{NoMemory, BadStar, TooBrief, OldCSeq, TooMany}

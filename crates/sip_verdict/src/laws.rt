@@ -2,7 +2,7 @@ ghost use Rattle.std.specs.Prelude.{◌≡◌, ◌≤◌, ℕ, List};
 ghost use Rattle.sip_context.specs.state.declared.server.Server.{Server};
 ghost use Rattle.sip_context.specs.form.declared.message.Message.{Message};
 ghost use Rattle.sip_header.specs.declared.core_fields.CoreFields.{CoreFields};
-ghost use Rattle.sip_policy.specs.declared.decision.Decision.{Decision};
+ghost use Rattle.sip_auth.specs.policy.declared.decision.Decision.{Decision};
 ghost use Rattle.sip_location.specs.declared.binding.Binding.{Binding};
 ghost use Rattle.sip_location.specs.Sameness.{SameBindings};
 ghost use Rattle.sip_context.specs.state.declared.proxy_state.ProxyState.{ProxyState};

@@ -45,7 +45,7 @@ pub mod form {
 
 /// Of `sip_policy`.
 pub mod policy {
-    pub use sip_policy::{
+    pub use sip_auth::policy::{
         Decision, Operation, Rules, Ruling, is_own_domain, is_users_address, minute_of,
     };
 }
@@ -67,14 +67,17 @@ pub mod hops {
 
 /// Of `sip_message`.
 pub mod message {
-    pub use sip_message::{FieldName, Fields, View, write_view};
+    pub use sip_header::message::{
+        FieldName, Fields, View, ViewError, ViewField, ViewFields, ViewRefusal, ViewStart, view,
+        write_view,
+    };
 }
 
 /// Of `sip_header`.
 pub mod header {
     pub use sip_header::{
-        AnyUri, ContactItem, CoreFields, HeaderError, NameAddr, Parameter, contact_of, core_of,
-        expires_of, name_addr_of, route_of, tag_of, via_of,
+        AnyUri, ContactItem, CoreFields, HeaderError, NameAddr, Parameter, Via, branch_of,
+        contact_of, core_of, cseq_of, expires_of, name_addr_of, route_of, tag_of, via_of,
     };
 }
 
@@ -95,7 +98,7 @@ pub mod location {
 
 /// Of `sip_way`.
 pub mod way {
-    pub use sip_way::{Own, Way};
+    pub use sip_auth::way::{Own, Way};
 }
 
 /// Of `sip_auth`.
@@ -139,4 +142,9 @@ pub mod state {
     pub use sip_context::state::{
         Branch, LastAnswer, OpenRequest, Phase, Resend, Server, Side, Upward,
     };
+}
+
+/// Of `sip_view`.
+pub mod view {
+    pub use sip_auth::view::{ViewField, ViewFields};
 }

@@ -1,5 +1,5 @@
 use sip_auth::Proof;
-use sip_policy::Operation;
+use sip_auth::policy::Operation;
 use sip_uri::Aor;
 
 /// What policy is asked about a request.

@@ -2,8 +2,8 @@
 use Rattle.std.proofs.Common.{◌≡◌, ℕ, ◌+◌, ◌-◌, ◌≤◌, List, length, take, drop, ap, ◌∙◌, arith}
 use Rattle.std.proofs.lemmas.List.{drop-drop, drop-take, take-take, length-drop, length-take}
 use denote.Ref.{Bor}
-use Rattle.sip_text.specs.declared.span.Span.{Span}
-use Rattle.sip_text.specs.Span.{part, IsWithin}
+use Rattle.sip_field.specs.text.declared.span.Span.{Span}
+use Rattle.sip_field.specs.text.Span.{part, IsWithin}
 use Rattle.sip_view.specs.Slice.{IsSliceOf}
 
 within_part : (xs : List ℕ) (outer : Span) → IsWithin outer xs → length (part xs outer) ≡ outer.end - outer.start

@@ -1,8 +1,8 @@
 -- Fields whose bytes stand in one store.
 use Rattle.std.specs.Prelude.{◌≡◌, ℕ, List, map, All}
 use Rattle.std.specs.Option.{unwrap_or}
-use Rattle.sip_text.specs.declared.span.Span.{Span}
-use Rattle.sip_text.specs.Span.{part, IsWithin}
+use Rattle.sip_field.specs.text.declared.span.Span.{Span}
+use Rattle.sip_field.specs.text.Span.{part, IsWithin}
 use Rattle.sip_field.specs.declared.field_name.FieldName.TheVariants.{Other}
 use Rattle.sip_field.specs.declared.field.Field.{Field}
 use Rattle.sip_view.specs.declared.kept_field.KeptField.{KeptField}

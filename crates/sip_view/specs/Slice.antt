@@ -1,8 +1,8 @@
 -- Slices of what was read: not bytes that are the same, but the same memory.
 use Rattle.std.specs.Prelude.{◌≡◌, ℕ, ◌+◌, Bool, true, false, List}
 use denote.Ref.{Bor}
-use Rattle.sip_text.specs.declared.span.Span.{Span}
-use Rattle.sip_text.specs.Span.{part, IsWithin}
+use Rattle.sip_field.specs.text.declared.span.Span.{Span}
+use Rattle.sip_field.specs.text.Span.{part, IsWithin}
 use Rattle.sip_view.specs.declared.piece.Piece.{Piece}
 use Rattle.sip_view.specs.declared.piece.Piece.TheVariants.{Part, Joined}
 

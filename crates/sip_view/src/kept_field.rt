@@ -1,5 +1,5 @@
 use sip_field::FieldName;
-use sip_text::Span;
+use sip_field::text::Span;
 
 /// A field whose bytes stand in a store: a name that this project knows, or the span of its spelling, and the span
 /// of its value.

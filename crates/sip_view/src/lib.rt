@@ -21,3 +21,13 @@ pub use value::Value;
 pub use view_field::ViewField;
 pub use view_fields::ViewFields;
 pub use view_name::ViewName;
+
+/// Of `sip_text`.
+pub mod text {
+    pub use sip_field::text::{Bytes, Items, Span, Text};
+}
+
+/// Of `sip_field`.
+pub mod field {
+    pub use sip_field::{Field, FieldName, Fields};
+}

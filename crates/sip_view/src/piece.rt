@@ -1,10 +1,10 @@
 ghost use Rattle.std.specs.Prelude.{◌≡◌, IfOk};
-ghost use Rattle.sip_text.specs.Span.{part, IsWithin};
+ghost use Rattle.sip_field.specs.text.Span.{part, IsWithin};
 ghost use Rattle.sip_view.specs.Piece.{bytes_of};
 ghost use Rattle.sip_view.specs.Slice.{IsPieceCutFrom};
 
 use crate::slices::slice_of;
-use sip_text::{Bytes, Span};
+use sip_field::text::{Bytes, Span};
 use std::alloc::{AllocError, Global};
 
 /// Bytes as a view has them: a part of what was read, or bytes of their own where no part is the same.

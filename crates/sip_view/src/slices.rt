@@ -1,8 +1,8 @@
 ghost use Rattle.std.specs.Prelude.{◌≡◌, ◌≤◌, take, drop, length};
-ghost use Rattle.sip_text.specs.Span.{part, IsWithin};
+ghost use Rattle.sip_field.specs.text.Span.{part, IsWithin};
 ghost use Rattle.sip_view.specs.Slice.{IsSliceOf, IsCutFrom};
 
-use sip_text::Span;
+use sip_field::text::Span;
 
 /// The slice of a source that a span names.
 pub fn slice_of(source: &[u8], span: Span) -> &[u8]

@@ -6,7 +6,7 @@ use crate::value::Value;
 use crate::view_field::ViewField;
 use crate::view_fields::ViewFields;
 use crate::view_name::ViewName;
-use sip_text::{Bytes, Span};
+use sip_field::text::{Bytes, Span};
 use std::alloc::{AllocError, Global};
 
 /// Puts bytes at the end of a store. What stood in it stays where it is.

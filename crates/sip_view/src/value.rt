@@ -1,7 +1,7 @@
 ghost use Rattle.std.specs.Prelude.{◌≡◌, IfOk, IfSome};
 
 use crate::piece::Piece;
-use sip_text::{Bytes, Span};
+use sip_field::text::{Bytes, Span};
 use std::alloc::{AllocError, Global};
 use std::marker::Model;
 
@@ -22,7 +22,7 @@ impl<'a> Model for Value<'a> {
 }
 
 impl<'a> Value<'a> {
-    ghost use Rattle.sip_text.specs.Span.{part, IsWithin};
+    ghost use Rattle.sip_field.specs.text.Span.{part, IsWithin};
     ghost use Rattle.sip_view.specs.Piece.{bytes_of};
 
     /// A part of what was read. Takes no memory.

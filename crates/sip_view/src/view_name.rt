@@ -4,8 +4,8 @@ ghost use Rattle.sip_field.specs.declared.field_name.FieldName.TheVariants.{Othe
 ghost use Rattle.sip_field.specs.FieldName.{spelling, name_of, is_length, is_list, is_same_name};
 
 use crate::value::Value;
+use sip_field::text::{Bytes, same_no_case};
 use sip_field::{FieldName, known_name};
-use sip_text::{Bytes, same_no_case};
 use std::alloc::{AllocError, Global};
 use std::marker::Model;
 

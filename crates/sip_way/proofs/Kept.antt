@@ -3,10 +3,10 @@ use Rattle.std.proofs.Common.{◌≡◌, ℕ, zero, suc, ◌-◌, Bool, true, fa
 use Rattle.std.proofs.lemmas.Bool.Decides.{nat_tests}
 use Rattle.std.specs.Prelude.{reverse, is_some, filter, nat_lt}
 use Rattle.std.proofs.lemmas.List.{reverse-append, reverse-reverse, length-reverse}
-use Rattle.sip_field.specs.declared.field.Field.{Field}
-use Rattle.sip_field.specs.declared.field_name.FieldName.TheVariants as Name
-use Rattle.sip_field.specs.FieldName.{is_same_name}
-use Rattle.sip_field.specs.Values.{values_of, without_first, without_last}
+use Rattle.sip_header.specs.field.declared.field.Field.{Field}
+use Rattle.sip_header.specs.field.declared.field_name.FieldName.TheVariants as Name
+use Rattle.sip_header.specs.field.FieldName.{is_same_name}
+use Rattle.sip_header.specs.field.Values.{values_of, without_first, without_last}
 use Rattle.sip_way.specs.declared.own.Own.{Own}
 use Rattle.sip_way.specs.declared.routes_kept.RoutesKept.{RoutesKept}
 use Rattle.sip_way.specs.Way.{restored_route, begins_with_own, fields_left, without_restored}

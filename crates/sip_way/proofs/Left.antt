@@ -3,11 +3,11 @@ use Rattle.std.proofs.Common.{◌≡◌, ℕ, Bool, true, false, cond, List, [],
 use Rattle.std.specs.Prelude.{reverse, drop, is_some, filter}
 use Rattle.std.proofs.lemmas.List.{map-append, reverse-append}
 use Rattle.std.proofs.lemmas.List.Elements.{filter-append}
-use Rattle.sip_field.specs.declared.field.Field.{Field}
-use Rattle.sip_field.specs.declared.field_name.FieldName.{FieldName}
-use Rattle.sip_field.specs.declared.field_name.FieldName.TheVariants as Name
-use Rattle.sip_field.specs.FieldName.{is_same_name}
-use Rattle.sip_field.specs.Values.{values_of, without_first, without_last}
+use Rattle.sip_header.specs.field.declared.field.Field.{Field}
+use Rattle.sip_header.specs.field.declared.field_name.FieldName.{FieldName}
+use Rattle.sip_header.specs.field.declared.field_name.FieldName.TheVariants as Name
+use Rattle.sip_header.specs.field.FieldName.{is_same_name}
+use Rattle.sip_header.specs.field.Values.{values_of, without_first, without_last}
 use Rattle.sip_way.specs.declared.own.Own.{Own}
 use Rattle.sip_way.specs.declared.way.Way.{Way}
 use Rattle.sip_way.specs.Way.{restored_route, begins_with_own, without_own_route, without_restored, uri_left, way_from}

@@ -1,8 +1,8 @@
 -- Fields of which some Routes are left.
 use Rattle.std.specs.Prelude.{ℕ, ◌-◌, Bool, true, ◌&&◌, ◌==◌, nat_lt, if◌then◌else◌, List, [], ◌∷◌, length}
-use Rattle.sip_field.specs.declared.field_name.FieldName.TheVariants as Name
-use Rattle.sip_field.specs.declared.field.Field.{Field}
-use Rattle.sip_field.specs.FieldName.{is_same_name}
+use Rattle.sip_header.specs.field.declared.field_name.FieldName.TheVariants as Name
+use Rattle.sip_header.specs.field.declared.field.Field.{Field}
+use Rattle.sip_header.specs.field.FieldName.{is_same_name}
 use Rattle.sip_way.specs.declared.own.Own.{Own}
 use Rattle.sip_way.specs.declared.routes_kept.RoutesKept.{RoutesKept}
 use Rattle.sip_way.specs.Way.{begins_with_own}

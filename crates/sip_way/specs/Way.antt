@@ -6,11 +6,11 @@ use Rattle.std.specs.List.{list_any, slice_get}
 use Rattle.sip_uri.specs.declared.uri.Uri.{Uri}
 use Rattle.sip_equality.specs.Equality.{same, says_same_no_case}
 use Rattle.sip_uri.specs.Reading.{reading_of}
-use Rattle.sip_field.specs.declared.field_name.FieldName.TheVariants as Name
-use Rattle.sip_field.specs.declared.field.Field.{Field}
-use Rattle.sip_form.specs.declared.message.Start.{Start}
-use Rattle.sip_form.specs.declared.message.Start.TheVariants.{Request, Status}
-use Rattle.sip_form.specs.declared.message.Message.{Message}
+use Rattle.sip_header.specs.field.declared.field_name.FieldName.TheVariants as Name
+use Rattle.sip_header.specs.field.declared.field.Field.{Field}
+use Rattle.sip_header.specs.form.declared.message.Start.{Start}
+use Rattle.sip_header.specs.form.declared.message.Start.TheVariants.{Request, Status}
+use Rattle.sip_header.specs.form.declared.message.Message.{Message}
 use Rattle.sip_header.specs.declared.name_addr.AnyUri.{AnyUri}
 use Rattle.sip_header.specs.declared.name_addr.AnyUri.TheVariants.{Sip, Other}
 use Rattle.sip_header.specs.declared.name_addr.NameAddr.{NameAddr}
@@ -19,7 +19,7 @@ use Rattle.sip_way.specs.declared.way.Way.{Way}
 use Rattle.sip_header.specs.NameAddr.{sip_uri}
 use Rattle.sip_way.specs.Own.{is_own_place, record_route_uri}
 use Rattle.sip_header.specs.Route.{route_of, uri_text}
-use Rattle.sip_field.specs.Values.{values_of, without_first, without_last}
+use Rattle.sip_header.specs.field.Values.{values_of, without_first, without_last}
 
 -- ---- own places
 

@@ -1,7 +1,7 @@
 ghost use Rattle.std.specs.Prelude.{◌≡◌, ℕ, List};
-ghost use Rattle.sip_field.specs.declared.field.Field.{Field};
-ghost use Rattle.sip_field.specs.declared.field_name.FieldName.TheVariants as Name;
-ghost use Rattle.sip_field.specs.Values.{values_of};
+ghost use Rattle.sip_header.specs.field.declared.field.Field.{Field};
+ghost use Rattle.sip_header.specs.field.declared.field_name.FieldName.TheVariants as Name;
+ghost use Rattle.sip_header.specs.field.Values.{values_of};
 ghost use Rattle.sip_way.specs.declared.own.Own.{Own};
 ghost use Rattle.sip_way.specs.Way.{way_from};
 ghost use Rattle.sip_way.specs.Routes.{way_by};

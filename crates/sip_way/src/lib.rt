@@ -12,3 +12,8 @@ mod way;
 pub use own::Own;
 pub use routes_kept::{RoutesKept, kept_routes};
 pub use way::{Way, way_of};
+
+/// Of `sip_equality`.
+pub mod equality {
+    pub use sip_equality::same;
+}

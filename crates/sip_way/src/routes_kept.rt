@@ -1,5 +1,5 @@
 ghost use Rattle.std.specs.Prelude.{◌≡◌, ◌≤◌, IfOk, is_some, length, map, if◌then◌else◌};
-ghost use Rattle.sip_form.specs.ViewStart.{start_seen};
+ghost use Rattle.sip_header.specs.form.ViewStart.{start_seen};
 ghost use Rattle.sip_way.specs.Way as Ways;
 ghost use Rattle.sip_way.specs.Routes.{all_but_last};
 ghost use Rattle.sip_way.specs.RoutesKept as Kept;
@@ -7,7 +7,7 @@ ghost use Rattle.sip_way.specs.RoutesKept as Kept;
 use crate::own::Own;
 use crate::routes::is_own_route;
 use crate::way::{request_uri, restored_of};
-use sip_message::{FieldName, View, ViewField};
+use sip_header::message::{FieldName, View, ViewField};
 use std::alloc::{AllocError, Global};
 
 /// Which fields of a request are left once this server's own part of its way is taken off: of its Routes so many are

@@ -1,5 +1,5 @@
 ghost use Rattle.std.specs.Prelude.{◌≡◌, IfOk, [], Some, map};
-ghost use Rattle.sip_form.specs.ViewStart.{start_seen};
+ghost use Rattle.sip_header.specs.form.ViewStart.{start_seen};
 ghost use Rattle.sip_header.specs.NameAddr.{sip_uri};
 ghost use Rattle.sip_way.specs.Way as Ways;
 ghost use Rattle.sip_way.specs.Routes.{way_with, way_by};
@@ -7,9 +7,9 @@ ghost use Rattle.sip_way.specs.Routes.{way_with, way_by};
 use crate::own::Own;
 use crate::routes::{last_route, others_left, routes_left};
 use sip_equality::{same, says_same_no_case};
+use sip_header::message::{FieldName, Value, View, ViewStart};
 use sip_header::{AnyUri, NameAddr, route_of};
-use sip_message::{FieldName, Value, View, ViewStart};
-use sip_text::{Items, Text};
+use sip_host::text::{Items, Text};
 use sip_uri::{Uri, UriError, parse_uri};
 use std::alloc::{AllocError, Global};
 

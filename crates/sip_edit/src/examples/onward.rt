@@ -1,7 +1,7 @@
 ghost use Rattle.std.specs.Prelude.{◌≡◌, ◌∷◌, [], codes, length};
-ghost use Rattle.sip_field.specs.declared.field_name.FieldName.TheVariants as Name;
-ghost use Rattle.sip_form.specs.declared.message.Start.TheVariants.{Request};
-ghost use Rattle.sip_form.specs.Text.{text_of};
+ghost use Rattle.sip_credentials.specs.field.declared.field_name.FieldName.TheVariants as Name;
+ghost use Rattle.sip_credentials.specs.form.declared.message.Start.TheVariants.{Request};
+ghost use Rattle.sip_credentials.specs.form.Text.{text_of};
 ghost use Rattle.sip_way.specs.Examples.{own, sample_realm};
 ghost use Rattle.sip_edit.specs.OwnVia.{branch_text, own_via_field, without_top_via};
 ghost use Rattle.sip_edit.specs.Onward.{onward_of, onward_uri, written_uri};

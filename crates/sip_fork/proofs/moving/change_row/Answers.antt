@@ -1,5 +1,5 @@
 use Rattle.std.proofs.Common.{◌≡◌, List, Some, set, slice_get, sym, ◌∙◌, subst}
-use Rattle.sip_request.specs.declared.request.Request.{Request}
+use Rattle.sip_keeping.specs.request.declared.request.Request.{Request}
 use Rattle.sip_fork.specs.Contexts.{AreTied, IsFitting, IsSame}
 use Rattle.sip_fork.proofs.Tying.{held_at, timed_at, ready, kept_new, changed, same_back, put_back, seen_changed}
 use Rattle.sip_fork.proofs.moving.change_row.Goals as goal

@@ -2,7 +2,7 @@ use Rattle.std.proofs.Common.{◌≡◌, List, [], ◌∷◌, ◌++◌, None, po
 use Rattle.sip_model.specs.key.Key.{same_key}
 use Rattle.sip_model.specs.key.declared.key.Key.{Key}
 use Rattle.sip_model.specs.state.declared.open_request.OpenRequest.{OpenRequest}
-use Rattle.sip_request.specs.declared.request.Request.{Request}
+use Rattle.sip_keeping.specs.request.declared.request.Request.{Request}
 use Rattle.sip_fork.specs.Contexts.{AreTied, IsFitting}
 use Rattle.sip_fork.proofs.Tying.{kept_new, opened}
 use Rattle.sip_fork.proofs.moving.open_row.Goals as goal

@@ -3,8 +3,8 @@ use Rattle.std.specs.Prelude.{◌&&◌, not}
 use Rattle.sip_model.specs.state.declared.branch.Branch.{Branch}
 use Rattle.sip_model.specs.state.declared.open_request.OpenRequest.{OpenRequest}
 use Rattle.sip_model.specs.state.State.{is_invite, phase_deadline, side_deadline}
-use Rattle.sip_fitting.specs.Fits.{BranchFits, Fits, HasOtherClient, HasOtherServer}
-use Rattle.sip_ties.specs.Ties.{branch_timers, due_at, side_timers}
+use Rattle.sip_keeping.specs.fitting.Fits.{BranchFits, Fits, HasOtherClient, HasOtherServer}
+use Rattle.sip_keeping.specs.ties.Ties.{branch_timers, due_at, side_timers}
 use Rattle.sip_fork.proofs.timing.timers_stand_for_moments.Goals as goal
 
 pub returns : goal.returns

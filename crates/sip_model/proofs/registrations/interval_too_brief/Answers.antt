@@ -10,7 +10,7 @@ use Rattle.sip_state.specs.form.Text.{text_of}
 use Rattle.sip_state.specs.form.declared.message.Message.{Message}
 use Rattle.sip_state.specs.header.CoreFields.{core_in}
 use Rattle.sip_state.specs.nonces.NonceText.{nonce_text}
-use Rattle.sip_audit.specs.Lines.{line_of}
+use Rattle.sip_context.specs.audit.Lines.{line_of}
 use Rattle.sip_verdict.specs.Verdict.{message_in, verdict_in}
 use Rattle.sip_model.specs.Effect.{Effect, effect_of, counted, nothing}
 use Rattle.sip_model.specs.Examples.{sample, arriving_at, packet_of, whole_effect, challenge_effect}

@@ -1,4 +1,4 @@
-use Rattle.sip_proxy.proofs.Fitting.{fitting, near}
+use Rattle.sip_proxy.proofs.OnTime.{fitting, near}
 use Rattle.sip_proxy.proofs.changing.fits_once_it_came.Goals as goal
 
 pub returns-clause-fitting : goal.returns-clause-fitting

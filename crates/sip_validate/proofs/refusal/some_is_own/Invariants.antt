@@ -1,6 +1,6 @@
 use Rattle.std.proofs.Common.{◌≡◌, drop, false}
 use Rattle.std.specs.List.{list_any}
-use Rattle.sip_field.specs.Values.{values_of}
+use Rattle.sip_view.specs.field.Values.{values_of}
 use Rattle.std.specs.Option.{option_map_or}
 use Rattle.sip_header.specs.Via.{via_of}
 use Rattle.sip_way.specs.Own.{is_own_via}

@@ -1,7 +1,7 @@
 use Rattle.std.proofs.Common.{refl}
 use Rattle.std.specs.Fmt.{digits}
 use Rattle.hex.specs.Hex.{encode_with}
-use Rattle.sip_uri.specs.Reading.{rest_of, reading_of}
+use Rattle.sip_credentials.specs.uri.Reading.{rest_of, reading_of}
 use Rattle.sip_edit.proofs.examples.onward.branch_example.Goals as goal
 
 pub returns : goal.returns

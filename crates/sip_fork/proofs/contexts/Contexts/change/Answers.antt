@@ -1,8 +1,8 @@
 use Rattle.std.proofs.Common.{◌≡◌, ◌==◌, Some, position, slice_get, sym, ◌∙◌, ap, subst, List}
 use Rattle.sip_model.specs.Effect.{replaced}
 use Rattle.sip_model.specs.state.declared.open_request.OpenRequest.{OpenRequest}
-use Rattle.sip_request.specs.declared.request.Request.{Request}
-use Rattle.sip_moments.specs.Near.{IsWithin}
+use Rattle.sip_keeping.specs.request.declared.request.Request.{Request}
+use Rattle.sip_keeping.specs.moments.Near.{IsWithin}
 use Rattle.sip_fork.specs.Contexts.{Contexts, IsSame}
 use Rattle.sip_fork.proofs.OnTime.{whole}
 use Rattle.sip_fork.proofs.Tying.{contexts, place_of, replaced_in, replaced_out, seen_at}

@@ -1,6 +1,6 @@
 use Rattle.std.proofs.Common.{sym, ◌∙◌}
 use Rattle.sip_model.specs.verdict.Verdict.{is_cancelled_by}
-use Rattle.sip_request.specs.declared.request.Request.{Request}
+use Rattle.sip_keeping.specs.request.declared.request.Request.{Request}
 use Rattle.sip_fork.proofs.Mapped.{position-map, found-map}
 use Rattle.sip_fork.proofs.contexts.Contexts.find_cancelled.Goals as goal
 

@@ -1,7 +1,7 @@
 use Rattle.std.proofs.Common.{sym, ◌∙◌}
 use Rattle.std.proofs.Common.{◌==◌}
 use Rattle.sip_model.specs.state.declared.open_request.OpenRequest.{OpenRequest}
-use Rattle.sip_request.specs.declared.request.Request.{Request}
+use Rattle.sip_keeping.specs.request.declared.request.Request.{Request}
 use Rattle.sip_fork.proofs.Mapped.{position-map, found-map}
 use Rattle.sip_fork.proofs.contexts.Contexts.find_number.Goals as goal
 

@@ -1,7 +1,7 @@
 use Rattle.std.proofs.Common.{◌≡◌, ◌<◌, false}
 use Rattle.sip_model.specs.key.Key.{same_key}
 use Rattle.sip_model.specs.state.declared.open_request.OpenRequest.{OpenRequest}
-use Rattle.sip_request.specs.declared.request.Request.{Request}
+use Rattle.sip_keeping.specs.request.declared.request.Request.{Request}
 use Rattle.sip_fork.proofs.Mapped.{pairs-map}
 use Rattle.sip_fork.proofs.contexts.Contexts.len.Goals as goal
 

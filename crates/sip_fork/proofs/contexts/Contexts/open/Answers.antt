@@ -2,7 +2,7 @@ use Rattle.std.proofs.Common.{◌≡◌, ◌<◌, None, position, sym, ◌∙◌
 use Rattle.std.specs.List.{All}
 use Rattle.sip_model.specs.state.State.{has_key}
 use Rattle.sip_model.specs.state.declared.open_request.OpenRequest.{OpenRequest}
-use Rattle.sip_request.specs.declared.request.Request.{Request}
+use Rattle.sip_keeping.specs.request.declared.request.Request.{Request}
 use Rattle.sip_fork.specs.Contexts.{Contexts}
 use Rattle.sip_fork.proofs.Mapped.{position-map, all-map}
 use Rattle.sip_fork.proofs.contexts.Contexts.open.Goals as goal

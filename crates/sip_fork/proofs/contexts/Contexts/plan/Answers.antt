@@ -1,10 +1,10 @@
 use Rattle.std.proofs.Common.{◌≡◌, ◌≤◌, Some, slice_get, sym, ◌∙◌, ap, subst}
 use Rattle.std.specs.Option.{unwrap_or}
 use Rattle.sip_model.specs.state.declared.open_request.OpenRequest.{OpenRequest}
-use Rattle.sip_request.specs.declared.request.Request.{Request}
-use Rattle.sip_request.specs.inputs.Inputs.{outcome, outcome_of}
-use Rattle.sip_fitting.specs.Fits.{Fits}
-use Rattle.sip_moments.specs.Near.{IsWithin}
+use Rattle.sip_keeping.specs.request.declared.request.Request.{Request}
+use Rattle.sip_keeping.specs.request.inputs.Inputs.{outcome, outcome_of}
+use Rattle.sip_keeping.specs.fitting.Fits.{Fits}
+use Rattle.sip_keeping.specs.moments.Near.{IsWithin}
 use Rattle.sip_fork.specs.Contexts.{Contexts, IsKept}
 use Rattle.sip_fork.proofs.OnTime.{near_at}
 use Rattle.sip_fork.proofs.Tying.{contexts, kept_at, seen_at}

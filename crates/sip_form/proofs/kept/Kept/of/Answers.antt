@@ -1,5 +1,5 @@
 use Rattle.std.proofs.Common.{ℕ, List, ◌∙◌, subst}
-use Rattle.sip_field.specs.declared.field.Field.{Field}
+use Rattle.sip_view.specs.field.declared.field.Field.{Field}
 use Rattle.sip_view.specs.KeptField.{IsPut, AreFieldsPut}
 use Rattle.sip_form.specs.declared.message.Start.{Start}
 use Rattle.sip_form.specs.KeptStart.{IsStartPut}

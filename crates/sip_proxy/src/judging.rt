@@ -1,0 +1,71 @@
+ghost use Rattle.std.specs.Prelude.{◌≡◌, ◌<◌, ◌^◌, ℕ, IfOk, List, Option};
+ghost use Rattle.sip_arrival.specs.Verdict.{HasRoom, Is, IsRequestOf};
+ghost use Rattle.sip_forwarding.specs.key.declared.key.Key.{Key};
+ghost use Rattle.sip_forwarding.specs.location.declared.binding.Binding.{Binding};
+ghost use Rattle.sip_forwarding.specs.state.Arrival.{Arrival};
+ghost use Rattle.sip_forwarding.specs.state.declared.open_request.OpenRequest.{OpenRequest};
+ghost use Rattle.sip_forwarding.specs.verdict.Verdict as Definition;
+
+use crate::proxy::Proxy;
+use sip_arrival::judge::Judge;
+use sip_arrival::{Verdict, ack_verdict, new_verdict};
+use sip_fork::timers::Timers;
+use sip_forwarding::form::View;
+use sip_forwarding::policy::Rules;
+use std::alloc::{AllocError, Global};
+
+impl<T: Timers> Proxy<T> {
+    /// The verdict on a request of a method that no open one is found for, of whose body fewer bytes may have come than its
+    /// length says (RFC 3261 9.2, 10.3, 16.3 to 16.5), at a moment in milliseconds. Nothing is changed; there is room for the
+    /// plan that a REGISTER gives. `AllocError` is the only refusal.
+    pub fn verdict<'v, R: Rules>(
+        &mut self,
+        alloc: Global,
+        judge: &Judge<R>,
+        now: u64,
+        request: &'v View<'_>,
+        method: &[u8],
+        short: bool,
+    ) -> Result<Verdict<'v>, AllocError>
+        requires moment { now < 2 ^ 62 }
+        requires request { IsRequestOf method.now request.now.start }
+        ensures verdict { IfOk result (λ verdict. (a : Arrival) (key : Key) → a.now ≡ now
+            → Is judge.now self.old.state.bindings now (Definition.found_for_cancel self.old.state key a.from) (Definition.new_verdict judge.now self.old.state a request.now short method.now key) verdict) }
+        ensures room { IfOk result (HasRoom self.new.room) }
+        ensures unchanged { self.new.state ≡ self.old.state }
+        ensures timers { self.new.timers ≡ self.old.timers }
+    {
+        let is_full = self.contexts.is_full();
+        new_verdict(
+            alloc,
+            judge,
+            &mut self.locations,
+            &self.nonces,
+            &self.dialogs,
+            is_full,
+            now,
+            request,
+            method,
+            short,
+        )
+    }
+
+    /// The verdict on an ACK that a 2xx calls for, or that belongs to no open request: it goes on in a dialog that is known, or
+    /// is dropped (RFC 3261 13.2.2.4, 16.11). Nothing is changed. `AllocError` is the only refusal.
+    pub fn ack_verdict<'v, R: Rules>(
+        &self,
+        alloc: Global,
+        judge: &Judge<R>,
+        now: u64,
+        request: &'v View<'_>,
+        method: &[u8],
+        short: bool,
+    ) -> Result<Verdict<'v>, AllocError>
+        requires { IsRequestOf method.now request.now.start }
+        ensures { IfOk result (λ verdict. (rows : List Binding) (named : Option OpenRequest)
+            → Is judge.now rows now named (Definition.ack_verdict judge.now self.now.state now request.now short) verdict) }
+    {
+        let _open = &self.contexts;
+        ack_verdict(alloc, judge, &self.dialogs, now, request, method, short)
+    }
+}
