@@ -18,16 +18,6 @@ pub use events::{Event, Happens, take_event};
 pub use print::Printed;
 pub use runs::{Run, first_fault};
 
-/// Of `sip_event`.
-pub mod event {
-    pub use sip_opening::event::Packet;
-}
-
-/// Of `sip_text`.
-pub mod text {
-    pub use sip_opening::text::Items;
-}
-
 /// Of `sip_state`.
 pub mod state {
     pub use sip_opening::state::{OpenRequest, Server};

@@ -20,7 +20,7 @@ pub use proving::proof_of;
 
 /// Of `sip_view`.
 pub mod view {
-    pub use sip_credentials::view::{ViewField, ViewFields};
+    pub use sip_credentials::view::ViewFields;
 }
 
 /// Of `sip_policy`.

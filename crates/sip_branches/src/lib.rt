@@ -20,12 +20,12 @@ pub mod shared {
 
 /// Of `sip_text`.
 pub mod text {
-    pub use sip_context::text::{Bytes, Items, Text};
+    pub use sip_context::text::{Bytes, Items};
 }
 
 /// Of `sip_field`.
 pub mod field {
-    pub use sip_context::field::{Field, FieldName, Fields};
+    pub use sip_context::field::{FieldName, Fields};
 }
 
 /// Of `sip_host`.
@@ -35,12 +35,12 @@ pub mod host {
 
 /// Of `sip_nonces`.
 pub mod nonces {
-    pub use sip_context::nonces::{Nonce, Nonces, nonce_text};
+    pub use sip_context::nonces::Nonces;
 }
 
 /// Of `sip_uri`.
 pub mod uri {
-    pub use sip_context::uri::{Aor, Uri, aor_of, write_uri};
+    pub use sip_context::uri::{Aor, Uri, write_uri};
 }
 
 /// Of `sip_form`.
@@ -60,20 +60,17 @@ pub mod event {
 
 /// Of `sip_hops`.
 pub mod hops {
-    pub use sip_context::hops::{Hop, Hops, HostAddress};
+    pub use sip_context::hops::Hops;
 }
 
 /// Of `sip_header`.
 pub mod header {
-    pub use sip_context::header::{
-        AnyUri, ContactItem, CoreFields, HeaderError, NameAddr, Parameter, contact_of, core_of,
-        expires_of, name_addr_of, route_of, tag_of, via_of,
-    };
+    pub use sip_context::header::via_of;
 }
 
 /// Of `sip_dialog`.
 pub mod dialog {
-    pub use sip_context::dialog::{Dialog, DialogError, DialogId, Dialogs, InviteAnswer};
+    pub use sip_context::dialog::{DialogId, Dialogs};
 }
 
 /// Of `sip_key`.
@@ -83,17 +80,12 @@ pub mod key {
 
 /// Of `sip_location`.
 pub mod location {
-    pub use sip_context::location::{
-        Binding, LiveBindings, LocationError, Locations, Plan, Registration,
-    };
+    pub use sip_context::location::{LiveBindings, LocationError, Locations, Plan, Registration};
 }
 
 /// Of `sip_edit`.
 pub mod edit {
-    pub use sip_context::edit::{
-        ack_with, branch_text, cancel_of, own_via_value, pop_via, received_via, response_address,
-        with_top_via,
-    };
+    pub use sip_context::edit::{branch_text, own_via_value, pop_via, with_top_via};
 }
 
 /// Of `sip_settings`.
@@ -103,15 +95,7 @@ pub mod settings {
 
 /// Of `sip_targets`.
 pub mod targets {
-    pub use sip_context::targets::{Target, Targets, targets_of};
-}
-
-/// Of `sip_reply`.
-pub mod reply {
-    pub use sip_context::reply::{
-        challenge_fields, contact_value, denial_warning, min_expires, reply_view, respond, to_tag,
-        unsupported_field,
-    };
+    pub use sip_context::targets::{Target, Targets};
 }
 
 /// Of `sip_state`.

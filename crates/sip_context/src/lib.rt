@@ -28,12 +28,12 @@ pub mod host {
 
 /// Of `sip_nonces`.
 pub mod nonces {
-    pub use sip_state::nonces::{Nonce, Nonces, nonce_text};
+    pub use sip_state::nonces::Nonces;
 }
 
 /// Of `sip_uri`.
 pub mod uri {
-    pub use sip_state::uri::{Aor, Uri, aor_of, write_uri};
+    pub use sip_state::uri::{Aor, Uri, write_uri};
 }
 
 /// Of `sip_form`.
@@ -58,15 +58,12 @@ pub mod hops {
 
 /// Of `sip_header`.
 pub mod header {
-    pub use sip_state::header::{
-        AnyUri, ContactItem, CoreFields, HeaderError, NameAddr, Parameter, contact_of, core_of,
-        expires_of, name_addr_of, route_of, tag_of, via_of,
-    };
+    pub use sip_state::header::{HeaderError, core_of, tag_of, via_of};
 }
 
 /// Of `sip_dialog`.
 pub mod dialog {
-    pub use sip_state::dialog::{Dialog, DialogError, DialogId, Dialogs, InviteAnswer};
+    pub use sip_state::dialog::{DialogId, Dialogs};
 }
 
 /// Of `sip_key`.
@@ -76,9 +73,7 @@ pub mod key {
 
 /// Of `sip_location`.
 pub mod location {
-    pub use sip_state::location::{
-        Binding, LiveBindings, LocationError, Locations, Plan, Registration,
-    };
+    pub use sip_state::location::{LiveBindings, LocationError, Locations, Plan, Registration};
 }
 
 /// Of `sip_edit`.

@@ -25,13 +25,10 @@ pub mod host {
 
 /// Of `sip_uri`.
 pub mod uri {
-    pub use sip_header::uri::{Aor, Uri, aor_of, write_uri};
+    pub use sip_header::uri::{Aor, Uri, write_uri};
 }
 
 /// Of `sip_header`.
 pub mod header {
-    pub use sip_header::{
-        AnyUri, ContactItem, CoreFields, HeaderError, NameAddr, Parameter, contact_of, core_of,
-        expires_of, name_addr_of, route_of, tag_of, via_of,
-    };
+    pub use sip_header::{HeaderError, core_of, tag_of, via_of};
 }

@@ -5,8 +5,3 @@
 
 pub mod events;
 pub mod machines;
-
-/// Of `sip_transaction`.
-pub mod transaction {
-    pub use sip_machines::transaction::Letter;
-}

@@ -19,12 +19,12 @@ pub mod shared {
 
 /// Of `sip_text`.
 pub mod text {
-    pub use sip_opening::text::{Bytes, Items, Text};
+    pub use sip_opening::text::Items;
 }
 
 /// Of `sip_field`.
 pub mod field {
-    pub use sip_opening::field::{Field, FieldName, Fields};
+    pub use sip_opening::field::Fields;
 }
 
 /// Of `sip_host`.
@@ -34,34 +34,27 @@ pub mod host {
 
 /// Of `sip_nonces`.
 pub mod nonces {
-    pub use sip_opening::nonces::{Nonce, Nonces, nonce_text};
+    pub use sip_opening::nonces::Nonces;
 }
 
 /// Of `sip_uri`.
 pub mod uri {
-    pub use sip_opening::uri::{Aor, Uri, aor_of, write_uri};
+    pub use sip_opening::uri::Aor;
 }
 
 /// Of `sip_audit`.
 pub mod audit {
-    pub use sip_opening::audit::{Operation, Outcome, Record};
+    pub use sip_opening::audit::{Outcome, Record};
 }
 
 /// Of `sip_form`.
 pub mod form {
-    pub use sip_opening::form::{Kept, View, ViewStart, write_view};
+    pub use sip_opening::form::{Kept, View};
 }
 
 /// Of `sip_policy`.
 pub mod policy {
-    pub use sip_opening::policy::{
-        Decision, Operation, Rules, Ruling, is_own_domain, is_users_address, minute_of,
-    };
-}
-
-/// Of `sip_best`.
-pub mod best {
-    pub use sip_opening::best::{Final, best};
+    pub use sip_opening::policy::Rules;
 }
 
 /// Of `sip_event`.
@@ -71,25 +64,12 @@ pub mod event {
 
 /// Of `sip_hops`.
 pub mod hops {
-    pub use sip_opening::hops::{Hop, Hops, HostAddress};
-}
-
-/// Of `sip_message`.
-pub mod message {
-    pub use sip_opening::message::{FieldName, Fields, View, write_view};
-}
-
-/// Of `sip_header`.
-pub mod header {
-    pub use sip_opening::header::{
-        AnyUri, ContactItem, CoreFields, HeaderError, NameAddr, Parameter, contact_of, core_of,
-        expires_of, name_addr_of, route_of, tag_of, via_of,
-    };
+    pub use sip_opening::hops::Hops;
 }
 
 /// Of `sip_dialog`.
 pub mod dialog {
-    pub use sip_opening::dialog::{Dialog, DialogError, DialogId, Dialogs, InviteAnswer};
+    pub use sip_opening::dialog::{DialogId, Dialogs};
 }
 
 /// Of `sip_key`.
@@ -99,27 +79,12 @@ pub mod key {
 
 /// Of `sip_location`.
 pub mod location {
-    pub use sip_opening::location::{
-        Binding, LiveBindings, LocationError, Locations, Plan, Registration,
-    };
-}
-
-/// Of `sip_way`.
-pub mod way {
-    pub use sip_opening::way::{Own, Way};
+    pub use sip_opening::location::{LiveBindings, LocationError, Locations, Plan, Registration};
 }
 
 /// Of `sip_auth`.
 pub mod auth {
-    pub use sip_opening::auth::{Proof, offers_sha256, proof_of};
-}
-
-/// Of `sip_edit`.
-pub mod edit {
-    pub use sip_opening::edit::{
-        ack_with, branch_text, cancel_of, own_via_value, pop_via, received_via, response_address,
-        with_top_via,
-    };
+    pub use sip_opening::auth::Proof;
 }
 
 /// Of `sip_settings`.
@@ -129,24 +94,12 @@ pub mod settings {
 
 /// Of `sip_targets`.
 pub mod targets {
-    pub use sip_opening::targets::{Target, Targets, targets_of};
-}
-
-/// Of `sip_validate`.
-pub mod validate {
-    pub use sip_opening::validate::{Checked, Refused, is_bad_request, laws, validate};
-}
-
-/// Of `sip_onward`.
-pub mod onward {
-    pub use sip_opening::onward::{onward_base, onward_uri, to_target};
+    pub use sip_opening::targets::Targets;
 }
 
 /// Of `sip_state`.
 pub mod state {
-    pub use sip_opening::state::{
-        Branch, LastAnswer, OpenRequest, Phase, Resend, Server, Side, Upward,
-    };
+    pub use sip_opening::state::{Branch, LastAnswer, OpenRequest, Phase, Server, Side};
 }
 
 /// Of `sip_verdict`.
@@ -156,49 +109,30 @@ pub mod verdict {
 
 /// Of `sip_processing`.
 pub mod processing {
-    pub use sip_opening::processing::{
-        Sent, answered, first_resend, is_invite, pass_branch, pass_side, settle_alone, take_ack,
-        take_cancel, take_fault, take_response,
-    };
-}
-
-/// Of `sip_resend`.
-pub mod resend {
-    pub use sip_opening::resend::{answer_again, answer_went, branch_went, is_acked_again};
-}
-
-/// Of `sip_view`.
-pub mod view {
-    pub use sip_learning::view::{ViewField, ViewFields};
+    pub use sip_opening::processing::{Sent, is_invite};
 }
 
 /// Of `sip_fitting`.
 pub mod fitting {
-    pub use sip_fitting::{events, machines};
+    pub use sip_fitting::events;
 }
 
 /// Of `sip_moments`.
 pub mod moments {
-    pub use sip_moments::{bounds, events, openings, timers};
+    pub use sip_moments::openings;
 }
 
 /// Of `sip_inputs`.
 pub mod inputs {
-    pub use sip_inputs::{Input, Sending, take_input};
+    pub use sip_inputs::Input;
 }
 
 /// Of `sip_learning`.
 pub mod learning {
-    pub use sip_learning::{
-        Lesson, Lessons, addresses_of, answer_id, answered_dialog, dialog_of, id_of, laws,
-    };
+    pub use sip_learning::Lessons;
 }
 
 /// Of `sip_opening`.
 pub mod opening {
-    pub use sip_opening::{
-        Arrival, Replied, ack_packet, acks_again, arriving, branches_to, change_packets,
-        copy_packets, dialog_branch, fork_to, fork_within, forking, reply, take_opening,
-        upward_packets,
-    };
+    pub use sip_opening::{Arrival, Replied, change_packets, copy_packets, reply};
 }

@@ -39,7 +39,7 @@ pub mod host {
 
 /// Of `sip_uri`.
 pub mod uri {
-    pub use sip_uri::{Aor, Uri, UriError, aor_of, parse_uri, write_uri};
+    pub use sip_uri::{Aor, Uri, UriError, parse_uri, write_uri};
 }
 
 /// Of `sip_form`.

@@ -9,42 +9,14 @@ pub mod keeping;
 pub mod nearness;
 pub mod openings;
 
-/// Of `sip_text`.
-pub mod text {
-    pub use sip_request::text::{Bytes, Items};
-}
-
-/// Of `sip_timers`.
-pub mod timers {
-    pub use sip_request::timers::{Name, Owner, Timer, TimerError, Timers};
-}
-
-/// Of `sip_key`.
-pub mod key {
-    pub use sip_request::key::Key;
-}
-
-/// Of `sip_state`.
-pub mod state {
-    pub use sip_request::state::{
-        Branch, LastAnswer, OpenRequest, Phase, Resend, Server, Side, Upward,
-    };
-}
-
-/// Of `sip_learning`.
-pub mod learning {
-    pub use sip_learning::{Lesson, Lessons};
-}
-
 /// Of `sip_fitting`.
 pub mod fitting {
-    pub use sip_fitting::machines::{branches_have_states, sides_have_states};
-    pub use sip_fitting::{machines, transaction};
+    pub use sip_fitting::machines;
 }
 
 /// Of `sip_inputs`.
 pub mod inputs {
-    pub use sip_request::inputs::{Input, Sending};
+    pub use sip_request::inputs::Input;
 }
 
 /// Of `sip_moments`.
@@ -55,7 +27,7 @@ pub mod moments {
 
 /// Of `sip_request`.
 pub mod request {
-    pub use sip_request::{Plan, Planned, Request, inputs, location, onward, processing, resend};
+    pub use sip_request::{Plan, Request, inputs};
 }
 
 /// Of `sip_resend`.

@@ -28,12 +28,12 @@ pub mod shared {
 
 /// Of `sip_text`.
 pub mod text {
-    pub use sip_branches::text::{Bytes, Items, Text};
+    pub use sip_branches::text::{Bytes, Items};
 }
 
 /// Of `sip_field`.
 pub mod field {
-    pub use sip_branches::field::{Field, FieldName, Fields};
+    pub use sip_branches::field::{FieldName, Fields};
 }
 
 /// Of `sip_host`.
@@ -43,34 +43,27 @@ pub mod host {
 
 /// Of `sip_nonces`.
 pub mod nonces {
-    pub use sip_branches::nonces::{Nonce, Nonces, nonce_text};
+    pub use sip_branches::nonces::Nonces;
 }
 
 /// Of `sip_uri`.
 pub mod uri {
-    pub use sip_branches::uri::{Aor, Uri, aor_of, write_uri};
+    pub use sip_branches::uri::Aor;
 }
 
 /// Of `sip_audit`.
 pub mod audit {
-    pub use sip_model::audit::{Operation, Outcome, Record};
+    pub use sip_model::audit::{Outcome, Record};
 }
 
 /// Of `sip_form`.
 pub mod form {
-    pub use sip_branches::form::{Kept, View, ViewStart, write_view};
+    pub use sip_branches::form::{Kept, View, ViewStart};
 }
 
 /// Of `sip_policy`.
 pub mod policy {
-    pub use sip_model::policy::{
-        Decision, Operation, Rules, Ruling, is_own_domain, is_users_address, minute_of,
-    };
-}
-
-/// Of `sip_best`.
-pub mod best {
-    pub use sip_branches::best::{Final, best};
+    pub use sip_model::policy::Rules;
 }
 
 /// Of `sip_event`.
@@ -80,25 +73,17 @@ pub mod event {
 
 /// Of `sip_hops`.
 pub mod hops {
-    pub use sip_branches::hops::{Hop, Hops, HostAddress};
-}
-
-/// Of `sip_message`.
-pub mod message {
-    pub use sip_model::message::{FieldName, Fields, View, write_view};
+    pub use sip_branches::hops::Hops;
 }
 
 /// Of `sip_header`.
 pub mod header {
-    pub use sip_branches::header::{
-        AnyUri, ContactItem, CoreFields, HeaderError, NameAddr, Parameter, contact_of, core_of,
-        expires_of, name_addr_of, route_of, tag_of, via_of,
-    };
+    pub use sip_branches::header::via_of;
 }
 
 /// Of `sip_dialog`.
 pub mod dialog {
-    pub use sip_branches::dialog::{Dialog, DialogError, DialogId, Dialogs, InviteAnswer};
+    pub use sip_branches::dialog::{DialogId, Dialogs};
 }
 
 /// Of `sip_key`.
@@ -108,27 +93,12 @@ pub mod key {
 
 /// Of `sip_location`.
 pub mod location {
-    pub use sip_branches::location::{
-        Binding, LiveBindings, LocationError, Locations, Plan, Registration,
-    };
-}
-
-/// Of `sip_way`.
-pub mod way {
-    pub use sip_model::way::{Own, Way};
+    pub use sip_branches::location::{LiveBindings, LocationError, Locations, Plan, Registration};
 }
 
 /// Of `sip_auth`.
 pub mod auth {
-    pub use sip_model::auth::{Proof, offers_sha256, proof_of};
-}
-
-/// Of `sip_edit`.
-pub mod edit {
-    pub use sip_branches::edit::{
-        ack_with, branch_text, cancel_of, own_via_value, pop_via, received_via, response_address,
-        with_top_via,
-    };
+    pub use sip_model::auth::Proof;
 }
 
 /// Of `sip_settings`.
@@ -138,24 +108,12 @@ pub mod settings {
 
 /// Of `sip_targets`.
 pub mod targets {
-    pub use sip_branches::targets::{Target, Targets, targets_of};
-}
-
-/// Of `sip_validate`.
-pub mod validate {
-    pub use sip_model::validate::{Checked, Refused, is_bad_request, laws, validate};
-}
-
-/// Of `sip_onward`.
-pub mod onward {
-    pub use sip_processing::onward::{onward_base, onward_uri, to_target};
+    pub use sip_branches::targets::{Target, Targets};
 }
 
 /// Of `sip_state`.
 pub mod state {
-    pub use sip_branches::state::{
-        Branch, LastAnswer, OpenRequest, Phase, Resend, Server, Side, Upward,
-    };
+    pub use sip_branches::state::{Branch, LastAnswer, OpenRequest, Phase, Server, Side, Upward};
 }
 
 /// Of `sip_verdict`.
@@ -165,13 +123,5 @@ pub mod verdict {
 
 /// Of `sip_processing`.
 pub mod processing {
-    pub use sip_processing::{
-        Sent, answered, first_resend, is_invite, pass_branch, pass_side, settle_alone, take_ack,
-        take_cancel, take_fault, take_response,
-    };
-}
-
-/// Of `sip_resend`.
-pub mod resend {
-    pub use sip_resend::{answer_again, answer_went, branch_went, is_acked_again};
+    pub use sip_processing::{Sent, is_invite};
 }

@@ -10,11 +10,6 @@ pub use answers::{answer_packet, answer_to, kept_answer, made_answer};
 pub use branches::{ack_packets, branch_packets, packets_of_branches};
 pub use received::received_value;
 
-/// Of `sip_message`.
-pub mod message {
-    pub use sip_onward::message::{FieldName, Fields, View, write_view};
-}
-
 /// Of `sip_onward`.
 pub mod onward {
     pub use sip_onward::{onward_base, onward_uri, to_target};

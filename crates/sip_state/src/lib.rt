@@ -39,12 +39,12 @@ pub mod host {
 
 /// Of `sip_nonces`.
 pub mod nonces {
-    pub use sip_nonces::{Nonce, Nonces, nonce_text};
+    pub use sip_nonces::{Nonces, nonce_text};
 }
 
 /// Of `sip_uri`.
 pub mod uri {
-    pub use sip_dialog::uri::{Aor, Uri, aor_of, write_uri};
+    pub use sip_dialog::uri::{Aor, Uri, write_uri};
 }
 
 /// Of `sip_form`.
@@ -64,15 +64,12 @@ pub mod hops {
 
 /// Of `sip_header`.
 pub mod header {
-    pub use sip_dialog::header::{
-        AnyUri, ContactItem, CoreFields, HeaderError, NameAddr, Parameter, contact_of, core_of,
-        expires_of, name_addr_of, route_of, tag_of, via_of,
-    };
+    pub use sip_dialog::header::{HeaderError, core_of, tag_of, via_of};
 }
 
 /// Of `sip_dialog`.
 pub mod dialog {
-    pub use sip_dialog::{Dialog, DialogError, DialogId, Dialogs, InviteAnswer};
+    pub use sip_dialog::{DialogId, Dialogs};
 }
 
 /// Of `sip_key`.
@@ -82,7 +79,7 @@ pub mod key {
 
 /// Of `sip_location`.
 pub mod location {
-    pub use sip_location::{Binding, LiveBindings, LocationError, Locations, Plan, Registration};
+    pub use sip_location::{LiveBindings, LocationError, Locations, Plan, Registration};
 }
 
 /// Of `sip_settings`.

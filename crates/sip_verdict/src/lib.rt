@@ -8,11 +8,6 @@ mod question;
 
 pub use question::Question;
 
-/// Of `sip_shared`.
-pub mod shared {
-    pub use sip_context::shared::Shared;
-}
-
 /// Of `sip_text`.
 pub mod text {
     pub use sip_context::text::{Bytes, Items, Text};
@@ -30,17 +25,17 @@ pub mod host {
 
 /// Of `sip_nonces`.
 pub mod nonces {
-    pub use sip_context::nonces::{Nonce, Nonces, nonce_text};
+    pub use sip_context::nonces::Nonces;
 }
 
 /// Of `sip_uri`.
 pub mod uri {
-    pub use sip_uri::{Aor, Uri, aor_of, write_uri};
+    pub use sip_uri::{Aor, Uri, aor_of};
 }
 
 /// Of `sip_form`.
 pub mod form {
-    pub use sip_context::form::{Kept, View, ViewStart, write_view};
+    pub use sip_context::form::{View, ViewStart};
 }
 
 /// Of `sip_policy`.
@@ -48,16 +43,6 @@ pub mod policy {
     pub use sip_auth::policy::{
         Decision, Operation, Rules, Ruling, is_own_domain, is_users_address, minute_of,
     };
-}
-
-/// Of `sip_best`.
-pub mod best {
-    pub use sip_context::best::{Final, best};
-}
-
-/// Of `sip_event`.
-pub mod event {
-    pub use sip_context::event::{Packet, Ticket};
 }
 
 /// Of `sip_hops`.
@@ -68,22 +53,21 @@ pub mod hops {
 /// Of `sip_message`.
 pub mod message {
     pub use sip_header::message::{
-        FieldName, Fields, View, ViewError, ViewField, ViewFields, ViewRefusal, ViewStart, view,
-        write_view,
+        View, ViewError, ViewField, ViewFields, ViewRefusal, ViewStart, view,
     };
 }
 
 /// Of `sip_header`.
 pub mod header {
     pub use sip_header::{
-        AnyUri, ContactItem, CoreFields, HeaderError, NameAddr, Parameter, Via, branch_of,
-        contact_of, core_of, cseq_of, expires_of, name_addr_of, route_of, tag_of, via_of,
+        ContactItem, CoreFields, Parameter, Via, branch_of, contact_of, cseq_of, expires_of,
+        tag_of, via_of,
     };
 }
 
 /// Of `sip_dialog`.
 pub mod dialog {
-    pub use sip_dialog::{Dialog, DialogError, DialogId, Dialogs, InviteAnswer};
+    pub use sip_dialog::{DialogId, Dialogs};
 }
 
 /// Of `sip_key`.
@@ -93,7 +77,7 @@ pub mod key {
 
 /// Of `sip_location`.
 pub mod location {
-    pub use sip_location::{Binding, LocationError, Locations, Plan, Registration};
+    pub use sip_location::{LocationError, Locations, Plan, Registration};
 }
 
 /// Of `sip_way`.
@@ -103,25 +87,12 @@ pub mod way {
 
 /// Of `sip_auth`.
 pub mod auth {
-    pub use sip_auth::{Proof, offers_sha256, proof_of};
-}
-
-/// Of `sip_edit`.
-pub mod edit {
-    pub use sip_context::edit::{
-        ack_with, branch_text, cancel_of, own_via_value, pop_via, received_via, response_address,
-        with_top_via,
-    };
-}
-
-/// Of `sip_settings`.
-pub mod settings {
-    pub use sip_context::settings::Config;
+    pub use sip_auth::proof_of;
 }
 
 /// Of `sip_targets`.
 pub mod targets {
-    pub use sip_context::targets::{Target, Targets, targets_of};
+    pub use sip_context::targets::{Targets, targets_of};
 }
 
 /// Of `sip_validate`.
@@ -131,20 +102,15 @@ pub mod validate {
 
 /// Of `sip_reply`.
 pub mod reply {
-    pub use sip_context::reply::{
-        challenge_fields, contact_value, denial_warning, min_expires, reply_view, respond, to_tag,
-        unsupported_field,
-    };
+    pub use sip_context::reply::{min_expires, unsupported_field};
 }
 
 /// Of `sip_state`.
 pub mod state {
-    pub use sip_context::state::{
-        Branch, LastAnswer, OpenRequest, Phase, Resend, Server, Side, Upward,
-    };
+    pub use sip_context::state::Server;
 }
 
 /// Of `sip_view`.
 pub mod view {
-    pub use sip_auth::view::{ViewField, ViewFields};
+    pub use sip_auth::view::ViewFields;
 }
