@@ -11,16 +11,3 @@ mod responding;
 pub use copying::take_copy;
 pub use dropping::take_dropped;
 pub use responding::take_response;
-
-/// Of `sip_event`.
-pub mod event {
-    pub use sip_event::{Boot, Event, Packet, StepOut, Ticket};
-}
-
-/// Of `sip_proxy`.
-pub mod proxy {
-    pub use sip_proxy::{
-        Draft, Proxy, arrival, audit, fork, form, forwarding, hops, host, judge, key, opening,
-        policy, settings, state, text, timers,
-    };
-}

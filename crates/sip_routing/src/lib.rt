@@ -12,13 +12,3 @@ mod within;
 pub use acknowledging::send_ack;
 pub use sending::send_to;
 pub use within::send_within;
-
-/// Of `sip_event`.
-pub mod event {
-    pub use sip_event::{Packet, StepOut, Ticket};
-}
-
-/// Of `sip_proxy`.
-pub mod proxy {
-    pub use sip_proxy::{Draft, Proxy};
-}
