@@ -109,7 +109,7 @@ pub mod verdict {
 
 /// Of `sip_processing`.
 pub mod processing {
-    pub use sip_opening::processing::{Sent, is_invite};
+    pub use sip_opening::processing::{Sent, is_accepted};
 }
 
 /// Of `sip_fitting`.

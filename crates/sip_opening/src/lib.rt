@@ -123,5 +123,5 @@ pub mod verdict {
 
 /// Of `sip_processing`.
 pub mod processing {
-    pub use sip_processing::{Sent, is_invite};
+    pub use sip_processing::{Sent, is_accepted};
 }

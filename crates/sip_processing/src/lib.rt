@@ -24,7 +24,7 @@ pub use faults::take_fault;
 pub use responses::take_response;
 pub use sent::Sent;
 pub use settling::settle_alone;
-pub use side::first_resend;
+pub use side::{first_resend, is_accepted};
 pub use status::is_invite;
 
 /// Of `sip_shared`.

@@ -48,7 +48,7 @@ pub(crate) fn was_refused(answer: &Option<LastAnswer>) -> bool
 }
 
 /// Whether a request is an INVITE whose 2xx went to the caller, while its transaction lives (RFC 6026 7.1: Accepted).
-pub(crate) fn is_accepted(call: &OpenRequest) -> bool
+pub fn is_accepted(call: &OpenRequest) -> bool
     ensures { result ≡ Contexts.is_accepted call.now }
 {
     is_invite(call) && is_closing(call.side) && has_success(&call.answer)

@@ -100,7 +100,7 @@ pub mod verdict {
 
 /// Of `sip_processing`.
 pub mod processing {
-    pub use sip_forwarding::processing::{Sent, is_invite};
+    pub use sip_forwarding::processing::{Sent, is_accepted};
 }
 
 /// Of `sip_fitting`.
