@@ -1,0 +1,6 @@
+mod Drafts
+mod Failed
+mod Lists
+mod Moments
+mod Results
+mod Steps

@@ -1,0 +1,63 @@
+-- What a step gives that may be refused.
+use Rattle.std.proofs.Common.{◌≡◌, ◌∙◌, ℕ, ◌≤◌, ◌⊎◌, inl, inr, List, [], slice_get, Result, Some, Ok, Err, IfOk, sym, arith}
+use Rattle.std.specs.Prelude.{max}
+use Rattle.std.specs.declared.alloc.AllocError.{AllocError}
+use Rattle.sip_event.specs.declared.event.StepOut.{StepOut}
+use Rattle.sip_event.specs.declared.packet.Packet.{Packet}
+use Rattle.sip_proxy.specs.declared.drafting.Draft.{Draft}
+use Rattle.sip_proxy.specs.fork.Due.{IsFirst}
+use Rattle.sip_proxy.specs.fork.declared.due.First.{First}
+use Rattle.sip_proxy.specs.hops.declared.host_address.HostAddress.{HostAddress}
+use Rattle.sip_proxy.specs.learning.declared.lesson.Lesson.{Lesson}
+use Rattle.sip_proxy.specs.model.Effect.{replaced}
+use Rattle.sip_proxy.specs.model.Step.{IsDeadline, IsQuiet, IsResend, moment_of}
+use Rattle.sip_proxy.specs.state.declared.open_request.OpenRequest.{OpenRequest}
+use Rattle.sip_proxy.specs.state.declared.proxy_state.ProxyState.{ProxyState}
+use Rattle.sip_proxy.specs.state.declared.server.Server.{Server}
+use Rattle.sip_firing.specs.Steps.{IsFired, Leaves}
+use Rattle.sip_firing.proofs.Lists.{at_place, contained}
+use Rattle.sip_firing.proofs.Steps.{fired_done}
+
+-- what follows for what is given follows for the result
+pub if_ok : (P Q : StepOut → Type 0) (result : Result StepOut AllocError) → ((out : StepOut) → P out → Q out) → IfOk result P → IfOk result Q
+if_ok P Q (Ok out) f given = f out given
+if_ok P Q (Err e) f given = tt
+
+module _ (now : ℕ) (packets : List Packet) (requests : List OpenRequest) (lessons : List Lesson) (old new : ProxyState) where
+  -- a step that leaves this, if it is taken
+  abbrev pub IfLeft : Result StepOut AllocError → Type 0
+  IfLeft result = IfOk result (λ out. Leaves now packets requests lessons old out new)
+
+  pub left_at : (result : Result StepOut AllocError) → IfLeft result → IfOk result (λ out. out.at ≡ now)
+  left_at (Ok out) l = l.at_moment
+  left_at (Err e) l = tt
+
+  pub left_at_moment : (result : Result StepOut AllocError) → IfLeft result → IfOk result (λ out. out.at ≡ new.moment)
+  left_at_moment (Ok out) l = l.at_moment ∙ sym l.becomes.moment_is
+  left_at_moment (Err e) l = tt
+
+  pub left_moment : (result : Result StepOut AllocError) → IfLeft result → IfOk result (λ out. new.moment ≡ now)
+  left_moment (Ok out) l = l.becomes.moment_is
+  left_moment (Err e) l = tt
+
+  pub left_next : (result : Result StepOut AllocError) → IfLeft result → IfOk result (λ out. new.next ≡ old.next)
+  left_next (Ok out) l = l.becomes.next_is
+  left_next (Err e) l = tt
+
+module _ (server : Server) (old new : ProxyState) where
+  pub first_done : (rows : List HostAddress) (first : First) (draft : Draft) (result : Result StepOut AllocError) → rows ≡ server.config.addresses → IsFirst old.requests first
+      → ((r : OpenRequest) → slice_get old.requests first.place ≡ Some r → IsFired rows server first.due r draft)
+      → IfLeft first.due draft.drafted.packets (replaced draft.change old.requests) draft.drafted.lessons old new result
+      → IfOk result (λ out. (now : ℕ) → first.due ≤ now → IsDeadline server old now out new ⊎ IsResend server old now out new)
+  first_done rows first draft (Ok out) known f fired l = λ now le.
+      let found : (r : OpenRequest) × (slice_get old.requests first.place ≡ Some r) = at_place old.requests first.place f.within in
+      let by : first.due ≤ moment_of old now = omega (arith, le) in
+      fired_done server first.due now old out new rows found.0 draft known (fired found.0 found.1) l (contained old.requests first.place found.0 found.1) by f.none_before f.none_again
+  first_done rows first draft (Err e) known f fired l = tt
+
+  -- what is due by a moment is a step up to it
+  pub first_step : (due now : ℕ) (result : Result StepOut AllocError) → due ≤ now
+      → IfOk result (λ out. (at : ℕ) → due ≤ at → IsDeadline server old at out new ⊎ IsResend server old at out new)
+      → IfOk result (λ out. IsQuiet server old now out new ⊎ (IsDeadline server old now out new ⊎ IsResend server old now out new))
+  first_step due now (Ok out) le done = inr (done now le)
+  first_step due now (Err e) le done = tt

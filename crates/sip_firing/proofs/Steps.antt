@@ -1,0 +1,266 @@
+-- What a step that leaves this does of the model's effect.
+use Rattle.std.proofs.Common.{◌≡◌, ◌∙◌, ℕ, ◌≤◌, ◌⊎◌, inl, inr, Bool, true, false, not, ◌&&◌, cond, List, [], ◌∷◌, map, slice_get, zero, suc, Contains, Option, Result, Some, None, Ok, Err, IfOk, refl, sym, ap, subst, arith}
+use Rattle.std.specs.Prelude.{max}
+use Rattle.std.specs.List.{list_all}
+use Rattle.std.proofs.lemmas.Option.{slice_get-get_or}
+use Rattle.std.specs.declared.alloc.AllocError.{AllocError}
+use Rattle.sip_event.specs.declared.event.StepOut.{StepOut}
+use Rattle.sip_event.specs.declared.packet.Packet.{Packet}
+use Rattle.sip_proxy.specs.Drafts.{IsDrafted}
+use Rattle.sip_proxy.specs.Proxy.{Becomes}
+use Rattle.sip_proxy.specs.context.Branches.{Change, is_closing, is_same_branch, overdue, side_overdue, was_refused}
+use Rattle.sip_proxy.specs.context.Sending.{branch_packets}
+use Rattle.sip_proxy.specs.declared.drafting.Draft.{Draft}
+use Rattle.sip_proxy.specs.dialog.Sameness.{SameDialogs}
+use Rattle.sip_proxy.specs.dialog.Dialogs.{after_invite}
+use Rattle.sip_proxy.specs.dialog.declared.dialog.Dialog.{Dialog}
+use Rattle.sip_proxy.specs.fork.Due.{IsFirst}
+use Rattle.sip_proxy.specs.fork.declared.due.First.{First}
+use Rattle.sip_proxy.specs.forwarding.Forwarding.{AreSent, Teach}
+use Rattle.sip_proxy.specs.hops.declared.host_address.HostAddress.{HostAddress}
+use Rattle.sip_proxy.specs.inputs.declared.input.Input.{Input}
+use Rattle.sip_proxy.specs.inputs.declared.input.Input.TheVariants.{Response, BranchDeadline, SideDeadline, SendFault, Cancel, Ack, BranchAgain, AnswerAgain}
+use Rattle.sip_proxy.specs.learning.Lessons.{after_lessons}
+use Rattle.sip_proxy.specs.learning.declared.lesson.Lesson.{Lesson}
+use Rattle.sip_proxy.specs.location.Binding.{live}
+use Rattle.sip_proxy.specs.location.Sameness.{SameBindings}
+use Rattle.sip_proxy.specs.location.declared.binding.Binding.{Binding}
+use Rattle.sip_proxy.specs.model.Effect.{changed, dialogs_after, nothing, replaced}
+use Rattle.sip_proxy.specs.model.Step.{Does, IsDeadline, IsOverdue, IsQuiet, IsResend, NoneAgainBefore, NoneBefore, moment_of, originals, resent, retransmissions, OfSide, OfBranch}
+use Rattle.sip_proxy.specs.retransmission.Retransmission.{IsResent, OfAnswer, OfRequest, answer_due, answer_next, answers_again, branch_due, branch_next, goes_again, insists, is_cancelled_again, is_sent_again, resent_branch, with_resend}
+use Rattle.sip_proxy.specs.state.SameState.{SameState}
+use Rattle.sip_proxy.specs.state.State.{has_left, is_closed, is_ended, is_invite}
+use Rattle.sip_proxy.specs.state.declared.branch.Branch.{Branch}
+use Rattle.sip_proxy.specs.state.declared.branch.Phase.{Phase}
+use Rattle.sip_proxy.specs.state.declared.branch.Phase.TheVariants.{Unheard, Heard, Cancelled, Done, Ended}
+use Rattle.sip_proxy.specs.state.declared.open_request.OpenRequest.{OpenRequest}
+use Rattle.sip_proxy.specs.state.declared.open_request.Side.{Side}
+use Rattle.sip_proxy.specs.state.declared.open_request.Side.TheVariants.{Answering, Closing, Acknowledged, Closed}
+use Rattle.sip_proxy.specs.state.declared.proxy_state.ProxyState.{ProxyState}
+use Rattle.sip_proxy.specs.state.declared.resend.Resend.{Resend}
+use Rattle.sip_proxy.specs.state.declared.server.Server.{Server}
+use Rattle.sip_firing.specs.Steps.{IsDraftOf, IsDueAs, IsFired, Leaves}
+use Rattle.sip_firing.proofs.Lists.{contained}
+
+-- ---- what goes again stays open
+
+-- a request whose answering side hasn't ended stays open
+side_open : (side : Side) (others : Bool) → is_closing side ≡ true → (is_closed side && others) ≡ false
+side_open Answering others is = absurd (cc)
+side_open (Closing due) others is = refl
+side_open (Acknowledged due) others is = absurd (cc)
+side_open Closed others is = absurd (cc)
+
+-- a test that a moment hangs on was passed
+was_true : (t : Bool) (moment due : ℕ) → cond {A = Option ℕ} t (Some moment) None ≡ Some due → t ≡ true
+was_true true moment due is = refl
+was_true false moment due is = absurd (cc)
+
+both_true : (s t u : Bool) → (s && t && u) ≡ true → t ≡ true
+both_true true true u is = refl
+both_true true false u is = absurd (cc)
+both_true false t u is = absurd (cc)
+
+pub answer_stays : (r : OpenRequest) (due : ℕ) → answer_due r ≡ Some due → has_left (record r { again = answer_next r }) ≡ false
+answer_stays r due is =
+    side_open r.side (list_all (λ (b : Branch). is_ended b.phase) r.branches)
+    (both_true (is_invite r) (is_closing r.side) (was_refused r.answer) (was_true (insists r) r.again.due due is))
+
+-- what goes again has not ended
+cancel_lives : (phase : Phase) → is_cancelled_again phase ≡ true → is_ended phase ≡ false
+cancel_lives (Unheard due) is = refl
+cancel_lives (Heard due) is = refl
+cancel_lives (Cancelled due) is = refl
+cancel_lives (Done due status) is = refl
+cancel_lives Ended is = absurd (cc)
+
+request_lives : (invite : Bool) (phase : Phase) → is_sent_again invite phase ≡ true → is_ended phase ≡ false
+request_lives invite (Unheard due) is = refl
+request_lives invite (Heard due) is = refl
+request_lives invite (Cancelled due) is = refl
+request_lives invite (Done due status) is = refl
+request_lives invite Ended is = absurd (cc)
+
+lives : (cancel invite : Bool) (phase : Phase) → cond cancel (is_cancelled_again phase) (is_sent_again invite phase) ≡ true → is_ended phase ≡ false
+lives true invite phase is = cancel_lives phase is
+lives false invite phase is = request_lives invite phase is
+
+-- where one element fails a test, not all pass it, also after a change that leaves the test of each
+module _ {X : Type 0} (test : X → Bool) (f : X → X) (same : (x : X) → test (f x) ≡ test x) where
+  head_fails : (t u : Bool) → t ≡ false → (t && u) ≡ false
+  head_fails true u is = absurd (cc)
+  head_fails false u is = refl
+
+  tail_fails : (t u : Bool) → u ≡ false → (t && u) ≡ false
+  tail_fails true u is = is
+  tail_fails false u is = refl
+
+  not_all : (xs : List X) (k : ℕ) (x : X) → slice_get xs k ≡ Some x → test x ≡ false → list_all test (map f xs) ≡ false
+  not_all [] k x at fails = absurd (cc)
+  not_all (y ∷ ys) zero x at fails =
+      let here : y ≡ x = cc in
+      head_fails (test (f y)) (list_all test (map f ys)) (same y ∙ ap test here ∙ fails)
+  not_all (y ∷ ys) (suc k) x at fails = tail_fails (test (f y)) (list_all test (map f ys)) (not_all ys k x at fails)
+
+pub branch_stays : (r : OpenRequest) (b : Branch) (due : ℕ) → Contains r.branches b → branch_due r b ≡ Some due → has_left (with_resend b r) ≡ false
+branch_stays r b due there is =
+    behind (is_closed r.side) (list_all (λ (x : Branch). is_ended x.phase) (map (resent_branch b (branch_next r b)) r.branches))
+    (not_all (λ (x : Branch). is_ended x.phase) (resent_branch b (branch_next r b)) phase_kept r.branches there.0 b here
+    (lives b.is_cancel (is_invite r) b.phase (was_true (goes_again r b) b.again.due due is))) where
+      here : slice_get r.branches there.0 ≡ Some b
+      here = slice_get-get_or r.branches there.0 b there.1 ∙ ap (λ (x : Branch). Some x) there.2
+
+      kept_by : (t : Bool) (next : Resend) (x : Branch) → is_ended (cond {A = Branch} t (record x { again = next }) x).phase ≡ is_ended x.phase
+      kept_by true next x = refl
+      kept_by false next x = refl
+
+      phase_kept : (x : Branch) → is_ended (resent_branch b (branch_next r b) x).phase ≡ is_ended x.phase
+      phase_kept x = kept_by (is_same_branch x b) (branch_next r b) x
+
+      behind : (t u : Bool) → u ≡ false → (t && u) ≡ false
+      behind true u is = is
+      behind false u is = refl
+
+-- ---- the state after a step
+
+-- the same bindings say the same
+bindings_same : (from : ℕ) (left right : List Binding) → left ≡ right → SameBindings from left right
+bindings_same from left right same = λ aor moment later. ap (λ (rows : List Binding). live aor moment rows) same
+
+-- a state at a moment, with these open requests and these dialogs
+abbrev left_by : ℕ → List OpenRequest → List Dialog → ProxyState → ProxyState
+left_by now requests dialogs old = record old { moment = now; requests = requests; dialogs = dialogs }
+
+left_same : (now : ℕ) (requests : List OpenRequest) (lessons : List Lesson) (old new : ProxyState) → Becomes now requests lessons old new
+    → SameState new (left_by now requests (after_lessons now lessons old.dialogs) old)
+left_same now requests lessons old new becomes =
+    record {
+      moment = becomes.moment_is;
+      next = becomes.next_is;
+      bindings = bindings_same new.moment new.bindings old.bindings becomes.bindings_are;
+      nonces = becomes.nonces_are;
+      requests = becomes.requests_are;
+      dialogs = subst (λ (n : ℕ). SameDialogs n new.dialogs (after_lessons now lessons old.dialogs)) (sym becomes.moment_is) becomes.dialogs_are;
+    }
+
+-- ---- what a step does
+
+module _ (server : Server) (now : ℕ) (old : ProxyState) (out : StepOut) (new : ProxyState) where
+  pub nothing_done : Leaves now [] old.requests [] old out new → Does server old now (nothing (record old { moment = now })) out new
+  nothing_done l =
+      record {
+        at_moment = l.at_moment;
+        sends = ap originals l.packets_are;
+        repeats = ap retransmissions l.packets_are;
+        records = l.records_are;
+        leaves = left_same now old.requests [] old new l.becomes;
+      }
+
+  -- what a draft leaves that is made
+  abbrev pub LeavesDraft : Draft → Type 0
+  LeavesDraft draft = Leaves now draft.drafted.packets (replaced draft.change old.requests) draft.drafted.lessons old out new
+
+  pub change_done : (rows : List HostAddress) (change : Change) (draft : Draft) → rows ≡ server.config.addresses → IsDraftOf rows server now change draft → LeavesDraft draft
+      → Does server old now (changed server now old change) out new
+  change_done rows change draft known d l =
+      record {
+        at_moment = l.at_moment;
+        sends = ap originals l.packets_are ∙ d.sent.originals;
+        repeats = ap retransmissions l.packets_are ∙ d.sent.again;
+        records = l.records_are;
+        leaves =
+            subst (λ (ds : List Dialog). SameState new (left_by now (replaced change.request old.requests) ds old)) (d.lessons (sym known) old.dialogs)
+            (subst (λ (x : OpenRequest). SameState new (left_by now (replaced x old.requests) (after_lessons now draft.drafted.lessons old.dialogs) old)) d.request
+            (left_same now (replaced draft.change old.requests) draft.drafted.lessons old new l.becomes));
+      }
+
+  -- what goes again teaches the dialogs nothing, as its request stays
+  pub resend_done : (rows : List HostAddress) (packets : List Packet) (next : OpenRequest) (draft : Draft) → rows ≡ server.config.addresses → draft.change ≡ next
+      → AreSent [] packets draft.drafted.packets → Teach rows server now draft.drafted.lessons (dialogs_after server now (record { request = next; acks = []; upward = []; cancels = [] }))
+      → has_left next ≡ false → LeavesDraft draft → Does server old now (resent now old packets next) out new
+  resend_done rows packets next draft known becomes sent teach stays l =
+      let none_learnt : after_lessons now draft.drafted.lessons old.dialogs ≡ old.dialogs =
+      teach (sym known) old.dialogs ∙ ap (λ (t : Bool). cond t (after_invite now next.number old.dialogs) old.dialogs) stays in
+      record {
+        at_moment = l.at_moment;
+        sends = ap originals l.packets_are ∙ sent.originals;
+        repeats = ap retransmissions l.packets_are ∙ sent.again;
+        records = l.records_are;
+        leaves =
+            subst (λ (ds : List Dialog). SameState new (left_by now (replaced next old.requests) ds old)) none_learnt
+            (subst (λ (x : OpenRequest). SameState new (left_by now (replaced x old.requests) (after_lessons now draft.drafted.lessons old.dialogs) old)) becomes
+            (left_same now (replaced draft.change old.requests) draft.drafted.lessons old new l.becomes));
+      }
+
+-- ---- the kinds of steps
+
+module _ (server : Server) (due at : ℕ) (old : ProxyState) (out : StepOut) (new : ProxyState) where
+  pub quiet_done : Leaves due [] old.requests [] old out new → old.moment ≤ due → due ≤ moment_of old at → NoneBefore due old.requests → NoneAgainBefore due old.requests
+      → IsQuiet server old at out new
+  quiet_done l later by none again =
+      let is : due ≡ out.at = sym l.at_moment in
+      record {
+        no_earlier = subst (λ (n : ℕ). old.moment ≤ n) is later;
+        no_later = subst (λ (n : ℕ). n ≤ moment_of old at) is by;
+        none_passed = subst (λ (n : ℕ). NoneBefore n old.requests) is none;
+        none_again_passed = subst (λ (n : ℕ). NoneAgainBefore n old.requests) is again;
+        does = subst (λ (n : ℕ). Does server old n (nothing (record old { moment = n })) out new) is (nothing_done server due old out new l);
+      }
+
+  deadline_done : (r : OpenRequest) (change : Change) → out.at ≡ due → Contains old.requests r → IsOverdue server due r change → Does server old due (changed server due old change) out new
+      → due ≤ moment_of old at → NoneBefore due old.requests → NoneAgainBefore due old.requests → IsDeadline server old at out new
+  deadline_done r change stands there passes does by none again =
+      let is : due ≡ out.at = sym stands in
+      record {
+        request = r;
+        change = change;
+        is_open = there;
+        passes = subst (λ (n : ℕ). IsOverdue server n r change) is passes;
+        is_due = subst (λ (n : ℕ). n ≤ moment_of old at) is by;
+        is_first = subst (λ (n : ℕ). NoneBefore n old.requests) is none;
+        none_again = subst (λ (n : ℕ). NoneAgainBefore n old.requests) is again;
+        does = subst (λ (n : ℕ). Does server old n (changed server n old change) out new) is does;
+      }
+
+  resent_done : (r : OpenRequest) (packets : List Packet) (next : OpenRequest) → out.at ≡ due → Contains old.requests r → IsResent server due r packets next
+      → Does server old due (resent due old packets next) out new → due ≤ moment_of old at → NoneBefore due old.requests → NoneAgainBefore due old.requests → IsResend server old at out new
+  resent_done r packets next stands there goes does by none again =
+      let is : due ≡ out.at = sym stands in
+      record {
+        request = r;
+        packets = packets;
+        next = next;
+        is_open = there;
+        goes = subst (λ (n : ℕ). IsResent server n r packets next) is goes;
+        is_due = subst (λ (n : ℕ). n ≤ moment_of old at) is by;
+        is_first = subst (λ (n : ℕ). NoneBefore n old.requests) is none;
+        none_again = subst (λ (n : ℕ). NoneAgainBefore n old.requests) is again;
+        does = subst (λ (n : ℕ). Does server old n (resent n old packets next) out new) is does;
+      }
+
+  pub fired_done : (rows : List HostAddress) (r : OpenRequest) (draft : Draft) → rows ≡ server.config.addresses → IsFired rows server due r draft → LeavesDraft server due old out new draft
+      → Contains old.requests r → due ≤ moment_of old at → NoneBefore due old.requests → NoneAgainBefore due old.requests → IsDeadline server old at out new ⊎ IsResend server old at out new
+  fired_done rows r draft known fired l there by none again = by_input fired.input fired.is_due fired.drafted where
+    by_input : (input : Input) → IsDueAs r due input → IsDrafted rows server due r input draft → IsDeadline server old at out new ⊎ IsResend server old at out new
+    by_input (Response branch status response) is d = absurd is
+    by_input (BranchDeadline branch) is d =
+        inl
+        (deadline_done r (overdue server due r branch.now) l.at_moment there (OfBranch branch.now is.there is.is)
+        (change_done server due old out new rows (overdue server due r branch.now) draft known (record { request = d.request; sent = d.drafted.sent; lessons = d.drafted.lessons }) l) by none again)
+    by_input SideDeadline is d =
+        inl
+        (deadline_done r (side_overdue server due r) l.at_moment there (OfSide is)
+        (change_done server due old out new rows (side_overdue server due r) draft known (record { request = d.request; sent = d.drafted.sent; lessons = d.drafted.lessons }) l) by none again)
+    by_input (SendFault branch) is d = absurd is
+    by_input Cancel is d = absurd is
+    by_input Ack is d = absurd is
+    by_input (BranchAgain branch) is d =
+        inr
+        (resent_done r (branch_packets server true r branch.now) (with_resend branch.now r) l.at_moment there (OfRequest branch.now is.there is.is)
+        (resend_done server due old out new rows (branch_packets server true r branch.now) (with_resend branch.now r) draft known d.request d.drafted.sent d.drafted.lessons
+        (branch_stays r branch.now due is.there is.is) l) by none again)
+    by_input AnswerAgain is d =
+        inr
+        (resent_done r (answers_again r r.answer) (record r { again = answer_next r }) l.at_moment there (OfAnswer is)
+        (resend_done server due old out new rows (answers_again r r.answer) (record r { again = answer_next r }) draft known d.request d.drafted.sent d.drafted.lessons
+        (answer_stays r due is) l) by none again)

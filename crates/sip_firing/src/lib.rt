@@ -1,0 +1,15 @@
+//! What happens without a datagram: a deadline passes, something goes again, time passes (RFC 3261 17, 16.8: Timer C), or a
+//! packet could not be sent (16.9). Each is one step, which is taken whole or is refused with nothing changed. No clock is
+//! read: the moment is handed in.
+#![tactic(auto)]
+
+mod drafting;
+mod failing;
+mod firing;
+pub mod laws;
+mod next;
+mod stepping;
+
+pub use failing::fault;
+pub use firing::fire;
+pub use next::next_due;
