@@ -1,5 +1,5 @@
 -- The branch that a ticket names, and what its fault does.
-use Rattle.std.proofs.Common.{◌≡◌, ◌∙◌, ℕ, zero, suc, ◌<◌, ◌≤◌, List, [], ◌∷◌, find, length, slice_get, position, Contains, Option, Result, Some, None, Ok, Err, IfOk, IsSome, is_some, refl, sym, ap, subst, true≢false, arith}
+use Rattle.std.proofs.Common.{◌≡◌, ◌∙◌, ℕ, Bool, zero, suc, ◌<◌, ◌≤◌, List, [], ◌∷◌, find, length, slice_get, position, Contains, Option, Result, Some, None, Ok, Err, IfOk, IsSome, is_some, refl, sym, ap, subst, true≢false, arith}
 use Rattle.std.specs.Prelude.{option_map, ◌==◌}
 use Rattle.std.specs.Option.{option_and_then, unwrap_or}
 use Rattle.std.specs.declared.alloc.AllocError.{AllocError}
@@ -23,7 +23,7 @@ use Rattle.sip_proxy.specs.state.declared.server.Server.{Server}
 use Rattle.sip_firing.specs.Faults.{failed_of, failing}
 use Rattle.sip_firing.specs.Steps.{IsDraftOf, Leaves}
 use Rattle.sip_firing.proofs.Drafts.{IsDraftAt}
-use Rattle.sip_firing.proofs.Lists.{contained, found_at}
+use Rattle.sip_firing.proofs.Lists.{at_place, contained, found_at, found_within}
 use Rattle.sip_firing.proofs.Steps.{change_done, nothing_done}
 
 -- ---- places
@@ -89,9 +89,11 @@ module _ (ticket : Ticket) (requests : List OpenRequest) where
         sym (ap (option_and_then (slice_get r.branches)) found) ∙ found_at (is_failed ticket.branch) r.branches in
         ap (with_branch branch) at ∙ ap (λ (o : Option Branch). option_map (λ (b : Branch). (r, b)) o) there ∙ sym this_request
 
-pub some_branch : (requests : List OpenRequest) (place branch : ℕ) (r : OpenRequest) (b : Branch) → slice_get requests place ≡ Some r → slice_get r.branches branch ≡ Some b
+pub some_branch : (requests : List OpenRequest) (place branch : ℕ) (r : OpenRequest) (test : Branch → Bool) → slice_get requests place ≡ Some r → position test r.branches ≡ Some branch
     → IsSome (branch_at requests (place, branch))
-some_branch requests place branch r b here there = subst (λ (o : Option (OpenRequest × Branch)). IsSome o) (sym (read_is requests place branch r b here there)) refl
+some_branch requests place branch r test here found =
+    let there : (b : Branch) × (slice_get r.branches branch ≡ Some b) = at_place r.branches branch (found_within test r.branches branch found) in
+    subst (λ (o : Option (OpenRequest × Branch)). IsSome o) (sym (read_is requests place branch r there.0 here there.1)) refl
 
 -- ---- the model's effect
 

@@ -35,8 +35,8 @@ module _ {X : Type 0} where
     by_test false is = let past : length xs ≤ position_or_len test xs = grind (arith, nat_tests, is) in sym (slice_get_past xs (position_or_len test xs) past)
 
   -- a place that is found is within
-  pub place_within : (test : X → Bool) (xs : List X) (i : ℕ) → position test xs ≡ Some i → i < length xs
-  place_within test xs i found = by_test (nat_lt (position_or_len test xs) (length xs)) refl found where
+  pub found_within : (test : X → Bool) (xs : List X) (i : ℕ) → position test xs ≡ Some i → i < length xs
+  found_within test xs i found = by_test (nat_lt (position_or_len test xs) (length xs)) refl found where
     by_test : (b : Bool) → nat_lt (position_or_len test xs) (length xs) ≡ b → cond b (Some (position_or_len test xs)) None ≡ Some i → i < length xs
     by_test true is e =
         let same : position_or_len test xs ≡ i = cc in
@@ -65,6 +65,6 @@ module _ {X Y : Type 0} where
     by_value None there = there
     by_value (Some v) there = Contains-append_right (v ∷ []) (filter_map f zs) y there
 
-  -- what may be there is the list's only element, if it is
-  pub in_option : (o : Option Y) (y : Y) → o ≡ Some y → Contains (option_to_list o) y
-  in_option o y is = subst (λ (v : Option Y). Contains (option_to_list v) y) (sym is) (0, omega arith, refl)
+-- what may be there is the list's only element, if it is
+pub in_option : (o : Option ℕ) (y : ℕ) → o ≡ Some y → Contains (option_to_list o) y
+in_option o y is = subst (λ (v : Option ℕ). Contains (option_to_list v) y) (sym is) (0, omega arith, refl)

@@ -1,5 +1,5 @@
 -- What a step gives that may be refused.
-use Rattle.std.proofs.Common.{◌≡◌, ◌∙◌, ℕ, ◌≤◌, ◌⊎◌, inl, inr, List, [], slice_get, Result, Some, Ok, Err, IfOk, sym, arith}
+use Rattle.std.proofs.Common.{◌≡◌, ◌∙◌, ℕ, ◌≤◌, ◌⊎◌, inl, inr, List, [], slice_get, Result, Some, Ok, Err, IfOk, sym, subst, arith}
 use Rattle.std.specs.Prelude.{max}
 use Rattle.std.specs.declared.alloc.AllocError.{AllocError}
 use Rattle.sip_event.specs.declared.event.StepOut.{StepOut}
@@ -18,10 +18,10 @@ use Rattle.sip_firing.specs.Steps.{IsFired, Leaves}
 use Rattle.sip_firing.proofs.Lists.{at_place, contained}
 use Rattle.sip_firing.proofs.Steps.{fired_done}
 
--- what follows for what is given follows for the result
-pub if_ok : (P Q : StepOut → Type 0) (result : Result StepOut AllocError) → ((out : StepOut) → P out → Q out) → IfOk result P → IfOk result Q
-if_ok P Q (Ok out) f given = f out given
-if_ok P Q (Err e) f given = tt
+-- a step at a moment is no earlier than what that moment is no earlier than
+pub no_earlier_than : (moment due : ℕ) (result : Result StepOut AllocError) → moment ≤ due → IfOk result (λ out. out.at ≡ due) → IfOk result (λ out. moment ≤ out.at)
+no_earlier_than moment due (Ok out) le at = subst (λ (n : ℕ). moment ≤ n) (sym at) le
+no_earlier_than moment due (Err e) le at = tt
 
 module _ (now : ℕ) (packets : List Packet) (requests : List OpenRequest) (lessons : List Lesson) (old new : ProxyState) where
   -- a step that leaves this, if it is taken

@@ -26,7 +26,7 @@ use Rattle.sip_proxy.specs.location.Binding.{live}
 use Rattle.sip_proxy.specs.location.Sameness.{SameBindings}
 use Rattle.sip_proxy.specs.location.declared.binding.Binding.{Binding}
 use Rattle.sip_proxy.specs.model.Effect.{changed, dialogs_after, nothing, replaced}
-use Rattle.sip_proxy.specs.model.Step.{Does, IsDeadline, IsOverdue, IsQuiet, IsResend, NoneAgainBefore, NoneBefore, moment_of, originals, resent, retransmissions, OfSide, OfBranch}
+use Rattle.sip_proxy.specs.model.Step.{Does, IsDeadline, IsOverdue, IsQuiet, IsResend, IsTime, NoneAgainBefore, NoneAgainBy, NoneBefore, NoneBy, moment_of, originals, resent, retransmissions, OfSide, OfBranch}
 use Rattle.sip_proxy.specs.retransmission.Retransmission.{IsResent, OfAnswer, OfRequest, answer_due, answer_next, answers_again, branch_due, branch_next, goes_again, insists, is_cancelled_again, is_sent_again, resent_branch, with_resend}
 use Rattle.sip_proxy.specs.state.SameState.{SameState}
 use Rattle.sip_proxy.specs.state.State.{has_left, is_closed, is_ended, is_invite}
@@ -264,3 +264,16 @@ module _ (server : Server) (due at : ℕ) (old : ProxyState) (out : StepOut) (ne
         (resent_done r (answers_again r r.answer) (record r { again = answer_next r }) l.at_moment there (OfAnswer is)
         (resend_done server due old out new rows (answers_again r r.answer) (record r { again = answer_next r }) draft known d.request d.drafted.sent d.drafted.lessons
         (answer_stays r due is) l) by none again)
+
+-- time that passed up to a moment by which nothing is due
+pub time_done : (server : Server) (now : ℕ) (old : ProxyState) (out : StepOut) (new : ProxyState) → Leaves now [] old.requests [] old out new → old.moment ≤ now → NoneBy now old.requests
+    → NoneAgainBy now old.requests → NoneBefore now old.requests → NoneAgainBefore now old.requests → IsTime server old now out new
+time_done server now old out new l later none_due none_again_due none again =
+    let is : now ≡ moment_of old now = omega (arith, later) in
+    let by : now ≤ moment_of old now = omega (arith, later) in
+    record {
+      none_due = subst (λ (n : ℕ). NoneBy n old.requests) is none_due;
+      none_again_due = subst (λ (n : ℕ). NoneAgainBy n old.requests) is none_again_due;
+      at_moment = l.at_moment ∙ is;
+      quiet = quiet_done server now now old out new l later by none again;
+    }
