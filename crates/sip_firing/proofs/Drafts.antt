@@ -1,11 +1,9 @@
 -- What is drafted of what is due, and of a fault.
-use Rattle.std.proofs.Common.{◌≡◌, ◌∙◌, ℕ, ◌≤◌, List, length, slice_get, Contains, Option, Result, Some, Ok, Err, IfOk, IsSomeAnd, sym, ap, subst, arith}
+use Rattle.std.proofs.Common.{◌≡◌, ◌∙◌, ℕ, ◌≤◌, List, slice_get, Option, Result, Some, Ok, Err, IfOk, IsSomeAnd, sym, ap, subst, arith}
 use Rattle.std.specs.Option.{unwrap_or}
 use Rattle.std.specs.declared.alloc.AllocError.{AllocError}
 use Rattle.sip_proxy.specs.Drafts.{IsDrafted}
 use Rattle.sip_proxy.specs.declared.drafting.Draft.{Draft}
-use Rattle.sip_proxy.specs.fork.Due.{IsDue, IsFirst}
-use Rattle.sip_proxy.specs.fork.declared.due.First.{First}
 use Rattle.sip_proxy.specs.fork.keeping.Keeping.{IsKeptAs, IsOf}
 use Rattle.sip_proxy.specs.hops.declared.host_address.HostAddress.{HostAddress}
 use Rattle.sip_proxy.specs.inputs.declared.input.Input.{Input}

@@ -1,5 +1,5 @@
 -- The branch that a ticket names, and what its fault does.
-use Rattle.std.proofs.Common.{◌≡◌, ◌∙◌, ℕ, Bool, zero, suc, ◌<◌, ◌≤◌, List, [], ◌∷◌, find, length, slice_get, position, Contains, Option, Result, Some, None, Ok, Err, IfOk, IsSome, is_some, refl, sym, ap, subst, true≢false, arith}
+use Rattle.std.proofs.Common.{◌≡◌, ◌∙◌, ℕ, Bool, zero, suc, ◌<◌, List, [], ◌∷◌, find, length, slice_get, position, Contains, Option, Result, Some, None, Ok, Err, IfOk, IsSome, is_some, refl, sym, ap, subst, true≢false, arith}
 use Rattle.std.specs.Prelude.{option_map, ◌==◌}
 use Rattle.std.specs.Option.{option_and_then, unwrap_or}
 use Rattle.std.specs.declared.alloc.AllocError.{AllocError}
@@ -14,7 +14,7 @@ use Rattle.sip_proxy.specs.hops.declared.host_address.HostAddress.{HostAddress}
 use Rattle.sip_proxy.specs.inputs.declared.input.Input.{Input}
 use Rattle.sip_proxy.specs.inputs.Inputs.{Outcome, changing, outcome_of}
 use Rattle.sip_proxy.specs.forwarding.Forwarding.{AreSent, Teach, change_of}
-use Rattle.sip_proxy.specs.model.Effect.{Effect, change_packets, changed, dialogs_after, nothing, replaced}
+use Rattle.sip_proxy.specs.model.Effect.{Effect, change_packets, changed, dialogs_after, replaced}
 use Rattle.sip_proxy.specs.model.Step.{Does, IsFault, NoneAgainBefore, NoneBefore, failed_branch, failed_request, fault_effect, is_failed, moment_of}
 use Rattle.sip_proxy.specs.state.declared.branch.Branch.{Branch}
 use Rattle.sip_proxy.specs.state.declared.open_request.OpenRequest.{OpenRequest}

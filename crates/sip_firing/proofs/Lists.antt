@@ -1,5 +1,5 @@
 -- Elements of lists, by their places.
-use Rattle.std.proofs.Common.{◌≡◌, ℕ, zero, suc, ◌<◌, ◌≤◌, Bool, true, false, cond, List, [], ◌∷◌, ◌++◌, length, get_or, slice_get, position, Contains, Option, Some, None, refl, sym, ◌∙◌, ap, subst, arith, flat_map}
+use Rattle.std.proofs.Common.{◌≡◌, ℕ, zero, suc, ◌<◌, ◌≤◌, Bool, true, false, cond, List, [], ◌∷◌, length, get_or, slice_get, position, Contains, Option, Some, None, refl, sym, ◌∙◌, ap, subst, arith, flat_map}
 use Rattle.std.specs.Prelude.{find, nat_lt}
 use Rattle.std.specs.List.{AllByRecursion, cons_option, filter_map, position_or_len}
 use Rattle.std.specs.Option.{option_and_then, option_to_list}

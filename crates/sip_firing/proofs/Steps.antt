@@ -1,9 +1,7 @@
 -- What a step that leaves this does of the model's effect.
-use Rattle.std.proofs.Common.{◌≡◌, ◌∙◌, ℕ, ◌≤◌, ◌⊎◌, inl, inr, Bool, true, false, not, ◌&&◌, cond, List, [], ◌∷◌, map, slice_get, zero, suc, Contains, Option, Result, Some, None, Ok, Err, IfOk, refl, sym, ap, subst, arith}
-use Rattle.std.specs.Prelude.{max}
+use Rattle.std.proofs.Common.{◌≡◌, ◌∙◌, ℕ, ◌≤◌, ◌⊎◌, inl, inr, Bool, true, false, ◌&&◌, cond, List, [], ◌∷◌, map, slice_get, zero, suc, Contains, Option, Some, None, refl, sym, ap, subst, arith}
 use Rattle.std.specs.List.{list_all}
 use Rattle.std.proofs.lemmas.Option.{slice_get-get_or}
-use Rattle.std.specs.declared.alloc.AllocError.{AllocError}
 use Rattle.sip_event.specs.declared.event.StepOut.{StepOut}
 use Rattle.sip_event.specs.declared.packet.Packet.{Packet}
 use Rattle.sip_proxy.specs.Drafts.{IsDrafted}
@@ -14,8 +12,6 @@ use Rattle.sip_proxy.specs.declared.drafting.Draft.{Draft}
 use Rattle.sip_proxy.specs.dialog.Sameness.{SameDialogs}
 use Rattle.sip_proxy.specs.dialog.Dialogs.{after_invite}
 use Rattle.sip_proxy.specs.dialog.declared.dialog.Dialog.{Dialog}
-use Rattle.sip_proxy.specs.fork.Due.{IsFirst}
-use Rattle.sip_proxy.specs.fork.declared.due.First.{First}
 use Rattle.sip_proxy.specs.forwarding.Forwarding.{AreSent, Teach}
 use Rattle.sip_proxy.specs.hops.declared.host_address.HostAddress.{HostAddress}
 use Rattle.sip_proxy.specs.inputs.declared.input.Input.{Input}
@@ -40,7 +36,6 @@ use Rattle.sip_proxy.specs.state.declared.proxy_state.ProxyState.{ProxyState}
 use Rattle.sip_proxy.specs.state.declared.resend.Resend.{Resend}
 use Rattle.sip_proxy.specs.state.declared.server.Server.{Server}
 use Rattle.sip_firing.specs.Steps.{IsDraftOf, IsDueAs, IsFired, Leaves}
-use Rattle.sip_firing.proofs.Lists.{contained}
 
 -- ---- what goes again stays open
 

@@ -1,5 +1,4 @@
-ghost use Rattle.std.specs.Prelude.{◌≡◌, ◌<◌, [], length, slice_get, Some, IfOk, OnErr};
-ghost use Rattle.std.specs.Prelude.{◌≤◌};
+ghost use Rattle.std.specs.Prelude.{◌≡◌, ◌≤◌, ◌<◌, [], length, slice_get, Some, IfOk, OnErr};
 ghost use Rattle.sip_proxy.specs.Proxy.{MayCome};
 ghost use Rattle.sip_proxy.specs.fork.keeping.Keeping.{IsKeptAs};
 ghost use Rattle.sip_proxy.specs.learning.Lessons.{beginnings};

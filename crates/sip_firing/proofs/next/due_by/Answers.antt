@@ -1,4 +1,4 @@
-use Rattle.std.proofs.Common.{◌<◌, arith}
+use Rattle.std.proofs.Common.{arith}
 use Rattle.sip_firing.proofs.Moments.{before, before_again, first_is_next, never, never_again}
 use Rattle.sip_firing.proofs.next.due_by.Goals as goal
 
