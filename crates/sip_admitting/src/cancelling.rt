@@ -25,7 +25,7 @@ use sip_proxy::host::Addr;
 use sip_proxy::inputs::Input;
 use sip_proxy::key::Key;
 use sip_proxy::moments::openings::answered_at_once;
-use sip_proxy::opening::{Arrival, Replied, change_packets, reply};
+use sip_proxy::opening::{Arrival, change_packets, reply};
 use sip_proxy::processing::Sent;
 use sip_proxy::shared::Shared;
 use sip_proxy::state::{OpenRequest, Server};
@@ -71,9 +71,12 @@ fn agree(
     opens_fitting();
     answered_at_once();
     let extras = Fields::new(alloc);
-    let Replied { packet, request } = reply(alloc, server, arrival, key, request, 200, &extras)?;
-    let opened = Change::of(alloc, request)?;
-    Ok(Agreed { packet, opened })
+    let replied = reply(alloc, server, arrival, key, request, 200, &extras)?;
+    let opened = Change::of(alloc, replied.request)?;
+    Ok(Agreed {
+        packet: replied.packet,
+        opened,
+    })
 }
 
 /// Adds packets of an open request in their order.
@@ -135,10 +138,10 @@ fn cancel_at<T: Timers>(
     ensures timers { OnErr result (proxy.new.timers ≡ proxy.old.timers) }
 {
     let _named = proxy.get(place);
-    let Agreed { packet, opened } = agree(alloc, server, arrival, key, request)?;
+    let agreed = agree(alloc, server, arrival, key, request)?;
     let draft = proxy.draft_input(alloc, server, hops, arrival.now, place, Input::Cancel)?;
-    let draft = behind(alloc, packet, draft)?;
-    let packets = proxy.open_and_change(arrival.now, opened, place, draft)?;
+    let both = behind(alloc, agreed.packet, draft)?;
+    let packets = proxy.open_and_change(arrival.now, agreed.opened, place, both)?;
     let _number = proxy.count();
     Ok(StepOut {
         at: arrival.now,

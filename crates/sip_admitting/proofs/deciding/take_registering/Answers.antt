@@ -11,7 +11,7 @@ returns-in-Planned-clause-bound g c =
     let new : List Binding = c.register.new.self.state.bindings in
     subst (λ (r : Registering). Binds (plan_in r) old new) (sym c.in-Planned.is) (follows old new c.in-Planned.plan c.register.ensures.registered)
 
-pub returns-in-Refused-clause-bound : goal.returns-in-Refused-clause-bound
-returns-in-Refused-clause-bound g c =
+pub returns-clause-bound : goal.returns-clause-bound
+returns-clause-bound g c =
     let old : List Binding = c.args.proxy.now.state.bindings in
     subst (λ (r : Registering). Binds (plan_in r) old old) (sym c.in-Refused.is) (stays old old refl)
