@@ -1,8 +1,8 @@
 -- What policy decided about a request that is answered here, as the step of the definitions that does it.
-use Rattle.std.proofs.Common.{◌≡◌, ◌∙◌, ℕ, true, false, List, [], ◌∷◌, Option, Result, Some, None, Ok, refl, sym, ap, subst, true≢false}
+use Rattle.std.proofs.Common.{◌≡◌, ◌∙◌, ℕ, true, List, [], ◌∷◌, Option, Result, Some, None, Ok, refl, sym, ap, subst, true≢false}
 use Rattle.sip_event.specs.declared.event.StepOut.{StepOut}
 use Rattle.sip_proxy.specs.Proxy.{Becomes, with_bindings, with_nonces}
-use Rattle.sip_proxy.specs.arrival.Verdict.{Is, IsOutcome}
+use Rattle.sip_proxy.specs.arrival.Verdict.{IsOutcome}
 use Rattle.sip_proxy.specs.arrival.declared.verdict.Judged.{Judged}
 use Rattle.sip_proxy.specs.arrival.declared.verdict.Outcome.{Outcome}
 use Rattle.sip_proxy.specs.arrival.declared.verdict.Outcome.TheVariants.{Challenge, Deny, Send, Register}

@@ -1,5 +1,5 @@
 -- What a CANCEL does that isn't refused, as the step of the definitions that does it.
-use Rattle.std.proofs.Common.{◌≡◌, ◌∙◌, ℕ, ◌+◌, ◌<◌, Bool, true, false, cond, List, [], ◌∷◌, ◌++◌, length, position, find, slice_get, bytes_eq, Option, Some, None, refl, sym, ap, subst, unwrap_or}
+use Rattle.std.proofs.Common.{◌≡◌, ◌∙◌, ℕ, ◌+◌, Bool, false, cond, List, [], ◌∷◌, ◌++◌, find, slice_get, bytes_eq, Option, Some, None, refl, sym, ap, subst, unwrap_or}
 use Rattle.std.specs.Option.{option_and_then}
 use Rattle.sip_proxy.specs.Drafts.{IsDrafted}
 use Rattle.sip_proxy.specs.Proxy.{Becomes, IsCounted}

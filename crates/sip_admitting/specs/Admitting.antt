@@ -1,6 +1,5 @@
 -- What a step does for a new request that is answered here, once its answer was drafted (RFC 3261 8.2, 9.2, 10.3, 16.5, 22).
-use Rattle.std.specs.Prelude.{◌≡◌, ℕ, false, position, List, [], Option, None}
-use Rattle.sip_event.specs.declared.event.StepOut.{StepOut}
+use Rattle.std.specs.Prelude.{◌≡◌, ℕ, false, position, List, Option, None}
 use Rattle.sip_proxy.specs.arrival.Verdict.{Is}
 use Rattle.sip_proxy.specs.arrival.declared.verdict.Judged.{Judged}
 use Rattle.sip_proxy.specs.arrival.declared.verdict.Verdict.TheVariants as Arrived
