@@ -15,5 +15,6 @@ pub use judging::take_judged;
 
 /// Of `sip_serving`.
 pub mod serving {
-    pub use sip_serving::{is_answered_here, laws};
+    pub use sip_serving::is_answered_here;
+    pub use sip_serving::laws::new_verdict_answers_finally;
 }
