@@ -1,0 +1,101 @@
+-- What policy decided about a request that is answered here, as the step of the definitions that does it.
+use Rattle.std.proofs.Common.{◌≡◌, ◌∙◌, ℕ, true, List, [], ◌∷◌, Option, Result, Some, None, Ok, refl, sym, ap, subst, true≢false}
+use Rattle.sip_event.specs.declared.event.StepOut.{StepOut}
+use Rattle.sip_proxy.specs.Proxy.{Becomes, with_bindings, with_nonces}
+use Rattle.sip_proxy.specs.arrival.Verdict.{IsOutcome}
+use Rattle.sip_proxy.specs.arrival.declared.verdict.Judged.{Judged}
+use Rattle.sip_proxy.specs.arrival.declared.verdict.Outcome.{Outcome}
+use Rattle.sip_proxy.specs.arrival.declared.verdict.Outcome.TheVariants.{Challenge, Deny, Send, Register}
+use Rattle.sip_proxy.specs.context.Opening.{closing}
+use Rattle.sip_proxy.specs.field.declared.field.Field.{Field}
+use Rattle.sip_proxy.specs.form.declared.message.Message.{Message}
+use Rattle.sip_proxy.specs.location.Binding.{live}
+use Rattle.sip_proxy.specs.location.Locations.{IsPlan, Planned}
+use Rattle.sip_proxy.specs.location.Registration.{registered}
+use Rattle.sip_proxy.specs.location.Sameness.{SameBindings, SameOutcome}
+use Rattle.sip_proxy.specs.location.declared.binding.Binding.{Binding}
+use Rattle.sip_proxy.specs.location.declared.error.LocationError.{LocationError}
+use Rattle.sip_proxy.specs.location.declared.registration.Registration.{Registration}
+use Rattle.sip_proxy.specs.model.Effect.{Effect, challenge_status, challenges_to, contact_fields, counted, effect_of}
+use Rattle.sip_proxy.specs.model.Step.{Does}
+use Rattle.sip_proxy.specs.nonces.declared.nonces.Nonce.{Nonce}
+use Rattle.sip_proxy.specs.opening.Arrivals.{arrival_of}
+use Rattle.sip_proxy.specs.opening.declared.arrival.Arrival.{Arrival}
+use Rattle.sip_proxy.specs.reply.Extras.{denial_warning}
+use Rattle.sip_proxy.specs.state.declared.open_request.OpenRequest.{OpenRequest}
+use Rattle.sip_proxy.specs.state.declared.proxy_state.ProxyState.{ProxyState}
+use Rattle.sip_proxy.specs.state.declared.server.Server.{Server}
+use Rattle.sip_proxy.specs.targets.declared.targets.Targets.{Targets}
+use Rattle.sip_proxy.specs.targets.declared.targets.Targets.TheVariants as To
+use Rattle.sip_proxy.specs.verdict.Verdict as Definition
+use Rattle.sip_proxy.specs.verdict.declared.question.Question.{Question}
+use Rattle.sip_serving.specs.Asking.{after_asking, are_nobody, is_answered_here, plan_of}
+use Rattle.sip_serving.specs.Drafts as Drafts
+use Rattle.sip_serving.specs.Drafts.{AreBound, with_opened}
+use Rattle.sip_serving.specs.declared.draft.Draft.{Draft}
+use Rattle.sip_admitting.proofs.Answering.{Replies, step_done, text_by}
+
+-- ---- bindings
+
+-- what a plan makes of the bindings, if there is one
+abbrev pub Binds : Option Planned → List Binding → List Binding → Type 0
+Binds plan old new = (now : ℕ) (after : List Binding) → AreBound now plan old after → SameBindings now new after
+
+-- without one nothing changed
+pub stays : (old new : List Binding) → new ≡ old → Binds None old new
+stays old new same = λ now after is aor moment later. ap (λ (rows : List Binding). live aor moment rows) (same ∙ sym is)
+
+-- with one the bindings are those after its registration
+pub follows : (old new : List Binding) (plan : Planned) → ((r : Registration) (at : ℕ) → IsPlan old r at plan → SameOutcome at (Ok new) (registered old r at)) → Binds (Some plan) old new
+follows old new plan applied = λ now after is.
+    subst (λ (outcome : Result (List Binding) LocationError). SameOutcome now (Ok new) outcome) is.registered_are (applied is.registration now is.is_plan)
+
+-- ---- answers
+
+module _ (server : Server) (a : Arrival) (m : Message) (state : ProxyState) where
+  -- what a verdict does is an answer
+  abbrev pub RepliesBy : Definition.Verdict → Type 0
+  RepliesBy verdict = Replies state.requests state.dialogs (effect_of server (arrival_of a) m verdict state)
+
+  -- the request with a final answer
+  abbrev pub closed : ℕ → List Field → OpenRequest
+  closed status extras = closing (arrival_of a) m status (text_by server a m status extras)
+
+  challenge_replies : (q : Question) → RepliesBy (Definition.Challenge q)
+  challenge_replies q =
+      record { request = closed (challenge_status q.operation) (challenges_to server (arrival_of a) q); once = refl; none_again = refl; requests_are = refl; dialogs_are = refl }
+
+  denial_replies : (q : Question) (id : ℕ) → RepliesBy (Definition.Deny q id)
+  denial_replies q id = record { request = closed 403 (denial_warning server.config.own id ∷ []); once = refl; none_again = refl; requests_are = refl; dialogs_are = refl }
+
+  nobody_replies : (q : Question) (id : ℕ) (targets : Targets) → are_nobody targets ≡ true → RepliesBy (Definition.Send q id targets)
+  nobody_replies q id (To.Bindings targets) here = absurd (true≢false (sym here))
+  nobody_replies q id (To.Hop uri address) here = absurd (true≢false (sym here))
+  nobody_replies q id To.NotFound here = record { request = closed 404 []; once = refl; none_again = refl; requests_are = refl; dialogs_are = refl }
+  nobody_replies q id To.Unavailable here = record { request = closed 480 []; once = refl; none_again = refl; requests_are = refl; dialogs_are = refl }
+
+  registered_replies : (q : Question) (id : ℕ) (outcome : Definition.Registered) → RepliesBy (Definition.Register q id outcome)
+  registered_replies q id (Definition.Bound rows) =
+      record { request = closed 200 (contact_fields a.now q.target rows); once = refl; none_again = refl; requests_are = refl; dialogs_are = refl }
+  registered_replies q id (Definition.Refused status extras) = record { request = closed status extras; once = refl; none_again = refl; requests_are = refl; dialogs_are = refl }
+
+  pub judged_replies : (rows : List Binding) (q : Question) (verdict : Definition.Verdict) (outcome : Outcome) → is_answered_here outcome ≡ true → IsOutcome rows a.now q verdict outcome → RepliesBy verdict
+  judged_replies rows q verdict Challenge here is = subst RepliesBy (sym is) (challenge_replies q)
+  judged_replies rows q verdict (Deny id) here is = subst RepliesBy (sym is) (denial_replies q id)
+  judged_replies rows q verdict (Send id targets) here is = subst RepliesBy (sym is) (nobody_replies q id targets here)
+  judged_replies rows q verdict (Register id registering) here is = subst RepliesBy (sym is.verdict_is) (registered_replies q id is.registered)
+
+-- ---- the step
+
+pub judged_done : (server : Server) (a : Arrival) (m : Message) (old mid new : ProxyState) (judged : Judged) (verdict : Definition.Verdict) (draft : Draft) (out : StepOut)
+    → Drafts.Does a.now draft (after_asking (arrival_of a) judged old.nonces) (plan_of judged.outcome) (counted (arrival_of a) old) (effect_of server (arrival_of a) m verdict (counted (arrival_of a) old))
+    → RepliesBy server a m (counted (arrival_of a) old) verdict
+    → out ≡ record { at = a.now; packets = draft.packets; records = draft.records }
+    → Becomes a.now (with_opened draft.opened old.requests) [] (counted (arrival_of a) old) mid
+    → new ≡ with_nonces (after_asking (arrival_of a) judged mid.nonces) (with_bindings new.bindings mid) → Binds (plan_of judged.outcome) mid.bindings new.bindings
+    → Does server old a.now (effect_of server (arrival_of a) m verdict (counted (arrival_of a) old)) out new
+judged_done server a m old mid new judged verdict draft out does is put became left binds =
+    let effect : Effect = effect_of server (arrival_of a) m verdict (counted (arrival_of a) old) in
+    step_done server a old mid new draft (after_asking (arrival_of a) judged old.nonces) (plan_of judged.outcome) effect out does is put became
+    (left ∙ ap (λ (nonces : List Nonce). with_nonces (after_asking (arrival_of a) judged nonces) (with_bindings new.bindings mid)) became.nonces_are)
+    (binds a.now effect.state.bindings (subst (λ (rows : List Binding). AreBound a.now (plan_of judged.outcome) rows effect.state.bindings) (sym became.bindings_are) does.bindings_are))

@@ -1,0 +1,4 @@
+pub mod Answering
+pub mod Asking
+pub mod Cancels
+pub mod Counted

@@ -1,0 +1,2 @@
+pub mod Admitting
+pub use Rattle.sip_serving.specs as serving
