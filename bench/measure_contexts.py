@@ -24,9 +24,9 @@ OPENED = [
 # what is done among so many open requests, by which case, and how often
 DONE = [
     ("a MESSAGE goes again", "again", [(1, 5), (64, 64), (1024, 1024)]),
-    ("an open request is found by its number", "number", [(1, 256), (1024, 256)]),
-    ("an open request is found by its key", "key", [(1, 256), (1024, 256)]),
-    ("a branch is found by the text of a Via", "branch", [(1, 256), (1024, 256)]),
+    ("open requests are found by their numbers, each in turn", "number", [(1, 1024), (1024, 1024)]),
+    ("the last open request is found by its key", "key", [(1, 256), (1024, 256)]),
+    ("its branch is found by the text of a Via", "branch", [(1, 256), (1024, 256)]),
 ]
 
 

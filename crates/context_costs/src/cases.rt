@@ -31,15 +31,22 @@ fn opened(alloc: Global, server: &Server, kind: Kind, times: u32) -> Option<u32>
     u32::try_from(table.len()).ok()
 }
 
-/// Looks for the last of so many calls by its number: how often it was found.
+/// The place behind one, the first behind the last.
+fn next_of(place: u32, size: u32) -> u32 {
+    let next = place.saturating_add(1);
+    if next < size { next } else { 0 }
+}
+
+/// Looks for so many calls, each in turn, by its number: how often one was found.
 fn by_number(alloc: Global, server: &Server, size: u32, times: u32) -> Option<u32> {
     let table = filled(alloc, server, Kind::Calls, size)?;
-    let number = sample_number(size.saturating_sub(1));
+    let mut place = 0u32;
     let mut done = 0u32;
     for _ in 0..times {
-        if table.find_number(number).is_some() {
+        if table.find_number(sample_number(place)).is_some() {
             done = done.saturating_add(1);
         }
+        place = next_of(place, size);
     }
     Some(done)
 }
