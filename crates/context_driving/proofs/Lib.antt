@@ -1,0 +1,3 @@
+pub mod AsKept
+pub mod Earlier
+pub mod OnTime
