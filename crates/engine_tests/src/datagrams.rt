@@ -110,6 +110,7 @@ WWW-Authenticate: Digest realm=\"testrealm@host.com\", nonce=\"00000000000000000
 Content-Length: 0\r\n\
 \r\n\
 \n\
+audit 1000 1 REGISTER - Mufasa@host.com register - challenge 401\n\
 packet 2000 127.0.0.1:5062 2/0 first 267\n\
 SIP/2.0 200 OK\r\n\
 Via: SIP/2.0/UDP 127.0.0.1:5062;branch=z9hG4bKreg2\r\n\
@@ -121,4 +122,5 @@ Contact: <sip:Mufasa@127.0.0.1:5062>;expires=3600\r\n\
 Content-Length: 0\r\n\
 \r\n\
 \n\
+audit 2000 2 REGISTER Mufasa Mufasa@host.com register 1 answer 200\n\
 ";

@@ -1,47 +1,14 @@
-ghost use Rattle.std.specs.Prelude.{◌≡◌, ◌≤◌, true, IfOk};
-
-use crate::checks::gives;
+use crate::checks::{gives, gives_doing};
 use crate::datagrams::{CHALLENGE, LISTED, REGISTER, REGISTER_AGAIN, STALE_CHALLENGE};
-use sip_engine::{Binding, Engine, StepError};
-use sip_event::{Boot, StepOut};
-use sip_host::Addr;
-use sip_settings::sample;
+use crate::driving::{hear, is_fired_at, opened};
+use sip_engine::{Engine, StepError};
+use sip_event::StepOut;
+use sip_location::Binding;
+use sip_policy::ListRules;
 use sip_text::Bytes;
-use sip_uri::Aor;
+use sip_timers::ListTimers;
+use sip_uri::{Aor, write_uri};
 use std::alloc::{AllocError, Global};
-use std::test::Fail;
-
-/// Where the datagrams come from.
-pub const PHONE: Addr = Addr {
-    ip: [127, 0, 0, 1],
-    port: 5062,
-};
-
-/// An engine with the sample configuration, whose first datagram has this number.
-pub fn opened(alloc: Global, first: u64) -> Result<Engine, AllocError>
-    ensures { IfOk result (λ engine. engine.state.moment ≡ 0) }
-{
-    let boot = Boot {
-        word: 0,
-        first,
-        keys: 0,
-    };
-    Engine::open(alloc, sample(alloc)?, boot)
-}
-
-/// Takes a datagram, where nothing is due by its moment.
-pub fn hear(engine: &mut Engine, at: u64, word: u128, bytes: &[u8]) -> Result<StepOut, StepError>
-    requires { engine.old.state.moment ≤ at }
-    ensures { IfOk result (λ out. engine.new.state.moment ≡ at) }
-{
-    let Some(due) = engine.next_due() else {
-        return engine.deliver(at, word, PHONE, bytes);
-    };
-    if due <= at {
-        return Err(StepError::MomentTooLarge);
-    }
-    engine.deliver(at, word, PHONE, bytes)
-}
 
 fn is_one_packet(out: &StepOut, wanted: &[u8]) -> bool {
     match out.packets.as_slice() {
@@ -51,10 +18,13 @@ fn is_one_packet(out: &StepOut, wanted: &[u8]) -> bool {
 }
 
 /// Whether a datagram is answered with one packet of these bytes.
-fn is_answered(engine: &mut Engine, at: u64, word: u128, bytes: &[u8], wanted: &[u8]) -> bool
-    requires { engine.old.state.moment ≤ at }
-    ensures { result ≡ true → engine.new.state.moment ≡ at }
-{
+fn is_answered(
+    engine: &mut Engine<ListTimers, ListRules>,
+    at: u64,
+    word: u128,
+    bytes: &[u8],
+    wanted: &[u8],
+) -> bool {
     match hear(engine, at, word, bytes) {
         Ok(out) => is_one_packet(&out, wanted),
         Err(_) => false,
@@ -62,9 +32,7 @@ fn is_answered(engine: &mut Engine, at: u64, word: u128, bytes: &[u8], wanted: &
 }
 
 /// Whether the answers to three datagrams are those of the worked example.
-fn is_registered(engine: &mut Engine) -> bool
-    requires { engine.old.state.moment ≤ 1000 }
-{
+fn is_registered(engine: &mut Engine<ListTimers, ListRules>) -> bool {
     if !is_answered(engine, 1_000, 1, REGISTER, CHALLENGE) {
         return false;
     }
@@ -74,19 +42,9 @@ fn is_registered(engine: &mut Engine) -> bool
     is_answered(engine, 3_000, 3, REGISTER_AGAIN, LISTED)
 }
 
-/// Whether the first timer that is due fires, at this moment.
-fn is_fired_at(engine: &mut Engine, at: u64, wanted: u64) -> bool
-    ensures { result ≡ true → engine.new.state.moment ≡ wanted }
-{
-    match engine.fire(at) {
-        Ok(out) => out.at == wanted,
-        Err(_) => false,
-    }
-}
-
 /// Whether the transactions of the first two datagrams end 32 s after their answers, and the second
 /// one's bytes, sent once more, are then challenged as stale.
-fn is_stale_later(engine: &mut Engine) -> bool {
+fn is_stale_later(engine: &mut Engine<ListTimers, ListRules>) -> bool {
     if !is_fired_at(engine, 34_000, 33_000) {
         return false;
     }
@@ -102,49 +60,47 @@ fn mufasa(alloc: Global) -> Result<Aor, AllocError> {
     Ok(Aor { user, host })
 }
 
+fn reaches(alloc: Global, binding: &Binding, wanted: &[u8]) -> bool {
+    gives(
+        write_uri(alloc, &binding.uri),
+        |uri| uri.as_slice() == wanted,
+    )
+}
+
 /// Whether a binding is the one that the second datagram made.
-fn is_made(binding: &Binding) -> bool {
-    binding.uri.as_slice() == b"sip:Mufasa@127.0.0.1:5062".as_slice()
+fn is_made(alloc: Global, binding: &Binding) -> bool {
+    reaches(alloc, binding, b"sip:Mufasa@127.0.0.1:5062")
         && binding.call_id.as_slice() == b"c1@127.0.0.1".as_slice()
         && binding.cseq == 2
         && binding.expires_at == 3_602_000
 }
 
-fn are_made(bindings: &[Binding]) -> bool {
-    match bindings {
-        [binding] => is_made(binding),
-        _ => false,
+/// Whether a user has that binding alone.
+fn has_binding(alloc: Global, engine: &Engine<ListTimers, ListRules>, aor: &Aor) -> bool {
+    let mut live = engine.bindings(aor);
+    match live.next() {
+        Some(binding) => is_made(alloc, binding) && live.next().is_none(),
+        None => false,
     }
 }
 
-/// Whether a user has that binding alone.
-fn has_binding(engine: &Engine, aor: &Aor) -> bool {
-    gives(
-        engine.bindings(aor),
-        |bindings| are_made(bindings.as_slice()),
-    )
-}
-
-fn is_bound(alloc: Global, engine: &Engine) -> bool {
-    gives(mufasa(alloc), |aor| has_binding(engine, aor))
+fn is_bound(alloc: Global, engine: &Engine<ListTimers, ListRules>) -> bool {
+    gives(mufasa(alloc), |aor| has_binding(alloc, engine, aor))
 }
 
 /// Whether a user has no binding.
-fn has_none(engine: &Engine, aor: &Aor) -> bool {
-    gives(
-        engine.bindings(aor),
-        |bindings| bindings.as_slice().is_empty(),
-    )
+fn has_none(engine: &Engine<ListTimers, ListRules>, aor: &Aor) -> bool {
+    engine.bindings(aor).next().is_none()
 }
 
-fn knows_nothing(alloc: Global, engine: &Engine) -> bool {
-    engine.next_due().is_none() && gives(mufasa(alloc), |aor| has_none(engine, aor))
+fn knows_nothing(alloc: Global, engine: &Engine<ListTimers, ListRules>) -> bool {
+    engine.next_due().is_none()
+        && engine.moment() == 0
+        && gives(mufasa(alloc), |aor| has_none(engine, aor))
 }
 
 /// Whether the binding that was made stays as it was.
-fn stays_bound(alloc: Global, engine: &mut Engine) -> bool
-    requires { engine.old.state.moment ≤ 1000 }
-{
+fn stays_bound(alloc: Global, engine: &mut Engine<ListTimers, ListRules>) -> bool {
     is_registered(engine)
         && is_bound(alloc, engine)
         && is_stale_later(engine)
@@ -154,10 +110,9 @@ fn stays_bound(alloc: Global, engine: &mut Engine) -> bool
 /// A REGISTER is challenged and registers, and a copy gets its answer again. Once the transaction has
 /// ended, the same bytes are challenged as stale, and the binding stays as it was.
 #[test]
-fn registered(rt: HostRuntime) -> Result<(), Fail> {
-    let mut engine = opened(rt.alloc(), 1)?;
-    assert!(rt; stays_bound(rt.alloc(), &mut engine));
-    Ok(())
+fn registered(rt: HostRuntime) {
+    let alloc = rt.alloc();
+    assert!(rt; gives_doing(opened(alloc, 1), |engine| stays_bound(alloc, engine)));
 }
 
 #[test]
@@ -176,5 +131,6 @@ fn is_printed(alloc: Global, e: StepError) -> bool {
 #[test]
 fn printed_errors(rt: HostRuntime) {
     assert!(rt; is_printed(rt.alloc(), StepError::Worn));
+    assert_eq!(rt; StepError::MomentTooLarge as u8, 2);
     assert_eq!(rt; StepError::Worn as u8, 4);
 }

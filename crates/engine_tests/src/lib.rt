@@ -8,6 +8,8 @@ mod checks;
 #[cfg(test)]
 mod datagrams;
 #[cfg(test)]
+mod driving;
+#[cfg(test)]
 mod engine;
 #[cfg(test)]
 mod limits;

@@ -1,51 +1,54 @@
-ghost use Rattle.std.specs.Prelude.{◌≡◌, true};
-
-use crate::checks::refuses;
 use crate::datagrams::{REGISTER, REGISTERED_PRINT, REGISTERED_SCRIPT};
-use crate::engine::PHONE;
+use crate::driving::{hear, opened, replayed};
 use sip_engine::{Engine, StepError};
-use sip_event::{Boot, StepOut};
-use sip_loop::{ReplayError, replay};
-use sip_settings::sample;
+use sip_event::StepOut;
+use sip_loop::ReplayError;
+use sip_policy::ListRules;
+use sip_timers::ListTimers;
+use std::alloc::Global;
 
-/// Whether one packet goes out, as long as the challenge.
+/// Whether one packet goes out, as long as the challenge, and one record.
 fn is_challenge(out: &StepOut) -> bool {
     match out.packets.as_slice() {
-        [packet] => packet.bytes.as_slice().len() == 348,
+        [packet] => packet.bytes.as_slice().len() == 348 && out.records.as_slice().len() == 1,
         _ => false,
     }
 }
 
-/// Whether a shut engine refuses what comes.
-fn refuses_all(engine: &mut Engine) -> bool
-    requires { engine.old.state.is_shut ≡ true }
-{
-    refuses(engine.deliver(2_000, 2, PHONE, REGISTER), StepError::Shut)
-        && refuses(engine.fire(2_000), StepError::Shut)
+/// Whether a REGISTER is challenged; None where it is refused for want of memory.
+fn is_challenged(engine: &mut Engine<ListTimers, ListRules>) -> Option<bool> {
+    match hear(engine, 1_000, 1, REGISTER) {
+        Ok(out) => Some(is_challenge(&out)),
+        Err(StepError::NoMemory) => None,
+        Err(_) => Some(false),
+    }
+}
+
+/// Whether it is challenged, or is refused for want of memory, changes nothing, and is challenged when
+/// it comes again.
+fn is_challenged_in_the_end(engine: &mut Engine<ListTimers, ListRules>) -> bool {
+    if let Some(right) = is_challenged(engine) {
+        return right;
+    }
+    if engine.moment() != 0 || engine.next_due().is_some() {
+        return false;
+    }
+    is_challenged(engine) == Some(true)
+}
+
+/// Whether an engine can't be had for want of memory, or does so.
+fn is_refused_or_challenged(alloc: Global) -> bool {
+    match opened(alloc, 1) {
+        Ok(mut engine) => is_challenged_in_the_end(&mut engine),
+        Err(_) => true,
+    }
 }
 
 /// This test stands whichever allocation of the process is refused: a refused one inside `deliver`
-/// gives NoMemory, and the engine is shut afterwards; with enough memory the challenge is complete.
+/// gives NoMemory, and the engine is as it was.
 #[test]
 fn refused_inside_deliver(rt: HostRuntime) {
-    let Ok(config) = sample(rt.alloc()) else {
-        return;
-    };
-    let boot = Boot {
-        word: 0,
-        first: 1,
-        keys: 0,
-    };
-    let Ok(mut engine) = Engine::open(rt.alloc(), config, boot) else {
-        return;
-    };
-    match engine.deliver(1_000, 1, PHONE, REGISTER) {
-        Ok(out) => assert!(rt; is_challenge(&out)),
-        Err(e) => {
-            assert_eq!(rt; e, StepError::NoMemory);
-            assert!(rt; refuses_all(&mut engine));
-        }
-    }
+    assert!(rt; is_refused_or_challenged(rt.alloc()));
 }
 
 /// Whether an answer of a replay of both datagrams fits its print: all, or with NoMemory a part. A
@@ -61,11 +64,7 @@ fn fits(answer: Result<(), ReplayError>, print: &[u8]) -> bool {
 /// The same of a whole replay with both answers: it ends with NoMemory, or prints all.
 #[test]
 fn refused_inside_replay(rt: HostRuntime) {
-    let Ok(config) = sample(rt.alloc()) else {
-        return;
-    };
-    let mut script = REGISTERED_SCRIPT;
     let mut print = Vec::new(rt.alloc());
-    let answer = replay(rt.alloc(), config, &mut script, &mut print);
+    let answer = replayed(rt.alloc(), REGISTERED_SCRIPT, &mut print);
     assert!(rt; fits(answer, print.as_slice()));
 }

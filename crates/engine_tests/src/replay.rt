@@ -1,16 +1,12 @@
 use crate::checks::gives;
-use sip_loop::{ReplayError, replay};
-use sip_settings::sample;
+use crate::driving::replayed;
+use sip_loop::ReplayError;
 use std::alloc::{AllocError, Global};
 
 /// Whether a replay of a script ends so, without a print.
 fn ends(alloc: Global, script: &[u8], answer: Result<(), ReplayError>) -> bool {
-    let Ok(config) = sample(alloc) else {
-        return false;
-    };
-    let mut reader = script;
     let mut print = Vec::new(alloc);
-    replay(alloc, config, &mut reader, &mut print) == answer && print.is_empty()
+    replayed(alloc, script, &mut print) == answer && print.is_empty()
 }
 
 const REFUSED: &[&[u8]] = &[
@@ -108,10 +104,8 @@ fn challenges(print: &[u8]) -> usize {
 
 /// How many challenges a replay of a script prints; None where it is refused.
 fn challenges_of(alloc: Global, script: &[u8]) -> Option<usize> {
-    let config = sample(alloc).ok()?;
-    let mut reader = script;
     let mut print = Vec::new(alloc);
-    match replay(alloc, config, &mut reader, &mut print) {
+    match replayed(alloc, script, &mut print) {
         Ok(()) => Some(challenges(print.as_slice())),
         Err(_) => None,
     }

@@ -1,7 +1,3 @@
-pub mod Ties
-pub mod Places
-pub mod Deadlines
-pub mod Values
-pub mod Later
-pub mod Arriving
-pub mod TopVia
+mod Leading
+mod Numbered
+mod Heard

@@ -1,8 +1,3 @@
-pub mod Requests
-pub mod Bindings
-pub mod Registration
-pub mod Proof
-pub mod Serving
-pub mod State
-pub mod Asking
+pub mod Engine
+pub mod Hearing
 pub mod StepError

@@ -1,121 +1,129 @@
-ghost use Rattle.std.specs.Prelude.{◌≡◌, ◌≤◌, ◌<◌, ◌^◌, ℕ, max, [], false, true, Option, Some, None, Ok, Err, IfOk, IfErr, IfSome, IfNone, IsOk};
-ghost use Rattle.sip_form.specs.declared.message.Message.{Message};
-ghost use Rattle.sip_message.specs.Says.{Says, IsWithinLimits};
-ghost use Rattle.sip_key.specs.Key.{key_of};
-ghost use Rattle.sip_engine.specs.Bindings.{live};
-ghost use Rattle.sip_engine.specs.Requests.{IsNextDeadline, closing_by, closing_before};
-ghost use Rattle.sip_engine.specs.Serving.{heard};
+ghost use Rattle.std.specs.Prelude.{◌≡◌, ◌≤◌, ◌<◌, ◌^◌, ℕ, [], max, None, Some, Err, MatchOption, IsOk, IfOk, IfErr, IfSome, OnErr};
+ghost use Rattle.sip_event.specs.declared.event.Event.TheVariants.{Datagram, Fault};
+ghost use Rattle.sip_firing.specs.Faults.{failed_of};
+ghost use Rattle.sip_firing.specs.Next.{IsNext};
+ghost use Rattle.sip_proxy.specs.fork.Due.{IsNothingDue};
+ghost use Rattle.sip_proxy.specs.location.Binding.{live};
+ghost use Rattle.sip_proxy.specs.model.Step.{Given, Passing, IsStep, IsTime, NoneAgainBefore, NoneAgainBy, NoneBefore, NoneBy, moment_of};
+ghost use Rattle.sip_proxy.specs.state.State.{first_state};
+ghost use Rattle.sip_engine.specs.Engine.{IsReached};
+ghost use Rattle.sip_engine.specs.StepError.{refusal_at, refusal_of};
 ghost use Rattle.sip_engine.specs.declared.error.StepError.TheVariants.{NoMemory};
 
-use crate::bindings::Bindings;
 use crate::error::StepError;
-use crate::requests::Requests;
-use crate::serving::take_datagram;
-use crate::tables::{Arrival, Tables};
-use sip_event::{Boot, StepOut, Ticket};
-use sip_host::Addr;
-use sip_nonces::Nonces;
-use sip_settings::Config;
-use sip_text::Items;
-use sip_uri::Aor;
+use crate::histories::reached_states_are_sound;
+use crate::stepping;
+use sip_event::{Boot, StepOut};
+use sip_firing as firing;
+use sip_proxy::Proxy;
+use sip_proxy::event::Ticket;
+use sip_proxy::host::Addr;
+use sip_proxy::judge::Judge;
+use sip_proxy::location::LiveBindings;
+use sip_proxy::policy::Rules;
+use sip_proxy::settings::Config;
+use sip_proxy::state::Server;
+use sip_proxy::timers::Timers;
+use sip_proxy::uri::Aor;
 use std::alloc::{AllocError, Global};
 use std::marker::Model;
 
-/// The first moment, and the first number of a datagram, that is too large.
-const TOO_LARGE: u64 = 0x4000_0000_0000_0000;
-
-/// The server, which performs no input or output: datagrams, moments and faults of sending are handed
-/// in, and packets are handed out. After want of memory it is shut.
+/// The server. Each call takes one step, or is refused and changes nothing.
 #[derive(Drop)]
-pub struct Engine {
+pub struct Engine<T: Timers, R: Rules> {
     alloc: Global,
-    config: Config,
-    word: u64,
-    tables: Tables,
-    moment: u64,
-    next: u64,
-    is_shut: bool,
+    judge: Judge<R>,
+    proxy: Proxy<T>,
 }
 
-impl Model for Engine {
-    ghost use Rattle.std.specs.Prelude.{◌≡◌, ◌<◌, ◌^◌, false};
-    ghost use Rattle.sip_engine.specs.Requests.{closing_before};
-    ghost use Rattle.sip_engine.specs.State.{Server, ProxyState};
+impl<T: Timers, R: Rules> Model for Engine<T, R> {
+    ghost use Rattle.sip_engine.specs.Engine.{Engine, IsReached};
 
-    ghost Value = { Server };
+    ghost Value = { Engine };
 
-    ghost view = { λ e. record { config = e.config; word = e.word; state = record { moment = e.moment; next = e.next; tables = e.tables; is_shut = e.is_shut } } };
+    ghost view = { λ e. record { server = e.judge; state = e.proxy.state; timers = e.proxy.timers } };
 
-    ghost invariant = { λ e. e.is_shut ≡ false → (e.moment < 2 ^ 62) × (closing_before e.moment e.tables.requests ≡ 0) };
+    ghost invariant = { λ e. IsReached e.judge e.proxy.state };
 }
 
-impl Engine {
-    ghost use Rattle.sip_engine.specs.State.{Server, ProxyState, NothingDueBy, moment_of, refusal_at, refusal_of_datagram, arrival_of, IsDelivery, IsQuiet, IsFiring};
-
-    /// A server that knows nothing yet.
-    pub fn open(alloc: Global, config: Config, boot: Boot) -> Result<Engine, AllocError>
-        ensures { IfOk result (λ e. e ≡ record { config = config; word = boot.word; state = record { moment = 0; next = boot.first; tables = record { bindings = []; nonces = []; requests = [] }; is_shut = false } }) }
+impl<T: Timers, R: Rules> Engine<T, R> {
+    /// A server of a configuration that knows nothing yet. `AllocError` is the only refusal.
+    pub fn open(alloc: Global, config: Config, boot: Boot) -> Result<Self, AllocError>
+        ensures server { IfOk result (λ engine. engine.server ≡ record { config = config; word = boot.word }) }
+        ensures state { IfOk result (λ engine. engine.state ≡ first_state boot.first) }
+        ensures timers { IfOk result (λ engine. engine.timers ≡ []) }
     {
-        Ok(Engine {
-            alloc,
+        let server = Server {
             config,
             word: boot.word,
-            tables: Tables {
-                bindings: Bindings::new(alloc),
-                nonces: Nonces::new(alloc)?,
-                requests: Requests::new(alloc)?,
-            },
-            moment: 0,
-            next: boot.first,
-            is_shut: false,
+        };
+        let judge = Judge::new(alloc, server)?;
+        let proxy = Proxy::new(alloc, boot.keys, boot.first)?;
+        Ok(Engine {
+            alloc,
+            judge,
+            proxy,
         })
     }
 
-    /// The first moment at which a timer is due, in milliseconds.
+    /// Its state is one that steps of the model lead to, so that whatever is proved of every history holds here. Does nothing.
+    pub fn is_reached(&self)
+        ensures { IsReached self.now.server self.now.state }
+    {
+        let _judge = &self.judge;
+    }
+
+    /// The last moment, in milliseconds.
+    pub fn moment(&self) -> u64
+        ensures value { result ≡ self.now.state.moment }
+        ensures small { result < 2 ^ 62 }
+    {
+        let _judge = &self.judge;
+        self.proxy.moment()
+    }
+
+    /// The first moment, in milliseconds, at which something is due: a deadline passes, or something goes again. None where
+    /// nothing is. Takes no memory.
     pub fn next_due(&self) -> Option<u64>
-        ensures some { IfSome result (λ due. IsNextDeadline due self.now.state.tables.requests) }
-        ensures none { IfNone result (self.now.state.tables.requests ≡ []) }
-        ensures nothing { (m : ℕ) → ((due : ℕ) → result ≡ Some due → m < due) → NothingDueBy m self.now.state }
+        ensures first { MatchOption result (IsNothingDue self.now.state.requests) (IsNext self.now.state.requests) }
+        ensures later { IfSome result (λ due. self.now.state.moment ≤ due) }
+        ensures none_by { (m : ℕ) → ((due : ℕ) → result ≡ Some due → m < due) → NoneBy m self.now.state.requests × NoneAgainBy m self.now.state.requests }
     {
-        self.tables.requests.next_due()
+        reached_states_are_sound();
+        firing::laws::next_moment_is_first();
+        let _judge = &self.judge;
+        firing::next_due(&self.proxy)
     }
 
-    /// The live bindings of an address of record.
-    pub fn bindings(&self, aor: &Aor) -> Result<Bindings, AllocError>
-        ensures { IfOk result (λ bindings. bindings ≡ live aor.now self.now.state.moment self.now.state.tables.bindings) }
+    /// The live bindings of an address of record at the last moment, in their order, lent. Takes no memory.
+    pub fn bindings(&self, aor: &Aor) -> LiveBindings<'_>
+        ensures { result ≡ live aor.now self.now.state.moment self.now.state.bindings }
     {
-        self.tables.bindings.live(self.alloc, aor, self.moment)
+        let _judge = &self.judge;
+        self.proxy.bindings(aor)
     }
 
-    /// Fires the first timer that is due by a moment, in a step at the moment when it was due; with
-    /// none it sets the moment alone.
+    /// Does the first that is due by a moment in milliseconds, in a step at its own moment; with nothing due the moment comes
+    /// alone, and no memory is asked for. A moment that goes back counts as the last one. Refused with `MomentTooLarge` from
+    /// 2^62, and with `NoMemory`; nothing is changed then.
     pub fn fire(&mut self, at: u64) -> Result<StepOut, StepError>
-        ensures refused { IfSome (refusal_at self.old.state at) (λ e. (result ≡ Err e) × (self.new ≡ self.old)) }
-        ensures succeeds { refusal_at self.old.state at ≡ None → IsOk result }
-        ensures moment { IfOk result (λ out. self.new.state.moment ≡ out.at) }
-        ensures quiet { NothingDueBy (moment_of self.old.state at) self.old.state → IfOk result (λ out. IsQuiet self.old at out self.new) }
-        ensures fired { (due : ℕ) → IsNextDeadline due self.old.state.tables.requests → due ≤ moment_of self.old.state at → IfOk result (λ out. IsFiring self.old at out self.new) }
+        ensures refused { IfSome (refusal_at at) (λ e. result ≡ Err e) }
+        ensures otherwise { refusal_at at ≡ None → IfErr result (λ e. e ≡ NoMemory) }
+        ensures never_refused { refusal_at at ≡ None → NoneBy (moment_of self.old.state at) self.old.state.requests → NoneAgainBy (moment_of self.old.state at) self.old.state.requests → IsOk result }
+        ensures unchanged { OnErr result (self.new ≡ self.old) }
+        ensures server { self.new.server ≡ self.old.server }
+        ensures step { IfOk result (λ out. IsStep self.old.server self.old.state (Passing at) out self.new.state) }
+        ensures waited { NoneBy (moment_of self.old.state at) self.old.state.requests → NoneAgainBy (moment_of self.old.state at) self.old.state.requests → IfOk result (λ out. IsTime self.old.server self.old.state at out self.new.state) }
+        ensures at_first { (due : ℕ) → IsNext self.old.state.requests due → due ≤ moment_of self.old.state at → IfOk result (λ out. out.at ≡ due) }
+        ensures at_moment { IfOk result (λ out. out.at ≡ self.new.state.moment) }
+        ensures in_time { IfOk result (λ out. out.at ≤ moment_of self.old.state at) }
     {
-        if self.is_shut {
-            return Err(StepError::Shut);
-        }
-        if TOO_LARGE <= at {
-            return Err(StepError::MomentTooLarge);
-        }
-        let now = later_of(self.moment, at);
-        match self.tables.requests.close_first(now) {
-            Some(due) => {
-                self.moment = due;
-                Ok(nothing_at(self.alloc, due))
-            }
-            None => {
-                self.moment = now;
-                Ok(nothing_at(self.alloc, now))
-            }
-        }
+        stepping::fire(self.alloc, &self.judge, &mut self.proxy, at)
     }
 
-    /// Takes a datagram that came from an address. The word makes the nonce of a challenge.
+    /// Takes a datagram that came from an address; the word makes the nonce of a challenge. A moment that goes back counts as
+    /// the last one; nothing is due by it. Refused with `MomentTooLarge` from 2^62, with `Worn` where the datagram's number
+    /// would be 2^62 or more, and with `NoMemory`, in this order; nothing is changed then.
     pub fn deliver(
         &mut self,
         at: u64,
@@ -123,80 +131,36 @@ impl Engine {
         from: Addr,
         bytes: &[u8],
     ) -> Result<StepOut, StepError>
-        requires { self.old.state.is_shut ≡ false → at < 2 ^ 62 → NothingDueBy (moment_of self.old.state at) self.old.state }
-        ensures refused { IfSome (refusal_of_datagram self.old.state at) (λ e. (result ≡ Err e) × (self.new ≡ self.old)) }
-        ensures delivered { IfOk result (λ out. IsDelivery self.old at word from bytes.now out self.new) }
-        ensures said { (m : Message) → Says bytes.now m → IsWithinLimits bytes.now m → IfOk result (λ out. (out.packets, self.new.state.tables) ≡ heard self.old.config self.old.word self.old.state.tables (arrival_of self.old.state at word from) m (key_of m)) }
-        ensures no_memory { refusal_of_datagram self.old.state at ≡ None → IfErr result (λ e. (e ≡ NoMemory) × (self.new.state.is_shut ≡ true)) }
+        requires { at < 2 ^ 62 → NoneBy (moment_of self.old.state at) self.old.state.requests × NoneAgainBy (moment_of self.old.state at) self.old.state.requests }
+        ensures refused { IfSome (refusal_of self.old.state at) (λ e. result ≡ Err e) }
+        ensures otherwise { refusal_of self.old.state at ≡ None → IfErr result (λ e. e ≡ NoMemory) }
+        ensures unchanged { OnErr result (self.new ≡ self.old) }
+        ensures server { self.new.server ≡ self.old.server }
+        ensures step { IfOk result (λ out. IsStep self.old.server self.old.state (Given (Datagram at word from bytes.now)) out self.new.state) }
     {
-        if self.is_shut {
-            return Err(StepError::Shut);
-        }
-        if TOO_LARGE <= at {
-            return Err(StepError::MomentTooLarge);
-        }
-        if TOO_LARGE <= self.next {
-            return Err(StepError::Worn);
-        }
-        self.is_shut = true;
-        let arrival = Arrival {
-            number: self.next,
-            now: later_of(self.moment, at),
+        stepping::deliver(
+            self.alloc,
+            &self.judge,
+            &mut self.proxy,
+            at,
             word,
             from,
-        };
-        let packets = take_datagram(
-            self.alloc,
-            &self.config,
-            self.word,
-            &mut self.tables,
-            arrival,
             bytes,
-        )?;
-        self.moment = arrival.now;
-        self.next += 1;
-        self.is_shut = false;
-        Ok(StepOut {
-            at: arrival.now,
-            packets,
-            records: Items::new(self.alloc),
-        })
+        )
     }
 
-    /// Hears that a packet could not be sent. For now it sets the moment alone.
+    /// Hears that the packet of a ticket could not be sent (RFC 3261 16.9): an unheard branch has failed; any other packet is
+    /// as lost on its way. A moment that goes back counts as the last one; nothing is due before it. Refused with
+    /// `MomentTooLarge` from 2^62, and with `NoMemory`; nothing is changed then.
     pub fn fault(&mut self, at: u64, ticket: Ticket) -> Result<StepOut, StepError>
-        requires { self.old.state.is_shut ≡ false → at < 2 ^ 62 → closing_before (moment_of self.old.state at) self.old.state.tables.requests ≡ 0 }
-        ensures refused { IfSome (refusal_at self.old.state at) (λ e. (result ≡ Err e) × (self.new ≡ self.old)) }
-        ensures succeeds { refusal_at self.old.state at ≡ None → IsOk result }
-        ensures quiet { IfOk result (λ out. IsQuiet self.old at out self.new) }
+        requires { at < 2 ^ 62 → NoneBefore (moment_of self.old.state at) self.old.state.requests × NoneAgainBefore (moment_of self.old.state at) self.old.state.requests }
+        ensures refused { IfSome (refusal_at at) (λ e. result ≡ Err e) }
+        ensures otherwise { refusal_at at ≡ None → IfErr result (λ e. e ≡ NoMemory) }
+        ensures never_refused { refusal_at at ≡ None → failed_of ticket self.old.state.requests ≡ None → IsOk result }
+        ensures unchanged { OnErr result (self.new ≡ self.old) }
+        ensures server { self.new.server ≡ self.old.server }
+        ensures step { IfOk result (λ out. IsStep self.old.server self.old.state (Given (Fault at ticket)) out self.new.state) }
     {
-        let _unknown = ticket;
-        if self.is_shut {
-            return Err(StepError::Shut);
-        }
-        if TOO_LARGE <= at {
-            return Err(StepError::MomentTooLarge);
-        }
-        let now = later_of(self.moment, at);
-        self.moment = now;
-        Ok(nothing_at(self.alloc, now))
-    }
-}
-
-/// The moment of a step: one that goes back counts as the greatest so far.
-fn later_of(greatest: u64, at: u64) -> u64
-    ensures { result ≡ max greatest at }
-{
-    greatest.max(at)
-}
-
-/// A step that hands out nothing.
-fn nothing_at(alloc: Global, at: u64) -> StepOut
-    ensures { result ≡ record { at = at; packets = []; records = [] } }
-{
-    StepOut {
-        at,
-        packets: Items::new(alloc),
-        records: Items::new(alloc),
+        stepping::fault(self.alloc, &self.judge, &mut self.proxy, at, ticket)
     }
 }

@@ -5,16 +5,14 @@ use std::alloc::{AllocError, AllocFailed};
 use std::error::Error;
 use std::fmt;
 
-/// Why a step was refused.
+/// Why a step was refused; nothing changed.
 #[derive(Clone, Copy, Debug, PartialEq, Eq)]
 pub enum StepError {
-    /// Memory ran out; the engine is shut from then on.
+    /// Memory ran out.
     NoMemory = 1,
-    /// The moment is 2^62 ms or more; nothing changed.
+    /// The moment is 2^62 ms or more.
     MomentTooLarge = 2,
-    /// Memory ran out in an earlier step; nothing changed.
-    Shut = 3,
-    /// The datagram's number would be 2^62 or more; nothing changed.
+    /// The datagram's number would be 2^62 or more.
     Worn = 4,
 }
 
@@ -28,7 +26,6 @@ impl fmt::Display for StepError {
         match self {
             StepError::NoMemory => write!(f, "out of memory"),
             StepError::MomentTooLarge => write!(f, "the moment is too large"),
-            StepError::Shut => write!(f, "the engine is shut"),
             StepError::Worn => write!(f, "the numbers of datagrams are worn out"),
         }
     }

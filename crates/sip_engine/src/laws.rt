@@ -1,62 +1,100 @@
-ghost use Rattle.std.specs.Prelude.{◌≡◌, ◌≤◌, ℕ, List, [], ◌∷◌, length, find, Some, None, true, false};
-ghost use Rattle.sip_form.specs.declared.message.Message.{Message};
-ghost use Rattle.sip_key.specs.declared.key.Key.{Key};
-ghost use Rattle.sip_key.specs.Key.{key_of};
-ghost use Rattle.sip_settings.specs.declared.config.Config.{Config};
-ghost use Rattle.sip_engine.specs.declared.proof.Claim.{Claim};
-ghost use Rattle.sip_engine.specs.declared.proof.Proof.TheVariants.{Right, Stale, Wrong};
-ghost use Rattle.sip_engine.specs.declared.registration.Registration.{Registration};
-ghost use Rattle.sip_engine.specs.declared.requests.OpenRequest.{OpenRequest};
-ghost use Rattle.sip_engine.specs.declared.tables.Tables.{Tables};
-ghost use Rattle.sip_engine.specs.declared.tables.Arrival.{Arrival};
-ghost use Rattle.sip_engine.specs.Asking.{IsServed};
-ghost use Rattle.sip_engine.specs.Proof.{proof_of};
-ghost use Rattle.sip_engine.specs.Registration.{registration_of};
-ghost use Rattle.sip_engine.specs.Requests.{has_key, answer_packet};
-ghost use Rattle.sip_engine.specs.Serving.{heard, registered, challenged, may_register};
+ghost use Rattle.std.specs.Prelude.{◌≡◌, ◌+◌, [], ◌∷◌, ◌++◌, ℕ, Bool, List, Some, false, true, codes, length};
+ghost use Rattle.std.specs.Str.{bytes_eq};
+ghost use Rattle.sip_event.specs.declared.event.StepOut.{StepOut};
+ghost use Rattle.sip_proxy.specs.audit.declared.record.Outcome.TheVariants as Outcome;
+ghost use Rattle.sip_proxy.specs.context.Branches.{cancelled, responded};
+ghost use Rattle.sip_proxy.specs.context.Opening.{branches_from, dialog_branch, forking};
+ghost use Rattle.sip_proxy.specs.context.Sending.{answer_packet, made_answer};
+ghost use Rattle.sip_proxy.specs.dialog.declared.dialog.DialogId.{DialogId};
+ghost use Rattle.sip_proxy.specs.field.declared.field.Field.{Field};
+ghost use Rattle.sip_proxy.specs.form.Text.{text_of};
+ghost use Rattle.sip_proxy.specs.form.declared.message.Message.{Message};
+ghost use Rattle.sip_proxy.specs.host.declared.addr.Addr.{Addr};
+ghost use Rattle.sip_proxy.specs.location.Sameness.{SameBindings};
+ghost use Rattle.sip_proxy.specs.location.declared.binding.Binding.{Binding};
+ghost use Rattle.sip_proxy.specs.model.Effect.{ack_packet, challenge_status, challenges_to, change_packets, contact_fields, method_of, opening_packets, record_of};
+ghost use Rattle.sip_proxy.specs.model.Step.{arrival_of, moment_of, originals, retransmissions};
+ghost use Rattle.sip_proxy.specs.reply.Extras.{denial_warning};
+ghost use Rattle.sip_proxy.specs.retransmission.Retransmission.{acked_again, answers_again};
+ghost use Rattle.sip_proxy.specs.state.declared.branch.Branch.{Branch};
+ghost use Rattle.sip_proxy.specs.state.declared.open_request.OpenRequest.{OpenRequest};
+ghost use Rattle.sip_proxy.specs.state.declared.proxy_state.ProxyState.{ProxyState};
+ghost use Rattle.sip_proxy.specs.state.declared.server.Server.{Server};
+ghost use Rattle.sip_proxy.specs.targets.Targets.{target_list};
+ghost use Rattle.sip_proxy.specs.targets.declared.targets.Targets.TheVariants as Targets;
+ghost use Rattle.sip_proxy.specs.targets.declared.target.Target.{Target};
+ghost use Rattle.sip_proxy.specs.uri.declared.uri.Uri.{Uri};
+ghost use Rattle.sip_proxy.specs.verdict.Verdict as Verdict;
+ghost use Rattle.sip_proxy.specs.verdict.declared.question.Question.{Question};
+ghost use Rattle.sip_engine.specs.Hearing.{Hears};
 
-/// What a REGISTER that is served gets, by its credential (RFC 3261 10.3, 22.1).
-pub fn register_gets()
-    // The credential is right, its user registers the own address of record, and there is room for the
-    // contact: the 200 with the live bindings, of which the contact is one; the count is spent.
-    ensures right { (config : Config) (word : ℕ) (t : Tables) (a : Arrival) (m : Message) (key : Key) (r : Registration) (claim : Claim)
-        → IsServed config t m key r → proof_of config t.nonces a.now m ≡ Right claim → may_register a r claim t ≡ true
-        → heard config word t a m (key_of m) ≡ registered word a m key r claim t }
-
-    // Another user's address of record, or no room: nothing is sent, and no row changes.
-    ensures refused { (config : Config) (word : ℕ) (t : Tables) (a : Arrival) (m : Message) (key : Key) (r : Registration) (claim : Claim)
-        → IsServed config t m key r → proof_of config t.nonces a.now m ≡ Right claim → may_register a r claim t ≡ false
-        → heard config word t a m (key_of m) ≡ ([], t) }
-
-    // The user's own answer to a nonce that no longer counts: the 401 says so.
-    ensures stale { (config : Config) (word : ℕ) (t : Tables) (a : Arrival) (m : Message) (key : Key) (r : Registration)
-        → IsServed config t m key r → proof_of config t.nonces a.now m ≡ Stale
-        → heard config word t a m (key_of m) ≡ challenged config word a m key true t }
-
-    // Any other credential, or none: the 401.
-    ensures wrong { (config : Config) (word : ℕ) (t : Tables) (a : Arrival) (m : Message) (key : Key) (r : Registration)
-        → IsServed config t m key r → proof_of config t.nonces a.now m ≡ Wrong
-        → heard config word t a m (key_of m) ≡ challenged config word a m key false t }
+/// What a request gets that is answered here, in bytes, where nothing goes again: a challenge, the 403 of a denial with its
+/// rule in the Warning, the 200 to a REGISTER with the bindings that live, and what is recorded of each (RFC 3261 10.3, 22).
+pub fn what_is_answered()
+    ensures challenged { (server : Server) (old new : ProxyState) (at word : ℕ) (from : Addr) (bytes : List ℕ) (m : Message) (out : StepOut) (q : Question)
+        → Hears server old at word from bytes m (Verdict.Challenge q) out new
+        → originals out.packets ≡ answer_packet false old.next m from (text_of (made_answer server old.next m from (challenge_status q.operation) (challenges_to server (arrival_of old at word from) q))) ∷ [] }
+    ensures denied { (server : Server) (old new : ProxyState) (at word : ℕ) (from : Addr) (bytes : List ℕ) (m : Message) (out : StepOut) (q : Question) (id : ℕ)
+        → Hears server old at word from bytes m (Verdict.Deny q id) out new
+        → originals out.packets ≡ answer_packet false old.next m from (text_of (made_answer server old.next m from 403 (denial_warning server.config.own id ∷ []))) ∷ [] }
+    ensures denial_recorded { (server : Server) (old new : ProxyState) (at word : ℕ) (from : Addr) (bytes : List ℕ) (m : Message) (out : StepOut) (q : Question) (id : ℕ)
+        → Hears server old at word from bytes m (Verdict.Deny q id) out new
+        → out.records ≡ record_of server (arrival_of old at word from) m q (Outcome.Deny id) ∷ [] }
+    ensures registered { (server : Server) (old new : ProxyState) (at word : ℕ) (from : Addr) (bytes : List ℕ) (m : Message) (out : StepOut) (q : Question) (id : ℕ) (rows : List Binding)
+        → Hears server old at word from bytes m (Verdict.Register q id (Verdict.Bound rows)) out new
+        → originals out.packets ≡ answer_packet false old.next m from (text_of (made_answer server old.next m from 200 (contact_fields (moment_of old at) q.target rows))) ∷ [] }
+    ensures refused { (server : Server) (old new : ProxyState) (at word : ℕ) (from : Addr) (bytes : List ℕ) (m : Message) (out : StepOut) (status : ℕ) (extras : List Field)
+        → Hears server old at word from bytes m (Verdict.Answer status extras) out new
+        → originals out.packets ≡ answer_packet false old.next m from (text_of (made_answer server old.next m from status extras)) ∷ [] }
 {}
 
-/// What every other message gets.
-pub fn others_get()
-    // A copy of an open request: its last answer again, and nothing changes (RFC 3261 17.2.2).
-    ensures copy { (config : Config) (word : ℕ) (t : Tables) (a : Arrival) (m : Message) (key : Key) (request : OpenRequest)
-        → key_of m ≡ Some key → find (has_key key) t.requests ≡ Some request
-        → heard config word t a m (key_of m) ≡ (answer_packet true request ∷ [], t) }
+/// What goes out for a call: the request to its targets once a rule let it through, with what is recorded; the request of a
+/// dialog to its address; a response, the ACKs and CANCELs that it calls for; an ACK of a 2xx; a CANCEL (RFC 3261 16.6, 16.7,
+/// 16.10, 16.11).
+pub fn what_is_sent()
+    ensures called { (server : Server) (old new : ProxyState) (at word : ℕ) (from : Addr) (bytes : List ℕ) (m : Message) (out : StepOut) (q : Question) (id : ℕ) (targets : List Target)
+        → Hears server old at word from bytes m (Verdict.Send q id (Targets.Bindings targets)) out new
+        → originals out.packets ≡ opening_packets server (moment_of old at) (forking (arrival_of old at word from) m (branches_from (moment_of old at) 1 targets)) }
+    ensures call_recorded { (server : Server) (old new : ProxyState) (at word : ℕ) (from : Addr) (bytes : List ℕ) (m : Message) (out : StepOut) (q : Question) (id : ℕ) (targets : List Target)
+        → Hears server old at word from bytes m (Verdict.Send q id (Targets.Bindings targets)) out new
+        → out.records ≡ record_of server (arrival_of old at word from) m q (Outcome.Sent id (length targets)) ∷ [] }
+    ensures sent_to_hop { (server : Server) (old new : ProxyState) (at word : ℕ) (from : Addr) (bytes : List ℕ) (m : Message) (out : StepOut) (q : Question) (id : ℕ) (uri : Uri) (address : Addr)
+        → Hears server old at word from bytes m (Verdict.Send q id (Targets.Hop uri address)) out new
+        → originals out.packets ≡ opening_packets server (moment_of old at) (forking (arrival_of old at word from) m (branches_from (moment_of old at) 1 (target_list (Targets.Hop uri address)))) }
+    ensures sent_within { (server : Server) (old new : ProxyState) (at word : ℕ) (from : Addr) (bytes : List ℕ) (m : Message) (out : StepOut) (address : Addr) (id : DialogId)
+        → Hears server old at word from bytes m (Verdict.InDialog address id) out new
+        → originals out.packets ≡ opening_packets server (moment_of old at) (forking (arrival_of old at word from) m (dialog_branch server (moment_of old at) m address ∷ [])) }
+    ensures responded { (server : Server) (old new : ProxyState) (at word : ℕ) (from : Addr) (bytes : List ℕ) (m : Message) (out : StepOut) (r : OpenRequest) (b : Branch) (status : ℕ)
+        → Hears server old at word from bytes m (Verdict.Respond r b status) out new
+        → originals out.packets ≡ change_packets (responded server (moment_of old at) r b status m) }
+    ensures acknowledged { (server : Server) (old new : ProxyState) (at word : ℕ) (from : Addr) (bytes : List ℕ) (m : Message) (out : StepOut) (address : Addr) (id : DialogId)
+        → Hears server old at word from bytes m (Verdict.AckOn address id) out new
+        → originals out.packets ≡ ack_packet server (arrival_of old at word from) m address ∷ [] }
+    ensures cancelled { (server : Server) (old new : ProxyState) (at word : ℕ) (from : Addr) (bytes : List ℕ) (m : Message) (out : StepOut) (r : OpenRequest)
+        → Hears server old at word from bytes m (Verdict.Cancel (Some r)) out new
+        → originals out.packets ≡ answer_packet false old.next m from (text_of (made_answer server old.next m from 200 [])) ∷ change_packets (cancelled server (moment_of old at) r) }
+{}
 
-    // A response, or a request without a branch of this standard: nothing.
-    ensures no_key { (config : Config) (word : ℕ) (t : Tables) (a : Arrival) (m : Message)
-        → key_of m ≡ None → heard config word t a m (key_of m) ≡ ([], t) }
+/// What goes again for a datagram: the last answer of the request that it copies, but for an ACK, and the ACK of a further final
+/// response, byte for byte (RFC 3261 17.1.1.2, 17.2). A copy changes nothing but the number.
+pub fn what_goes_again()
+    ensures copied { (server : Server) (old new : ProxyState) (at word : ℕ) (from : Addr) (bytes : List ℕ) (m : Message) (out : StepOut) (r : OpenRequest)
+        → Hears server old at word from bytes m (Verdict.Copy r) out new → bytes_eq (method_of m.start) (codes "ACK") ≡ false
+        → retransmissions out.packets ≡ answers_again r r.answer }
+    ensures copies_alone { (server : Server) (old new : ProxyState) (at word : ℕ) (from : Addr) (bytes : List ℕ) (m : Message) (out : StepOut) (r : OpenRequest)
+        → Hears server old at word from bytes m (Verdict.Copy r) out new → originals out.packets ≡ [] }
+    ensures acknowledged { (server : Server) (old new : ProxyState) (at word : ℕ) (from : Addr) (bytes : List ℕ) (m : Message) (out : StepOut) (r : OpenRequest) (b : Branch) (status : ℕ)
+        → Hears server old at word from bytes m (Verdict.Respond r b status) out new
+        → retransmissions out.packets ≡ acked_again server r b status }
+{}
 
-    // A request that isn't served yet: nothing.
-    ensures not_served { (config : Config) (word : ℕ) (t : Tables) (a : Arrival) (m : Message) (key : Key)
-        → key_of m ≡ Some key → find (has_key key) t.requests ≡ None → registration_of config m ≡ None
-        → heard config word t a m (key_of m) ≡ ([], t) }
-
-    // With 1,024 requests open: nothing.
-    ensures full { (config : Config) (word : ℕ) (t : Tables) (a : Arrival) (m : Message) (key : Key)
-        → key_of m ≡ Some key → find (has_key key) t.requests ≡ None → 1024 ≤ length t.requests
-        → heard config word t a m (key_of m) ≡ ([], t) }
+/// The bindings after a datagram: those of a REGISTER that a rule let through and that isn't refused (RFC 3261 10.3); a denial
+/// and a call change none.
+pub fn what_is_bound()
+    ensures bound { (server : Server) (old new : ProxyState) (at word : ℕ) (from : Addr) (bytes : List ℕ) (m : Message) (out : StepOut) (q : Question) (id : ℕ) (rows : List Binding)
+        → Hears server old at word from bytes m (Verdict.Register q id (Verdict.Bound rows)) out new → SameBindings new.moment new.bindings rows }
+    ensures denied { (server : Server) (old new : ProxyState) (at word : ℕ) (from : Addr) (bytes : List ℕ) (m : Message) (out : StepOut) (q : Question) (id : ℕ)
+        → Hears server old at word from bytes m (Verdict.Deny q id) out new → SameBindings new.moment new.bindings old.bindings }
+    ensures called { (server : Server) (old new : ProxyState) (at word : ℕ) (from : Addr) (bytes : List ℕ) (m : Message) (out : StepOut) (q : Question) (id : ℕ) (targets : List Target)
+        → Hears server old at word from bytes m (Verdict.Send q id (Targets.Bindings targets)) out new → SameBindings new.moment new.bindings old.bindings }
 {}

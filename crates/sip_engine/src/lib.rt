@@ -1,21 +1,13 @@
-//! One atomic step of the server: a datagram, the first timer that is due, or a fault of sending comes in
-//! with its moment, and packets go out. It performs no input or output and reads no clock. For now it
-//! serves a REGISTER that binds one contact: it challenges it, and accepts it with the right credential.
+//! The server: a registrar and a stateful proxy, which performs no input or output. Datagrams, moments and faults of sending are
+//! handed in, packets and records are handed out (RFC 3261 10, 16, 17). Each call is exactly one step of the model, or is
+//! refused with nothing changed.
 #![tactic(auto)]
 
-mod bindings;
 mod engine;
 mod error;
-mod incoming;
+mod histories;
 pub mod laws;
-mod proof;
-mod registration;
-mod requests;
-mod serving;
-mod tables;
+mod stepping;
 
-pub use bindings::{Binding, Bindings};
 pub use engine::Engine;
 pub use error::StepError;
-pub use requests::OpenRequest;
-pub use sip_event::{Boot, Event, Packet, StepOut, Ticket};

@@ -1,6 +1,6 @@
 pub mod Datagrams
-pub mod Firings
 pub mod Keeping
 pub mod LineEnds
 pub mod Replaying
+pub mod Running
 pub mod Written

@@ -1,81 +1,62 @@
--- A replay so far, step by step.
-use Rattle.std.proofs.Common.{◌≡◌, ℕ, max, List, [], ◌∷◌, ◌++◌, Option, None, Some, IfSome, refl, sym, ◌∙◌, ap, subst, append-nil}
+-- A replay so far, event by event.
+use Rattle.std.proofs.Common.{◌≡◌, ℕ, ◌<◌, ◌≤◌, List, [], ◌∷◌, ◌++◌, Option, None, Some, IfSome, refl, sym, ◌∙◌, ap, arith, append-nil, append_assoc}
+use Rattle.std.specs.List.{AllByRecursion}
 use Rattle.std.specs.Io.KnownBytes.{Appends, Consumes, Keeps, IsAtEnd, prepend_known}
-use Rattle.std.proofs.KnownBytes.{Appends-nil, Appends-trans, Consumes-nil, Consumes-trans}
-use Rattle.sip_settings.specs.declared.config.Config.{Config}
+use Rattle.std.proofs.KnownBytes.{Consumes-nil, Consumes-trans}
 use Rattle.sip_event.specs.declared.event.Event.{Event}
-use Rattle.sip_event.specs.declared.event.StepOut.{StepOut}
-use Rattle.sip_engine.specs.State.{Server, NothingDueBy, IsFiring}
-use Rattle.sip_loop.specs.Print.{step_text}
-use Rattle.sip_loop.specs.Steps.{at_of_event, IsOwnStep}
+use Rattle.sip_model.specs.settings.declared.config.Config.{Config}
+use Rattle.sip_model.specs.state.declared.server.Server.{Server}
+use Rattle.sip_model.specs.state.declared.proxy_state.ProxyState.{ProxyState}
+use Rattle.sip_model.specs.state.State.{first_state}
+use Rattle.sip_loop.specs.Print.{printed}
 use Rattle.sip_loop.specs.Lines.{Reading, pending, IsOver}
-use Rattle.sip_loop.specs.Events.{SaysEvent, GivesEvent}
-use Rattle.sip_loop.specs.Replays.{Fires, Takes, fired_text, Turn, IsTurn, turn_text, greatest_of, reached, AreTurns, printed, SaysTurns, opened, IsReplay}
+use Rattle.sip_loop.specs.Events.{SaysEvent}
+use Rattle.sip_loop.specs.Replays.{SaysEvents, server_with, Plays, PlaysNext, IsReplay}
+use Rattle.sip_loop.proofs.Running.{RunsJoin, plays_nothing, plays_both}
 
-pub fires_none : (s : Server) (now : ℕ) (before : Option (List ℕ)) → Fires s s now before before
-fires_none s now before = record { firings = []; fires = tt; reaches = refl; written = Appends-nil before }
-
-pub fires_more : (first mid new : Server) (now : ℕ) (out : StepOut) (a b c : Option (List ℕ)) → Fires first mid now a b → IsFiring mid now out new → Appends b c (step_text out) → Fires first new now a c
-fires_more first mid new now out a b c h firing written = record {
-  firings = record { out = out; after = new } ∷ h.firings;
-  fires = (subst (λ s. IsFiring s now out new) h.reaches firing, h.fires);
-  reaches = refl;
-  written = Appends-trans a b c (fired_text h.firings) (step_text out) h.written written;
+-- a text that says one event more
+pub says_more : (events : List Event) (event : Event) (text more : List ℕ) → SaysEvents events text → SaysEvent more event → SaysEvents (events ++ event ∷ []) (text ++ more)
+says_more [] event text more h says = record {
+  first = more;
+  rest = [];
+  cut = ap (λ l. l ++ more) h ∙ sym (append-nil more);
+  says = says;
+  others = refl;
 }
-
-pub takes : (event : Event) (old mid new : Server) (greatest now : ℕ) (out : StepOut) (a b c : Option (List ℕ)) → now ≡ max greatest (at_of_event event) → Fires old mid now a b → NothingDueBy now mid.state
-    → IsOwnStep event mid now out new → Appends b c (step_text out) → Takes event old new greatest now a c
-takes event old mid new greatest now out a b c is h none own written = record {
-  turn = record { event = event; firings = h.firings; out = out; after = new };
-  event_is = refl;
-  now_is = is;
-  is_turn = record {
-    fires = h.fires;
-    none_due = subst (λ (s : Server). NothingDueBy now s.state) h.reaches none;
-    own = subst (λ (s : Server). IsOwnStep event s now out new) h.reaches own;
-  };
-  reaches = refl;
-  written = Appends-trans a b c (fired_text h.firings) (step_text out) h.written written;
+says_more (e ∷ events) event text more h says = record {
+  first = h.first;
+  rest = h.rest ++ more;
+  cut = ap (λ l. l ++ more) h.cut ∙ append_assoc h.first h.rest more;
+  says = h.says;
+  others = says_more events event h.rest more h.others says;
 }
 
 -- a replay so far
-pub record Plays (first server : Server) (greatest : ℕ) (old new : Reading) (before after start written : Option (List ℕ)) : Type 0 where
-  pub turns : List Turn
+pub record Replays (server : Server) (first state : ProxyState) (old new : Reading) (before after start written : Option (List ℕ)) : Type 0 where
+  pub events : List Event
   pub text : List ℕ
-  pub says : SaysTurns turns text
-  pub steps : AreTurns first turns
-  pub reaches : server ≡ reached first turns
-  pub greatest_is : greatest ≡ greatest_of turns
+  pub says : SaysEvents events text
   pub consumes : Consumes (pending old before) (pending new after) text
-  pub written_is : Appends start written (printed turns)
+  pub plays : Plays server first state events None start written
 
-pub plays_none : (first : Server) (r : Reading) (before start : Option (List ℕ)) → Plays first first 0 r r before before start start
-plays_none first r before start = record {
-  turns = [];
+pub replays_nothing : (server : Server) (first : ProxyState) (r : Reading) (before start : Option (List ℕ)) → Replays server first first r r before before start start
+replays_nothing server first r before start = record {
+  events = [];
   text = [];
   says = refl;
-  steps = tt;
-  reaches = refl;
-  greatest_is = refl;
   consumes = Consumes-nil (pending r before);
-  written_is = Appends-nil start;
+  plays = plays_nothing server first None start;
 }
 
-pub plays_more : (first mid new : Server) (greatest now : ℕ) (old part rest : Reading) (before middle after start half written : Option (List ℕ)) (event : Event)
-    → Plays first mid greatest old part before middle start half → GivesEvent part rest middle after event → Takes event mid new greatest now half written → Plays first new now old rest before after start written
-plays_more first mid new greatest now old part rest before middle after start half written event h given taken =
-    let at : now ≡ max (greatest_of h.turns) (at_of_event taken.turn.event) =
-    taken.now_is ∙ ap (λ n. max n (at_of_event event)) h.greatest_is ∙ ap (λ e. max (greatest_of h.turns) (at_of_event e)) (sym taken.event_is) in
-    record {
-      turns = taken.turn ∷ h.turns;
-      text = h.text ++ given.text;
-      says = record { front = h.text; last = given.text; cut = refl; says = subst (λ e. SaysEvent given.text e) (sym taken.event_is) given.says; before = h.says };
-      steps = (subst (λ n. IsTurn (reached first h.turns) n taken.turn) at (subst (λ s. IsTurn s now taken.turn) h.reaches taken.is_turn), h.steps);
-      reaches = taken.reaches;
-      greatest_is = at;
-      consumes = Consumes-trans (pending old before) (pending part middle) (pending rest after) h.text given.text h.consumes given.consumes;
-      written_is = Appends-trans start half written (printed h.turns) (turn_text taken.turn) h.written_is taken.written;
-    }
+pub replays_more : RunsJoin → (server : Server) (first mid new : ProxyState) (old part rest : Reading) (before middle after start half written : Option (List ℕ))
+    → Replays server first mid old part before middle start half → PlaysNext server mid new part rest middle after half written → Replays server first new old rest before after start written
+replays_more join server first mid new old part rest before middle after start half written h next = record {
+  events = h.events ++ next.event ∷ [];
+  text = h.text ++ next.gives.text;
+  says = says_more h.events next.event h.text next.gives.text h.says next.gives.says;
+  consumes = Consumes-trans (pending old before) (pending part middle) (pending rest after) h.text next.gives.text h.consumes next.gives.consumes;
+  plays = plays_both join server first mid new h.events next.event start half written h.plays next.plays;
+}
 
 -- at the script's end
 whole_of : (unread : List ℕ) (a b c : Option (List ℕ)) (text : List ℕ) → unread ≡ [] → Consumes (prepend_known unread a) b text → Keeps b c → IsAtEnd c → IfSome a (λ bytes. bytes ≡ text)
@@ -84,15 +65,18 @@ whole_of unread (Some xs) None c text none h k e = absurd h
 whole_of unread (Some xs) (Some ys) None text none h k e = absurd k
 whole_of unread (Some xs) (Some ys) (Some zs) text none h k e = sym (ap (λ l. l ++ xs) none) ∙ h ∙ ap (λ l. text ++ l) (sym k ∙ e) ∙ append-nil text
 
-pub plays_over : (config : Config) (server : Server) (greatest : ℕ) (old new rest : Reading) (before middle after start written : Option (List ℕ)) → old.unread ≡ []
-    → Plays (opened config) server greatest old new before middle start written → IsOver new rest middle after → IsReplay config before start written
-plays_over config server greatest old new rest before middle after start written none h over = record {
-  turns = h.turns;
+pub replays_over : (config : Config) (state : ProxyState) (old new rest : Reading) (before middle after start written : Option (List ℕ)) → old.unread ≡ []
+    → Replays (server_with config) (first_state 1) state old new before middle start written → IsOver new rest middle after → IsReplay config before start written
+replays_over config state old new rest before middle after start written none h over = record {
   text = h.text;
+  events = h.events;
+  steps = h.plays.steps;
+  history = h.plays.history;
+  last = state;
   whole = whole_of old.unread before (pending new middle) (pending rest after) h.text none h.consumes over.kept over.at_end;
   says = h.says;
-  steps = h.steps;
-  written = h.written_is;
+  is_run = h.plays.is_run;
+  written = h.plays.written;
 }
 
 -- what is written stays when the writer is flushed
@@ -103,4 +87,25 @@ appends_kept (Some x) (Some y) None text h k = k
 appends_kept (Some x) (Some y) (Some z) text h k = k ∙ h
 
 pub replay_kept : (config : Config) (script a b c : Option (List ℕ)) → IsReplay config script a b → Keeps b c → IsReplay config script a c
-replay_kept config script a b c h k = record { turns = h.turns; text = h.text; whole = h.whole; says = h.says; steps = h.steps; written = appends_kept a b c (printed h.turns) h.written k }
+replay_kept config script a b c h k = record {
+  text = h.text;
+  events = h.events;
+  steps = h.steps;
+  history = h.history;
+  last = h.last;
+  whole = h.whole;
+  says = h.says;
+  is_run = h.is_run;
+  written = appends_kept a b c (printed h.steps) h.written k;
+}
+
+-- ---- deadlines
+
+-- what is after a moment is at it or after it
+pub none_before : (m : ℕ) (moments : List ℕ) → AllByRecursion (λ due. m < due) moments → AllByRecursion (λ due. m ≤ due) moments
+none_before m [] h = tt
+none_before m (due ∷ rest) h = let lt : m < due = h.0 in (omega (arith, lt), none_before m rest h.1)
+
+-- nothing is due at all
+pub none_some : (o : Option ℕ) (due m : ℕ) → o ≡ None → o ≡ Some due → m < due
+none_some o due m is e = absurd (cc)

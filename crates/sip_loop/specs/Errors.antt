@@ -25,5 +25,4 @@ error_at stops.Write line = Write
 abbrev pub stop_of_step : StepError → Stop
 stop_of_step step_errors.NoMemory = stops.NoMemory
 stop_of_step step_errors.MomentTooLarge = stops.Script
-stop_of_step step_errors.Shut = stops.Script
 stop_of_step step_errors.Worn = stops.Script

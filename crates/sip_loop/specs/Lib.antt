@@ -4,4 +4,3 @@ pub mod Lines
 pub mod Print
 pub mod Replays
 pub mod Script
-pub mod Steps

@@ -1,6 +1,8 @@
--- How the packets of a step are printed.
+-- How steps are printed.
 use Rattle.std.specs.Prelude.{ℕ, Bool, true, false, List, ◌++◌, length, decimal, codes}
 use Rattle.std.specs.List.{flat_map}
+use Rattle.sip_audit.specs.declared.record.Record.{Record}
+use Rattle.sip_audit.specs.Lines as Audit
 use Rattle.sip_host.specs.Addresses.{addr_text}
 use Rattle.sip_event.specs.declared.packet.Packet.{Packet}
 use Rattle.sip_event.specs.declared.event.StepOut.{StepOut}
@@ -23,6 +25,14 @@ head_text moment p = codes "packet " ++ decimal moment ++ codes " " ++ addr_text
 abbrev pub packet_text : ℕ → Packet → List ℕ
 packet_text moment p = head_text moment p ++ p.bytes ++ codes "\n"
 
--- all packets of a step, in order
+-- `audit`, a record's line, and LF (this project's profile)
+abbrev pub audit_text : Record → List ℕ
+audit_text r = codes "audit " ++ Audit.line_of r ++ codes "\n"
+
+-- all packets of a step, in order, then its records
 abbrev pub step_text : StepOut → List ℕ
-step_text out = flat_map (packet_text out.at) out.packets
+step_text out = flat_map (packet_text out.at) out.packets ++ flat_map audit_text out.records
+
+-- steps, one after the other
+abbrev pub printed : List StepOut → List ℕ
+printed steps = flat_map step_text steps

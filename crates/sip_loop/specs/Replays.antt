@@ -1,112 +1,63 @@
--- A whole replay: the script's events one after the other, and what is printed.
-use Rattle.std.specs.Prelude.{◌≡◌, ℕ, max, false, List, [], ◌∷◌, ◌++◌, Option, IfSome}
+-- A whole replay: the script's events, a run of the server over them, and what is printed.
+use Rattle.std.specs.Prelude.{◌≡◌, ℕ, List, [], ◌∷◌, ◌++◌, Option, None, IfSome}
 use Rattle.std.specs.Io.KnownBytes.{Appends}
-use Rattle.sip_settings.specs.declared.config.Config.{Config}
 use Rattle.sip_event.specs.declared.event.Event.{Event}
 use Rattle.sip_event.specs.declared.event.StepOut.{StepOut}
-use Rattle.sip_engine.specs.State.{Server, NothingDueBy, IsFiring}
-use Rattle.sip_loop.specs.Print.{step_text}
-use Rattle.sip_loop.specs.Steps.{at_of_event, IsOwnStep}
+use Rattle.sip_model.specs.settings.declared.config.Config.{Config}
+use Rattle.sip_model.specs.state.declared.server.Server.{Server}
+use Rattle.sip_model.specs.state.declared.proxy_state.ProxyState.{ProxyState}
+use Rattle.sip_model.specs.state.State.{first_state}
+use Rattle.sip_model.specs.Step.{NoneBy, NoneAgainBy}
+use Rattle.sip_model.specs.Run.{Link, IsRun}
+use Rattle.sip_loop.specs.Print.{printed}
 use Rattle.sip_loop.specs.Lines.{Reading}
 use Rattle.sip_loop.specs.Events.{SaysEvent, GivesEvent}
 
--- a timer's step: what it hands out, and the server after it
-pub record Firing : Type 0 where
-  pub out : StepOut
-  pub after : Server
+-- a text that says an event, in front of one that says others
+pub record SaysFirst (text : List ℕ) (event : Event) (SaysOthers : List ℕ → Type 0) : Type 0 where
+  pub first : List ℕ
+  pub rest : List ℕ
+  pub cut : text ≡ first ++ rest
+  pub says : SaysEvent first event
+  pub others : SaysOthers rest
 
--- firings, the newest first: the server after them, whether they follow one another by a moment, and what is printed
-abbrev pub fired : Server → List Firing → Server
-fired first [] = first
-fired first (f ∷ past) = f.after
+-- a text says these events, one after the other
+abbrev pub SaysEvents : List Event → List ℕ → Type 0
+SaysEvents [] text = text ≡ []
+SaysEvents (event ∷ events) text = SaysFirst text event (SaysEvents events)
 
-abbrev pub AreFirings : Server → ℕ → List Firing → Type 0
-AreFirings first now [] = Unit {0}
-AreFirings first now (f ∷ past) = IsFiring (fired first past) now f.out f.after × AreFirings first now past
+-- a server with this configuration, started with the word 0
+abbrev pub server_with : Config → Server
+server_with config = record { config = config; word = 0 }
 
-abbrev pub fired_text : List Firing → List ℕ
-fired_text [] = []
-fired_text (f ∷ past) = fired_text past ++ step_text f.out
-
--- an event, the firings before it, and its own step
-pub record Turn : Type 0 where
-  pub event : Event
-  pub firings : List Firing
-  pub out : StepOut
-  pub after : Server
-
--- what is due by the moment is fired, until nothing is; then the event is taken
-pub record IsTurn (old : Server) (now : ℕ) (t : Turn) : Type 0 where
-  pub fires : AreFirings old now t.firings
-  pub none_due : NothingDueBy now (fired old t.firings).state
-  pub own : IsOwnStep t.event (fired old t.firings) now t.out t.after
-
-abbrev pub turn_text : Turn → List ℕ
-turn_text t = fired_text t.firings ++ step_text t.out
-
--- turns, the newest first: the greatest moment of their events, the server after them, whether they follow one another, and what is printed
-abbrev pub greatest_of : List Turn → ℕ
-greatest_of [] = 0
-greatest_of (t ∷ past) = max (greatest_of past) (at_of_event t.event)
-
-abbrev pub reached : Server → List Turn → Server
-reached first [] = first
-reached first (t ∷ past) = t.after
-
-abbrev pub AreTurns : Server → List Turn → Type 0
-AreTurns first [] = Unit {0}
-AreTurns first (t ∷ past) = IsTurn (reached first past) (greatest_of (t ∷ past)) t × AreTurns first past
-
-abbrev pub printed : List Turn → List ℕ
-printed [] = []
-printed (t ∷ past) = printed past ++ turn_text t
-
--- a text that says an event behind one that says others
-pub record EndsWith (text : List ℕ) (event : Event) (Front : List ℕ → Type 0) : Type 0 where
-  pub front : List ℕ
-  pub last : List ℕ
-  pub cut : text ≡ front ++ last
-  pub says : SaysEvent last event
-  pub before : Front front
-
--- the text says the events of the turns, in order
-abbrev pub SaysTurns : List Turn → List ℕ → Type 0
-SaysTurns [] text = text ≡ []
-SaysTurns (t ∷ past) text = EndsWith text t.event (SaysTurns past)
-
--- a server that knows nothing yet, with boot word 0 and first number 1
-abbrev pub opened : Config → Server
-opened config = record { config = config; word = 0; state = record { moment = 0; next = 1; tables = record { bindings = []; nonces = []; requests = [] }; is_shut = false } }
-
--- the script says events, and what is printed of their turns was written
+-- The script says events, for which the steps of the server, from the number 1 on, are a run, and what is printed of these steps was written.
 pub record IsReplay (config : Config) (script old new : Option (List ℕ)) : Type 0 where
-  pub turns : List Turn
   pub text : List ℕ
+  pub events : List Event
+  pub steps : List StepOut
+  pub history : List Link
+  pub last : ProxyState
   pub whole : IfSome script (λ bytes. bytes ≡ text)
-  pub says : SaysTurns turns text
-  pub steps : AreTurns (opened config) turns
-  pub written : Appends old new (printed turns)
+  pub says : SaysEvents events text
+  pub is_run : IsRun (server_with config) (first_state 1) events None steps history last
+  pub written : Appends old new (printed steps)
 
 -- ---- inside
 
--- firings that led from one server to another, and what was written of them
-pub record Fires (old new : Server) (now : ℕ) (before after : Option (List ℕ)) : Type 0 where
-  pub firings : List Firing
-  pub fires : AreFirings old now firings
-  pub reaches : new ≡ fired old firings
-  pub written : Appends before after (fired_text firings)
+-- nothing is due by a moment
+pub record NothingDueBy (moment : ℕ) (state : ProxyState) : Type 0 where
+  pub none : NoneBy moment state.requests
+  pub none_again : NoneAgainBy moment state.requests
 
--- an event's turn
-pub record Takes (event : Event) (old new : Server) (greatest now : ℕ) (before after : Option (List ℕ)) : Type 0 where
-  pub turn : Turn
-  pub event_is : turn.event ≡ event
-  pub now_is : now ≡ max greatest (at_of_event event)
-  pub is_turn : IsTurn old now turn
-  pub reaches : new ≡ turn.after
-  pub written : Appends before after (turn_text turn)
+-- these events have a run from one state to another, and what is printed of its steps was written
+pub record Plays (server : Server) (old new : ProxyState) (events : List Event) (until : Option ℕ) (before after : Option (List ℕ)) : Type 0 where
+  pub steps : List StepOut
+  pub history : List Link
+  pub is_run : IsRun server old events until steps history new
+  pub written : Appends before after (printed steps)
 
--- the turn of the next event of the script
-pub record TakesNext (part rest : Reading) (middle after : Option (List ℕ)) (old new : Server) (greatest now : ℕ) (half written : Option (List ℕ)) : Type 0 where
+-- the same of the next event of the script
+pub record PlaysNext (server : Server) (old new : ProxyState) (part rest : Reading) (middle after : Option (List ℕ)) (half written : Option (List ℕ)) : Type 0 where
   pub event : Event
   pub gives : GivesEvent part rest middle after event
-  pub takes : Takes event old new greatest now half written
+  pub plays : Plays server old new (event ∷ []) None half written

@@ -1,32 +1,43 @@
-ghost use Rattle.std.specs.Prelude.{◌≡◌, ◌≤◌, OnOk};
-ghost use Rattle.sip_engine.specs.State.{NothingDueBy};
-ghost use Rattle.sip_loop.specs.Replays.{Fires};
+ghost use Rattle.std.specs.Prelude.{◌≡◌, [], false, Some, OnOk};
+ghost use Rattle.sip_model.specs.Step.{moment_of};
+ghost use Rattle.sip_loop.specs.Replays.{NothingDueBy, Plays};
 
 use crate::print::print_step;
 use crate::stop::Stop;
 use sip_engine::Engine;
+use sip_model::policy::Rules;
+use sip_timers::Timers;
 use std::alloc::Global;
 use std::io::Write;
 
-/// Fires what is due by a moment, each timer in a step at its own moment, and prints the packets of
-/// each step.
-pub fn fire_due<W: Write>(
+/// Whether something is due by a moment; one that goes back counts as the engine's.
+fn is_due<T: Timers, R: Rules>(engine: &Engine<T, R>, at: u64) -> bool
+    ensures { result ≡ false → NothingDueBy (moment_of engine.now.state at) engine.now.state }
+{
+    match engine.next_due() {
+        Some(due) => due <= engine.moment().max(at),
+        None => false,
+    }
+}
+
+/// Fires what is due by a moment, each in a step at its own moment, and prints these steps. More than 2^64 - 2 of
+/// them are refused as the script's fault.
+pub fn fire_due<T: Timers, R: Rules, W: Write>(
     alloc: Global,
-    engine: &mut Engine,
-    now: u64,
+    engine: &mut Engine<T, R>,
+    at: u64,
     writer: &mut W,
 ) -> Result<(), Stop>
-    requires { engine.old.state.moment ≤ now }
-    ensures none_due { OnOk result (NothingDueBy now engine.new.state) }
-    ensures fired { OnOk result (Fires engine.old engine.new now (W.contents writer.old) (W.contents writer.new)) }
-    ensures later { OnOk result (engine.new.state.moment ≤ now) }
+    ensures server { engine.new.server ≡ engine.old.server }
+    ensures fired { OnOk result (Plays engine.old.server engine.old.state engine.new.state [] (Some at) (W.contents writer.old) (W.contents writer.new)) }
+    ensures none_due { OnOk result (NothingDueBy (moment_of engine.new.state at) engine.new.state) }
 {
-    while let Some(due) = engine.next_due() {
-        if due > now {
+    for _ in 0..u64::MAX {
+        if !is_due(engine, at) {
             return Ok(());
         }
-        let out = engine.fire(now)?;
+        let out = engine.fire(at)?;
         print_step(alloc, writer, &out)?;
     }
-    Ok(())
+    Err(Stop::Script)
 }

@@ -1,11 +1,12 @@
 //! What drives the server: a script's lines are read as events, each is handed to the engine at its
-//! moment, and the packets that the engine hands out are written.
+//! moment, and the packets and records that the engine hands out are written.
 #![tactic(auto)]
 
 mod due;
 mod error;
 mod event;
 pub mod examples;
+pub mod laws;
 mod lines;
 mod playback;
 mod print;

@@ -1,8 +1,8 @@
-ghost use Rattle.std.specs.Prelude.{◌≡◌, ◌≤◌, max, IfOk, IfSome, IfNone, OnOk};
-ghost use Rattle.sip_engine.specs.State.{NothingDueBy};
+ghost use Rattle.std.specs.Prelude.{◌≡◌, [], ◌∷◌, true, false, None, IfOk, OnOk};
+ghost use Rattle.sip_model.specs.Run.{event_moment};
+ghost use Rattle.sip_model.specs.Step.{Given, IsStep, moment_of};
 ghost use Rattle.sip_loop.specs.Lines.{IsOver};
-ghost use Rattle.sip_loop.specs.Replays.{Takes, TakesNext, IsReplay};
-ghost use Rattle.sip_loop.specs.Steps.{at_of_event, IsOwnStep};
+ghost use Rattle.sip_loop.specs.Replays.{IsReplay, NothingDueBy, Plays, PlaysNext};
 
 use crate::due::fire_due;
 use crate::error::ReplayError;
@@ -12,7 +12,10 @@ use crate::print::print_step;
 use crate::stop::Stop;
 use sip_engine::Engine;
 use sip_event::{Boot, Event, StepOut};
-use sip_settings::Config;
+use sip_model::policy::Rules;
+use sip_model::runs::runs_join;
+use sip_state::settings::Config;
+use sip_timers::Timers;
 use std::alloc::Global;
 use std::io::{Read, Write};
 
@@ -23,35 +26,36 @@ const BOOT: Boot = Boot {
     keys: 0,
 };
 
-/// Reads a script and writes the packets that the server hands out. Before each event, what is due by
-/// its moment is fired, each timer at its own moment; a moment below the greatest one so far counts as
-/// that. Keeps no more than one event. Refusals: `NoMemory`; `Script` with the number of the line that
-/// began an event, where it isn't one or its step is refused; `Read`, where the reader fails or was
-/// asked 4,294,967,295 times; `Write`. What was written before a refusal stays.
-pub fn replay<R: Read, W: Write>(
+/// Reads a script and writes what the server hands out: the packets of each step, then the lines of its records.
+/// Before each event, what is due by its moment is fired, each at its own moment; a moment below the greatest one
+/// so far counts as that. Keeps no more than one event. Refusals: `NoMemory`; `Script` with the number of the line
+/// that began an event, where it isn't one, its step is refused, or more than 2^64 - 2 steps fire before it;
+/// `Read`, where the reader fails or was asked 4,294,967,295 times; `Write`. What was written before a refusal
+/// stays.
+pub fn replay<T: Timers, R: Rules, I: Read, W: Write>(
     alloc: Global,
     config: Config,
-    reader: &mut R,
+    reader: &mut I,
     writer: &mut W,
 ) -> Result<(), ReplayError>
-    ensures { OnOk result (IsReplay config (R.remaining reader.old) (W.contents writer.old) (W.contents writer.new)) }
+    ensures { OnOk result (IsReplay config (I.remaining reader.old) (W.contents writer.old) (W.contents writer.new)) }
 {
-    let outcome = play(alloc, config, reader, writer);
+    let outcome = play::<T, R, I, W>(alloc, config, reader, writer);
     match writer.flush() {
         Ok(()) => outcome,
         Err(_) => Err(ReplayError::Write),
     }
 }
 
-fn play<R: Read, W: Write>(
+fn play<T: Timers, R: Rules, I: Read, W: Write>(
     alloc: Global,
     config: Config,
-    reader: &mut R,
+    reader: &mut I,
     writer: &mut W,
 ) -> Result<(), ReplayError>
-    ensures { OnOk result (IsReplay config (R.remaining reader.old) (W.contents writer.old) (W.contents writer.new)) }
+    ensures { OnOk result (IsReplay config (I.remaining reader.old) (W.contents writer.old) (W.contents writer.new)) }
 {
-    let mut engine = match Engine::open(alloc, config, BOOT) {
+    let mut engine = match Engine::<T, R>::open(alloc, config, BOOT) {
         Ok(engine) => engine,
         Err(_) => return Err(ReplayError::NoMemory),
     };
@@ -60,52 +64,40 @@ fn play<R: Read, W: Write>(
         Err(_) => return Err(ReplayError::NoMemory),
     };
     let mut line = Vec::new(alloc);
-    let mut greatest = 0;
-    while let Some(now) = take_next(
-        alloc,
-        &mut engine,
-        &mut lines,
-        &mut line,
-        greatest,
-        reader,
-        writer,
-    )? {
-        greatest = now;
-    }
+    runs_join();
+    while take_next(alloc, &mut engine, &mut lines, &mut line, reader, writer)? {}
     Ok(())
 }
 
-/// Takes the next event of the script; the greatest moment so far, or `None` at the script's end.
-fn take_next<R: Read, W: Write>(
+/// Takes the next event of the script, if there is one.
+fn take_next<T: Timers, R: Rules, I: Read, W: Write>(
     alloc: Global,
-    engine: &mut Engine,
+    engine: &mut Engine<T, R>,
     lines: &mut Lines,
     line: &mut Vec<u8>,
-    greatest: u64,
-    reader: &mut R,
+    reader: &mut I,
     writer: &mut W,
-) -> Result<Option<u64>, ReplayError>
-    requires { engine.old.state.moment ≤ greatest }
-    ensures taken { IfOk result (λ found. IfSome found (λ now. TakesNext lines.old lines.new (R.remaining reader.old) (R.remaining reader.new) engine.old engine.new greatest now (W.contents writer.old) (W.contents writer.new))) }
-    ensures later { IfOk result (λ found. IfSome found (λ now. engine.new.state.moment ≤ now)) }
-    ensures over { IfOk result (λ found. IfNone found (IsOver lines.old lines.new (R.remaining reader.old) (R.remaining reader.new))) }
-    ensures silent { IfOk result (λ found. IfNone found (W.contents writer.new ≡ W.contents writer.old)) }
+) -> Result<bool, ReplayError>
+    ensures server { engine.new.server ≡ engine.old.server }
+    ensures taken { IfOk result (λ more. more ≡ true → PlaysNext engine.old.server engine.old.state engine.new.state lines.old lines.new (I.remaining reader.old) (I.remaining reader.new) (W.contents writer.old) (W.contents writer.new)) }
+    ensures over { IfOk result (λ more. more ≡ false → IsOver lines.old lines.new (I.remaining reader.old) (I.remaining reader.new)) }
+    ensures silent { IfOk result (λ more. more ≡ false → W.contents writer.new ≡ W.contents writer.old) }
 {
     let first = lines.number() + 1;
     let event = match next_event(alloc, lines, reader, line) {
         Ok(Some(event)) => event,
-        Ok(None) => return Ok(None),
+        Ok(None) => return Ok(false),
         Err(stop) => return Err(stop.at_line(first)),
     };
-    match take_event(alloc, engine, event, greatest, writer) {
-        Ok(now) => Ok(Some(now)),
+    match take_event(alloc, engine, event, writer) {
+        Ok(()) => Ok(true),
         Err(stop) => Err(stop.at_line(first)),
     }
 }
 
 /// The moment of an event.
 fn at_of(event: &Event) -> u64
-    ensures { result ≡ at_of_event event.now }
+    ensures { result ≡ event_moment event.now }
 {
     match event {
         Event::Datagram { at, .. } => *at,
@@ -114,48 +106,36 @@ fn at_of(event: &Event) -> u64
     }
 }
 
-/// The moment at which an event is taken: one that goes back counts as the greatest so far.
-fn moment_of(event: &Event, greatest: u64) -> u64
-    ensures { result ≡ max greatest (at_of_event event.now) }
-{
-    greatest.max(at_of(event))
-}
-
-/// Fires what is due, takes the event, and prints the packets; the greatest moment so far.
-fn take_event<W: Write>(
+/// Fires what is due, takes the event, and prints all these steps.
+fn take_event<T: Timers, R: Rules, W: Write>(
     alloc: Global,
-    engine: &mut Engine,
+    engine: &mut Engine<T, R>,
     event: Event,
-    greatest: u64,
     writer: &mut W,
-) -> Result<u64, Stop>
-    requires { engine.old.state.moment ≤ greatest }
-    ensures taken { IfOk result (λ now. Takes event engine.old engine.new greatest now (W.contents writer.old) (W.contents writer.new)) }
-    ensures later { IfOk result (λ now. engine.new.state.moment ≤ now) }
+) -> Result<(), Stop>
+    ensures server { engine.new.server ≡ engine.old.server }
+    ensures taken { OnOk result (Plays engine.old.server engine.old.state engine.new.state (event ∷ []) None (W.contents writer.old) (W.contents writer.new)) }
 {
-    let now = moment_of(&event, greatest);
-    fire_due(alloc, engine, now, writer)?;
-    let out = own_step(engine, event, now)?;
+    fire_due(alloc, engine, at_of(&event), writer)?;
+    let out = own_step(engine, event)?;
     print_step(alloc, writer, &out)?;
-    Ok(now)
+    Ok(())
 }
 
 /// The event's own step.
-#[tactic(auto, using(crate::proofs::Firings::moment_is, crate::proofs::Firings::due_at_moment))]
-fn own_step(engine: &mut Engine, event: Event, now: u64) -> Result<StepOut, Stop>
-    requires due { NothingDueBy now engine.old.state }
-    requires later { engine.old.state.moment ≤ now }
-    ensures stepped { IfOk result (λ out. IsOwnStep event engine.old now out engine.new) }
-    ensures later { OnOk result (engine.new.state.moment ≤ now) }
+fn own_step<T: Timers, R: Rules>(engine: &mut Engine<T, R>, event: Event) -> Result<StepOut, Stop>
+    requires { NothingDueBy (moment_of engine.old.state (event_moment event)) engine.old.state }
+    ensures server { engine.new.server ≡ engine.old.server }
+    ensures step { IfOk result (λ out. IsStep engine.old.server engine.old.state (Given event) out engine.new.state) }
 {
     match event {
         Event::Datagram {
+            at,
             word,
             from,
             bytes,
-            ..
-        } => Ok(engine.deliver(now, word, from, bytes.as_slice())?),
-        Event::Time { .. } => Ok(engine.fire(now)?),
-        Event::Fault { ticket, .. } => Ok(engine.fault(now, ticket)?),
+        } => Ok(engine.deliver(at, word, from, bytes.as_slice())?),
+        Event::Time { at } => Ok(engine.fire(at)?),
+        Event::Fault { at, ticket } => Ok(engine.fault(at, ticket)?),
     }
 }

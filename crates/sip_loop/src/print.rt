@@ -1,9 +1,11 @@
 ghost use Rattle.std.specs.Prelude.{◌≡◌, ◌⊎◌, ◌++◌, IfOk, IfErr, OnOk, decimal};
+ghost use Rattle.std.specs.List.{flat_map};
 ghost use Rattle.std.specs.Io.KnownBytes.{Appends};
 ghost use Rattle.sip_loop.specs.Print;
 ghost use Rattle.sip_loop.specs.declared.stop.Stop.TheVariants.{NoMemory, Write};
 
 use crate::stop::Stop;
+use sip_audit::{Record, line_of};
 use sip_event::{Packet, StepOut};
 use sip_host::addr_text;
 use sip_text::Bytes;
@@ -63,7 +65,7 @@ fn put<W: Write>(writer: &mut W, text: &[u8]) -> Result<(), Stop>
 }
 
 /// Prints a packet: its head line, its bytes, and LF.
-#[tactic(auto, using(crate::proofs::Written::appends_both, crate::proofs::Written::appends_nothing))]
+#[tactic(auto, using(crate::proofs::Written::appends_both))]
 fn print_packet<W: Write>(
     alloc: Global,
     writer: &mut W,
@@ -80,14 +82,57 @@ fn print_packet<W: Write>(
     Ok(())
 }
 
-/// Prints the packets of a step, in order.
-#[tactic(auto, using(crate::proofs::Written::appends_both, crate::proofs::Written::appends_nothing))]
+/// Prints packets, in order.
+#[tactic(auto, using(crate::proofs::Written::appends_nothing))]
+fn print_packets<W: Write>(
+    alloc: Global,
+    writer: &mut W,
+    at: u64,
+    packets: &[Packet],
+) -> Result<(), Stop>
+    ensures ok { OnOk result (Appends (W.contents writer.old) (W.contents writer.new) (flat_map (Print.packet_text at) packets.now)) }
+    ensures err { IfErr result (λ stop. (stop ≡ NoMemory) ⊎ (stop ≡ Write)) }
+{
+    for packet in packets {
+        print_packet(alloc, writer, at, packet)?;
+    }
+    Ok(())
+}
+
+/// Prints a record: `audit`, its line, and LF.
+#[tactic(auto, using(crate::proofs::Written::appends_both))]
+fn print_record<W: Write>(alloc: Global, writer: &mut W, record: &Record) -> Result<(), Stop>
+    ensures ok { OnOk result (Appends (W.contents writer.old) (W.contents writer.new) (Print.audit_text «record».now)) }
+    ensures err { IfErr result (λ stop. (stop ≡ NoMemory) ⊎ (stop ≡ Write)) }
+{
+    let line = match line_of(alloc, record) {
+        Ok(line) => line,
+        Err(_) => return Err(Stop::NoMemory),
+    };
+    put(writer, b"audit ")?;
+    put(writer, line.as_slice())?;
+    put(writer, b"\n")?;
+    Ok(())
+}
+
+/// Prints records, in order.
+#[tactic(auto, using(crate::proofs::Written::appends_nothing))]
+fn print_records<W: Write>(alloc: Global, writer: &mut W, records: &[Record]) -> Result<(), Stop>
+    ensures ok { OnOk result (Appends (W.contents writer.old) (W.contents writer.new) (flat_map Print.audit_text records.now)) }
+    ensures err { IfErr result (λ stop. (stop ≡ NoMemory) ⊎ (stop ≡ Write)) }
+{
+    for record in records {
+        print_record(alloc, writer, record)?;
+    }
+    Ok(())
+}
+
+/// Prints a step: its packets, in order, then its records.
+#[tactic(auto, using(crate::proofs::Written::appends_both))]
 pub fn print_step<W: Write>(alloc: Global, writer: &mut W, out: &StepOut) -> Result<(), Stop>
     ensures ok { OnOk result (Appends (W.contents writer.old) (W.contents writer.new) (Print.step_text out.now)) }
     ensures err { IfErr result (λ stop. (stop ≡ NoMemory) ⊎ (stop ≡ Write)) }
 {
-    for packet in out.packets.as_slice() {
-        print_packet(alloc, writer, out.at, packet)?;
-    }
-    Ok(())
+    print_packets(alloc, writer, out.at, out.packets.as_slice())?;
+    print_records(alloc, writer, out.records.as_slice())
 }

@@ -52,7 +52,7 @@ impl From<StepError> for Stop {
     fn from(e: StepError) -> Stop {
         match e {
             StepError::NoMemory => Stop::NoMemory,
-            StepError::MomentTooLarge | StepError::Shut | StepError::Worn => Stop::Script,
+            StepError::MomentTooLarge | StepError::Worn => Stop::Script,
         }
     }
 }

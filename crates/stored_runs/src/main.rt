@@ -1,8 +1,9 @@
-//! Replays every stored run of the folder that it runs in, and prints how many agree with their files
-//! and the name of each that doesn't. A run NAME is files alone:
+//! Does every stored run of the folder that it runs in, and prints how many agree with their files and the name
+//! of each that doesn't. A run NAME is files alone:
 //!
 //! - NAME.args: the words of the command line, one a line;
-//! - NAME.script: standard input;
+//! - NAME.script: standard input; empty, where it is absent;
+//! - NAME.toml: a configuration that the words name;
 //! - NAME.out: what must be written; nothing, where it is absent;
 //! - NAME.err: the complaint; none, where it is absent;
 //! - NAME.status: the exit status; 0, where it is absent.

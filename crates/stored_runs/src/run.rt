@@ -1,28 +1,9 @@
-use sip_loop::{ReplayError, replay};
-use sip_settings::sample;
+ghost use Rattle.std.specs.Prelude.{◌≤◌};
+
+use sip_command::command;
 use std::alloc::{AllocError, Global};
 use std::fs;
 use std::rt::Files;
-
-/// What the program complains about.
-fn complaint(alloc: Global, answer: Result<(), ReplayError>) -> Result<String, AllocError> {
-    match answer {
-        Ok(()) => Ok(String::new(alloc)),
-        Err(ReplayError::Script(line)) => format!(in alloc; "sipd: script line {line}\n"),
-        Err(ReplayError::Read | ReplayError::Write) => String::from_str(alloc, "sipd: device\n"),
-        Err(ReplayError::NoMemory) => String::from_str(alloc, "sipd: memory\n"),
-    }
-}
-
-/// The program's exit status, as a line.
-fn status(answer: Result<(), ReplayError>) -> &'static [u8] {
-    match answer {
-        Ok(()) => b"0\n",
-        Err(ReplayError::Script(_)) => b"3\n",
-        Err(ReplayError::Read | ReplayError::Write) => b"4\n",
-        Err(ReplayError::NoMemory) => b"5\n",
-    }
-}
 
 /// The bytes of a run's file, where it can be read.
 fn file_of<R: Files + AllocGlobal>(rt: &R, name: &str, kind: &str) -> Option<Vec<u8>> {
@@ -44,47 +25,48 @@ fn says<R: Files + AllocGlobal>(
     }
 }
 
-fn says_complaint<R: Files + AllocGlobal>(
-    rt: &R,
-    name: &str,
-    answer: Result<(), ReplayError>,
-) -> bool {
-    match complaint(rt.alloc(), answer) {
-        Ok(complaint) => says(rt, name, "err", b"", complaint.as_bytes()),
-        Err(_) => false,
+/// The program's name, and the lines of a text, as the words of a command line.
+fn words_in(alloc: Global, text: &str) -> Result<Vec<String>, AllocError> {
+    let mut words = Vec::new(alloc);
+    words.push(String::from_str(alloc, "sipd")?)?;
+    for line in text.lines() {
+        words.push(String::from_str(alloc, line)?)?;
     }
+    Ok(words)
 }
 
-/// Whether a replay's print and answer are what the run's files say.
-fn are_said<R: Files + AllocGlobal>(
-    rt: &R,
-    name: &str,
-    print: &[u8],
-    answer: Result<(), ReplayError>,
-) -> bool {
-    says(rt, name, "out", b"", print)
-        && says_complaint(rt, name, answer)
-        && says(rt, name, "status", b"0\n", status(answer))
+/// The words of a run's command line.
+fn words_of<R: Files + AllocGlobal>(rt: &R, name: &str) -> Option<Vec<String>> {
+    let bytes = file_of(rt, name, "args")?;
+    let text = str::from_utf8(bytes.as_slice()).ok()?;
+    words_in(rt.alloc(), text).ok()
 }
 
-/// Whether a replay of a script does what the run's files say.
-fn is_as_said<R: Files + AllocGlobal>(rt: &R, name: &str, script: &[u8]) -> bool {
-    let Ok(config) = sample(rt.alloc()) else {
+/// Whether a status is the one that a run's file says.
+fn is_status<R: Files + AllocGlobal>(rt: &R, name: &str, status: u8) -> bool
+    requires { status ≤ 5 }
+{
+    says(rt, name, "status", b"0\n", &[b'0' + status, b'\n'])
+}
+
+/// Whether these words and this input give the output, the complaint and the status that a run's files say.
+fn gives<R: Files + AllocGlobal>(rt: &R, name: &str, words: &[String], script: &[u8]) -> bool {
+    let mut input = script;
+    let mut output = Vec::new(rt.alloc());
+    let mut complaints = Vec::new(rt.alloc());
+    let status = command(rt, words, &mut input, &mut output, &mut complaints);
+    says(rt, name, "out", b"", output.as_slice())
+        && says(rt, name, "err", b"", complaints.as_slice())
+        && is_status(rt, name, status)
+}
+
+/// Whether a run agrees with its files.
+pub fn agrees<R: Files + AllocGlobal>(rt: &R, name: &str) -> bool {
+    let Some(words) = words_of(rt, name) else {
         return false;
     };
-    let mut reader = script;
-    let mut print = Vec::new(rt.alloc());
-    let answer = replay(rt.alloc(), config, &mut reader, &mut print);
-    are_said(rt, name, print.as_slice(), answer)
-}
-
-/// Whether a run agrees with its files. For now `replay` is the only command.
-pub fn agrees<R: Files + AllocGlobal>(rt: &R, name: &str) -> bool {
-    if !says(rt, name, "args", b"", b"replay\n") {
-        return false;
-    }
     match file_of(rt, name, "script") {
-        Some(script) => is_as_said(rt, name, script.as_slice()),
-        None => false,
+        Some(script) => gives(rt, name, words.as_slice(), script.as_slice()),
+        None => gives(rt, name, words.as_slice(), b""),
     }
 }

@@ -1,23 +1,14 @@
-use Rattle.std.proofs.Common.{arith}
-use Rattle.sip_engine.specs.State.{IsFiring}
-use Rattle.sip_loop.proofs.Firings.{none_due_yet, fired_less, fired_by}
-use Rattle.sip_loop.proofs.Replaying.{fires_more}
+use Rattle.std.proofs.Common.{refl, ◌∙◌, Some}
+use Rattle.sip_loop.proofs.Running.{plays_nothing, plays_passing}
 use Rattle.sip_loop.proofs.due.fire_due.Goals as goal
 
-pub returns-then-due-now-clause-none_due : goal.returns-then-due-now-clause-none_due
-returns-then-due-now-clause-none_due g c =
-    none_due_yet c.args.now c.in-Some.due c.loop-due.engine.state c.in-Some.ensures.some c.if-due-now.true
+pub loop-init : goal.loop-init
+loop-init g c = (refl, plays_nothing c.args.engine.now.server c.args.engine.now.state (Some c.args.at) (g.W.Write.contents c.args.writer.now))
 
-pub loop-due-smaller : goal.loop-due-smaller
-loop-due-smaller g c =
-    let firing : IsFiring c.loop-due.engine c.args.now c.in_ok-out.out c.fire.new.self =
-    c.in_ok-out.ensures.fired c.in-Some.due c.in-Some.ensures.some (omega arith) in
-    fired_less c.loop-due.engine c.fire.new.self c.args.now c.in_ok-out.out firing
-
-pub loop-due-preserved : goal.loop-due-preserved
-loop-due-preserved g c =
-    let firing : IsFiring c.loop-due.engine c.args.now c.in_ok-out.out c.fire.new.self =
-    c.in_ok-out.ensures.fired c.in-Some.due c.in-Some.ensures.some (omega arith) in (
-      fired_by c.loop-due.engine c.fire.new.self c.args.now c.in_ok-out.out firing c.loop-due.invariant.0,
-      fires_more c.args.engine.now c.loop-due.engine c.fire.new.self c.args.now c.in_ok-out.out _ _ _ c.loop-due.invariant.1 firing c.in_ok-print_step.ensures.ok,
-    )
+pub loop-preserved : goal.loop-preserved
+loop-preserved g c = (
+  c.fire.ensures.server ∙ c.loop.invariant.0,
+  plays_passing c.args.engine.now.server c.loop.engine.server c.args.engine.now.state c.loop.engine.state c.fire.new.self.state c.args.at c.in_ok-out.out
+      (g.W.Write.contents c.args.writer.now) (g.W.Write.contents c.loop.writer) (g.W.Write.contents c.print_step.new.writer)
+      c.loop.invariant.0 c.loop.invariant.1 c.in_ok-out.ensures.step c.in_ok-print_step.ensures.ok,
+)

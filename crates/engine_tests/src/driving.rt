@@ -1,0 +1,69 @@
+//! An engine with the sample configuration, its timers and rules in lists, and calls of it.
+
+ghost use Rattle.std.specs.Prelude.{◌≡◌, false};
+ghost use Rattle.sip_model.specs.Step.{NoneBy, NoneAgainBy, moment_of};
+
+use sip_engine::{Engine, StepError};
+use sip_event::{Boot, StepOut};
+use sip_host::Addr;
+use sip_loop::{ReplayError, replay};
+use sip_policy::ListRules;
+use sip_settings::sample;
+use sip_timers::ListTimers;
+use std::alloc::{AllocError, Global};
+
+/// Where the datagrams come from.
+pub const PHONE: Addr = Addr {
+    ip: [127, 0, 0, 1],
+    port: 5062,
+};
+
+/// An engine with the sample configuration, whose first datagram has this number.
+pub fn opened(alloc: Global, first: u64) -> Result<Engine<ListTimers, ListRules>, AllocError> {
+    let boot = Boot {
+        word: 0,
+        first,
+        keys: 0,
+    };
+    Engine::open(alloc, sample(alloc)?, boot)
+}
+
+/// Whether something is due by a moment.
+fn is_due(engine: &Engine<ListTimers, ListRules>, at: u64) -> bool
+    ensures { result ≡ false → NoneBy (moment_of engine.now.state at) engine.now.state.requests × NoneAgainBy (moment_of engine.now.state at) engine.now.state.requests }
+{
+    match engine.next_due() {
+        Some(due) => due <= engine.moment().max(at),
+        None => false,
+    }
+}
+
+/// Takes a datagram, where nothing is due by its moment.
+pub fn hear(
+    engine: &mut Engine<ListTimers, ListRules>,
+    at: u64,
+    word: u128,
+    bytes: &[u8],
+) -> Result<StepOut, StepError> {
+    if is_due(engine, at) {
+        return Err(StepError::MomentTooLarge);
+    }
+    engine.deliver(at, word, PHONE, bytes)
+}
+
+/// Whether the first timer that is due by a moment fires, at its own.
+pub fn is_fired_at(engine: &mut Engine<ListTimers, ListRules>, at: u64, wanted: u64) -> bool {
+    match engine.fire(at) {
+        Ok(out) => out.at == wanted,
+        Err(_) => false,
+    }
+}
+
+/// Replays a script with the sample configuration, and adds what is printed.
+pub fn replayed(alloc: Global, script: &[u8], print: &mut Vec<u8>) -> Result<(), ReplayError> {
+    let Ok(config) = sample(alloc) else {
+        return Err(ReplayError::NoMemory);
+    };
+    let mut reader = script;
+    replay::<ListTimers, ListRules, &[u8], Vec<u8>>(alloc, config, &mut reader, print)
+}

@@ -1,0 +1,92 @@
+ghost use Rattle.std.specs.Prelude.{◌≤◌};
+
+use crate::call::{Call, Parsed, parse};
+use crate::exit::Exit;
+use crate::files::config_of;
+use crate::summary::summary_of;
+use sip_loop::replay;
+use sip_policy::ListRules;
+use sip_text::Bytes;
+use sip_timers::ListTimers;
+use std::io::{Read, Write};
+use std::rt::Files;
+
+/// Writes a text whole.
+fn print<W: Write>(text: &[u8], output: &mut W) -> Result<(), Exit> {
+    output.write_all(text)?;
+    Ok(output.flush()?)
+}
+
+/// What is printed of the configuration of a file.
+fn summary_in<R: Files + AllocGlobal>(rt: &R, path: &str) -> Result<Bytes, Exit> {
+    let config = config_of(rt, Some(path))?;
+    Ok(summary_of(rt.alloc(), &config)?)
+}
+
+/// Checks the configuration of a file, and prints what it has.
+fn check_file<R: Files + AllocGlobal, W: Write>(
+    rt: &R,
+    path: &str,
+    output: &mut W,
+) -> Result<(), Exit> {
+    let summary = summary_in(rt, path)?;
+    print(summary.as_slice(), output)
+}
+
+/// Replays the script of the input with the configuration of a file, or the sample.
+fn replay_script<R: Files + AllocGlobal, I: Read, W: Write>(
+    rt: &R,
+    path: Option<&str>,
+    input: &mut I,
+    output: &mut W,
+) -> Result<(), Exit> {
+    let config = config_of(rt, path)?;
+    replay::<ListTimers, ListRules, I, W>(rt.alloc(), config, input, output)?;
+    Ok(())
+}
+
+fn carry_out<R: Files + AllocGlobal, I: Read, W: Write>(
+    rt: &R,
+    call: &Call,
+    input: &mut I,
+    output: &mut W,
+) -> Result<(), Exit> {
+    match call {
+        Call::Check(path) => check_file(rt, path.as_str(), output),
+        Call::Replay(Some(path)) => replay_script(rt, Some(path.as_str()), input, output),
+        Call::Replay(None) => replay_script(rt, None, input, output),
+    }
+}
+
+fn run<R: Files + AllocGlobal, I: Read, W: Write>(
+    rt: &R,
+    words: &[String],
+    input: &mut I,
+    output: &mut W,
+) -> Result<(), Exit> {
+    match parse(rt.alloc(), words)? {
+        Parsed::Text(text) => print(text.as_bytes(), output),
+        Parsed::Call(call) => carry_out(rt, &call, input, output),
+    }
+}
+
+/// Does what the words of a command line say, the program's own name first, and gives the exit status: 0 done, 1
+/// usage, 2 configuration, 3 script, 4 device, 5 memory. What it complains about is one line, but for the text on
+/// usage.
+pub fn command<R: Files + AllocGlobal, I: Read, W: Write, C: Write>(
+    rt: &R,
+    words: &[String],
+    input: &mut I,
+    output: &mut W,
+    complaints: &mut C,
+) -> u8
+    ensures { result ≤ 5 }
+{
+    match run(rt, words, input, output) {
+        Ok(()) => 0,
+        Err(exit) => {
+            let _ = writeln!(complaints, "{exit}");
+            exit.status()
+        }
+    }
+}

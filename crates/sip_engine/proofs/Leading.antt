@@ -1,0 +1,61 @@
+-- A step leads on from a state that steps lead to, and is one for a moment that goes back.
+use Rattle.std.proofs.Common.{◌≡◌, ◌∙◌, ◌≤◌, ◌<◌, inl, inr, ℕ, max, List, [], ◌∷◌, Result, Ok, Err, IfOk, OnErr, refl, sym, ap, subst}
+use Rattle.std.proofs.Math.Nat.{le-max_left, max-eq_right}
+use Rattle.sip_event.specs.declared.event.Event.{Event}
+use Rattle.sip_event.specs.declared.event.StepOut.{StepOut}
+use Rattle.sip_event.specs.declared.packet.Ticket.{Ticket}
+use Rattle.sip_proxy.specs.host.declared.addr.Addr.{Addr}
+use Rattle.sip_proxy.specs.model.Effect.{datagram_effect}
+use Rattle.sip_proxy.specs.model.Run.{Link}
+use Rattle.sip_proxy.specs.model.Step.{Act, Does, Given, Passing, IsDelivery, IsFault, IsStep, IsTime, NoneAgainBefore, NoneAgainBy, NoneBefore, NoneBy, arrival_of, moment_of}
+use Rattle.sip_proxy.specs.state.State.{deadlines}
+use Rattle.sip_proxy.specs.state.declared.open_request.OpenRequest.{OpenRequest}
+use Rattle.sip_proxy.specs.state.declared.proxy_state.ProxyState.{ProxyState}
+use Rattle.sip_proxy.specs.state.declared.server.Server.{Server}
+use Rattle.sip_engine.specs.Engine.{IsReached}
+use Rattle.sip_engine.specs.declared.error.StepError.{StepError}
+
+-- ---- histories
+
+pub led_on : (server : Server) (old new : ProxyState) (act : Act) (out : StepOut) → IsReached server old → IsStep server old act out new → IsReached server new
+led_on server old new act out h step =
+    record {
+      first = h.first;
+      history = (record { before = old; act = act; out = out; after = new }) ∷ h.history;
+      chain = (refl, step, h.chain);
+    }
+
+pub stayed : (server : Server) (old new : ProxyState) → IsReached server old → new ≡ old → IsReached server new
+stayed server old new h same = subst (λ (s : ProxyState). IsReached server s) (sym same) h
+
+-- ---- moments
+
+pub moment_again : (state : ProxyState) (at : ℕ) → moment_of state (moment_of state at) ≡ moment_of state at
+moment_again state at = max-eq_right (le-max_left state.moment at)
+
+-- a step of time up to a moment that counts as the last one is one up to the moment that was given
+pub passes_for : (server : Server) (old new : ProxyState) (at : ℕ) (out : StepOut) → IsStep server old (Passing (moment_of old at)) out new → IsStep server old (Passing at) out new
+passes_for server old new at out (inl quiet) = inl (record quiet { no_later = subst (λ (n : ℕ). out.at ≤ n) (moment_again old at) quiet.no_later })
+passes_for server old new at out (inr (inl due)) = inr (inl (record due { is_due = subst (λ (n : ℕ). out.at ≤ n) (moment_again old at) due.is_due }))
+passes_for server old new at out (inr (inr goes)) = inr (inr (record goes { is_due = subst (λ (n : ℕ). out.at ≤ n) (moment_again old at) goes.is_due }))
+
+pub time_for : (server : Server) (old new : ProxyState) (at : ℕ) (out : StepOut) → IsTime server old (moment_of old at) out new → IsTime server old at out new
+time_for server old new at out h =
+    record {
+      none_due = subst (λ (n : ℕ). NoneBy n old.requests) (moment_again old at) h.none_due;
+      none_again_due = subst (λ (n : ℕ). NoneAgainBy n old.requests) (moment_again old at) h.none_again_due;
+      at_moment = h.at_moment ∙ moment_again old at;
+      quiet = record (h.quiet) { no_later = subst (λ (n : ℕ). out.at ≤ n) (moment_again old at) h.quiet.no_later };
+    }
+
+pub delivered : (server : Server) (old new : ProxyState) (at word : ℕ) (from : Addr) (bytes : List ℕ) (out : StepOut)
+    → NoneBy (moment_of old at) old.requests → NoneAgainBy (moment_of old at) old.requests
+    → Does server old (moment_of old at) (datagram_effect server old (arrival_of old at word from) bytes) out new → IsDelivery server old at word from bytes out new
+delivered server old new at word from bytes out due again does = record { none_due = due; none_again = again; does = does }
+
+-- ---- what a call gives
+
+module _ (server : Server) (old new : ProxyState) where
+  pub led_by : (act : Act) (result : Result StepOut StepError) → IsReached server old → IfOk result (λ out. IsStep server old act out new) → OnErr result (new ≡ old) → IsReached server new
+  led_by act (Ok out) h step same = led_on server old new act out h step
+  led_by act (Err e) h step same = stayed server old new h same

@@ -1,0 +1,19 @@
+-- What a running server is.
+use Rattle.std.specs.Prelude.{ℕ, List}
+use Rattle.sip_proxy.specs.model.Run.{Link, IsChain}
+use Rattle.sip_proxy.specs.state.State.{first_state}
+use Rattle.sip_proxy.specs.state.declared.proxy_state.ProxyState.{ProxyState}
+use Rattle.sip_proxy.specs.state.declared.server.Server.{Server}
+use Rattle.sip_proxy.specs.timers.declared.timer.Timer.{Timer}
+
+-- the configured server, the state that it is in, and the timers that stand, in the order in which they fire
+pub record Engine : Type 0 where
+  pub server : Server
+  pub state : ProxyState
+  pub timers : List Timer
+
+-- Steps of the model lead from a first state to this one: whatever holds over every history holds here.
+pub record IsReached (server : Server) (state : ProxyState) : Type 0 where
+  pub first : ℕ
+  pub history : List Link
+  pub chain : IsChain server (first_state first) history state

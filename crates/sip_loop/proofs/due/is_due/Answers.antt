@@ -1,0 +1,8 @@
+use Rattle.sip_model.specs.Step.{moment_of}
+use Rattle.sip_loop.proofs.Replaying.{none_some}
+use Rattle.sip_loop.proofs.due.is_due.Goals as goal
+
+pub returns-in-None : goal.returns-in-None
+returns-in-None g c =
+    let none = c.next_due.ensures.none_by (moment_of c.args.engine.now.state c.args.at) (λ due e. none_some c.next_due.result due _ c.in-None.is e) in
+    λ _. record { none = none.0; none_again = none.1 }

@@ -1,0 +1,8 @@
+use Rattle.sip_loop.specs.Print.{audit_text}
+use Rattle.sip_loop.proofs.Written.{appends_part}
+use Rattle.sip_loop.proofs.print.print_records.Goals as goal
+
+pub loop-record-preserved : goal.loop-record-preserved
+loop-record-preserved g c =
+    appends_part audit_text c.args.records.now c.loop-record.record-index c.record-item.result
+    _ _ _ c.loop-record-test.true c.record-item.is c.loop-record.invariant c.in_ok-print_record.ensures.ok
