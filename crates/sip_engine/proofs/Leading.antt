@@ -1,15 +1,10 @@
 -- A step leads on from a state that steps lead to, and is one for a moment that goes back.
-use Rattle.std.proofs.Common.{◌≡◌, ◌∙◌, ◌≤◌, ◌<◌, inl, inr, ℕ, max, List, [], ◌∷◌, Result, Ok, Err, IfOk, OnErr, refl, sym, ap, subst}
+use Rattle.std.proofs.Common.{◌≡◌, ◌∙◌, ◌≤◌, inl, inr, ℕ, List, ◌∷◌, Result, Ok, Err, IfOk, OnErr, refl, sym, subst}
 use Rattle.std.proofs.Math.Nat.{le-max_left, max-eq_right}
-use Rattle.sip_event.specs.declared.event.Event.{Event}
 use Rattle.sip_event.specs.declared.event.StepOut.{StepOut}
-use Rattle.sip_event.specs.declared.packet.Ticket.{Ticket}
 use Rattle.sip_proxy.specs.host.declared.addr.Addr.{Addr}
 use Rattle.sip_proxy.specs.model.Effect.{datagram_effect}
-use Rattle.sip_proxy.specs.model.Run.{Link}
-use Rattle.sip_proxy.specs.model.Step.{Act, Does, Given, Passing, IsDelivery, IsFault, IsQuiet, IsStep, IsTime, NoneAgainBefore, NoneAgainBy, NoneBefore, NoneBy, arrival_of, moment_of}
-use Rattle.sip_proxy.specs.state.State.{deadlines}
-use Rattle.sip_proxy.specs.state.declared.open_request.OpenRequest.{OpenRequest}
+use Rattle.sip_proxy.specs.model.Step.{Act, Does, Passing, IsDelivery, IsQuiet, IsStep, IsTime, NoneAgainBy, NoneBy, arrival_of, moment_of}
 use Rattle.sip_proxy.specs.state.declared.proxy_state.ProxyState.{ProxyState}
 use Rattle.sip_proxy.specs.state.declared.server.Server.{Server}
 use Rattle.sip_engine.specs.Engine.{IsReached}
