@@ -1,0 +1,3 @@
+mod Judged
+mod Taken
+mod Places

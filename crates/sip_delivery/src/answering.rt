@@ -1,0 +1,71 @@
+ghost use Rattle.std.specs.Prelude.{◌≡◌, position, false, None, Some, IfOk, OnErr};
+ghost use Rattle.sip_proxy.specs.Proxy.{IsComing};
+ghost use Rattle.sip_proxy.specs.fitting.Fits.{IsFinalAnswer};
+ghost use Rattle.sip_proxy.specs.key.Key.{key_of};
+ghost use Rattle.sip_proxy.specs.opening.Arrivals.{arrival_of};
+ghost use Rattle.sip_proxy.specs.state.State.{has_key};
+ghost use Rattle.sip_proxy.specs.verdict.Verdict as Definition;
+ghost use Rattle.sip_delivery.specs.Delivery.{Takes};
+
+use crate::keeping::{NewRequest, keep};
+use sip_admitting::{take_answered, take_cancel};
+use sip_event::StepOut;
+use sip_proxy::Proxy;
+use sip_proxy::field::Fields;
+use sip_proxy::form::View;
+use sip_proxy::hops::Hops;
+use sip_proxy::key::Key;
+use sip_proxy::opening::Arrival;
+use sip_proxy::state::Server;
+use sip_proxy::timers::Timers;
+use std::alloc::{AllocError, Global};
+
+/// A new request with a key is answered at once, with a status and further fields. `AllocError` is the only refusal;
+/// nothing is changed then.
+pub(crate) fn answer<T: Timers>(
+    alloc: Global,
+    server: &Server,
+    proxy: &mut Proxy<T>,
+    arrival: Arrival,
+    key: Key,
+    message: &View<'_>,
+    status: u16,
+    extras: &Fields,
+) -> Result<StepOut, AllocError>
+    requires coming { IsComing proxy.old.state arrival }
+    requires key { key_of message.now ≡ Some key }
+    requires alone { position (has_key key) proxy.old.state.requests ≡ None }
+    requires final_status { IsFinalAnswer status }
+    ensures does { IfOk result (λ out. Takes server.now proxy.old.state arrival message.now (Definition.Answer status extras.now) out proxy.new.state) }
+    ensures unchanged { OnErr result (proxy.new.state ≡ proxy.old.state) }
+    ensures timers { OnErr result (proxy.new.timers ≡ proxy.old.timers) }
+{
+    let kept = keep(alloc, key, message)?;
+    let NewRequest { key, message } = kept;
+    take_answered(alloc, server, proxy, arrival, key, message, status, extras)
+}
+
+/// A CANCEL with a key cancels the request that it names, if there is one (RFC 3261 9.2). `AllocError` is the only
+/// refusal; nothing is changed then.
+pub(crate) fn cancel<T: Timers>(
+    alloc: Global,
+    server: &Server,
+    hops: &Hops,
+    proxy: &mut Proxy<T>,
+    arrival: Arrival,
+    key: Key,
+    message: &View<'_>,
+) -> Result<StepOut, AllocError>
+    requires coming { IsComing proxy.old.state arrival }
+    requires key { key_of message.now ≡ Some key }
+    requires alone { position (has_key key) proxy.old.state.requests ≡ None }
+    requires space { Definition.is_full proxy.old.state ≡ false }
+    requires rows { hops.now.addresses ≡ server.now.config.addresses }
+    ensures does { IfOk result (λ out. Takes server.now proxy.old.state arrival message.now (Definition.Cancel (Definition.found_for_cancel proxy.old.state key arrival.from)) out proxy.new.state) }
+    ensures unchanged { OnErr result (proxy.new.state ≡ proxy.old.state) }
+    ensures timers { OnErr result (proxy.new.timers ≡ proxy.old.timers) }
+{
+    let kept = keep(alloc, key, message)?;
+    let NewRequest { key, message } = kept;
+    take_cancel(alloc, server, hops, proxy, arrival, key, message)
+}

@@ -1,0 +1,112 @@
+ghost use Rattle.std.specs.Prelude.{◌≡◌, IfOk, OnErr};
+ghost use Rattle.sip_incoming.specs.Incoming.{IsRequest};
+ghost use Rattle.sip_proxy.specs.Proxy.{IsComing};
+ghost use Rattle.sip_proxy.specs.model.Effect.{datagram_effect};
+ghost use Rattle.sip_proxy.specs.model.Step.{Does};
+ghost use Rattle.sip_proxy.specs.opening.Arrivals.{arrival_of};
+ghost use Rattle.sip_proxy.specs.verdict.Verdict as Definition;
+ghost use Rattle.sip_delivery.specs.Delivery.{Takes};
+
+use crate::known::take_known;
+use crate::new::take_new;
+use crate::responses::take_reply;
+use sip_event::StepOut;
+use sip_incoming::{Incoming, incoming_of, laws, read_datagram};
+use sip_ongoing::take_dropped;
+use sip_proxy::Proxy;
+use sip_proxy::form::View;
+use sip_proxy::judge::Judge;
+use sip_proxy::key::Key;
+use sip_proxy::opening::Arrival;
+use sip_proxy::policy::Rules;
+use sip_proxy::timers::Timers;
+use std::alloc::{AllocError, Global};
+
+/// The step of a request of a method with a key: it belongs to the open one with that key, or is new (RFC 3261 17.2.3).
+/// `AllocError` is the only refusal; nothing is changed then.
+fn take_request<T: Timers, R: Rules>(
+    alloc: Global,
+    judge: &Judge<R>,
+    proxy: &mut Proxy<T>,
+    arrival: Arrival,
+    key: Key,
+    method: &[u8],
+    message: &View<'_>,
+    short: bool,
+) -> Result<StepOut, AllocError>
+    requires coming { IsComing proxy.old.state arrival }
+    requires request { IsRequest message.now short method.now key }
+    ensures does { IfOk result (λ out. Takes judge.now proxy.old.state arrival message.now (Definition.message_verdict judge.now proxy.old.state (arrival_of arrival) message.now short) out proxy.new.state) }
+    ensures unchanged { OnErr result (proxy.new.state ≡ proxy.old.state) }
+    ensures timers { OnErr result (proxy.new.timers ≡ proxy.old.timers) }
+{
+    laws::requests();
+    match proxy.find(&key) {
+        Some(place) => take_known(alloc, judge, proxy, arrival, place, method, message, short),
+        None => take_new(alloc, judge, proxy, arrival, key, method, message, short),
+    }
+}
+
+/// The step of a message, of whose body fewer bytes may have come than its length says. `AllocError` is the only refusal;
+/// nothing is changed then.
+fn take_message<T: Timers, R: Rules>(
+    alloc: Global,
+    judge: &Judge<R>,
+    proxy: &mut Proxy<T>,
+    arrival: Arrival,
+    message: &View<'_>,
+    short: bool,
+) -> Result<StepOut, AllocError>
+    requires coming { IsComing proxy.old.state arrival }
+    ensures does { IfOk result (λ out. Takes judge.now proxy.old.state arrival message.now (Definition.message_verdict judge.now proxy.old.state (arrival_of arrival) message.now short) out proxy.new.state) }
+    ensures unchanged { OnErr result (proxy.new.state ≡ proxy.old.state) }
+    ensures timers { OnErr result (proxy.new.timers ≡ proxy.old.timers) }
+{
+    let incoming = incoming_of(alloc, &judge.server().config.own, message, short)?;
+    match incoming {
+        Incoming::Dropped => Ok(take_dropped(alloc, proxy, arrival)),
+        Incoming::Response {
+            status,
+            branch,
+            method,
+            has_more_vias,
+        } => take_reply(
+            alloc,
+            judge.server(),
+            judge.hops(),
+            proxy,
+            arrival,
+            status,
+            branch,
+            method,
+            has_more_vias,
+            message,
+            short,
+        ),
+        Incoming::Request { method, key } => {
+            take_request(alloc, judge, proxy, arrival, key, method, message, short)
+        }
+    }
+}
+
+/// The step of the bytes of a datagram that comes (RFC 3261 16, 17, 18): exactly what the model says that it does. Bytes that say
+/// no message are dropped. `AllocError` is the only refusal; nothing is changed then.
+pub fn take_datagram<T: Timers, R: Rules>(
+    alloc: Global,
+    judge: &Judge<R>,
+    proxy: &mut Proxy<T>,
+    arrival: Arrival,
+    bytes: &[u8],
+) -> Result<StepOut, AllocError>
+    requires coming { IsComing proxy.old.state arrival }
+    ensures does { IfOk result (λ out. Does judge.now proxy.old.state arrival.now (datagram_effect judge.now proxy.old.state (arrival_of arrival) bytes.now) out proxy.new.state) }
+    ensures unchanged { OnErr result (proxy.new.state ≡ proxy.old.state) }
+    ensures timers { OnErr result (proxy.new.timers ≡ proxy.old.timers) }
+{
+    laws::datagrams();
+    let said = read_datagram(alloc, bytes)?;
+    match said {
+        Some((message, short)) => take_message(alloc, judge, proxy, arrival, &message, short),
+        None => Ok(take_dropped(alloc, proxy, arrival)),
+    }
+}

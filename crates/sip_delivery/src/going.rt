@@ -1,0 +1,84 @@
+ghost use Rattle.std.specs.Prelude.{◌≡◌, position, true, false, None, Some, IfOk, OnErr};
+ghost use Rattle.sip_proxy.specs.Proxy.{IsComing};
+ghost use Rattle.sip_proxy.specs.key.Key.{key_of};
+ghost use Rattle.sip_proxy.specs.state.State.{has_key};
+ghost use Rattle.sip_proxy.specs.verdict.Verdict as Definition;
+ghost use Rattle.sip_routing.specs.Routing.{are_somebody};
+ghost use Rattle.sip_delivery.specs.Delivery.{Takes};
+
+use crate::keeping::{NewRequest, keep};
+use sip_event::StepOut;
+use sip_proxy::Proxy;
+use sip_proxy::arrival::Judged;
+use sip_proxy::dialog::DialogId;
+use sip_proxy::form::View;
+use sip_proxy::hops::Hops;
+use sip_proxy::host::Addr;
+use sip_proxy::key::Key;
+use sip_proxy::opening::Arrival;
+use sip_proxy::state::Server;
+use sip_proxy::targets::Targets;
+use sip_proxy::timers::Timers;
+use sip_routing::{send_to, send_within};
+use std::alloc::{AllocError, Global};
+
+/// A new request with a key goes to its targets, which are somebody, by a rule (RFC 3261 16.5, 16.6). `AllocError` is the
+/// only refusal; nothing is changed then.
+pub(crate) fn go_to<T: Timers>(
+    alloc: Global,
+    server: &Server,
+    hops: &Hops,
+    proxy: &mut Proxy<T>,
+    arrival: Arrival,
+    key: Key,
+    message: &View<'_>,
+    judged: &Judged<'_>,
+    rule: u32,
+    targets: &Targets,
+) -> Result<StepOut, AllocError>
+    requires coming { IsComing proxy.old.state arrival }
+    requires key { key_of message.now ≡ Some key }
+    requires alone { position (has_key key) proxy.old.state.requests ≡ None }
+    requires space { Definition.is_full proxy.old.state ≡ false }
+    requires rows { hops.now.addresses ≡ server.now.config.addresses }
+    requires minute { judged.now.minute ≡ Definition.minute_on server.now judged.now.question }
+    requires somebody { are_somebody targets.now ≡ true }
+    ensures does { IfOk result (λ out. Takes server.now proxy.old.state arrival message.now (Definition.Send judged.now.question rule targets.now) out proxy.new.state) }
+    ensures unchanged { OnErr result (proxy.new.state ≡ proxy.old.state) }
+    ensures timers { OnErr result (proxy.new.timers ≡ proxy.old.timers) }
+{
+    let kept = keep(alloc, key, message)?;
+    let NewRequest { key, message } = kept;
+    send_to(
+        alloc, server, hops, proxy, arrival, key, message, judged, rule, targets,
+    )
+}
+
+/// A new request with a key goes on in its dialog (RFC 3261 12.2, 16.12). `AllocError` is the only refusal; nothing is
+/// changed then.
+pub(crate) fn go_within<T: Timers>(
+    alloc: Global,
+    server: &Server,
+    hops: &Hops,
+    proxy: &mut Proxy<T>,
+    arrival: Arrival,
+    key: Key,
+    message: &View<'_>,
+    address: Addr,
+    id: DialogId,
+) -> Result<StepOut, AllocError>
+    requires coming { IsComing proxy.old.state arrival }
+    requires key { key_of message.now ≡ Some key }
+    requires alone { position (has_key key) proxy.old.state.requests ≡ None }
+    requires space { Definition.is_full proxy.old.state ≡ false }
+    requires rows { hops.now.addresses ≡ server.now.config.addresses }
+    ensures does { IfOk result (λ out. Takes server.now proxy.old.state arrival message.now (Definition.InDialog address id) out proxy.new.state) }
+    ensures unchanged { OnErr result (proxy.new.state ≡ proxy.old.state) }
+    ensures timers { OnErr result (proxy.new.timers ≡ proxy.old.timers) }
+{
+    let kept = keep(alloc, key, message)?;
+    let NewRequest { key, message } = kept;
+    send_within(
+        alloc, server, hops, proxy, arrival, key, message, address, id,
+    )
+}

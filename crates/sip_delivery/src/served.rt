@@ -1,0 +1,64 @@
+ghost use Rattle.std.specs.Prelude.{◌≡◌, position, None, Some, IfOk, OnErr};
+ghost use Rattle.sip_proxy.specs.Proxy.{IsComing};
+ghost use Rattle.sip_proxy.specs.arrival.Verdict.{HasRoom, Is};
+ghost use Rattle.sip_proxy.specs.key.Key.{key_of};
+ghost use Rattle.sip_proxy.specs.state.State.{has_key};
+ghost use Rattle.sip_proxy.specs.verdict.Verdict as Definition;
+ghost use Rattle.sip_delivery.specs.Delivery.{IsServed, Takes};
+
+use crate::answering::{answer, cancel};
+use crate::asking::take_asked;
+use crate::going::go_within;
+use sip_event::StepOut;
+use sip_ongoing::take_dropped;
+use sip_proxy::Proxy;
+use sip_proxy::arrival::Verdict;
+use sip_proxy::form::View;
+use sip_proxy::hops::Hops;
+use sip_proxy::key::Key;
+use sip_proxy::opening::Arrival;
+use sip_proxy::state::Server;
+use sip_proxy::timers::Timers;
+use sip_routing::send_ack;
+use std::alloc::{AllocError, Global};
+
+/// The step of a new request with a key, of what was decided about it. `AllocError` is the only refusal; nothing is
+/// changed then.
+pub(crate) fn serve<T: Timers>(
+    alloc: Global,
+    server: &Server,
+    hops: &Hops,
+    proxy: &mut Proxy<T>,
+    arrival: Arrival,
+    key: Key,
+    message: &View<'_>,
+    decided: Verdict<'_>,
+) -> Result<StepOut, AllocError>
+    requires coming { IsComing proxy.old.state arrival }
+    requires key { key_of message.now ≡ Some key }
+    requires alone { position (has_key key) proxy.old.state.requests ≡ None }
+    requires rows { hops.now.addresses ≡ server.now.config.addresses }
+    requires room { HasRoom proxy.old.room decided }
+    requires served { IsServed server.now proxy.old.state arrival key decided }
+    ensures does { IfOk result (λ out. (verdict : Definition.Verdict) → Is server.now proxy.old.state.bindings arrival.now (Definition.found_for_cancel proxy.old.state key arrival.from) verdict decided.entry
+        → Takes server.now proxy.old.state arrival message.now verdict out proxy.new.state) }
+    ensures unchanged { OnErr result (proxy.new.state ≡ proxy.old.state) }
+    ensures timers { OnErr result (proxy.new.timers ≡ proxy.old.timers) }
+{
+    match decided {
+        Verdict::Dropped => Ok(take_dropped(alloc, proxy, arrival)),
+        Verdict::AckOn(address, id) => {
+            send_ack(alloc, server, hops, proxy, arrival, message, address, id)
+        }
+        Verdict::Cancel => cancel(alloc, server, hops, proxy, arrival, key, message),
+        Verdict::Answer(status, extras) => answer(
+            alloc, server, proxy, arrival, key, message, status, &extras,
+        ),
+        Verdict::InDialog(address, id) => go_within(
+            alloc, server, hops, proxy, arrival, key, message, address, id,
+        ),
+        Verdict::Judged(judged) => take_asked(
+            alloc, server, hops, proxy, arrival, key, message, judged,
+        ),
+    }
+}
