@@ -1,5 +1,5 @@
 -- A replay so far, event by event.
-use Rattle.std.proofs.Common.{◌≡◌, ℕ, ◌<◌, ◌≤◌, List, [], ◌∷◌, ◌++◌, Option, None, Some, IfSome, refl, sym, ◌∙◌, ap, arith, append-nil, append_assoc}
+use Rattle.std.proofs.Common.{◌≡◌, ℕ, ◌+◌, ◌<◌, ◌≤◌, List, [], ◌∷◌, ◌++◌, Option, None, Some, IfSome, false, refl, sym, ◌∙◌, ap, subst, arith, append-nil, append_assoc}
 use Rattle.std.specs.List.{AllByRecursion}
 use Rattle.std.specs.Io.KnownBytes.{Appends, Consumes, Keeps, IsAtEnd, prepend_known}
 use Rattle.std.proofs.KnownBytes.{Consumes-nil, Consumes-trans}
@@ -9,9 +9,15 @@ use Rattle.sip_model.specs.state.declared.server.Server.{Server}
 use Rattle.sip_model.specs.state.declared.proxy_state.ProxyState.{ProxyState}
 use Rattle.sip_model.specs.state.State.{first_state}
 use Rattle.sip_loop.specs.Print.{printed}
-use Rattle.sip_loop.specs.Lines.{Reading, pending, IsOver}
+use Rattle.std.specs.Prelude.{count_by}
+use Rattle.sip_loop.specs.Lines.{Reading, is_end, pending, IsOver}
+use Rattle.sip_loop.proofs.LineEnds.{ends_add}
 use Rattle.sip_loop.specs.Events.{SaysEvent}
 use Rattle.sip_loop.specs.Replays.{SaysEvents, server_with, Plays, PlaysNext, IsReplay}
+use Rattle.std.specs.Prelude.{nat_le}
+use Rattle.std.proofs.lemmas.Bool.Decides.{nat_tests}
+use Rattle.sip_loop.proofs.Calls.{some_is}
+use Rattle.sip_loop.proofs.Fronts.{appends_kept}
 use Rattle.sip_loop.proofs.Running.{RunsJoin, plays_nothing, plays_both}
 
 -- a text that says one event more
@@ -37,6 +43,7 @@ pub record Replays (server : Server) (first state : ProxyState) (old new : Readi
   pub text : List ℕ
   pub says : SaysEvents events text
   pub consumes : Consumes (pending old before) (pending new after) text
+  pub number : new.number ≡ old.number + count_by is_end text
   pub plays : Plays server first state events None start written
 
 pub replays_nothing : (server : Server) (first : ProxyState) (r : Reading) (before start : Option (List ℕ)) → Replays server first first r r before before start start
@@ -45,8 +52,12 @@ replays_nothing server first r before start = record {
   text = [];
   says = refl;
   consumes = Consumes-nil (pending r before);
+  number = omega arith;
   plays = plays_nothing server first None start;
 }
+
+numbers_add : (old mid new : ℕ) (text more : List ℕ) → mid ≡ old + count_by is_end text → new ≡ mid + count_by is_end more → new ≡ old + count_by is_end (text ++ more)
+numbers_add old mid new text more h1 h2 = let sum : count_by is_end (text ++ more) ≡ count_by is_end text + count_by is_end more = ends_add text more in omega (arith, h1, h2, sum)
 
 pub replays_more : RunsJoin → (server : Server) (first mid new : ProxyState) (old part rest : Reading) (before middle after start half written : Option (List ℕ))
     → Replays server first mid old part before middle start half → PlaysNext server mid new part rest middle after half written → Replays server first new old rest before after start written
@@ -55,8 +66,15 @@ replays_more join server first mid new old part rest before middle after start h
   text = h.text ++ next.gives.text;
   says = says_more h.events next.event h.text next.gives.text h.says next.gives.says;
   consumes = Consumes-trans (pending old before) (pending part middle) (pending rest after) h.text next.gives.text h.consumes next.gives.consumes;
+  number = numbers_add old.number part.number rest.number h.text next.gives.text h.number next.gives.number;
   plays = plays_both join server first mid new h.events next.event start half written h.plays next.plays;
 }
+
+-- the same of the server as it is then
+pub replays_next : RunsJoin → (server then_server : Server) (first mid new : ProxyState) (old part rest : Reading) (before middle after start half written : Option (List ℕ)) → then_server ≡ server
+    → Replays server first mid old part before middle start half → PlaysNext then_server mid new part rest middle after half written → Replays server first new old rest before after start written
+replays_next join server then_server first mid new old part rest before middle after start half written same h next =
+    replays_more join server first mid new old part rest before middle after start half written h (subst (λ s. PlaysNext s mid new part rest middle after half written) same next)
 
 -- at the script's end
 whole_of : (unread : List ℕ) (a b c : Option (List ℕ)) (text : List ℕ) → unread ≡ [] → Consumes (prepend_known unread a) b text → Keeps b c → IsAtEnd c → IfSome a (λ bytes. bytes ≡ text)
@@ -80,12 +98,6 @@ replays_over config state old new rest before middle after start written none h 
 }
 
 -- what is written stays when the writer is flushed
-appends_kept : (a b c : Option (List ℕ)) (text : List ℕ) → Appends a b text → Keeps b c → Appends a c text
-appends_kept None b c text h k = tt
-appends_kept (Some x) None c text h k = absurd h
-appends_kept (Some x) (Some y) None text h k = k
-appends_kept (Some x) (Some y) (Some z) text h k = k ∙ h
-
 pub replay_kept : (config : Config) (script a b c : Option (List ℕ)) → IsReplay config script a b → Keeps b c → IsReplay config script a c
 replay_kept config script a b c h k = record {
   text = h.text;
@@ -109,3 +121,10 @@ none_before m (due ∷ rest) h = let lt : m < due = h.0 in (omega (arith, lt), n
 -- nothing is due at all
 pub none_some : (o : Option ℕ) (due m : ℕ) → o ≡ None → o ≡ Some due → m < due
 none_some o due m is e = absurd (cc)
+
+-- what is due is not due yet
+pub not_yet : (o : Option ℕ) (due other most m : ℕ) → o ≡ Some due → o ≡ Some other → nat_le due most ≡ false → most ≡ m → m < other
+not_yet o due other most m is e late same =
+    let one : due ≡ other = some_is (sym is ∙ e) in
+    let after : most < due = grind (arith, nat_tests, late) in
+    omega (arith, one, after, same)

@@ -1,14 +1,16 @@
-ghost use Rattle.std.specs.Prelude.{◌≡◌, [], false, Some, OnOk};
+ghost use Rattle.std.specs.Prelude.{◌≡◌, [], false, Some, IfErr, OnOk};
 ghost use Rattle.sip_model.specs.Step.{moment_of};
+ghost use Rattle.sip_loop.specs.Devices.{GaveUp};
+ghost use Rattle.sip_loop.specs.Refusals.{FiringStops};
 ghost use Rattle.sip_loop.specs.Replays.{NothingDueBy, Plays};
 
+use crate::device::TellingWriter;
 use crate::print::print_step;
 use crate::stop::Stop;
 use sip_engine::Engine;
 use sip_model::policy::Rules;
 use sip_timers::Timers;
 use std::alloc::Global;
-use std::io::Write;
 
 /// Whether something is due by a moment; one that goes back counts as the engine's.
 fn is_due<T: Timers, R: Rules>(engine: &Engine<T, R>, at: u64) -> bool
@@ -22,7 +24,7 @@ fn is_due<T: Timers, R: Rules>(engine: &Engine<T, R>, at: u64) -> bool
 
 /// Fires what is due by a moment, each in a step at its own moment, and prints these steps. More than 2^64 - 2 of
 /// them are refused as the script's fault.
-pub fn fire_due<T: Timers, R: Rules, W: Write>(
+pub fn fire_due<T: Timers, R: Rules, W: TellingWriter>(
     alloc: Global,
     engine: &mut Engine<T, R>,
     at: u64,
@@ -31,8 +33,9 @@ pub fn fire_due<T: Timers, R: Rules, W: Write>(
     ensures server { engine.new.server ≡ engine.old.server }
     ensures fired { OnOk result (Plays engine.old.server engine.old.state engine.new.state [] (Some at) (W.contents writer.old) (W.contents writer.new)) }
     ensures none_due { OnOk result (NothingDueBy (moment_of engine.new.state at) engine.new.state) }
+    ensures stopped { IfErr result (FiringStops engine.old.server engine.old.state at (W.contents writer.old) (W.contents writer.new) (GaveUp (W.has_failed writer.new) (W.called writer.new))) }
 {
-    for _ in 0..u64::MAX {
+    for fired in 0..u64::MAX {
         if !is_due(engine, at) {
             return Ok(());
         }

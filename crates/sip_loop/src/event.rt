@@ -1,23 +1,25 @@
-ghost use Rattle.std.specs.Prelude.{◌≡◌, ◌≤◌, ◌<◌, ◌++◌, length, take, OnOk, IfOk, IfSome, IfNone};
+ghost use Rattle.std.specs.Prelude.{◌≡◌, ◌≤◌, ◌<◌, ◌++◌, length, take, OnOk, IfOk, IfErr, IfSome, IfNone};
+ghost use Rattle.sip_loop.specs.Devices.{later};
 ghost use Rattle.sip_loop.specs.Events;
-ghost use Rattle.sip_loop.specs.Events.{GivesEvent, GivesDatagram};
-ghost use Rattle.sip_loop.specs.Lines.{left, IsOver};
+ghost use Rattle.sip_loop.specs.Events.{GivesEvent, GivesDatagram, EventStops, DatagramStops};
+ghost use Rattle.sip_loop.specs.Lines.{left, pending, IsOver, IsSpent};
 ghost use Rattle.sip_loop.specs.Script;
+ghost use Rattle.sip_loop.specs.declared.stop.Stop.TheVariants.{NoMemory};
 
+use crate::device::TellingReader;
 use crate::lines::Lines;
 use crate::script::{DatagramHead, Line, line_of, unstuffed};
 use crate::stop::Stop;
 use sip_event::Event;
 use sip_text::Bytes;
 use std::alloc::Global;
-use std::io::Read;
 
 /// One byte more than a datagram has. What comes behind isn't kept: a datagram over 65,507 bytes is
 /// refused as too long, whatever its bytes are.
 const KEPT: usize = 65_508;
 
 /// The next event of a script; `None` at its end.
-pub fn next_event<R: Read>(
+pub fn next_event<R: TellingReader>(
     alloc: Global,
     lines: &mut Lines,
     reader: &mut R,
@@ -25,6 +27,9 @@ pub fn next_event<R: Read>(
 ) -> Result<Option<Event>, Stop>
     ensures given { IfOk result (λ found. IfSome found (λ event. GivesEvent lines.old lines.new (R.remaining reader.old) (R.remaining reader.new) event)) }
     ensures over { IfOk result (λ found. IfNone found (IsOver lines.old lines.new (R.remaining reader.old) (R.remaining reader.new))) }
+    ensures stopped { IfErr result (EventStops (IsSpent (R.has_failed reader.new) lines.new.asks) (pending lines.old (R.remaining reader.old))) }
+    ensures asked { later lines.new.asks (R.asked reader.new) ≡ later lines.old.asks (R.asked reader.old) }
+    ensures less { lines.new.asks ≤ lines.old.asks }
 {
     if !lines.next(reader, line)? {
         return Ok(None);
@@ -52,7 +57,7 @@ fn datagram_at(head: DatagramHead, bytes: Bytes) -> Event
 }
 
 /// The bytes that the lines up to a line `.` say.
-fn datagram_bytes<R: Read>(
+fn datagram_bytes<R: TellingReader>(
     alloc: Global,
     lines: &mut Lines,
     reader: &mut R,
@@ -60,6 +65,9 @@ fn datagram_bytes<R: Read>(
 ) -> Result<Bytes, Stop>
     ensures given { IfOk result (λ bytes. GivesDatagram lines.old lines.new (R.remaining reader.old) (R.remaining reader.new) bytes) }
     ensures fewer { OnOk result (left lines.new ≤ left lines.old) }
+    ensures stopped { IfErr result (DatagramStops (IsSpent (R.has_failed reader.new) lines.new.asks) (pending lines.old (R.remaining reader.old))) }
+    ensures asked { later lines.new.asks (R.asked reader.new) ≡ later lines.old.asks (R.asked reader.old) }
+    ensures less { lines.new.asks ≤ lines.old.asks }
 {
     let mut bytes = Bytes::new(alloc);
     while lines.next(reader, line)? {
@@ -84,6 +92,7 @@ fn keep(bytes: &mut Bytes, part: &[u8]) -> Result<(), Stop>
     requires { length bytes.old ≤ KEPT }
     ensures kept { OnOk result (bytes.new ≡ take KEPT (bytes.old ++ part.now)) }
     ensures most { OnOk result (length bytes.new ≤ KEPT) }
+    ensures stopped { IfErr result (λ stop. stop ≡ NoMemory) }
 {
     let room = KEPT - bytes.as_slice().len();
     if part.len() <= room {

@@ -2,6 +2,7 @@
 //! moment, and the packets and records that the engine hands out are written.
 #![tactic(auto)]
 
+mod device;
 mod due;
 mod error;
 mod event;
@@ -12,7 +13,9 @@ mod playback;
 mod print;
 mod script;
 mod stop;
+mod writing;
 
+pub use device::{TellingReader, TellingWriter};
 pub use error::ReplayError;
 pub use playback::replay;
 pub use print::head_text;

@@ -1,11 +1,14 @@
-ghost use Rattle.std.specs.Prelude.{◌≡◌, ◌≤◌, ◌<◌, ◌*◌, ◌++◌, [], true, false, length, take, vec_len, count_by, IfOk, OnOk, MatchOption};
+ghost use Rattle.std.specs.Prelude.{◌≡◌, ◌≢◌, ◌≤◌, ◌<◌, ◌*◌, ◌++◌, [], true, false, length, take, vec_len, count_by, IfOk, IfErr, OnOk, MatchOption};
 ghost use Rattle.std.specs.Io.KnownBytes.{Consumes, Keeps, IsAtEnd};
-ghost use Rattle.sip_loop.specs.Lines.{is_end, pending, left, EndsAt, EndsLine, GoesOn, GivesLine, IsOver};
+ghost use Rattle.sip_loop.specs.Devices.{later};
+ghost use Rattle.sip_loop.specs.Lines.{is_end, pending, left, EndsAt, EndsLine, GoesOn, GivesLine, IsOver, IsSpent, LineStops, PartStops, PutStops};
+ghost use Rattle.sip_loop.specs.declared.stop.Stop.TheVariants.{Read, Script};
 
+use crate::device::TellingReader;
 use crate::stop::Stop;
 use memchr::memchr;
 use std::alloc::{AllocError, Global};
-use std::io::{ErrorKind, Read};
+use std::io::ErrorKind;
 use std::marker::Model;
 
 /// The most bytes that a line has, without its LF.
@@ -62,9 +65,16 @@ impl Lines {
 
     /// The next line, without its LF, or nothing at the end of the script. A line over 200,000 bytes, and
     /// a last one without LF, are refused as the script's fault.
-    pub fn next<R: Read>(&mut self, reader: &mut R, line: &mut Vec<u8>) -> Result<bool, Stop>
+    pub fn next<R: TellingReader>(
+        &mut self,
+        reader: &mut R,
+        line: &mut Vec<u8>,
+    ) -> Result<bool, Stop>
         ensures given { IfOk result (λ more. more ≡ true → GivesLine self.old self.new (R.remaining reader.old) (R.remaining reader.new) line.new.items) }
         ensures over { IfOk result (λ more. more ≡ false → IsOver self.old self.new (R.remaining reader.old) (R.remaining reader.new)) }
+        ensures stopped { IfErr result (LineStops (IsSpent (R.has_failed reader.new) self.new.asks) (pending self.old (R.remaining reader.old))) }
+        ensures asked { later self.new.asks (R.asked reader.new) ≡ later self.old.asks (R.asked reader.old) }
+        ensures less { self.new.asks ≤ self.old.asks }
     {
         line.clear();
         loop {
@@ -78,12 +88,15 @@ impl Lines {
     }
 
     /// Whether there is an unread byte; if all were given, the reader is asked.
-    fn fill<R: Read>(&mut self, reader: &mut R) -> Result<bool, Stop>
+    fn fill<R: TellingReader>(&mut self, reader: &mut R) -> Result<bool, Stop>
         ensures kept { OnOk result (Keeps (pending self.old (R.remaining reader.old)) (pending self.new (R.remaining reader.new))) }
         ensures some { IfOk result (λ some. some ≡ true → 1 ≤ length self.new.unread) }
         ensures end { IfOk result (λ some. some ≡ false → IsAtEnd (pending self.new (R.remaining reader.new))) }
         ensures number { self.new.number ≡ self.old.number }
         ensures fewer { OnOk result (left self.new ≤ left self.old) }
+        ensures stopped { IfErr result (λ stop. (stop ≡ Read) × IsSpent (R.has_failed reader.new) self.new.asks) }
+        ensures asked { later self.new.asks (R.asked reader.new) ≡ later self.old.asks (R.asked reader.old) }
+        ensures less { self.new.asks ≤ self.old.asks }
     {
         if self.start < self.end {
             return Ok(true);
@@ -100,6 +113,8 @@ impl Lines {
         ensures short { OnOk result (length line.new.items ≤ 200000) }
         ensures ends { IfOk result (λ ended. ended ≡ true → EndsLine self.old self.new line.old.items line.new.items) }
         ensures goes_on { IfOk result (λ ended. ended ≡ false → GoesOn self.old self.new line.old.items line.new.items) }
+        ensures stopped { IfErr result (PartStops self.old.unread line.old.items) }
+        ensures asks { self.new.asks ≡ self.old.asks }
     {
         let unread = &self.buffer[self.start..self.end];
         match end_of_line(unread) {
@@ -126,7 +141,8 @@ fn zeros(alloc: Global, count: usize) -> Result<Vec<u8>, AllocError>
 
 /// A script may end here only where no line has begun.
 fn over(line: &[u8]) -> Result<bool, Stop>
-    ensures { IfOk result (λ more. (more ≡ false) × (line.now ≡ [])) }
+    ensures over { IfOk result (λ more. (more ≡ false) × (line.now ≡ [])) }
+    ensures stopped { IfErr result (λ stop. (stop ≡ Script) × (line.now ≢ [])) }
 {
     if line.is_empty() {
         Ok(false)
@@ -136,18 +152,24 @@ fn over(line: &[u8]) -> Result<bool, Stop>
 }
 
 /// How many bytes the reader gave, 0 at its end.
-#[tactic(auto, using(crate::proofs::Written::keeps_both, crate::proofs::Written::keeps_itself, crate::proofs::Written::keeps_consumes))]
-fn read_some<R: Read>(reader: &mut R, buffer: &mut Vec<u8>, asks: &mut u32) -> Result<usize, Stop>
+#[tactic(auto, using(crate::proofs::Written::keeps_both, crate::proofs::Written::keeps_itself, crate::proofs::Written::keeps_consumes, crate::proofs::Calls::later_less))]
+fn read_some<R: TellingReader>(
+    reader: &mut R,
+    buffer: &mut Vec<u8>,
+    asks: &mut u32,
+) -> Result<usize, Stop>
     ensures same { vec_len buffer.new ≡ vec_len buffer.old }
     ensures within { IfOk result (λ count. count ≤ vec_len buffer.new) }
     ensures bytes { IfOk result (λ count. Consumes (R.remaining reader.old) (R.remaining reader.new) (take count buffer.new.items)) }
     ensures end { IfOk result (λ count. count ≡ 0 → 0 < vec_len buffer.new → IsAtEnd (R.remaining reader.new)) }
-    ensures asks { asks.new ≤ asks.old }
-    ensures asked { OnOk result (asks.new < asks.old) }
+    ensures less { asks.new ≤ asks.old }
+    ensures lesser { OnOk result (asks.new < asks.old) }
+    ensures asked { later asks.new (R.asked reader.new) ≡ later asks.old (R.asked reader.old) }
+    ensures stopped { IfErr result (λ stop. (stop ≡ Read) × IsSpent (R.has_failed reader.new) asks.new) }
 {
     while *asks > 0 {
         *asks -= 1;
-        match reader.read(buffer.as_mut_slice()) {
+        match reader.ask(buffer.as_mut_slice()) {
             Ok(count) => return Ok(count),
             Err(e) => match e.kind() {
                 ErrorKind::Interrupted => {}
@@ -170,6 +192,7 @@ fn put_part(line: &mut Vec<u8>, part: &[u8]) -> Result<(), Stop>
     requires { length line.old.items ≤ 200000 }
     ensures grown { OnOk result (line.new.items ≡ line.old.items ++ part.now) }
     ensures short { OnOk result (length line.new.items ≤ 200000) }
+    ensures stopped { IfErr result (PutStops part.now line.old.items) }
 {
     if part.len() > LONGEST_LINE - line.len() {
         return Err(Stop::Script);

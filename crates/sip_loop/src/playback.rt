@@ -1,15 +1,19 @@
-ghost use Rattle.std.specs.Prelude.{◌≡◌, [], ◌∷◌, true, false, None, IfOk, OnOk};
+ghost use Rattle.std.specs.Prelude.{◌≡◌, ◌≤◌, ◌⊎◌, [], ◌∷◌, true, false, None, Err, IfOk, IfErr, OnOk};
 ghost use Rattle.sip_model.specs.Run.{event_moment};
 ghost use Rattle.sip_model.specs.Step.{Given, IsStep, moment_of};
-ghost use Rattle.sip_loop.specs.Lines.{IsOver};
+ghost use Rattle.sip_loop.specs.Devices.{later, GaveUp, IsAsked, IsFaulted};
+ghost use Rattle.sip_loop.specs.Lines.{pending, IsOver, IsSpent};
+ghost use Rattle.sip_loop.specs.Refusals.{refusal_of_event, IsRefused, Refuses, StepStops, TakingStops};
 ghost use Rattle.sip_loop.specs.Replays.{IsReplay, NothingDueBy, Plays, PlaysNext};
 
+use crate::device::{TellingReader, TellingWriter};
 use crate::due::fire_due;
 use crate::error::ReplayError;
 use crate::event::next_event;
 use crate::lines::Lines;
 use crate::print::print_step;
 use crate::stop::Stop;
+use crate::writing::hand_on;
 use sip_engine::Engine;
 use sip_event::{Boot, Event, StepOut};
 use sip_model::policy::Rules;
@@ -17,7 +21,6 @@ use sip_model::runs::runs_join;
 use sip_state::settings::Config;
 use sip_timers::Timers;
 use std::alloc::Global;
-use std::io::{Read, Write};
 
 /// What a replay starts with.
 const BOOT: Boot = Boot {
@@ -32,28 +35,36 @@ const BOOT: Boot = Boot {
 /// that began an event, where it isn't one, its step is refused, or more than 2^64 - 2 steps fire before it;
 /// `Read`, where the reader fails or was asked 4,294,967,295 times; `Write`. What was written before a refusal
 /// stays.
-pub fn replay<T: Timers, R: Rules, I: Read, W: Write>(
+pub fn replay<T: Timers, R: Rules, I: TellingReader, W: TellingWriter>(
     alloc: Global,
     config: Config,
     reader: &mut I,
     writer: &mut W,
 ) -> Result<(), ReplayError>
-    ensures { OnOk result (IsReplay config (I.remaining reader.old) (W.contents writer.old) (W.contents writer.new)) }
+    ensures replayed { OnOk result (IsReplay config (I.remaining reader.old) (W.contents writer.old) (W.contents writer.new)) }
+    ensures refused { IfErr result (IsRefused config (I.remaining reader.old) (W.contents writer.old) (W.contents writer.new)) }
+    ensures faulted { IfErr result (IsFaulted (I.has_failed reader.new ⊎ (I.asked reader.new ≡ later 4294967295 (I.asked reader.old))) (GaveUp (W.has_failed writer.new) (W.called writer.new))) }
+    ensures asked { IsAsked 4294967295 (I.asked reader.old) (I.asked reader.new) }
+    ensures flushed { ¬ (result ≡ Err ReplayError.Write) → W.is_flushed writer.new }
 {
     let outcome = play::<T, R, I, W>(alloc, config, reader, writer);
-    match writer.flush() {
+    match hand_on(writer) {
         Ok(()) => outcome,
         Err(_) => Err(ReplayError::Write),
     }
 }
 
-fn play<T: Timers, R: Rules, I: Read, W: Write>(
+#[tactic(auto, using(crate::proofs::Calls::never_asked))]
+fn play<T: Timers, R: Rules, I: TellingReader, W: TellingWriter>(
     alloc: Global,
     config: Config,
     reader: &mut I,
     writer: &mut W,
 ) -> Result<(), ReplayError>
-    ensures { OnOk result (IsReplay config (I.remaining reader.old) (W.contents writer.old) (W.contents writer.new)) }
+    ensures replayed { OnOk result (IsReplay config (I.remaining reader.old) (W.contents writer.old) (W.contents writer.new)) }
+    ensures refused { IfErr result (IsRefused config (I.remaining reader.old) (W.contents writer.old) (W.contents writer.new)) }
+    ensures faulted { IfErr result (IsFaulted (I.has_failed reader.new ⊎ (I.asked reader.new ≡ later 4294967295 (I.asked reader.old))) (GaveUp (W.has_failed writer.new) (W.called writer.new))) }
+    ensures asked { IsAsked 4294967295 (I.asked reader.old) (I.asked reader.new) }
 {
     let mut engine = match Engine::<T, R>::open(alloc, config, BOOT) {
         Ok(engine) => engine,
@@ -70,7 +81,7 @@ fn play<T: Timers, R: Rules, I: Read, W: Write>(
 }
 
 /// Takes the next event of the script, if there is one.
-fn take_next<T: Timers, R: Rules, I: Read, W: Write>(
+fn take_next<T: Timers, R: Rules, I: TellingReader, W: TellingWriter>(
     alloc: Global,
     engine: &mut Engine<T, R>,
     lines: &mut Lines,
@@ -82,6 +93,10 @@ fn take_next<T: Timers, R: Rules, I: Read, W: Write>(
     ensures taken { IfOk result (λ more. more ≡ true → PlaysNext engine.old.server engine.old.state engine.new.state lines.old lines.new (I.remaining reader.old) (I.remaining reader.new) (W.contents writer.old) (W.contents writer.new)) }
     ensures over { IfOk result (λ more. more ≡ false → IsOver lines.old lines.new (I.remaining reader.old) (I.remaining reader.new)) }
     ensures silent { IfOk result (λ more. more ≡ false → W.contents writer.new ≡ W.contents writer.old) }
+    ensures refused { IfErr result (Refuses engine.old.server engine.old.state lines.old.number (pending lines.old (I.remaining reader.old)) (W.contents writer.old) (W.contents writer.new)) }
+    ensures faulted { IfErr result (IsFaulted (IsSpent (I.has_failed reader.new) lines.new.asks) (GaveUp (W.has_failed writer.new) (W.called writer.new))) }
+    ensures asked { later lines.new.asks (I.asked reader.new) ≡ later lines.old.asks (I.asked reader.old) }
+    ensures less { lines.new.asks ≤ lines.old.asks }
 {
     let first = lines.number() + 1;
     let event = match next_event(alloc, lines, reader, line) {
@@ -107,7 +122,7 @@ fn at_of(event: &Event) -> u64
 }
 
 /// Fires what is due, takes the event, and prints all these steps.
-fn take_event<T: Timers, R: Rules, W: Write>(
+fn take_event<T: Timers, R: Rules, W: TellingWriter>(
     alloc: Global,
     engine: &mut Engine<T, R>,
     event: Event,
@@ -115,6 +130,7 @@ fn take_event<T: Timers, R: Rules, W: Write>(
 ) -> Result<(), Stop>
     ensures server { engine.new.server ≡ engine.old.server }
     ensures taken { OnOk result (Plays engine.old.server engine.old.state engine.new.state (event ∷ []) None (W.contents writer.old) (W.contents writer.new)) }
+    ensures stopped { IfErr result (TakingStops engine.old.server engine.old.state event (W.contents writer.old) (W.contents writer.new) (GaveUp (W.has_failed writer.new) (W.called writer.new))) }
 {
     fire_due(alloc, engine, at_of(&event), writer)?;
     let out = own_step(engine, event)?;
@@ -123,10 +139,12 @@ fn take_event<T: Timers, R: Rules, W: Write>(
 }
 
 /// The event's own step.
+#[tactic(auto, using(crate::proofs::Stopping::step_stops))]
 fn own_step<T: Timers, R: Rules>(engine: &mut Engine<T, R>, event: Event) -> Result<StepOut, Stop>
     requires { NothingDueBy (moment_of engine.old.state (event_moment event)) engine.old.state }
     ensures server { engine.new.server ≡ engine.old.server }
     ensures step { IfOk result (λ out. IsStep engine.old.server engine.old.state (Given event) out engine.new.state) }
+    ensures stopped { IfErr result (StepStops (refusal_of_event engine.old.state event)) }
 {
     match event {
         Event::Datagram {

@@ -1,16 +1,17 @@
-ghost use Rattle.std.specs.Prelude.{◌≡◌, ◌⊎◌, ◌++◌, IfOk, IfErr, OnOk, decimal};
+ghost use Rattle.std.specs.Prelude.{◌≡◌, ◌++◌, IfOk, IfErr, OnOk, OnErr, decimal};
 ghost use Rattle.std.specs.List.{flat_map};
 ghost use Rattle.std.specs.Io.KnownBytes.{Appends};
+ghost use Rattle.sip_loop.specs.Devices.{GaveUp, PrintStops, WritesFront};
 ghost use Rattle.sip_loop.specs.Print;
-ghost use Rattle.sip_loop.specs.declared.stop.Stop.TheVariants.{NoMemory, Write};
 
+use crate::device::TellingWriter;
 use crate::stop::Stop;
+use crate::writing::put_three;
 use sip_audit::{Record, line_of};
 use sip_event::{Packet, StepOut};
 use sip_host::addr_text;
 use sip_text::Bytes;
 use std::alloc::{AllocError, Global};
-use std::io::Write;
 
 /// The word of a packet that is sent for the first time, or again.
 fn mark_of(again: bool) -> &'static [u8]
@@ -53,45 +54,33 @@ pub fn head_text(alloc: Global, at: u64, packet: &Packet) -> Result<Bytes, Alloc
     Ok(text)
 }
 
-/// Writes a text whole.
-fn put<W: Write>(writer: &mut W, text: &[u8]) -> Result<(), Stop>
-    ensures ok { OnOk result (Appends (W.contents writer.old) (W.contents writer.new) text.now) }
-    ensures err { IfErr result (λ stop. stop ≡ Write) }
-{
-    match writer.write_all(text) {
-        Ok(()) => Ok(()),
-        Err(_) => Err(Stop::Write),
-    }
-}
-
 /// Prints a packet: its head line, its bytes, and LF.
-#[tactic(auto, using(crate::proofs::Written::appends_both))]
-fn print_packet<W: Write>(
+#[tactic(auto, using(crate::proofs::Fronts::front_none))]
+fn print_packet<W: TellingWriter>(
     alloc: Global,
     writer: &mut W,
     at: u64,
     packet: &Packet,
 ) -> Result<(), Stop>
     ensures ok { OnOk result (Appends (W.contents writer.old) (W.contents writer.new) (Print.packet_text at packet.now)) }
-    ensures err { IfErr result (λ stop. (stop ≡ NoMemory) ⊎ (stop ≡ Write)) }
+    ensures front { OnErr result (WritesFront (W.contents writer.old) (W.contents writer.new) (Print.packet_text at packet.now)) }
+    ensures stopped { IfErr result (PrintStops (GaveUp (W.has_failed writer.new) (W.called writer.new))) }
 {
     let head = head_text(alloc, at, packet)?;
-    put(writer, head.as_slice())?;
-    put(writer, packet.bytes.as_slice())?;
-    put(writer, b"\n")?;
-    Ok(())
+    put_three(writer, head.as_slice(), packet.bytes.as_slice(), b"\n")
 }
 
 /// Prints packets, in order.
 #[tactic(auto, using(crate::proofs::Written::appends_nothing))]
-fn print_packets<W: Write>(
+fn print_packets<W: TellingWriter>(
     alloc: Global,
     writer: &mut W,
     at: u64,
     packets: &[Packet],
 ) -> Result<(), Stop>
     ensures ok { OnOk result (Appends (W.contents writer.old) (W.contents writer.new) (flat_map (Print.packet_text at) packets.now)) }
-    ensures err { IfErr result (λ stop. (stop ≡ NoMemory) ⊎ (stop ≡ Write)) }
+    ensures front { OnErr result (WritesFront (W.contents writer.old) (W.contents writer.new) (flat_map (Print.packet_text at) packets.now)) }
+    ensures stopped { IfErr result (PrintStops (GaveUp (W.has_failed writer.new) (W.called writer.new))) }
 {
     for packet in packets {
         print_packet(alloc, writer, at, packet)?;
@@ -100,26 +89,33 @@ fn print_packets<W: Write>(
 }
 
 /// Prints a record: `audit`, its line, and LF.
-#[tactic(auto, using(crate::proofs::Written::appends_both))]
-fn print_record<W: Write>(alloc: Global, writer: &mut W, record: &Record) -> Result<(), Stop>
+#[tactic(auto, using(crate::proofs::Fronts::front_none))]
+fn print_record<W: TellingWriter>(
+    alloc: Global,
+    writer: &mut W,
+    record: &Record,
+) -> Result<(), Stop>
     ensures ok { OnOk result (Appends (W.contents writer.old) (W.contents writer.new) (Print.audit_text «record».now)) }
-    ensures err { IfErr result (λ stop. (stop ≡ NoMemory) ⊎ (stop ≡ Write)) }
+    ensures front { OnErr result (WritesFront (W.contents writer.old) (W.contents writer.new) (Print.audit_text «record».now)) }
+    ensures stopped { IfErr result (PrintStops (GaveUp (W.has_failed writer.new) (W.called writer.new))) }
 {
     let line = match line_of(alloc, record) {
         Ok(line) => line,
         Err(_) => return Err(Stop::NoMemory),
     };
-    put(writer, b"audit ")?;
-    put(writer, line.as_slice())?;
-    put(writer, b"\n")?;
-    Ok(())
+    put_three(writer, b"audit ", line.as_slice(), b"\n")
 }
 
 /// Prints records, in order.
 #[tactic(auto, using(crate::proofs::Written::appends_nothing))]
-fn print_records<W: Write>(alloc: Global, writer: &mut W, records: &[Record]) -> Result<(), Stop>
+fn print_records<W: TellingWriter>(
+    alloc: Global,
+    writer: &mut W,
+    records: &[Record],
+) -> Result<(), Stop>
     ensures ok { OnOk result (Appends (W.contents writer.old) (W.contents writer.new) (flat_map Print.audit_text records.now)) }
-    ensures err { IfErr result (λ stop. (stop ≡ NoMemory) ⊎ (stop ≡ Write)) }
+    ensures front { OnErr result (WritesFront (W.contents writer.old) (W.contents writer.new) (flat_map Print.audit_text records.now)) }
+    ensures stopped { IfErr result (PrintStops (GaveUp (W.has_failed writer.new) (W.called writer.new))) }
 {
     for record in records {
         print_record(alloc, writer, record)?;
@@ -129,9 +125,14 @@ fn print_records<W: Write>(alloc: Global, writer: &mut W, records: &[Record]) ->
 
 /// Prints a step: its packets, in order, then its records.
 #[tactic(auto, using(crate::proofs::Written::appends_both))]
-pub fn print_step<W: Write>(alloc: Global, writer: &mut W, out: &StepOut) -> Result<(), Stop>
+pub fn print_step<W: TellingWriter>(
+    alloc: Global,
+    writer: &mut W,
+    out: &StepOut,
+) -> Result<(), Stop>
     ensures ok { OnOk result (Appends (W.contents writer.old) (W.contents writer.new) (Print.step_text out.now)) }
-    ensures err { IfErr result (λ stop. (stop ≡ NoMemory) ⊎ (stop ≡ Write)) }
+    ensures front { OnErr result (WritesFront (W.contents writer.old) (W.contents writer.new) (Print.step_text out.now)) }
+    ensures stopped { IfErr result (PrintStops (GaveUp (W.has_failed writer.new) (W.called writer.new))) }
 {
     print_packets(alloc, writer, out.at, out.packets.as_slice())?;
     print_records(alloc, writer, out.records.as_slice())

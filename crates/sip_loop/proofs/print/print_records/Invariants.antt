@@ -5,4 +5,4 @@ use Rattle.sip_loop.specs.Print.{audit_text}
 use Rattle.sip_loop.proofs.print.print_records.Given as goal
 
 abbrev pub invariant-loop-record : goal.invariant-loop-record
-invariant-loop-record g l = Appends (g.W.Write.contents l.initial.writer) (g.W.Write.contents l.writer) (flat_map audit_text (take l.record-index l.records))
+invariant-loop-record g l = Appends (g.W.TellingWriter.contents l.initial.writer) (g.W.TellingWriter.contents l.writer) (flat_map audit_text (take l.record-index l.records))
