@@ -1,1 +1,1 @@
-mod Due
+mod Nothing

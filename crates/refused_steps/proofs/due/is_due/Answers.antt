@@ -1,5 +1,5 @@
 use Rattle.sip_model.specs.Step.{moment_of}
-use Rattle.refused_steps.proofs.Due.{none_some}
+use Rattle.refused_steps.proofs.Nothing.{none_some}
 use Rattle.refused_steps.proofs.due.is_due.Goals as goal
 
 pub returns-in-None : goal.returns-in-None
