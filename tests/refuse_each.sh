@@ -44,10 +44,11 @@ def fault_of(done, wanted, refused):
 
 def sweep(library, folder, name):
     """Refuses each allocation of a run's steps; how many faults there were."""
-    wanted, number, faults = stored(name, "out"), 0, 0
+    wanted, number, all_refused, faults = stored(name, "out"), 0, 0, 0
     while True:
         number += 1
         done, counted, refused = played(library, folder, name, number)
+        all_refused += refused
         fault = fault_of(done, wanted, refused)
         if fault:
             faults += 1
@@ -55,7 +56,7 @@ def sweep(library, folder, name):
         if refused == 0 or faults > 9:
             break
     steps = done.stderr.count(b"step\n")
-    print(f"{name}: {steps} steps, {counted} allocations, {number - 1} refused, {faults} faults", flush=True)
+    print(f"{name}: {steps} steps, {counted} allocations, {all_refused} refused, {faults} faults", flush=True)
     return faults
 
 

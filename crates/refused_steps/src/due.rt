@@ -19,11 +19,10 @@ pub fn at_of(event: &Event) -> u64
     }
 }
 
-/// Whether something is due by an event's moment; one that goes back counts as the server's.
-pub fn is_due(engine: &Engine<ListTimers, ListRules>, event: &Event) -> bool
-    ensures { result ≡ false → NothingDueBy (moment_of engine.now.state (event_moment event.now)) engine.now.state }
+/// Whether something is due by a moment; one that goes back counts as the server's.
+pub fn is_due(engine: &Engine<ListTimers, ListRules>, at: u64) -> bool
+    ensures { result ≡ false → NothingDueBy (moment_of engine.now.state at) engine.now.state }
 {
-    let at = at_of(event);
     match engine.next_due() {
         Some(due) => due <= engine.moment().max(at),
         None => false,

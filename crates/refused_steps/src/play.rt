@@ -1,4 +1,4 @@
-use crate::due::is_due;
+use crate::due::{at_of, is_due};
 use crate::fault::Fault;
 use crate::take::take;
 use sip_engine::Engine;
@@ -27,12 +27,48 @@ fn take_event<W: Write, M: Write>(
 ) -> Result<u64, Fault> {
     let mut refused = 0u64;
     for _ in 0..u64::MAX {
-        let is_own = !is_due(engine, event);
+        let is_own = !is_due(engine, at_of(event));
         let taken = take(alloc, engine, event, is_own, marks)?;
         print_step(alloc, output, &taken.out)?;
         refused = refused.saturating_add(u64::from(taken.is_refused));
         if is_own {
             return Ok(refused);
+        }
+    }
+    Err(Fault::Script)
+}
+
+/// Takes the next event of a script, if there is one; how many of its steps were refused at first.
+fn take_next<I: Read, W: Write, M: Write>(
+    alloc: Global,
+    engine: &mut Engine<ListTimers, ListRules>,
+    lines: &mut Lines,
+    line: &mut Vec<u8>,
+    input: &mut I,
+    output: &mut W,
+    marks: &mut M,
+) -> Result<Option<u64>, Fault> {
+    match next_event(alloc, lines, input, line)? {
+        Some(event) => Ok(Some(take_event(alloc, engine, &event, output, marks)?)),
+        None => Ok(None),
+    }
+}
+
+/// Takes all events of a script; how many steps were refused at first.
+fn take_all<I: Read, W: Write, M: Write>(
+    alloc: Global,
+    engine: &mut Engine<ListTimers, ListRules>,
+    lines: &mut Lines,
+    line: &mut Vec<u8>,
+    input: &mut I,
+    output: &mut W,
+    marks: &mut M,
+) -> Result<u64, Fault> {
+    let mut refused = 0u64;
+    for _ in 0..u64::MAX {
+        match take_next(alloc, engine, lines, line, input, output, marks)? {
+            Some(more) => refused = refused.saturating_add(more),
+            None => return Ok(refused),
         }
     }
     Err(Fault::Script)
@@ -49,13 +85,13 @@ pub fn play<I: Read, W: Write, M: Write>(
     let mut engine = Engine::<ListTimers, ListRules>::open(alloc, config, BOOT)?;
     let mut lines = Lines::new(alloc)?;
     let mut line = Vec::new(alloc);
-    let mut refused = 0u64;
-    for _ in 0..u64::MAX {
-        let Some(event) = next_event(alloc, &mut lines, input, &mut line)? else {
-            return Ok(refused);
-        };
-        let more = take_event(alloc, &mut engine, &event, output, marks)?;
-        refused = refused.saturating_add(more);
-    }
-    Ok(refused)
+    take_all(
+        alloc,
+        &mut engine,
+        &mut lines,
+        &mut line,
+        input,
+        output,
+        marks,
+    )
 }

@@ -19,18 +19,25 @@ pub struct Standing {
     bindings: Bytes,
 }
 
-/// Adds all that a binding holds, as a line.
+/// Adds a text, and a blank.
+fn put_word(text: &mut Bytes, word: &[u8]) -> Result<(), AllocError> {
+    text.extend(word)?;
+    text.push(b' ')
+}
+
+/// Adds a number, and a blank.
+fn put_number(text: &mut Bytes, number: u64) -> Result<(), AllocError> {
+    text.push_decimal(number)?;
+    text.push(b' ')
+}
+
+/// Adds all that a binding holds.
 fn put_binding(alloc: Global, text: &mut Bytes, binding: &Binding) -> Result<(), AllocError> {
-    text.extend(binding.aor.user.as_slice())?;
-    text.extend(b" ")?;
-    text.extend(write_uri(alloc, &binding.uri)?.as_slice())?;
-    text.extend(b" ")?;
-    text.extend(binding.call_id.as_slice())?;
-    text.extend(b" ")?;
-    text.push_decimal(u64::from(binding.cseq))?;
-    text.extend(b" ")?;
-    text.push_decimal(binding.expires_at)?;
-    text.extend(b"\n")
+    put_word(text, binding.aor.user.as_slice())?;
+    put_word(text, write_uri(alloc, &binding.uri)?.as_slice())?;
+    put_word(text, binding.call_id.as_slice())?;
+    put_number(text, u64::from(binding.cseq))?;
+    put_number(text, binding.expires_at)
 }
 
 fn aor_of(alloc: Global, user: &str) -> Result<Aor, AllocError> {
