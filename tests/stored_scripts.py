@@ -1,5 +1,5 @@
 #!/usr/bin/env python3
-"""Makes the stored runs `damaged_*` and `size_limits` of crates/stored_runs/data, by rules of its own.
+"""Makes the stored runs `damaged_datagrams_*` and `size_limits` of crates/stored_runs/data, by rules of its own.
 
 Says whether the stored files are what it makes; with the word `write` writes them; with `script NAME` or `print NAME`
 prints the script of a run, or what `sipd replay` must print of it, whole, so that a difference can be looked at.
@@ -61,7 +61,7 @@ SENT_INVITE = lines(
     "Contact: <sip:x@127.0.0.1:5070>",
     "Content-Length: 0",
 )
-DAMAGED = {"damaged_register": REGISTER, "damaged_invite": INVITE, "damaged_sent_invite": SENT_INVITE}
+DAMAGED = {"damaged_datagrams_register": REGISTER, "damaged_datagrams_invite": INVITE, "damaged_datagrams_sent_invite": SENT_INVITE}
 
 # ---- reading
 
