@@ -17,6 +17,9 @@ mod writing;
 
 pub use device::{TellingReader, TellingWriter};
 pub use error::ReplayError;
+pub use event::next_event;
+pub use lines::Lines;
 pub use playback::replay;
-pub use print::head_text;
+pub use print::{head_text, print_step};
 pub use script::{DatagramHead, Line, line_of};
+pub use stop::Stop;

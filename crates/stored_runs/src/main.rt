@@ -3,12 +3,15 @@
 //!
 //! - NAME.args: the words of the command line, one a line;
 //! - NAME.script: standard input; empty, where it is absent;
+//! - NAME.damage: a datagram, in place of a script: that of all its proper prefixes, and of it with each byte replaced;
 //! - NAME.toml: a configuration that the words name;
 //! - NAME.out: what must be written; nothing, where it is absent;
+//! - NAME.md5: MD5 of what must be written, in hexadecimal digits, in place of NAME.out, where that would be long;
 //! - NAME.err: the complaint; none, where it is absent;
 //! - NAME.status: the exit status; 0, where it is absent.
 #![tactic(auto)]
 
+mod damage;
 mod names;
 mod run;
 

@@ -1,5 +1,8 @@
 ghost use Rattle.std.specs.Prelude.{◌≤◌};
 
+use crate::damage::damaged;
+use hex::encode_to_slice;
+use md5::{Digest, Md5};
 use sip_command::command;
 use std::alloc::{AllocError, Global};
 use std::fs;
@@ -22,6 +25,28 @@ fn says<R: Files + AllocGlobal>(
     match file_of(rt, name, kind) {
         Some(bytes) => bytes.as_slice() == wanted,
         None => absent == wanted,
+    }
+}
+
+/// MD5 of what was written, in hexadecimal digits, and LF.
+fn digest_of(alloc: Global, output: &[u8]) -> Result<Vec<u8>, AllocError> {
+    let mut hasher = Md5::new();
+    hasher.update(output);
+    let mut digits = [0u8; 32];
+    let _ = encode_to_slice(hasher.finalize().as_slice(), &mut digits);
+    let mut text = Vec::from_slice(alloc, digits.as_slice())?;
+    text.push(b'\n')?;
+    Ok(text)
+}
+
+/// Whether what was written is what a run's file says, or has the digest that another one says.
+fn is_output<R: Files + AllocGlobal>(rt: &R, name: &str, output: &[u8]) -> bool {
+    let Some(wanted) = file_of(rt, name, "md5") else {
+        return says(rt, name, "out", b"", output);
+    };
+    match digest_of(rt.alloc(), output) {
+        Ok(digest) => digest.as_slice() == wanted.as_slice(),
+        Err(_) => false,
     }
 }
 
@@ -55,9 +80,18 @@ fn gives<R: Files + AllocGlobal>(rt: &R, name: &str, words: &[String], script: &
     let mut output = Vec::new(rt.alloc());
     let mut complaints = Vec::new(rt.alloc());
     let status = command(rt, words, &mut input, &mut output, &mut complaints);
-    says(rt, name, "out", b"", output.as_slice())
+    is_output(rt, name, output.as_slice())
         && says(rt, name, "err", b"", complaints.as_slice())
         && is_status(rt, name, status)
+}
+
+/// A run's standard input.
+fn script_of<R: Files + AllocGlobal>(rt: &R, name: &str) -> Option<Vec<u8>> {
+    if let Some(datagram) = file_of(rt, name, "damage") {
+        let script = damaged(rt.alloc(), datagram.as_slice()).ok()?;
+        return Some(script.into_bytes());
+    }
+    file_of(rt, name, "script")
 }
 
 /// Whether a run agrees with its files.
@@ -65,7 +99,7 @@ pub fn agrees<R: Files + AllocGlobal>(rt: &R, name: &str) -> bool {
     let Some(words) = words_of(rt, name) else {
         return false;
     };
-    match file_of(rt, name, "script") {
+    match script_of(rt, name) {
         Some(script) => gives(rt, name, words.as_slice(), script.as_slice()),
         None => gives(rt, name, words.as_slice(), b""),
     }

@@ -1,0 +1,397 @@
+#!/usr/bin/env python3
+"""Makes the stored runs `damaged_datagrams_*` and `size_limits` of crates/stored_runs/data, by rules of its own.
+
+Says whether the stored files are what it makes; with the word `write` writes them; with `script NAME` or `print NAME`
+prints the script of a run, or what `sipd replay` must print of it, whole, so that a difference can be looked at.
+
+What is answered is told here from the grammar of messages (RFC 3261 25.1 within this project's limits), the table of checks
+and the sample configuration, in a few lines each that share nothing with the server. They know only what damage to the
+three datagrams below can bring about: no folded line, no dialog, no credential, no binding.
+"""
+
+import hashlib
+import os
+import re
+import sys
+
+DATA = os.path.join(os.path.dirname(os.path.abspath(__file__)), "..", "crates", "stored_runs", "data")
+WORD = f"{1:032x}"
+SOURCE = ("127.0.0.1", 5070)
+APART = 40_000  # more than any request of these stays open
+COPIES = [500, 1500] + list(range(3500, 32_000, 4000))  # when a 300 to 699 to an INVITE goes again, in ms
+MARKS = [0, 13, 10, ord(","), ord('"')]
+
+
+def lines(*texts):
+    return "".join(text + "\r\n" for text in texts).encode() + b"\r\n"
+
+
+REGISTER = lines(
+    "REGISTER sip:host.com SIP/2.0",
+    "Via: SIP/2.0/UDP 127.0.0.1:5062;branch=z9hG4bKreg1",
+    "Max-Forwards: 70",
+    "From: <sip:Mufasa@host.com>;tag=a1",
+    "To: <sip:Mufasa@host.com>",
+    "Call-ID: c1@127.0.0.1",
+    "CSeq: 1 REGISTER",
+    "Contact: <sip:Mufasa@127.0.0.1:5062>",
+    "Content-Length: 0",
+)
+INVITE = lines(
+    "INVITE sip:help@host.com SIP/2.0",
+    "Via: SIP/2.0/UDP pc.host.com:5070;branch=z9hG4bKinv1;rport",
+    "Max-Forwards: 70",
+    "From: <sip:x@away.net>;tag=f1",
+    "To: <sip:help@host.com>",
+    "Call-ID: k1",
+    "CSeq: 7 INVITE",
+    "Contact: <sip:x@127.0.0.1:5070>",
+    "Content-Length: 0",
+)
+SENT_INVITE = lines(
+    "INVITE sip:help@127.0.0.1:5082 SIP/2.0",
+    "Via: SIP/2.0/UDP sip.host.com:5060;branch=z9hG4bK0000000000000000.4.1",
+    "Record-Route: <sip:sip.host.com:5060;lr>",
+    "Via: SIP/2.0/UDP pc.host.com:5070;branch=z9hG4bKinv1;rport=5070;received=127.0.0.1",
+    "Max-Forwards: 69",
+    "From: <sip:x@away.net>;tag=f1",
+    "To: <sip:help@host.com>",
+    "Call-ID: k1",
+    "CSeq: 7 INVITE",
+    "Contact: <sip:x@127.0.0.1:5070>",
+    "Content-Length: 0",
+)
+DAMAGED = {"damaged_datagrams_register": REGISTER, "damaged_datagrams_invite": INVITE, "damaged_datagrams_sent_invite": SENT_INVITE}
+
+# ---- reading
+
+TOKEN = r"[A-Za-z0-9\-.!%*_+`'~]+"
+HOST = r"[A-Za-z0-9\-._]+"
+ESCAPED = r"%[0-9A-Fa-f]{2}"
+USER = rf"(?:[A-Za-z0-9\-_.!~*'()&=+$,;?/]|{ESCAPED})+"
+PASSWORD = rf"(?:[A-Za-z0-9\-_.!~*'()&=+$,]|{ESCAPED})*"
+PIECE = rf"(?:[A-Za-z0-9\-_.!~*'()\[\]/:&+$]|{ESCAPED})+"
+QUOTED = r'"(?:[^"\\]|\\.)*"'
+URI = re.compile(rf"(?i:sips?):(?:(?P<user>{USER})(?::{PASSWORD})?@)?(?P<host>{HOST})(?::(?P<port>\d+))?(?:;{PIECE}(?:={PIECE})?)*")
+OTHER_URI = re.compile(r'[A-Za-z][A-Za-z0-9+\-.]*:[!-~]+')
+PARAMETERS = re.compile(rf"(?:\s*;\s*{TOKEN}(?:\s*=\s*(?:{TOKEN}|{HOST}|{QUOTED}))?)*")
+VIA = re.compile(rf"SIP/2\.0/{TOKEN}[ \t]+(?P<host>{HOST})(?::(?P<port>\d+))?(?P<parameters>.*)")
+LISTS = ["Via", "Route", "Record-Route", "Contact", "Require", "Proxy-Require"]
+
+
+class Unreadable(Exception):
+    """It says no message."""
+
+
+def head_lines(datagram):
+    """The lines up to the empty one."""
+    while datagram.startswith(b"\r\n"):
+        datagram = datagram[2:]
+    found = []
+    while True:
+        end = re.search(rb"[\r\n]", datagram)
+        if end is None or datagram[end.start() : end.start() + 2] != b"\r\n":
+            raise Unreadable
+        line, datagram = datagram[: end.start()], datagram[end.start() + 2 :]
+        if not line:
+            return found, datagram
+        found.append(line.decode("latin-1"))
+
+
+def items(value):
+    """The items of a list, cut at the commas outside quoted text and angle brackets."""
+    found, rest = [""], value
+    while rest:
+        taken = re.match(r"<[^>]*>" if rest[0] == "<" else QUOTED if rest[0] == '"' else r"[^<\"]", rest)
+        if taken is None:
+            raise Unreadable
+        if rest[0] == ",":
+            found.append("")
+        else:
+            found[-1] += taken[0]
+        rest = rest[taken.end() :]
+    found = [item.strip(" \t") for item in found]
+    if not all(found):
+        raise Unreadable
+    return found
+
+
+def read(datagram):
+    """The start line's three parts, and the fields as names and values."""
+    if len(datagram) > 65_507:
+        raise Unreadable
+    head, body = head_lines(datagram)
+    start = re.fullmatch(rf"({TOKEN}) ([!-~]+) ((?i:sip)/\d+\.\d+)", head[0]) if head else None
+    if start is None:
+        raise Unreadable
+    fields, length = [], None
+    for line in head[1:]:
+        field = re.fullmatch(rf"({TOKEN})[ \t]*:(.*)", line, re.DOTALL)
+        if field is None or re.search(r"[\x00-\x08\x0a-\x1f\x7f]", field[2]):
+            raise Unreadable
+        name, value = field[1], field[2].strip(" \t")
+        if name == "Content-Length":
+            if length is not None or not re.fullmatch(r"\d+", value):
+                raise Unreadable
+            length = int(value)
+        else:
+            fields += [(name, item) for item in (items(value) if name in LISTS else [value])]
+    if len(fields) > 256:
+        raise Unreadable
+    written = head[0] + "\r\n" + "".join(f"{name}: {value}\r\n" for name, value in fields)
+    kept = min(len(body), length)
+    if len(written) + len(f"Content-Length: {kept}\r\n\r\n") + kept > 49_152:
+        raise Unreadable
+    assert len(body) >= length, "no body is short here"
+    return start.groups(), fields
+
+
+def values(fields, name):
+    return [value for field, value in fields if field == name]
+
+
+def uri_of(text):
+    found = URI.fullmatch(text)
+    return found if found and (found["port"] is None or 0 < int(found["port"]) < 65_536) else None
+
+
+def address_of(text):
+    """The URI of a From, To, Contact or Record-Route, and whether it is `sip` or `sips`; None where it is malformed."""
+    bracketed = re.fullmatch(rf"(?:{QUOTED}|(?:{TOKEN}[ \t]*)*)\s*<\s*([^>]*?)\s*>(.*)", text)
+    if bracketed:
+        inside, rest = bracketed.groups()
+    else:
+        inside, cut, rest = text.partition(";")
+        inside, rest = inside.strip(" \t"), cut + rest
+        if re.search(r"[?,]", inside):
+            return None
+    if not PARAMETERS.fullmatch(rest) or re.search(r";\s*tag\s*(;|$)", rest):
+        return None
+    if re.match(r"(?i)sips?:", inside):
+        return uri_of(inside)
+    return OTHER_URI.fullmatch(inside) if not re.search(r'["<>]', inside) else None
+
+
+def via_of(text):
+    found = VIA.fullmatch(text)
+    if not found or not PARAMETERS.fullmatch(found["parameters"]) or (found["port"] and not 0 < int(found["port"]) < 65_536):
+        return None
+    parameters = [part.strip(" \t").partition("=") for part in found["parameters"].split(";")[1:]]
+    named = {name.strip(" \t").lower(): value.strip(" \t") for name, _, value in reversed(parameters)}
+    return None if named.get("branch") == "" else (found["host"], int(found["port"] or 5060), named)
+
+
+# ---- what a request is answered
+
+REASONS = {
+    400: "Bad Request", 401: "Unauthorized", 403: "Forbidden", 404: "Not Found", 407: "Proxy Authentication Required", 416: "Unsupported URI Scheme",
+    480: "Temporarily Unavailable", 481: "Call/Transaction Does Not Exist", 482: "Loop Detected", 483: "Too Many Hops", 503: "Service Unavailable",
+}
+USERS = ["Mufasa", "alice", "help"]
+
+
+def is_malformed(method, uri, fields):
+    """Whether the first row of the table of checks applies."""
+    one = {name: values(fields, name) for name in ["From", "To", "Call-ID", "CSeq"]}
+    if any(len(found) != 1 for found in one.values()):
+        return True
+    sequence = re.fullmatch(rf"(\d+)[ \t]+({TOKEN})", one["CSeq"][0])
+    hops = values(fields, "Max-Forwards")
+    contacts = [address_of(value) for value in values(fields, "Contact")]
+    return (
+        address_of(one["From"][0]) is None
+        or address_of(one["To"][0]) is None
+        or one["Call-ID"][0] == ""
+        or sequence is None
+        or int(sequence[1]) >= 2**31
+        or sequence[2] != method
+        or len(hops) > 1
+        or any(not re.fullmatch(r"\d+", hop) or int(hop) > 255 for hop in hops)
+        or (uri.lower().startswith("sip:") and uri_of(uri) is None)
+        or any(via_of(value) is None for value in values(fields, "Via"))
+        or any("<" not in value or address_of(value) is None for value in values(fields, "Record-Route"))
+        or None in contacts
+        or (method == "REGISTER" and any(not re.match(r"(?i)sips?:", found[0]) for found in contacts))
+        or (method == "REGISTER" and not re.match(r"(?i)sips?:", address_of(one["To"][0])[0]))
+    )
+
+
+def ruling(method, uri, fields):
+    """The user and the host of the target, the operation, the rule, and the answer's status with its field."""
+    target = address_of(values(fields, "To")[0]) if method == "REGISTER" else uri_of(uri)
+    user = re.sub("%(..)", lambda digits: chr(int(digits[1], 16)), target["user"] or "")
+    host = target["host"].lower()
+    own = host == "host.com"
+    challenge = f'Digest realm="testrealm@host.com", nonce="{WORD}", algorithm=MD5, qop="auth"'
+    denial = ("0", 403, ("Warning", '399 sip.host.com "policy rule 0"'))
+    if method == "REGISTER":
+        # a rule on the own address asks who it is; no other rule is on registering
+        return user, host, "register", *(("-", 401, ("WWW-Authenticate", challenge)) if own and user in USERS else denial)
+    if own and user == "vault":
+        return user, host, "send", "3", 403, ("Warning", '399 sip.host.com "policy rule 3"')
+    if own and user == "help":
+        # nobody has a binding here
+        return user, host, "send", "4", 480, None
+    return user, host, "send", *(("-", 407, ("Proxy-Authenticate", challenge)) if own else denial)
+
+
+def judged(method, uri, version, fields):
+    """The status, the field that goes with it, and what is recorded."""
+    if is_malformed(method, uri, fields):
+        return 400, None, None
+    if version.upper() != "SIP/2.0":
+        return 505, None, None
+    if not uri.lower().startswith("sip:"):
+        return 416, None, None
+    if method != "REGISTER" and values(fields, "Max-Forwards") == ["0"]:
+        return 483, None, None
+    if any(via_of(value)[:2] == ("sip.host.com", 5060) for value in values(fields, "Via")):
+        return 482, None, None
+    user, host, operation, rule, status, more = ruling(method, uri, fields)
+    outcome = "deny" if status == 403 else f"challenge {status}" if status in (401, 407) else f"answer {status}"
+    named = re.sub(r"[^A-Za-z0-9\-_.+]", lambda byte: f"%{ord(byte[0]):02X}", user)
+    return status, more, f"{method} - {named}@{host} {operation} {rule} {outcome}"
+
+
+def received(via):
+    """The top Via as it is answered, and the port that the answer goes to."""
+    host, port, named = via_of(via)
+    assert "received" not in named, "no top Via of these has it"
+    asked = "rport" in named
+    via = re.sub(r";rport(?=;|$)", f";rport={SOURCE[1]}", via)
+    if asked or host != SOURCE[0]:
+        via += f";received={SOURCE[0]}"
+    return via, SOURCE[1] if asked else port
+
+
+def response(status, more, fields, number):
+    vias = values(fields, "Via")
+    top, port = received(vias[0])
+    text = f"SIP/2.0 {status} {REASONS[status]}\r\nVia: {top}\r\n" + "".join(f"Via: {via}\r\n" for via in vias[1:])
+    for name in ["From", "To", "Call-ID", "CSeq"]:
+        for value in values(fields, name)[:1]:
+            tag = f";tag={0:016x}.{number}" if name == "To" and address_of(value) is not None else ""
+            text += f"{name}: {value}{tag}\r\n"
+    return (text + (f"{more[0]}: {more[1]}\r\n" if more else "") + "Content-Length: 0\r\n\r\n"), port
+
+
+def printed(events):
+    """What is printed of datagrams, each at a moment and all far enough apart, that meet a server without bindings."""
+    text = ""
+    for number, (at, datagram) in enumerate(events, 1):
+        if not datagram:
+            continue
+        try:
+            (method, uri, version), fields = read(datagram)
+        except Unreadable:
+            continue
+        vias = values(fields, "Via")
+        top = via_of(vias[0]) if vias else None
+        if top is None or not top[2].get("branch", "").startswith("z9hG4bK"):
+            continue
+        status, more, record = judged(method, uri, version, fields)
+        answer, port = response(status, more, fields, number)
+
+        def packet(moment, mark):
+            return f"packet {moment} {SOURCE[0]}:{port} {number}/0 {mark} {len(answer)}\n{answer}\n"
+
+        text += packet(at, "first")
+        if record:
+            text += f"audit {at} {number} {record}\n"
+        # the last one isn't followed by an event, before which its copies would go
+        if method == "INVITE" and number < len(events):
+            text += "".join(packet(at + wait, "again") for wait in COPIES)
+    return text
+
+
+# ---- the runs
+
+
+def damages(datagram):
+    """Its proper prefixes, and it with each byte replaced by each mark."""
+    for length in range(len(datagram)):
+        yield datagram[:length]
+    for place in range(len(datagram)):
+        for mark in MARKS:
+            yield datagram[:place] + bytes([mark]) + datagram[place + 1 :]
+
+
+def events_of(datagrams):
+    return [(APART * number, datagram) for number, datagram in enumerate(datagrams, 1)]
+
+
+def hex_script(events):
+    head = f"{SOURCE[0]}:{SOURCE[1]} {WORD}"
+    return "".join(f"hex {at} {head} {datagram.hex()}\n" if datagram else f"datagram {at} {head}\n.\n" for at, datagram in events)
+
+
+def with_lines(datagram, more):
+    """The datagram with more lines in front of Content-Length."""
+    return datagram.replace(b"Content-Length", more + b"Content-Length")
+
+
+def sized():
+    """Datagrams on both sides of each limit: 256 fields, a datagram's bytes, and those of a message's written form."""
+    seven = len(REGISTER.replace(b"Content-Length: 0\r\n", b"").split(b"\r\n")) - 3
+    few, many = (with_lines(REGISTER, b"X: y\r\n" * (count - seven)) for count in (256, 257))
+    # empty lines in front aren't part of the message, nor are bytes behind its length
+    behind = [b"x\r\n", b"xx\r\n"]
+    longest = [b"\r\n" * ((65_507 - len(REGISTER + behind[0])) // 2) + REGISTER + more for more in behind]
+    room = 49_152 - len(with_lines(REGISTER, b"X: \r\n"))
+    written = [with_lines(REGISTER, b"X: " + b"y" * count + b"\r\n") for count in (room, room + 1)]
+    assert [len(datagram) for datagram in [*longest, *written]] == [65_507, 65_508, 49_152, 49_153]
+    return [few, many, *longest, *written]
+
+
+def is_sayable(datagram):
+    """Whether lines can say it: it is lines that end with CRLF."""
+    return datagram.endswith(b"\r\n") and b"\r" not in datagram.replace(b"\r\n", b"") and b"\n" not in datagram.replace(b"\r\n", b"")
+
+
+def line_script(events):
+    text = ""
+    for at, datagram in events:
+        if is_sayable(datagram):
+            said = datagram.decode().replace("\r\n", "\n")
+            text += f"datagram {at} {SOURCE[0]}:{SOURCE[1]} {WORD}\n{said}.\n"
+        else:
+            text += hex_script([(at, datagram)])
+    return text
+
+
+def made():
+    """Each file by its name, and its bytes."""
+    files = {}
+    for name, datagram in DAMAGED.items():
+        output = printed(events_of(damages(datagram)))
+        files[f"{name}.args"] = b"replay\n"
+        files[f"{name}.damage"] = datagram
+        files[f"{name}.md5"] = hashlib.md5(output.encode("latin-1")).hexdigest().encode() + b"\n"
+    events = events_of(sized())
+    files["size_limits.args"] = b"replay\n"
+    files["size_limits.script"] = line_script(events).encode("latin-1")
+    files["size_limits.out"] = printed(events).encode("latin-1")
+    return files
+
+
+def main(words):
+    if len(words) == 2 and words[0] in ("script", "print"):
+        events = events_of(damages(DAMAGED[words[1]])) if words[1] in DAMAGED else events_of(sized())
+        text = hex_script(events) if words[0] == "script" else printed(events)
+        sys.stdout.buffer.write(text.encode("latin-1"))
+        return 0
+    faults = 0
+    for name, wanted in made().items():
+        path = os.path.join(DATA, name)
+        if words == ["write"]:
+            with open(path, "wb") as file:
+                file.write(wanted)
+        elif not os.path.exists(path) or open(path, "rb").read() != wanted:
+            faults += 1
+            print(f"{name} isn't what is made here")
+    print(f"{faults} faults")
+    return 1 if faults else 0
+
+
+if __name__ == "__main__":
+    sys.exit(main(sys.argv[1:]))
