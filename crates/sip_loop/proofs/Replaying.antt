@@ -7,13 +7,16 @@ use Rattle.sip_event.specs.declared.event.Event.{Event}
 use Rattle.sip_model.specs.settings.declared.config.Config.{Config}
 use Rattle.sip_model.specs.state.declared.server.Server.{Server}
 use Rattle.sip_model.specs.state.declared.proxy_state.ProxyState.{ProxyState}
+use Rattle.sip_event.specs.declared.event.StepOut.{StepOut}
+use Rattle.sip_model.specs.Access.{Access}
+use Rattle.sip_model.specs.Run.{Link, IsRun}
 use Rattle.sip_model.specs.state.State.{first_state}
 use Rattle.sip_loop.specs.Print.{printed}
 use Rattle.std.specs.Prelude.{count_by}
 use Rattle.sip_loop.specs.Lines.{Reading, is_end, pending, IsOver}
 use Rattle.sip_loop.proofs.LineEnds.{ends_add}
 use Rattle.sip_loop.specs.Events.{SaysEvent}
-use Rattle.sip_loop.specs.Replays.{SaysEvents, server_with, Plays, PlaysNext, IsReplay}
+use Rattle.sip_loop.specs.Replays.{SaysEvents, server_with, Plays, PlaysNext, IsReplay, IsLawfulReplay}
 use Rattle.std.specs.Prelude.{nat_le}
 use Rattle.std.proofs.lemmas.Bool.Decides.{nat_tests}
 use Rattle.sip_loop.proofs.Calls.{some_is}
@@ -110,6 +113,10 @@ replay_kept config script a b c h k = record {
   is_run = h.is_run;
   written = appends_kept a b c (printed h.steps) h.written k;
 }
+
+pub lawful : ((server : Server) (first : ℕ) (events : List Event) (until : Option ℕ) (steps : List StepOut) (history : List Link) (last : ProxyState) → IsRun server (first_state first) events until steps history last → Access server history)
+    → (config : Config) (script a b c : Option (List ℕ)) → IsReplay config script a b → Keeps b c → IsLawfulReplay config script a c
+lawful law config script a b c h k = record { replay = replay_kept config script a b c h k; access = law (server_with config) 1 h.events None h.steps h.history h.last h.is_run }
 
 -- ---- deadlines
 

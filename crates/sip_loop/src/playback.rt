@@ -4,7 +4,7 @@ ghost use Rattle.sip_model.specs.Step.{Given, IsStep, moment_of};
 ghost use Rattle.sip_loop.specs.Devices.{later, GaveUp, IsAsked, IsFaulted};
 ghost use Rattle.sip_loop.specs.Lines.{pending, IsOver, IsSpent};
 ghost use Rattle.sip_loop.specs.Refusals.{refusal_of_event, IsRefused, Refuses, StepStops, TakingStops};
-ghost use Rattle.sip_loop.specs.Replays.{IsReplay, NothingDueBy, Plays, PlaysNext};
+ghost use Rattle.sip_loop.specs.Replays.{IsLawfulReplay, IsReplay, NothingDueBy, Plays, PlaysNext};
 
 use crate::device::{TellingReader, TellingWriter};
 use crate::due::fire_due;
@@ -16,6 +16,7 @@ use crate::stop::Stop;
 use crate::writing::hand_on;
 use sip_engine::Engine;
 use sip_event::{Boot, Event, StepOut};
+use sip_model::laws::every_run_has_access;
 use sip_model::policy::Rules;
 use sip_model::runs::runs_join;
 use sip_state::settings::Config;
@@ -31,7 +32,10 @@ const BOOT: Boot = Boot {
 
 /// Reads a script and writes what the server hands out: the packets of each step, then the lines of its records.
 /// Before each event, what is due by its moment is fired, each at its own moment; a moment below the greatest one
-/// so far counts as that. Keeps no more than one event. Refusals: `NoMemory`; `Script` with the number of the line
+/// so far counts as that. Keeps no more than one event. Each valid new request outside a dialog is sent to exactly the
+/// unexpired bindings or the configured hop that the first matching rule gives its proven user; bindings change or are
+/// listed exactly as an allowed REGISTER says; every policy denial is a 403 whose Warning names that rule; all else sent
+/// belongs to an open request or a known dialog (clause `lawful`). Refusals: `NoMemory`; `Script` with the number of the line
 /// that began an event, where it isn't one, its step is refused, or more than 2^64 - 2 steps fire before it;
 /// `Read`, where the reader fails or was asked 4,294,967,295 times; `Write`. What was written before a refusal
 /// stays.
@@ -42,11 +46,13 @@ pub fn replay<T: Timers, R: Rules, I: TellingReader, W: TellingWriter>(
     writer: &mut W,
 ) -> Result<(), ReplayError>
     ensures replayed { OnOk result (IsReplay config (I.remaining reader.old) (W.contents writer.old) (W.contents writer.new)) }
+    ensures lawful { OnOk result (IsLawfulReplay config (I.remaining reader.old) (W.contents writer.old) (W.contents writer.new)) }
     ensures refused { IfErr result (IsRefused config (I.remaining reader.old) (W.contents writer.old) (W.contents writer.new)) }
     ensures faulted { IfErr result (IsFaulted (I.has_failed reader.new ⊎ (I.asked reader.new ≡ later 4294967295 (I.asked reader.old))) (GaveUp (W.has_failed writer.new) (W.called writer.new))) }
     ensures asked { IsAsked 4294967295 (I.asked reader.old) (I.asked reader.new) }
     ensures flushed { ¬ (result ≡ Err ReplayError.Write) → W.is_flushed writer.new }
 {
+    every_run_has_access();
     let outcome = play::<T, R, I, W>(alloc, config, reader, writer);
     match hand_on(writer) {
         Ok(()) => outcome,

@@ -3,7 +3,7 @@ use Rattle.std.proofs.lemmas.Result.{on_ok_weaker, IfErr-weaker}
 use Rattle.sip_loop.specs.Devices.{later, GaveUp, IsFaulted}
 use Rattle.sip_loop.specs.Refusals.{IsRefused}
 use Rattle.sip_loop.proofs.Refusing.{refused_kept, faulted_still, unflushed}
-use Rattle.sip_loop.proofs.Replaying.{replay_kept}
+use Rattle.sip_loop.proofs.Replaying.{lawful, replay_kept}
 use Rattle.sip_loop.proofs.playback.replay.Goals as goal
 
 pub returns-in-Ok-clause-replayed : goal.returns-in-Ok-clause-replayed
@@ -20,3 +20,6 @@ returns-in-Ok-clause-faulted g c =
 
 pub returns-in-Err-clause-refused : goal.returns-in-Err-clause-refused
 returns-in-Err-clause-refused g c = unflushed c.play-outcome.result c.args.config (g.I.TellingReader.remaining c.args.reader.now) (g.W.TellingWriter.contents c.args.writer.now) (g.W.TellingWriter.contents c.play-outcome.new.writer) (g.W.TellingWriter.contents c.hand_on.new.writer) c.play-outcome.ensures.replayed c.play-outcome.ensures.refused c.hand_on.ensures.kept
+
+pub returns-in-Ok-clause-lawful : goal.returns-in-Ok-clause-lawful
+returns-in-Ok-clause-lawful g c = on_ok_weaker c.play-outcome.result (λ h. lawful c.every_run_has_access.ensures c.args.config (g.I.TellingReader.remaining c.args.reader.now) (g.W.TellingWriter.contents c.args.writer.now) (g.W.TellingWriter.contents c.play-outcome.new.writer) (g.W.TellingWriter.contents c.hand_on.new.writer) h c.hand_on.ensures.kept) c.play-outcome.ensures.replayed
