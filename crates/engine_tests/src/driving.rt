@@ -11,6 +11,7 @@ use sip_policy::ListRules;
 use sip_settings::sample;
 use sip_timers::ListTimers;
 use std::alloc::{AllocError, Global};
+use std::io::{Read, Write};
 
 /// Where the datagrams come from.
 pub const PHONE: Addr = Addr {
@@ -59,11 +60,20 @@ pub fn is_fired_at(engine: &mut Engine<ListTimers, ListRules>, at: u64, wanted: 
     }
 }
 
-/// Replays a script with the sample configuration, and adds what is printed.
-pub fn replayed(alloc: Global, script: &[u8], print: &mut Vec<u8>) -> Result<(), ReplayError> {
+/// Replays what a reader gives with the sample configuration.
+pub fn replayed_between<I: Read, W: Write>(
+    alloc: Global,
+    reader: &mut I,
+    writer: &mut W,
+) -> Result<(), ReplayError> {
     let Ok(config) = sample(alloc) else {
         return Err(ReplayError::NoMemory);
     };
+    replay::<ListTimers, ListRules, I, W>(alloc, config, reader, writer)
+}
+
+/// Replays a script with the sample configuration, and adds what is printed.
+pub fn replayed(alloc: Global, script: &[u8], print: &mut Vec<u8>) -> Result<(), ReplayError> {
     let mut reader = script;
-    replay::<ListTimers, ListRules, &[u8], Vec<u8>>(alloc, config, &mut reader, print)
+    replayed_between(alloc, &mut reader, print)
 }

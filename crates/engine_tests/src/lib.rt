@@ -8,9 +8,13 @@ mod checks;
 #[cfg(test)]
 mod datagrams;
 #[cfg(test)]
+mod devices;
+#[cfg(test)]
 mod driving;
 #[cfg(test)]
 mod engine;
+#[cfg(test)]
+mod faults;
 #[cfg(test)]
 mod limits;
 #[cfg(test)]
