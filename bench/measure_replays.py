@@ -180,31 +180,21 @@ def rung(script, count):
         script.answer(180, f"k{place}", script.invite(f"k{place}"))
 
 
-def bound_slowly(script, count):
-    for user in OTHERS[: count // 16]:
-        script.pair(user, [f"sip:{user}@127.0.0.1:{10000 + at}" for at in range(16)])
-        script.time(80_000)
-
-
-def talking_slowly(script, count):
-    for place in range(count):
-        script.answer(200, f"t{place}", script.invite(f"t{place}"))
-        script.time(80_000)
-
-
+# what is held, by what makes so many, how many, and how many things each makes
 HELD = {
-    "an open REGISTER that was challenged": (opened, 256),
-    "an open REGISTER that was answered 200": (answered, 256),
-    "an open call that rings": (rung, 256),
-    "a binding": (bound_slowly, 1024),
-    "a dialog": (talking_slowly, 512),
+    "an open REGISTER that was challenged": (opened, 256, 1),
+    "an open REGISTER that was answered 200": (answered, 256, 1),
+    "an open call that rings": (rung, 256, 1),
+    "a binding": (lambda s, count: bound(s, OTHERS[:count]), 96, 16),
+    "a dialog": (talking, 1024, 1),
 }
 
 
 def tell_memory(folder, counter):
+    """The most bytes that are held at once: what twice as many hold more, for each that is more."""
     print("| What | Bytes held |\n|---|---|", flush=True)
-    config = replays.configuration(["help", *OTHERS])
-    for name, (make, count) in HELD.items():
+    for name, (make, count, each) in HELD.items():
+        config = replays.configuration(["help", *OTHERS] if each > 1 else ["help"])
         most = []
         for times in (count, 2 * count):
             script = replays.Script()
@@ -212,7 +202,7 @@ def tell_memory(folder, counter):
             script.time(80_000)
             make(script, times)
             most.append(memory(script.text(), config, folder, counter)[1])
-        print(f"| {name} | {(most[1] - most[0]) / count:,.0f} |", flush=True)
+        print(f"| {name} | {(most[1] - most[0]) / count / each:,.0f} |", flush=True)
 
 
 def repeated(length, others, times):
@@ -238,13 +228,13 @@ def repeated(length, others, times):
 
 
 def tell_repeated(folder):
-    print("| A REGISTER comes again, its branch | among 1 open | among 1,024 |\n|---|---|---|", flush=True)
+    print("| A REGISTER comes again, its branch | Open requests | Instructions | Open requests | Instructions |\n|---|---|---|---|---|", flush=True)
     config = replays.configuration()
-    for length in (16, 2000, 40000):
+    for length in (16, 2_000, 40_000):
         cells = []
-        for others in (1, 1024 if length < 40000 else 64):
+        for others in (1, 1024 if length < 40_000 else 64):
             few, many = (instructions(repeated(length, others, times), config, folder) for times in (FEW, MANY))
-            cells.append(f"{(many - few) / (MANY - FEW):,.0f}")
+            cells.append(f"{others:,} | {(many - few) / (MANY - FEW):,.0f}")
         print(f"| {length:,} bytes | {' | '.join(cells)} |", flush=True)
 
 
