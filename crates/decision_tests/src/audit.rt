@@ -1,8 +1,8 @@
-use crate::checks::{gives, gives_bytes, gives_text, refuses};
 use sip_audit::{AuditError, Operation, Outcome, Record, line_of, read_line};
 use sip_text::Bytes;
 use sip_uri::Aor;
 use std::alloc::{AllocError, Global};
+use test_forms::{gives, gives_bytes, gives_text, refuses};
 
 /// Lines of each operation and outcome, with and without a user, and of rules with and without a window.
 const LINES: &[&[u8]] = &[

@@ -1,4 +1,3 @@
-use crate::checks::gives;
 use sip_auth::{Proof, proof_of};
 use sip_digest::{a1, a1_sha256};
 use sip_message::{View, view};
@@ -6,6 +5,7 @@ use sip_nonces::Nonces;
 use sip_policy::{PolicyError, User, Users};
 use sip_text::{Bytes, Items};
 use std::alloc::{AllocError, Global};
+use test_forms::gives;
 
 const REALM: &[u8] = b"testrealm@host.com";
 

@@ -1,9 +1,9 @@
-use crate::checks::{gives, gives_bytes, says, says_nothing};
 use sip_best::{Final, best, better};
 use sip_form::{Kept, write_view};
 use sip_message::{ReadError, Start, read};
 use sip_shared::Shared;
 use std::alloc::Global;
+use test_forms::{gives, gives_bytes, says, says_nothing};
 
 const NOT_FOUND: &[u8] =
     b"SIP/2.0 404 Not Found\r\nVia: SIP/2.0/UDP pc.host.com;branch=z9hG4bKa\r\nWWW-Authenticate: Digest realm=\"none\"\r\nContent-Length: 0\r\n\r\n";

@@ -1,5 +1,5 @@
-//! Tests of what is decided about a request: whom it proves to come from, what the rules say, where it goes, which
-//! of its answers goes up, and the line that is written of it. One module for each crate under test, as in
+//! Tests of what is decided about a request: whom it proves to come from, where it goes, which of its
+//! answers goes up, and the line that is written of it. One module for each crate under test, as in
 //! `part_tests`: outside vectors, printed text, and each call that takes memory once with enough of it.
 #![tactic(auto)]
 
@@ -9,9 +9,5 @@ mod audit;
 mod auth;
 #[cfg(test)]
 mod best;
-#[cfg(test)]
-mod checks;
-#[cfg(test)]
-mod policy;
 #[cfg(test)]
 mod targets;

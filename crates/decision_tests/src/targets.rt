@@ -1,6 +1,5 @@
 ghost use Rattle.std.specs.Prelude.{◌<◌, ◌^◌};
 
-use crate::checks::{gives, gives_bytes};
 use sip_header::{Expires, contact_of};
 use sip_hops::{Hop, Hops, HopsError};
 use sip_host::Addr;
@@ -10,6 +9,7 @@ use sip_targets::{Target, Targets, targets_of};
 use sip_text::{Bytes, Items, Text};
 use sip_uri::{Aor, aor_of, parse_uri, write_uri};
 use std::alloc::{AllocError, Global};
+use test_forms::{gives, gives_bytes};
 
 fn local(port: u16) -> Addr {
     Addr {

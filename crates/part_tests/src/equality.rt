@@ -1,8 +1,8 @@
-use crate::checks::gives;
 use sip_equality::{same, says_same, says_same_no_case};
 use sip_text::Bytes;
 use sip_uri::{Uri, parse_uri};
 use std::alloc::{AllocError, Global};
+use test_forms::gives;
 
 /// Whether a URI and another, once it is read, are compared so.
 fn is_compared(alloc: Global, left: &Uri, right: &[u8], wanted: bool) -> bool {

@@ -1,4 +1,3 @@
-use crate::checks::{gives, refuses, says, says_nothing};
 use sip_credentials::{Credentials, credentials_of};
 use sip_header::{
     AnyUri, CoreFields, HeaderError, NameAddr, Via, core_of, cseq_of, name_addr_of, via_of,
@@ -6,6 +5,7 @@ use sip_header::{
 use sip_key::Key;
 use sip_message::{FieldName, View, view};
 use std::alloc::{AllocError, Global};
+use test_forms::{gives, refuses, says, says_nothing};
 
 const REGISTER: &[u8] =
     b"REGISTER sip:host.com SIP/2.0\r\nVia: SIP/2.0/UDP 127.0.0.1:5062;branch=z9hG4bKreg1\r\nMax-Forwards: 70\r\nFrom: <sip:Mufasa@host.com>;tag=a1\r\nTo: <sip:Mufasa@host.com>\r\nCall-ID: c1@127.0.0.1\r\nCSeq: 1 REGISTER\r\nContact: <sip:Mufasa@127.0.0.1:5062>\r\nContent-Length: 0\r\n\r\n";

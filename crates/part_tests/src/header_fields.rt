@@ -1,10 +1,10 @@
-use crate::checks::gives;
 use sip_header::{
     AnyUri, ContactItem, Expires, MaxForwards, NameAddr, contact_expires, contact_of, expires_of,
     max_forwards_of, route_of,
 };
 use sip_message::view;
 use std::alloc::Global;
+use test_forms::gives;
 
 fn is_star(item: &Option<ContactItem<'_>>) -> bool {
     matches!(item, Some(ContactItem::Star))

@@ -5,14 +5,6 @@
 #![tactic(auto)]
 
 #[cfg(test)]
-mod checks;
-#[cfg(test)]
-mod config;
-#[cfg(test)]
-mod config_texts;
-#[cfg(test)]
-mod edit;
-#[cfg(test)]
 mod equality;
 #[cfg(test)]
 mod header;
@@ -21,22 +13,10 @@ mod header_fields;
 #[cfg(test)]
 mod message;
 #[cfg(test)]
-mod onward;
-#[cfg(test)]
-mod own_requests;
-#[cfg(test)]
 mod places;
-#[cfg(test)]
-mod reply;
 #[cfg(test)]
 mod text;
 #[cfg(test)]
-mod timers;
-#[cfg(test)]
 mod uri;
 #[cfg(test)]
-mod validate;
-#[cfg(test)]
 mod views;
-#[cfg(test)]
-mod way;

@@ -1,6 +1,6 @@
-use crate::checks::{gives, gives_bytes, refuses};
 use sip_message::{FieldName, Message, read, write, written_length};
 use std::alloc::{AllocError, Global};
+use test_forms::{gives, gives_bytes, refuses};
 
 const COMPACT_AND_FOLDED: &[u8] =
     b"\r\n\r\nOPTIONS sip:a@host.com sip/2.0\r\nv : SIP/2.0/UDP a;branch=1 , \tSIP/2.0/UDP b\r\nSubject: I know\r\n  you\r\nX-Note: one \r\n \r\n\ttwo\r\nl: 2\r\n\r\nabcd";

@@ -1,9 +1,9 @@
-use crate::checks::{gives, gives_bytes};
 use sip_host::{Addr, addr_of, addr_text, ip_of, ip_text};
 use sip_text::{
     Bytes, Items, hex_bytes, hex_text, lower_case, plain_decimal, plain_port, same_bytes,
 };
 use std::alloc::{AllocError, Global};
+use test_forms::{gives, gives_bytes};
 
 const PHONE: Addr = Addr {
     ip: [10, 0, 255, 1],

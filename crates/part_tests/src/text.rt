@@ -1,8 +1,8 @@
-use crate::checks::{gives, gives_bytes, gives_text, refuses};
 use sip_text::{
     Bytes, Span, TextError, cut_list, decimal, is_token, same_no_case, unescape, unquote,
 };
 use std::alloc::{AllocError, Global};
+use test_forms::{gives, gives_bytes, gives_text, refuses};
 
 /// Whether a span of a source names this text.
 fn is_item(source: &[u8], span: &Span, wanted: &[u8]) -> bool {

@@ -1,7 +1,7 @@
-use crate::checks::{gives, gives_bytes, gives_text, refuses};
 use sip_text::Bytes;
 use sip_uri::{Aor, Parameter, Uri, UriError, UriHeader, UserInfo, aor_of, parse_uri, write_uri};
 use std::alloc::Global;
+use test_forms::{gives, gives_bytes, gives_text, refuses};
 
 fn is_written(alloc: Global, uri: &Uri, wanted: &[u8]) -> bool {
     gives_bytes(write_uri(alloc, uri), wanted)

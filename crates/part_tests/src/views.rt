@@ -1,6 +1,6 @@
-use crate::checks::{gives, gives_bytes};
 use sip_message::{FieldName, Kept, View, read, view, write};
 use std::alloc::Global;
+use test_forms::{gives, gives_bytes};
 
 const FOLDED: &[u8] =
     b"OPTIONS sip:a@host.com SIP/2.0\r\nv: SIP/2.0/UDP a;branch=1\r\nSubject: I know\r\n  you\r\nX-Note: one\r\nl: 2\r\n\r\nab";

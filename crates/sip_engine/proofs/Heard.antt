@@ -1,9 +1,7 @@
 -- The effect of a datagram that says a message, by the verdict on it.
-use Rattle.std.proofs.Common.{◌≡◌, ◌∙◌, ℕ, Bool, true, false, cond, List, [], Option, Some, None, sym, ap, subst, bytes_eq, codes}
+use Rattle.std.proofs.Common.{◌≡◌, ◌∙◌, ℕ, Bool, false, cond, List, [], Option, ap, subst, bytes_eq, codes}
 use Rattle.std.specs.Option.{option_map_or}
 use Rattle.sip_event.specs.declared.event.StepOut.{StepOut}
-use Rattle.sip_event.specs.declared.packet.Packet.{Packet}
-use Rattle.sip_proxy.specs.audit.declared.record.Record.{Record}
 use Rattle.sip_proxy.specs.form.declared.message.Message.{Message}
 use Rattle.sip_proxy.specs.host.declared.addr.Addr.{Addr}
 use Rattle.sip_proxy.specs.location.Sameness.{SameBindings}

@@ -1,15 +1,10 @@
 -- A step leads on from a state that steps lead to, and is one for a moment that goes back.
-use Rattle.std.proofs.Common.{◌≡◌, ◌∙◌, ◌≤◌, ◌<◌, inl, inr, ℕ, max, List, [], ◌∷◌, Result, Ok, Err, IfOk, OnErr, refl, sym, ap, subst}
+use Rattle.std.proofs.Common.{◌≡◌, ◌∙◌, ◌≤◌, inl, inr, ℕ, List, ◌∷◌, Result, Ok, Err, IfOk, OnErr, refl, sym, subst}
 use Rattle.std.proofs.Math.Nat.{le-max_left, max-eq_right}
-use Rattle.sip_event.specs.declared.event.Event.{Event}
 use Rattle.sip_event.specs.declared.event.StepOut.{StepOut}
-use Rattle.sip_event.specs.declared.packet.Ticket.{Ticket}
 use Rattle.sip_proxy.specs.host.declared.addr.Addr.{Addr}
 use Rattle.sip_proxy.specs.model.Effect.{datagram_effect}
-use Rattle.sip_proxy.specs.model.Run.{Link}
-use Rattle.sip_proxy.specs.model.Step.{Act, Does, Given, Passing, IsDelivery, IsFault, IsStep, IsTime, NoneAgainBefore, NoneAgainBy, NoneBefore, NoneBy, arrival_of, moment_of}
-use Rattle.sip_proxy.specs.state.State.{deadlines}
-use Rattle.sip_proxy.specs.state.declared.open_request.OpenRequest.{OpenRequest}
+use Rattle.sip_proxy.specs.model.Step.{Act, Does, Passing, IsDelivery, IsQuiet, IsStep, IsTime, NoneAgainBy, NoneBy, arrival_of, moment_of}
 use Rattle.sip_proxy.specs.state.declared.proxy_state.ProxyState.{ProxyState}
 use Rattle.sip_proxy.specs.state.declared.server.Server.{Server}
 use Rattle.sip_engine.specs.Engine.{IsReached}
@@ -33,11 +28,46 @@ stayed server old new h same = subst (λ (s : ProxyState). IsReached server s) (
 pub moment_again : (state : ProxyState) (at : ℕ) → moment_of state (moment_of state at) ≡ moment_of state at
 moment_again state at = max-eq_right (le-max_left state.moment at)
 
+quiet_for : (server : Server) (old new : ProxyState) (at : ℕ) (out : StepOut) → IsQuiet server old (moment_of old at) out new → IsQuiet server old at out new
+quiet_for server old new at out quiet =
+    record {
+      no_earlier = quiet.no_earlier;
+      no_later = subst (λ (n : ℕ). out.at ≤ n) (moment_again old at) quiet.no_later;
+      none_passed = quiet.none_passed;
+      none_again_passed = quiet.none_again_passed;
+      does = quiet.does;
+    }
+
 -- a step of time up to a moment that counts as the last one is one up to the moment that was given
 pub passes_for : (server : Server) (old new : ProxyState) (at : ℕ) (out : StepOut) → IsStep server old (Passing (moment_of old at)) out new → IsStep server old (Passing at) out new
-passes_for server old new at out (inl quiet) = inl (record quiet { no_later = subst (λ (n : ℕ). out.at ≤ n) (moment_again old at) quiet.no_later })
-passes_for server old new at out (inr (inl due)) = inr (inl (record due { is_due = subst (λ (n : ℕ). out.at ≤ n) (moment_again old at) due.is_due }))
-passes_for server old new at out (inr (inr goes)) = inr (inr (record goes { is_due = subst (λ (n : ℕ). out.at ≤ n) (moment_again old at) goes.is_due }))
+passes_for server old new at out (inl quiet) = inl (quiet_for server old new at out quiet)
+passes_for server old new at out (inr (inl due)) =
+    inr
+    (inl
+    record {
+      request = due.request;
+      change = due.change;
+      is_open = due.is_open;
+      passes = due.passes;
+      is_due = subst (λ (n : ℕ). out.at ≤ n) (moment_again old at) due.is_due;
+      is_first = due.is_first;
+      none_again = due.none_again;
+      does = due.does;
+    })
+passes_for server old new at out (inr (inr goes)) =
+    inr
+    (inr
+    record {
+      request = goes.request;
+      packets = goes.packets;
+      next = goes.next;
+      is_open = goes.is_open;
+      goes = goes.goes;
+      is_due = subst (λ (n : ℕ). out.at ≤ n) (moment_again old at) goes.is_due;
+      is_first = goes.is_first;
+      none_again = goes.none_again;
+      does = goes.does;
+    })
 
 pub time_for : (server : Server) (old new : ProxyState) (at : ℕ) (out : StepOut) → IsTime server old (moment_of old at) out new → IsTime server old at out new
 time_for server old new at out h =
@@ -45,7 +75,7 @@ time_for server old new at out h =
       none_due = subst (λ (n : ℕ). NoneBy n old.requests) (moment_again old at) h.none_due;
       none_again_due = subst (λ (n : ℕ). NoneAgainBy n old.requests) (moment_again old at) h.none_again_due;
       at_moment = h.at_moment ∙ moment_again old at;
-      quiet = record (h.quiet) { no_later = subst (λ (n : ℕ). out.at ≤ n) (moment_again old at) h.quiet.no_later };
+      quiet = quiet_for server old new at out h.quiet;
     }
 
 pub delivered : (server : Server) (old new : ProxyState) (at word : ℕ) (from : Addr) (bytes : List ℕ) (out : StepOut)

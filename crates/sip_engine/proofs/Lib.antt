@@ -1,3 +1,4 @@
 mod Leading
 mod Numbered
+mod Waiting
 mod Heard

@@ -1,9 +1,9 @@
-use crate::checks::{gives, gives_text};
 use sip_hops::{Hop, Hops, HopsError, HostAddress};
 use sip_host::Addr;
 use sip_text::{Bytes, Items};
 use sip_uri::parse_uri;
 use std::alloc::{AllocError, Global};
+use test_forms::{gives, gives_text};
 
 fn local(port: u16) -> Addr {
     Addr {

@@ -1,8 +1,8 @@
-use crate::checks::gives;
 use crate::digest::{FIRST_USE, SECOND_USE, mufasa};
 use sip_digest::{Algorithm, Credential, Protection, a1, a1_sha256, answer, answer_sha256};
 use sip_nonces::{Nonces, Worth, nonce_text, word_of};
 use std::alloc::{AllocError, Global};
+use test_forms::gives;
 
 /// The answer of the user to the nonce of a word.
 fn register_answer(word: u128) -> [u8; 32] {

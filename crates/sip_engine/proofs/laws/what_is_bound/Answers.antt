@@ -1,6 +1,5 @@
 use Rattle.sip_engine.proofs.Heard.{binds}
 use Rattle.sip_proxy.specs.targets.declared.targets.Targets.TheVariants as Targets
-use Rattle.std.specs.Prelude.{Some}
 use Rattle.sip_proxy.specs.verdict.Verdict as Verdict
 use Rattle.sip_engine.proofs.laws.what_is_bound.Goals as goal
 

@@ -1,4 +1,3 @@
-use crate::checks::{gives, gives_text, refuses};
 use sip_policy::{
     Decision, ListRules, Operation, PolicyError, Rule, Rules, Ruling, User, Users, Window,
     is_own_domain, is_users_address, minute_of,
@@ -7,6 +6,7 @@ use sip_settings::{Config, sample};
 use sip_text::{Bytes, Items};
 use sip_uri::Aor;
 use std::alloc::Global;
+use test_forms::{gives, gives_text, refuses};
 
 /// The sample's users, each so many times.
 fn users_of(alloc: Global, config: &Config, times: usize) -> Result<Users, PolicyError> {

@@ -1,10 +1,10 @@
-use crate::checks::{gives, gives_bytes};
 use sip_edit::{branch_text, own_via_value, with_top_via};
 use sip_message::{View, view, write_view};
 use sip_onward::{onward_base, onward_uri, push_record_route, to_target};
 use sip_text::{Bytes, Items};
 use sip_way::Own;
 use std::alloc::{AllocError, Global};
+use test_forms::{gives, gives_bytes};
 
 const INVITE: &[u8] =
     b"INVITE sip:help@host.com SIP/2.0\r\nVia: SIP/2.0/UDP pc.host.com:5070;branch=z9hG4bKinv1;rport\r\nMax-Forwards: 70\r\nFrom: <sip:x@away.net>;tag=f1\r\nTo: <sip:help@host.com>\r\nCall-ID: k1\r\nCSeq: 7 INVITE\r\nContact: <sip:x@127.0.0.1:5070>\r\nContent-Length: 0\r\n\r\n";

@@ -1,8 +1,8 @@
-use crate::checks::{gives, gives_bytes};
 use sip_edit::{ack_of, branch_of_text, branch_text, cancel_of, pop_via};
 use sip_message::{View, view, write_view};
 use sip_text::Bytes;
 use std::alloc::{AllocError, Global};
+use test_forms::{gives, gives_bytes};
 
 /// An INVITE as it went on to the first target of the fourth datagram's request.
 const INVITE: &[u8] =

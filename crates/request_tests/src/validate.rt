@@ -1,4 +1,3 @@
-use crate::checks::{gives, gives_bytes, refuses, says};
 use crate::way::own_place;
 use sip_edit::{received_via, with_top_via};
 use sip_header::{Via, via_of};
@@ -9,6 +8,7 @@ use sip_text::Bytes;
 use sip_validate::{Checked, Refused, is_bad_request, validate};
 use sip_way::Own;
 use std::alloc::{AllocError, Global};
+use test_forms::{gives, gives_bytes, refuses, says};
 
 const PHONE: Addr = Addr {
     ip: [127, 0, 0, 1],

@@ -1,4 +1,3 @@
-use crate::checks::{gives, gives_bytes, says};
 use sip_digest::Algorithm;
 use sip_edit::{received_via, response_address, with_top_via};
 use sip_header::{Via, via_of};
@@ -7,6 +6,7 @@ use sip_message::{Field, FieldName, Fields, View, view};
 use sip_reply::{challenge, challenge_fields, contact_value, reason_of, respond, to_tag};
 use sip_text::Bytes;
 use std::alloc::{AllocError, Global};
+use test_forms::{gives, gives_bytes, says};
 
 const PHONE: Addr = Addr {
     ip: [127, 0, 0, 1],

@@ -1,9 +1,9 @@
-use crate::checks::{gives, gives_text};
 use crate::config_texts::{OFFICE, SAMPLE};
 use sip_config::{ConfigError, read_config};
 use sip_settings::{Config, sample};
 use std::alloc::Global;
 use std::fmt::Debug;
+use test_forms::{gives, gives_text};
 
 /// Whether two values are printed alike.
 fn are_alike<T: Debug>(alloc: Global, left: &T, right: &T) -> bool {

@@ -1,10 +1,10 @@
-use crate::checks::{gives, gives_bytes};
 use sip_header::{Via, via_of};
 use sip_message::{View, view};
 use sip_text::{Bytes, Items};
 use sip_uri::{Uri, parse_uri, write_uri};
 use sip_way::{Own, Way, way_of};
 use std::alloc::{AllocError, Global};
+use test_forms::{gives, gives_bytes};
 
 /// sip.host.com:5060 at 127.0.0.1, which serves host.com.
 pub fn own_place(alloc: Global) -> Result<Own, AllocError> {

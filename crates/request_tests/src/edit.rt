@@ -1,9 +1,9 @@
-use crate::checks::gives_bytes;
 use sip_edit::received_via;
 use sip_header::via_of;
 use sip_host::Addr;
 use sip_text::Bytes;
 use std::alloc::{AllocError, Global};
+use test_forms::gives_bytes;
 
 const PHONE: Addr = Addr {
     ip: [127, 0, 0, 1],

@@ -1,4 +1,5 @@
-//! The forms of these tests: what a call gives is lent to a predicate, and dropped here alone.
+//! The forms of tests: what a call gives is lent to a predicate, and dropped here alone.
+#![tactic(auto)]
 
 use sip_text::Bytes;
 

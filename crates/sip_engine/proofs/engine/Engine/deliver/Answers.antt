@@ -1,0 +1,8 @@
+use Rattle.sip_event.specs.declared.event.Event.TheVariants.{Datagram}
+use Rattle.sip_proxy.specs.model.Step.{Given}
+use Rattle.sip_engine.proofs.Leading.{led_by}
+use Rattle.sip_engine.proofs.engine.Engine.deliver.Goals as goal
+
+pub invariant_of-self : goal.invariant_of-self
+invariant_of-self g c =
+    led_by c.self.inside.judge c.self.inside.proxy.state c.deliver.new.proxy.state (Given (Datagram c.args.at c.args.word c.args.from c.args.bytes.now)) c.deliver.result c.self.invariant c.deliver.ensures.step c.deliver.ensures.unchanged
