@@ -116,6 +116,7 @@ replay_kept config script a b c h k = record {
 
 pub lawful : ((server : Server) (first : ℕ) (events : List Event) (until : Option ℕ) (steps : List StepOut) (history : List Link) (last : ProxyState) → IsRun server (first_state first) events until steps history last → Access server history)
     → (config : Config) (script a b c : Option (List ℕ)) → IsReplay config script a b → Keeps b c → IsLawfulReplay config script a c
+unfolding replay_kept
 lawful law config script a b c h k = record { replay = replay_kept config script a b c h k; access = law (server_with config) 1 h.events None h.steps h.history h.last h.is_run }
 
 -- ---- deadlines

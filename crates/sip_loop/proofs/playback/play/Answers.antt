@@ -1,12 +1,12 @@
-use Rattle.std.proofs.Common.{◌≡◌, ◌∙◌, ◌⊎◌, sym, ap, subst, refl, arith, rules}
+use Rattle.std.proofs.Common.{◌≡◌, ℕ, List, Option, ◌∙◌, ◌⊎◌, sym, ap, subst, refl, arith, rules}
 use Rattle.std.proofs.lemmas.Result.{err_from_is_err_and}
 use Rattle.sip_model.specs.state.State.{first_state}
 use Rattle.sip_loop.specs.Devices.{later, GaveUp}
 use Rattle.sip_loop.specs.Lines.{Reading, IsSpent}
-use Rattle.sip_loop.specs.Replays.{server_with}
+use Rattle.sip_loop.specs.Replays.{server_with, IsReplay}
 use Rattle.sip_loop.proofs.Calls.{asked_so_far, spent_at_last, faulted_spent}
 use Rattle.sip_loop.proofs.Refusing.{play_refused, refuses_at_once}
-use Rattle.sip_loop.proofs.Replaying.{Replays, replays_nothing, replays_next}
+use Rattle.sip_loop.proofs.Replaying.{Replays, replays_nothing, replays_next, replays_over}
 use Rattle.sip_loop.proofs.playback.play.Goals as goal
 
 pub loop-line-init : goal.loop-line-init
@@ -61,3 +61,9 @@ returns-in-Err-clause-refused g c = refuses_at_once (server_with c.args.config) 
 
 pub returns-in-Err-new-clause-refused : goal.returns-in-Err-new-clause-refused
 returns-in-Err-new-clause-refused g c = refuses_at_once (server_with c.args.config) (first_state 1) 0 (g.I.TellingReader.remaining c.args.reader.now) (g.W.TellingWriter.contents c.args.writer.now)
+
+pub returns-clause-replayed : goal.returns-clause-replayed
+returns-clause-replayed g c =
+    subst (λ (o : Option (List ℕ)). IsReplay c.args.config (g.I.TellingReader.remaining c.args.reader.now) (g.W.TellingWriter.contents c.args.writer.now) o) (sym (c.in_ok-take_next.ensures.silent c.if-branch.false))
+    (replays_over c.args.config c.loop-line.engine.state c.in-Ok-new.lines c.loop-line.lines c.take_next.new.lines (g.I.TellingReader.remaining c.args.reader.now) (g.I.TellingReader.remaining c.loop-line.reader)
+    (g.I.TellingReader.remaining c.take_next.new.reader) (g.W.TellingWriter.contents c.args.writer.now) (g.W.TellingWriter.contents c.loop-line.writer) (ap (λ (x : Reading). x.unread) c.in-Ok-new.ensures) c.loop-line.invariant.1 (c.in_ok-take_next.ensures.over c.if-branch.false))
