@@ -1,7 +1,7 @@
 //! The forms of these tests: what a call gives is lent to a predicate, and dropped here alone.
 
-use sip_engine::StepError;
 use sip_event::StepOut;
+use sip_loop::engine::StepError;
 
 /// Whether a value is given, and is right.
 pub fn gives<T: Drop, E: Drop, F: FnOnce(&T) -> bool>(given: Result<T, E>, is_right: F) -> bool

@@ -3,9 +3,9 @@
 ghost use Rattle.std.specs.Prelude.{◌≡◌, false};
 ghost use Rattle.sip_model.specs.Step.{NoneBy, NoneAgainBy, moment_of};
 
-use sip_engine::{Engine, StepError};
 use sip_event::{Boot, StepOut};
 use sip_host::Addr;
+use sip_loop::engine::{Engine, StepError};
 use sip_loop::{ReplayError, replay};
 use sip_policy::ListRules;
 use sip_settings::sample;

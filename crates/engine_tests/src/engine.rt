@@ -1,9 +1,9 @@
 use crate::checks::{gives, gives_doing};
 use crate::datagrams::{CHALLENGE, LISTED, REGISTER, REGISTER_AGAIN, STALE_CHALLENGE};
 use crate::driving::{hear, is_fired_at, opened};
-use sip_engine::{Engine, StepError};
 use sip_event::StepOut;
 use sip_location::Binding;
+use sip_loop::engine::{Engine, StepError};
 use sip_policy::ListRules;
 use sip_text::Bytes;
 use sip_timers::ListTimers;

@@ -1,7 +1,7 @@
 use crate::checks::{gives_doing, refuses};
 use crate::driving::{PHONE, hear, is_fired_at, opened};
-use sip_engine::{Engine, StepError};
 use sip_event::Ticket;
+use sip_loop::engine::{Engine, StepError};
 use sip_policy::ListRules;
 use sip_timers::ListTimers;
 

@@ -1,8 +1,8 @@
 use crate::datagrams::{REGISTER, REGISTERED_PRINT, REGISTERED_SCRIPT};
 use crate::driving::{hear, opened, replayed};
-use sip_engine::{Engine, StepError};
 use sip_event::StepOut;
 use sip_loop::ReplayError;
+use sip_loop::engine::{Engine, StepError};
 use sip_policy::ListRules;
 use sip_timers::ListTimers;
 use std::alloc::Global;

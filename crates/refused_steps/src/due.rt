@@ -3,8 +3,8 @@ ghost use Rattle.sip_model.specs.Run.{event_moment};
 ghost use Rattle.sip_model.specs.Step.{moment_of};
 ghost use Rattle.sip_loop.specs.Replays.{NothingDueBy};
 
-use sip_engine::Engine;
 use sip_event::Event;
+use sip_loop::engine::Engine;
 use sip_policy::ListRules;
 use sip_timers::ListTimers;
 

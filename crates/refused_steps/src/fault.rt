@@ -1,5 +1,5 @@
-use sip_engine::StepError;
-use sip_loop::Stop;
+use sip_loop::engine::StepError;
+use sip_script::Stop;
 use std::alloc::{AllocError, AllocFailed};
 use std::io;
 

@@ -1,10 +1,10 @@
 use crate::due::{at_of, is_due};
 use crate::fault::Fault;
 use crate::take::take;
-use sip_engine::Engine;
 use sip_event::{Boot, Event};
-use sip_loop::{Lines, next_event, print_step};
+use sip_loop::engine::Engine;
 use sip_policy::ListRules;
+use sip_script::{Lines, next_event, print_step};
 use sip_settings::Config;
 use sip_timers::ListTimers;
 use std::alloc::Global;

@@ -1,5 +1,5 @@
-use sip_engine::Engine;
 use sip_location::Binding;
+use sip_loop::engine::Engine;
 use sip_policy::ListRules;
 use sip_text::{Bytes, same_bytes};
 use sip_timers::ListTimers;

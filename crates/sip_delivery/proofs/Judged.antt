@@ -1,17 +1,17 @@
 -- What is decided about an ACK, and about a new request.
 use Rattle.std.proofs.Common.{◌≡◌, ℕ, Bool, true, false, cond, List, [], Option, Some, None, is_some, refl, bytes_eq, codes}
-use Rattle.sip_proxy.specs.dialog.declared.dialog.DialogId.{DialogId}
-use Rattle.sip_proxy.specs.dialog.Dialogs.{is_in_dialog}
-use Rattle.sip_proxy.specs.form.declared.message.Message.{Message}
-use Rattle.sip_proxy.specs.header.CoreFields.{core_of}
-use Rattle.sip_proxy.specs.host.declared.addr.Addr.{Addr}
-use Rattle.sip_proxy.specs.key.declared.key.Key.{Key}
-use Rattle.sip_proxy.specs.state.Arrival.{Arrival}
-use Rattle.sip_proxy.specs.state.Dialogs.{dialog_of}
-use Rattle.sip_proxy.specs.state.declared.proxy_state.ProxyState.{ProxyState}
-use Rattle.sip_proxy.specs.state.declared.server.Server.{Server}
-use Rattle.sip_proxy.specs.validate.Refusal.{refusal_of, is_bad_request}
-use Rattle.sip_proxy.specs.verdict.Verdict as Definition
+use Rattle.sip_admitting.specs.proxy.dialog.declared.dialog.DialogId.{DialogId}
+use Rattle.sip_admitting.specs.proxy.dialog.Dialogs.{is_in_dialog}
+use Rattle.sip_admitting.specs.proxy.form.declared.message.Message.{Message}
+use Rattle.sip_admitting.specs.proxy.header.CoreFields.{core_of}
+use Rattle.sip_admitting.specs.proxy.host.declared.addr.Addr.{Addr}
+use Rattle.sip_admitting.specs.proxy.key.declared.key.Key.{Key}
+use Rattle.sip_admitting.specs.proxy.state.Arrival.{Arrival}
+use Rattle.sip_admitting.specs.proxy.state.Dialogs.{dialog_of}
+use Rattle.sip_admitting.specs.proxy.state.declared.proxy_state.ProxyState.{ProxyState}
+use Rattle.sip_admitting.specs.proxy.state.declared.server.Server.{Server}
+use Rattle.sip_admitting.specs.proxy.validate.Refusal.{refusal_of, is_bad_request}
+use Rattle.sip_admitting.specs.proxy.verdict.Verdict as Definition
 use Rattle.std.specs.Result.{result_ok}
 use Rattle.sip_delivery.specs.Delivery.{IsDroppedOrOn, NeedsRoom}
 

@@ -4,9 +4,9 @@ use Rattle.std.specs.List.{position_or_len}
 use Rattle.std.specs.Option.{option_and_then, option_map}
 use Rattle.std.proofs.lemmas.Bool.Decides.{nat_tests}
 use Rattle.std.proofs.lemmas.Option.{slice_get-get_or}
-use Rattle.sip_proxy.specs.fork.Places.{branch_at}
-use Rattle.sip_proxy.specs.state.declared.branch.Branch.{Branch}
-use Rattle.sip_proxy.specs.state.declared.open_request.OpenRequest.{OpenRequest}
+use Rattle.sip_admitting.specs.proxy.fork.Places.{branch_at}
+use Rattle.sip_admitting.specs.proxy.state.declared.branch.Branch.{Branch}
+use Rattle.sip_admitting.specs.proxy.state.declared.open_request.OpenRequest.{OpenRequest}
 
 -- ---- requests
 

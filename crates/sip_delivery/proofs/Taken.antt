@@ -4,31 +4,31 @@ use Rattle.std.specs.Prelude.{find}
 use Rattle.std.specs.Option.{option_map}
 use Rattle.std.specs.Option.{option_map_or}
 use Rattle.std.specs.declared.alloc.AllocError.{AllocError}
-use Rattle.sip_event.specs.declared.event.StepOut.{StepOut}
-use Rattle.sip_proxy.specs.form.declared.message.Message.{Message}
-use Rattle.sip_proxy.specs.model.Effect.{counted, datagram_effect, effect_of, nothing}
-use Rattle.sip_proxy.specs.model.Step.{Does}
-use Rattle.sip_proxy.specs.opening.Arrivals.{arrival_of}
-use Rattle.sip_proxy.specs.opening.declared.arrival.Arrival.{Arrival}
-use Rattle.sip_proxy.specs.state.declared.proxy_state.ProxyState.{ProxyState}
-use Rattle.sip_proxy.specs.state.declared.server.Server.{Server}
-use Rattle.sip_proxy.specs.verdict.Verdict as Definition
-use Rattle.sip_proxy.specs.arrival.Verdict.{Is, IsOutcome}
-use Rattle.sip_proxy.specs.arrival.declared.verdict.Judged.{Judged}
-use Rattle.sip_proxy.specs.arrival.declared.verdict.Outcome.{Outcome}
-use Rattle.sip_proxy.specs.arrival.declared.verdict.Outcome.TheVariants as Decided
-use Rattle.sip_proxy.specs.arrival.declared.verdict.Verdict.{Verdict}
-use Rattle.sip_proxy.specs.arrival.declared.verdict.Verdict.TheVariants as Arrived
-use Rattle.sip_proxy.specs.dialog.declared.dialog.DialogId.{DialogId}
-use Rattle.sip_proxy.specs.fork.Places.{branch_at}
-use Rattle.sip_proxy.specs.host.declared.addr.Addr.{Addr}
-use Rattle.sip_proxy.specs.key.declared.key.Key.{Key}
-use Rattle.sip_proxy.specs.location.declared.binding.Binding.{Binding}
-use Rattle.sip_proxy.specs.state.Arrival as Arrivals
-use Rattle.sip_proxy.specs.state.State.{has_key}
-use Rattle.sip_proxy.specs.state.declared.branch.Branch.{Branch}
-use Rattle.sip_proxy.specs.state.declared.open_request.OpenRequest.{OpenRequest}
-use Rattle.sip_proxy.specs.verdict.declared.question.Question.{Question}
+use Rattle.sip_admitting.specs.proxy.event.declared.event.StepOut.{StepOut}
+use Rattle.sip_admitting.specs.proxy.form.declared.message.Message.{Message}
+use Rattle.sip_admitting.specs.proxy.model.Effect.{counted, datagram_effect, effect_of, nothing}
+use Rattle.sip_admitting.specs.proxy.model.Step.{Does}
+use Rattle.sip_admitting.specs.proxy.opening.Arrivals.{arrival_of}
+use Rattle.sip_admitting.specs.proxy.opening.declared.arrival.Arrival.{Arrival}
+use Rattle.sip_admitting.specs.proxy.state.declared.proxy_state.ProxyState.{ProxyState}
+use Rattle.sip_admitting.specs.proxy.state.declared.server.Server.{Server}
+use Rattle.sip_admitting.specs.proxy.verdict.Verdict as Definition
+use Rattle.sip_admitting.specs.proxy.arrival.Verdict.{Is, IsOutcome}
+use Rattle.sip_admitting.specs.proxy.arrival.declared.verdict.Judged.{Judged}
+use Rattle.sip_admitting.specs.proxy.arrival.declared.verdict.Outcome.{Outcome}
+use Rattle.sip_admitting.specs.proxy.arrival.declared.verdict.Outcome.TheVariants as Decided
+use Rattle.sip_admitting.specs.proxy.arrival.declared.verdict.Verdict.{Verdict}
+use Rattle.sip_admitting.specs.proxy.arrival.declared.verdict.Verdict.TheVariants as Arrived
+use Rattle.sip_admitting.specs.proxy.dialog.declared.dialog.DialogId.{DialogId}
+use Rattle.sip_admitting.specs.proxy.fork.Places.{branch_at}
+use Rattle.sip_admitting.specs.proxy.host.declared.addr.Addr.{Addr}
+use Rattle.sip_admitting.specs.proxy.key.declared.key.Key.{Key}
+use Rattle.sip_admitting.specs.proxy.location.declared.binding.Binding.{Binding}
+use Rattle.sip_admitting.specs.proxy.state.Arrival as Arrivals
+use Rattle.sip_admitting.specs.proxy.state.State.{has_key}
+use Rattle.sip_admitting.specs.proxy.state.declared.branch.Branch.{Branch}
+use Rattle.sip_admitting.specs.proxy.state.declared.open_request.OpenRequest.{OpenRequest}
+use Rattle.sip_admitting.specs.proxy.verdict.declared.question.Question.{Question}
 use Rattle.sip_admitting.specs.serving.Asking.{AnswersFinally}
 use Rattle.sip_delivery.specs.Delivery.{IsDroppedOrOn, IsServed, NeedsRoom, Takes, way_on}
 use Rattle.sip_delivery.proofs.Places.{position_within, stands_at}

@@ -1,20 +1,20 @@
 -- What is one step for a datagram, and what a verdict asks for.
 use Rattle.std.specs.Prelude.{ℕ, Bool, ◌≡◌, false, ⊤, Option, Some, None}
-use Rattle.sip_event.specs.declared.event.StepOut.{StepOut}
-use Rattle.sip_proxy.specs.arrival.Verdict.{Is}
-use Rattle.sip_proxy.specs.arrival.declared.verdict.Verdict.{Verdict}
-use Rattle.sip_proxy.specs.arrival.declared.verdict.Verdict.TheVariants as Arrived
-use Rattle.sip_proxy.specs.dialog.declared.dialog.DialogId.{DialogId}
-use Rattle.sip_proxy.specs.form.declared.message.Message.{Message}
-use Rattle.sip_proxy.specs.host.declared.addr.Addr.{Addr}
-use Rattle.sip_proxy.specs.key.declared.key.Key.{Key}
-use Rattle.sip_proxy.specs.model.Effect.{counted, effect_of}
-use Rattle.sip_proxy.specs.model.Step.{Does}
-use Rattle.sip_proxy.specs.opening.Arrivals.{arrival_of}
-use Rattle.sip_proxy.specs.opening.declared.arrival.Arrival.{Arrival}
-use Rattle.sip_proxy.specs.state.declared.proxy_state.ProxyState.{ProxyState}
-use Rattle.sip_proxy.specs.state.declared.server.Server.{Server}
-use Rattle.sip_proxy.specs.verdict.Verdict as Definition
+use Rattle.sip_admitting.specs.proxy.event.declared.event.StepOut.{StepOut}
+use Rattle.sip_admitting.specs.proxy.arrival.Verdict.{Is}
+use Rattle.sip_admitting.specs.proxy.arrival.declared.verdict.Verdict.{Verdict}
+use Rattle.sip_admitting.specs.proxy.arrival.declared.verdict.Verdict.TheVariants as Arrived
+use Rattle.sip_admitting.specs.proxy.dialog.declared.dialog.DialogId.{DialogId}
+use Rattle.sip_admitting.specs.proxy.form.declared.message.Message.{Message}
+use Rattle.sip_admitting.specs.proxy.host.declared.addr.Addr.{Addr}
+use Rattle.sip_admitting.specs.proxy.key.declared.key.Key.{Key}
+use Rattle.sip_admitting.specs.proxy.model.Effect.{counted, effect_of}
+use Rattle.sip_admitting.specs.proxy.model.Step.{Does}
+use Rattle.sip_admitting.specs.proxy.opening.Arrivals.{arrival_of}
+use Rattle.sip_admitting.specs.proxy.opening.declared.arrival.Arrival.{Arrival}
+use Rattle.sip_admitting.specs.proxy.state.declared.proxy_state.ProxyState.{ProxyState}
+use Rattle.sip_admitting.specs.proxy.state.declared.server.Server.{Server}
+use Rattle.sip_admitting.specs.proxy.verdict.Verdict as Definition
 use Rattle.sip_admitting.specs.serving.Asking.{AnswersFinally}
 
 -- A step does what a verdict on the message of a datagram says.

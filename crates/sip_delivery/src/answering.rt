@@ -1,23 +1,23 @@
 ghost use Rattle.std.specs.Prelude.{◌≡◌, position, false, None, Some, IfOk, OnErr};
-ghost use Rattle.sip_proxy.specs.Proxy.{IsComing};
-ghost use Rattle.sip_proxy.specs.fitting.Fits.{IsFinalAnswer};
-ghost use Rattle.sip_proxy.specs.key.Key.{key_of};
-ghost use Rattle.sip_proxy.specs.opening.Arrivals.{arrival_of};
-ghost use Rattle.sip_proxy.specs.state.State.{has_key};
-ghost use Rattle.sip_proxy.specs.verdict.Verdict as Definition;
+ghost use Rattle.sip_admitting.specs.proxy.Proxy.{IsComing};
+ghost use Rattle.sip_admitting.specs.proxy.fitting.Fits.{IsFinalAnswer};
+ghost use Rattle.sip_admitting.specs.proxy.key.Key.{key_of};
+ghost use Rattle.sip_admitting.specs.proxy.opening.Arrivals.{arrival_of};
+ghost use Rattle.sip_admitting.specs.proxy.state.State.{has_key};
+ghost use Rattle.sip_admitting.specs.proxy.verdict.Verdict as Definition;
 ghost use Rattle.sip_delivery.specs.Delivery.{Takes};
 
 use crate::keeping::{NewRequest, keep};
+use sip_admitting::event::StepOut;
+use sip_admitting::field::Fields;
+use sip_admitting::form::View;
+use sip_admitting::hops::Hops;
+use sip_admitting::key::Key;
+use sip_admitting::opening::Arrival;
+use sip_admitting::proxy::Proxy;
+use sip_admitting::state::Server;
+use sip_admitting::timers::Timers;
 use sip_admitting::{take_answered, take_cancel};
-use sip_event::StepOut;
-use sip_proxy::Proxy;
-use sip_proxy::field::Fields;
-use sip_proxy::form::View;
-use sip_proxy::hops::Hops;
-use sip_proxy::key::Key;
-use sip_proxy::opening::Arrival;
-use sip_proxy::state::Server;
-use sip_proxy::timers::Timers;
 use std::alloc::{AllocError, Global};
 
 /// A new request with a key is answered at once, with a status and further fields. `AllocError` is the only refusal;

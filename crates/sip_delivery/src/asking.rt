@@ -1,29 +1,29 @@
 ghost use Rattle.std.specs.Prelude.{◌≡◌, position, true, false, None, Some, Option, IfOk, OnErr};
 ghost use Rattle.sip_admitting.specs.Admitting.{IsAnswered};
-ghost use Rattle.sip_proxy.specs.Proxy.{IsComing};
-ghost use Rattle.sip_proxy.specs.arrival.Verdict.{HasRoomFor, Is};
-ghost use Rattle.sip_proxy.specs.arrival.declared.verdict.Verdict.TheVariants as Arrived;
-ghost use Rattle.sip_proxy.specs.key.Key.{key_of};
-ghost use Rattle.sip_proxy.specs.opening.Arrivals.{arrival_of};
-ghost use Rattle.sip_proxy.specs.state.State.{has_key};
-ghost use Rattle.sip_proxy.specs.verdict.Verdict as Definition;
+ghost use Rattle.sip_admitting.specs.proxy.Proxy.{IsComing};
+ghost use Rattle.sip_admitting.specs.proxy.arrival.Verdict.{HasRoomFor, Is};
+ghost use Rattle.sip_admitting.specs.proxy.arrival.declared.verdict.Verdict.TheVariants as Arrived;
+ghost use Rattle.sip_admitting.specs.proxy.key.Key.{key_of};
+ghost use Rattle.sip_admitting.specs.proxy.opening.Arrivals.{arrival_of};
+ghost use Rattle.sip_admitting.specs.proxy.state.State.{has_key};
+ghost use Rattle.sip_admitting.specs.proxy.verdict.Verdict as Definition;
 ghost use Rattle.sip_admitting.specs.serving.Asking as Asking;
 ghost use Rattle.sip_delivery.specs.Delivery.{IsServed, Takes};
 
 use crate::going::go_to;
 use crate::keeping::{NewRequest, keep};
+use sip_admitting::arrival::{Judged, Outcome};
+use sip_admitting::event::StepOut;
+use sip_admitting::form::View;
+use sip_admitting::hops::Hops;
+use sip_admitting::key::Key;
+use sip_admitting::opening::Arrival;
+use sip_admitting::proxy::Proxy;
 use sip_admitting::serving::is_answered_here;
+use sip_admitting::state::Server;
 use sip_admitting::take_judged;
-use sip_event::StepOut;
+use sip_admitting::timers::Timers;
 use sip_ongoing::take_dropped;
-use sip_proxy::Proxy;
-use sip_proxy::arrival::{Judged, Outcome};
-use sip_proxy::form::View;
-use sip_proxy::hops::Hops;
-use sip_proxy::key::Key;
-use sip_proxy::opening::Arrival;
-use sip_proxy::state::Server;
-use sip_proxy::timers::Timers;
 use std::alloc::{AllocError, Global};
 
 /// A new request with a key about which policy decided is answered here: challenged, denied, registered, or sent to nobody.

@@ -1,25 +1,25 @@
 ghost use Rattle.std.specs.Prelude.{◌≡◌, IfOk, OnErr};
 ghost use Rattle.sip_incoming.specs.Incoming.{IsRequest};
-ghost use Rattle.sip_proxy.specs.Proxy.{IsComing};
-ghost use Rattle.sip_proxy.specs.model.Effect.{datagram_effect};
-ghost use Rattle.sip_proxy.specs.model.Step.{Does};
-ghost use Rattle.sip_proxy.specs.opening.Arrivals.{arrival_of};
-ghost use Rattle.sip_proxy.specs.verdict.Verdict as Definition;
+ghost use Rattle.sip_admitting.specs.proxy.Proxy.{IsComing};
+ghost use Rattle.sip_admitting.specs.proxy.model.Effect.{datagram_effect};
+ghost use Rattle.sip_admitting.specs.proxy.model.Step.{Does};
+ghost use Rattle.sip_admitting.specs.proxy.opening.Arrivals.{arrival_of};
+ghost use Rattle.sip_admitting.specs.proxy.verdict.Verdict as Definition;
 ghost use Rattle.sip_delivery.specs.Delivery.{Takes};
 
 use crate::known::take_known;
 use crate::new::take_new;
 use crate::responses::take_reply;
-use sip_event::StepOut;
+use sip_admitting::event::StepOut;
+use sip_admitting::form::View;
+use sip_admitting::judge::Judge;
+use sip_admitting::key::Key;
+use sip_admitting::opening::Arrival;
+use sip_admitting::policy::Rules;
+use sip_admitting::proxy::Proxy;
+use sip_admitting::timers::Timers;
 use sip_incoming::{Incoming, incoming_of, laws, read_datagram};
 use sip_ongoing::take_dropped;
-use sip_proxy::Proxy;
-use sip_proxy::form::View;
-use sip_proxy::judge::Judge;
-use sip_proxy::key::Key;
-use sip_proxy::opening::Arrival;
-use sip_proxy::policy::Rules;
-use sip_proxy::timers::Timers;
 use std::alloc::{AllocError, Global};
 
 /// The step of a request of a method with a key: it belongs to the open one with that key, or is new (RFC 3261 17.2.3).

@@ -1,8 +1,8 @@
 ghost use Rattle.std.specs.Prelude.{◌≡◌, IfOk};
 
-use sip_proxy::form::{Kept, View};
-use sip_proxy::key::Key;
-use sip_proxy::shared::Shared;
+use sip_admitting::form::{Kept, View};
+use sip_admitting::key::Key;
+use sip_admitting::shared::Shared;
 use std::alloc::{AllocError, Global};
 
 /// A new request, kept with its key for as long as it is open.

@@ -1,10 +1,10 @@
 ghost use Rattle.std.specs.Prelude.{◌≡◌, ℕ, Bool, List};
-ghost use Rattle.sip_proxy.specs.form.declared.message.Message.{Message};
-ghost use Rattle.sip_proxy.specs.key.declared.key.Key.{Key};
-ghost use Rattle.sip_proxy.specs.state.Arrival.{Arrival};
-ghost use Rattle.sip_proxy.specs.state.declared.proxy_state.ProxyState.{ProxyState};
-ghost use Rattle.sip_proxy.specs.state.declared.server.Server.{Server};
-ghost use Rattle.sip_proxy.specs.verdict.Verdict as Definition;
+ghost use Rattle.sip_admitting.specs.proxy.form.declared.message.Message.{Message};
+ghost use Rattle.sip_admitting.specs.proxy.key.declared.key.Key.{Key};
+ghost use Rattle.sip_admitting.specs.proxy.state.Arrival.{Arrival};
+ghost use Rattle.sip_admitting.specs.proxy.state.declared.proxy_state.ProxyState.{ProxyState};
+ghost use Rattle.sip_admitting.specs.proxy.state.declared.server.Server.{Server};
+ghost use Rattle.sip_admitting.specs.proxy.verdict.Verdict as Definition;
 ghost use Rattle.sip_delivery.specs.Delivery.{IsDroppedOrOn, NeedsRoom};
 
 /// An ACK that no server transaction takes is dropped, or goes on in its dialog: nothing answers an ACK (RFC 3261 17.1).

@@ -1,23 +1,23 @@
 ghost use Rattle.std.specs.Prelude.{◌≡◌, position, None, Some, IfOk, OnErr};
-ghost use Rattle.sip_proxy.specs.Proxy.{IsComing};
-ghost use Rattle.sip_proxy.specs.arrival.Verdict.{IsRequestOf};
-ghost use Rattle.sip_proxy.specs.key.Key.{key_of};
-ghost use Rattle.sip_proxy.specs.opening.Arrivals.{arrival_of};
-ghost use Rattle.sip_proxy.specs.state.State.{has_key};
-ghost use Rattle.sip_proxy.specs.verdict.Verdict as Definition;
+ghost use Rattle.sip_admitting.specs.proxy.Proxy.{IsComing};
+ghost use Rattle.sip_admitting.specs.proxy.arrival.Verdict.{IsRequestOf};
+ghost use Rattle.sip_admitting.specs.proxy.key.Key.{key_of};
+ghost use Rattle.sip_admitting.specs.proxy.opening.Arrivals.{arrival_of};
+ghost use Rattle.sip_admitting.specs.proxy.state.State.{has_key};
+ghost use Rattle.sip_admitting.specs.proxy.verdict.Verdict as Definition;
 ghost use Rattle.sip_delivery.specs.Delivery.{Takes};
 
 use crate::laws::new_requests_need_room;
 use crate::served::serve;
+use sip_admitting::event::StepOut;
+use sip_admitting::form::View;
+use sip_admitting::judge::Judge;
+use sip_admitting::key::Key;
+use sip_admitting::opening::Arrival;
+use sip_admitting::policy::Rules;
+use sip_admitting::proxy::Proxy;
 use sip_admitting::serving::new_verdict_answers_finally;
-use sip_event::StepOut;
-use sip_proxy::Proxy;
-use sip_proxy::form::View;
-use sip_proxy::judge::Judge;
-use sip_proxy::key::Key;
-use sip_proxy::opening::Arrival;
-use sip_proxy::policy::Rules;
-use sip_proxy::timers::Timers;
+use sip_admitting::timers::Timers;
 use std::alloc::{AllocError, Global};
 
 /// The step of a request of a method that no open one is found for: it is judged, and served so (RFC 3261 9.2, 10.3, 16.3

@@ -1,22 +1,22 @@
 ghost use Rattle.std.specs.Prelude.{◌≡◌, ◌||◌, if◌then◌else◌, Some, IsSome, IfOk, OnErr};
 ghost use Rattle.sip_incoming.specs.Incoming.{IsResponse};
-ghost use Rattle.sip_proxy.specs.Proxy.{IsComing};
-ghost use Rattle.sip_proxy.specs.fork.Places.{branch_at};
-ghost use Rattle.sip_proxy.specs.opening.Arrivals.{arrival_of};
-ghost use Rattle.sip_proxy.specs.state.declared.branch.Branch.{Branch};
-ghost use Rattle.sip_proxy.specs.state.declared.open_request.OpenRequest.{OpenRequest};
-ghost use Rattle.sip_proxy.specs.verdict.Verdict as Definition;
+ghost use Rattle.sip_admitting.specs.proxy.Proxy.{IsComing};
+ghost use Rattle.sip_admitting.specs.proxy.fork.Places.{branch_at};
+ghost use Rattle.sip_admitting.specs.proxy.opening.Arrivals.{arrival_of};
+ghost use Rattle.sip_admitting.specs.proxy.state.declared.branch.Branch.{Branch};
+ghost use Rattle.sip_admitting.specs.proxy.state.declared.open_request.OpenRequest.{OpenRequest};
+ghost use Rattle.sip_admitting.specs.proxy.verdict.Verdict as Definition;
 ghost use Rattle.sip_delivery.specs.Delivery.{Takes};
 
-use sip_event::StepOut;
+use sip_admitting::event::StepOut;
+use sip_admitting::form::View;
+use sip_admitting::hops::Hops;
+use sip_admitting::opening::Arrival;
+use sip_admitting::proxy::Proxy;
+use sip_admitting::state::Server;
+use sip_admitting::timers::Timers;
 use sip_incoming::laws;
 use sip_ongoing::{take_dropped, take_response};
-use sip_proxy::Proxy;
-use sip_proxy::form::View;
-use sip_proxy::hops::Hops;
-use sip_proxy::opening::Arrival;
-use sip_proxy::state::Server;
-use sip_proxy::timers::Timers;
 use std::alloc::{AllocError, Global};
 
 /// Whether a response to the branch at these places is taken: it has a second Via, or is to a CANCEL of this server.

@@ -1,24 +1,24 @@
 ghost use Rattle.std.specs.Prelude.{◌≡◌, position, None, Some, IfOk, OnErr};
-ghost use Rattle.sip_proxy.specs.Proxy.{IsComing};
-ghost use Rattle.sip_proxy.specs.arrival.Verdict.{HasRoom, Is};
-ghost use Rattle.sip_proxy.specs.key.Key.{key_of};
-ghost use Rattle.sip_proxy.specs.state.State.{has_key};
-ghost use Rattle.sip_proxy.specs.verdict.Verdict as Definition;
+ghost use Rattle.sip_admitting.specs.proxy.Proxy.{IsComing};
+ghost use Rattle.sip_admitting.specs.proxy.arrival.Verdict.{HasRoom, Is};
+ghost use Rattle.sip_admitting.specs.proxy.key.Key.{key_of};
+ghost use Rattle.sip_admitting.specs.proxy.state.State.{has_key};
+ghost use Rattle.sip_admitting.specs.proxy.verdict.Verdict as Definition;
 ghost use Rattle.sip_delivery.specs.Delivery.{IsServed, Takes};
 
 use crate::answering::{answer, cancel};
 use crate::asking::take_asked;
 use crate::going::go_within;
-use sip_event::StepOut;
+use sip_admitting::arrival::Verdict;
+use sip_admitting::event::StepOut;
+use sip_admitting::form::View;
+use sip_admitting::hops::Hops;
+use sip_admitting::key::Key;
+use sip_admitting::opening::Arrival;
+use sip_admitting::proxy::Proxy;
+use sip_admitting::state::Server;
+use sip_admitting::timers::Timers;
 use sip_ongoing::take_dropped;
-use sip_proxy::Proxy;
-use sip_proxy::arrival::Verdict;
-use sip_proxy::form::View;
-use sip_proxy::hops::Hops;
-use sip_proxy::key::Key;
-use sip_proxy::opening::Arrival;
-use sip_proxy::state::Server;
-use sip_proxy::timers::Timers;
 use sip_routing::send_ack;
 use std::alloc::{AllocError, Global};
 

@@ -1,12 +1,12 @@
 -- A step leads on from a state that steps lead to, and is one for a moment that goes back.
 use Rattle.std.proofs.Common.{◌≡◌, ◌∙◌, ◌≤◌, inl, inr, ℕ, List, ◌∷◌, Result, Ok, Err, IfOk, OnErr, refl, sym, subst}
 use Rattle.std.proofs.Math.Nat.{le-max_left, max-eq_right}
-use Rattle.sip_event.specs.declared.event.StepOut.{StepOut}
-use Rattle.sip_proxy.specs.host.declared.addr.Addr.{Addr}
-use Rattle.sip_proxy.specs.model.Effect.{datagram_effect}
-use Rattle.sip_proxy.specs.model.Step.{Act, Does, Passing, IsDelivery, IsQuiet, IsStep, IsTime, NoneAgainBy, NoneBy, arrival_of, moment_of}
-use Rattle.sip_proxy.specs.state.declared.proxy_state.ProxyState.{ProxyState}
-use Rattle.sip_proxy.specs.state.declared.server.Server.{Server}
+use Rattle.sip_firing.specs.proxy.event.declared.event.StepOut.{StepOut}
+use Rattle.sip_firing.specs.proxy.host.declared.addr.Addr.{Addr}
+use Rattle.sip_firing.specs.proxy.model.Effect.{datagram_effect}
+use Rattle.sip_firing.specs.proxy.model.Step.{Act, Does, Passing, IsDelivery, IsQuiet, IsStep, IsTime, NoneAgainBy, NoneBy, arrival_of, moment_of}
+use Rattle.sip_firing.specs.proxy.state.declared.proxy_state.ProxyState.{ProxyState}
+use Rattle.sip_firing.specs.proxy.state.declared.server.Server.{Server}
 use Rattle.sip_engine.specs.Engine.{IsReached}
 use Rattle.sip_engine.specs.declared.error.StepError.{StepError}
 

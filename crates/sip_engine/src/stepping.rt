@@ -1,28 +1,35 @@
-ghost use Rattle.std.specs.Prelude.{◌≡◌, ◌≤◌, ◌<◌, ◌^◌, ℕ, None, Err, IsOk, IfOk, IfErr, IfSome, OnErr};
-ghost use Rattle.sip_event.specs.declared.event.Event.TheVariants.{Datagram, Fault};
+ghost use Rattle.std.specs.Prelude.{◌≡◌, ◌≤◌, ◌<◌, ◌^◌, ℕ, false, None, Err, IsOk, IfOk, IfErr, IfSome, OnErr};
+ghost use Rattle.sip_firing.specs.proxy.event.declared.event.Event.TheVariants.{Datagram, Fault};
 ghost use Rattle.sip_firing.specs.Faults.{failed_of};
 ghost use Rattle.sip_firing.specs.Next.{IsNext};
-ghost use Rattle.sip_proxy.specs.model.Step.{Given, Passing, IsStep, IsTime, NoneAgainBefore, NoneAgainBy, NoneBefore, NoneBy, moment_of};
+ghost use Rattle.sip_firing.specs.proxy.model.Step.{Given, Passing, IsStep, IsTime, NoneAgainBefore, NoneAgainBy, NoneBefore, NoneBy, moment_of};
 ghost use Rattle.sip_engine.specs.Engine.{IsReached};
-ghost use Rattle.sip_engine.specs.StepError.{refusal_at, refusal_of};
+ghost use Rattle.sip_engine.specs.StepError.{is_too_large, refusal_at, refusal_of};
 ghost use Rattle.sip_engine.specs.declared.error.StepError.TheVariants.{NoMemory};
 
 use crate::error::StepError;
 use crate::histories::reached_states_are_sound;
 use sip_delivery::take_datagram;
-use sip_event::StepOut;
 use sip_firing as firing;
-use sip_proxy::Proxy;
-use sip_proxy::event::Ticket;
-use sip_proxy::host::Addr;
-use sip_proxy::judge::Judge;
-use sip_proxy::opening::Arrival;
-use sip_proxy::policy::Rules;
-use sip_proxy::timers::Timers;
+use sip_firing::event::{StepOut, Ticket};
+use sip_firing::host::Addr;
+use sip_firing::judge::Judge;
+use sip_firing::opening::Arrival;
+use sip_firing::policy::Rules;
+use sip_firing::proxy::Proxy;
+use sip_firing::timers::Timers;
 use std::alloc::Global;
 
 /// The first moment, and the first number of a datagram, that is too large.
 const TOO_LARGE: u64 = 0x4000_0000_0000_0000;
+
+/// Whether a moment, or the number of a datagram, is too large.
+fn is_too_large(n: u64) -> bool
+    ensures value { result ≡ is_too_large n }
+    ensures small { result ≡ false → n < 2 ^ 62 }
+{
+    TOO_LARGE <= n
+}
 
 /// The moment at which a step stands: one that goes back counts as the last one.
 fn moment_of<T: Timers>(proxy: &Proxy<T>, at: u64) -> u64
@@ -53,7 +60,7 @@ pub(crate) fn fire<T: Timers, R: Rules>(
     ensures at_moment { IfOk result (λ out. out.at ≡ proxy.new.state.moment) }
     ensures in_time { IfOk result (λ out. out.at ≤ moment_of proxy.old.state at) }
 {
-    if TOO_LARGE <= at {
+    if is_too_large(at) {
         return Err(StepError::MomentTooLarge);
     }
     reached_states_are_sound();
@@ -80,10 +87,10 @@ pub(crate) fn deliver<T: Timers, R: Rules>(
     ensures timers { OnErr result (proxy.new.timers ≡ proxy.old.timers) }
     ensures step { IfOk result (λ out. IsStep judge.now proxy.old.state (Given (Datagram at word from bytes.now)) out proxy.new.state) }
 {
-    if TOO_LARGE <= at {
+    if is_too_large(at) {
         return Err(StepError::MomentTooLarge);
     }
-    if TOO_LARGE <= proxy.next() {
+    if is_too_large(proxy.next()) {
         return Err(StepError::Worn);
     }
     reached_states_are_sound();
@@ -116,7 +123,7 @@ pub(crate) fn fault<T: Timers, R: Rules>(
     ensures timers { OnErr result (proxy.new.timers ≡ proxy.old.timers) }
     ensures step { IfOk result (λ out. IsStep judge.now proxy.old.state (Given (Fault at ticket)) out proxy.new.state) }
 {
-    if TOO_LARGE <= at {
+    if is_too_large(at) {
         return Err(StepError::MomentTooLarge);
     }
     let now = moment_of(proxy, at);

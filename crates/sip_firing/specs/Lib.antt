@@ -1,3 +1,4 @@
 pub mod Faults
 pub mod Next
 pub mod Steps
+pub use Rattle.sip_proxy.specs as proxy

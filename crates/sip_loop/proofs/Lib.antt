@@ -1,10 +1,6 @@
 pub mod Calls
-pub mod Datagrams
 pub mod Fronts
-pub mod Keeping
-pub mod LineEnds
 pub mod Refusing
 pub mod Replaying
 pub mod Running
 pub mod Stopping
-pub mod Written

@@ -1,6 +1,6 @@
 -- What holds where a replay is refused.
 use Rattle.std.proofs.Common.{◌≡◌, ℕ, ◌+◌, ◌-◌, ◌^◌, ◌≤◌, ◌⊎◌, inl, inr, List, [], ◌∷◌, ◌++◌, length, length-append, Option, None, Some, IfSome, Result, Ok, Err, OnOk, IfErr, refl, sym, ◌∙◌, ap, subst, arith, append-nil, append_assoc}
-use Rattle.std.specs.Prelude.{count_by, IsSome}
+use Rattle.std.specs.Prelude.{count_by, cond, IsSome}
 use Rattle.std.specs.Io.KnownBytes.{Appends, Consumes, Keeps, prepend_known}
 use Rattle.std.proofs.KnownBytes.{Appends-nil, Appends-trans}
 use Rattle.std.proofs.lemmas.Grind.{flat_map-append}
@@ -11,19 +11,20 @@ use Rattle.sip_model.specs.state.declared.server.Server.{Server}
 use Rattle.sip_model.specs.state.declared.proxy_state.ProxyState.{ProxyState}
 use Rattle.sip_model.specs.state.State.{first_state}
 use Rattle.sip_model.specs.Run.{first_moment, event_moment}
-use Rattle.sip_loop.specs.Print.{step_text, printed}
+use Rattle.sip_script.specs.Print.{step_text, printed}
 use Rattle.sip_loop.specs.Errors.{error_at}
-use Rattle.sip_loop.specs.Devices.{WritesFront, IsFaulted}
-use Rattle.sip_loop.specs.Lines.{Reading, is_end, pending}
-use Rattle.sip_loop.specs.Events.{SaysEvent, GivesEvent, IsNoEvent, EventStops}
+use Rattle.sip_script.specs.Devices.{WritesFront}
+use Rattle.sip_loop.specs.Errors.{IsFaulted}
+use Rattle.sip_script.specs.Lines.{Reading, is_end, pending}
+use Rattle.sip_script.specs.Events.{SaysEvent, GivesEvent, IsNoEvent, EventStops}
 use Rattle.sip_loop.specs.Replays.{SaysEvents, server_with, IsReplay}
 use Rattle.sip_loop.specs.Refusals.{BeginsWith, NoEventBehind, ComesTo, CantGoOn, StopsAtLine, StopsBetween, StopsWithin, Refuses, IsRefused, PlaysSome, TakingStops, moment_ahead, refusal_of_event}
 use Rattle.sip_loop.specs.declared.error.ReplayError.{ReplayError}
 use Rattle.sip_loop.specs.declared.error.ReplayError.TheVariants as errors
-use Rattle.sip_loop.specs.declared.stop.Stop.{Stop}
-use Rattle.sip_loop.specs.declared.stop.Stop.TheVariants as stops
+use Rattle.sip_script.specs.declared.stop.Stop.{Stop}
+use Rattle.sip_script.specs.declared.stop.Stop.TheVariants as stops
 use Rattle.sip_loop.proofs.Fronts.{appends_kept, front_all, front_none, front_second, front_still}
-use Rattle.sip_loop.proofs.LineEnds.{ends_add}
+use Rattle.std.proofs.lemmas.List.Sums.{sum_by-append}
 use Rattle.sip_loop.proofs.Replaying.{Replays}
 use Rattle.sip_loop.proofs.Running.{RunsJoin, run_on}
 
@@ -197,7 +198,7 @@ front_on : (a b c : Option (List ℕ)) (steps more : List StepOut) → Appends a
 front_on a b c steps more h next = subst (λ l. WritesFront a c l) (sym (flat_map-append step_text steps more)) (front_second a b c (printed steps) (printed more) h next)
 
 line_on : (line number part : ℕ) (text more : List ℕ) → part ≡ number + count_by is_end text → line ≡ part + count_by is_end more + 1 → line ≡ number + count_by is_end (text ++ more) + 1
-line_on line number part text more h is = let sum : count_by is_end (text ++ more) ≡ count_by is_end text + count_by is_end more = ends_add text more in omega (arith, h, is, sum)
+line_on line number part text more h is = let sum : count_by is_end (text ++ more) ≡ count_by is_end text + count_by is_end more = sum_by-append (λ b. cond (is_end b) 1 0) text more in omega (arith, h, is, sum)
 
 within_on : RunsJoin → (server : Server) (first mid : ProxyState) (old part : Reading) (before middle start half written : Option (List ℕ)) → Replays server first mid old part before middle start half
     → StopsWithin server mid (pending part middle) half written → StopsWithin server first (pending old before) start written

@@ -11,11 +11,11 @@ use Rattle.sip_event.specs.declared.event.StepOut.{StepOut}
 use Rattle.sip_model.specs.Access.{Access}
 use Rattle.sip_model.specs.Run.{Link, IsRun}
 use Rattle.sip_model.specs.state.State.{first_state}
-use Rattle.sip_loop.specs.Print.{printed}
-use Rattle.std.specs.Prelude.{count_by}
-use Rattle.sip_loop.specs.Lines.{Reading, is_end, pending, IsOver}
-use Rattle.sip_loop.proofs.LineEnds.{ends_add}
-use Rattle.sip_loop.specs.Events.{SaysEvent}
+use Rattle.sip_script.specs.Print.{printed}
+use Rattle.std.specs.Prelude.{count_by, cond}
+use Rattle.sip_script.specs.Lines.{Reading, is_end, pending, IsOver}
+use Rattle.std.proofs.lemmas.List.Sums.{sum_by-append}
+use Rattle.sip_script.specs.Events.{SaysEvent}
 use Rattle.sip_loop.specs.Replays.{SaysEvents, server_with, Plays, PlaysNext, IsReplay, IsLawfulReplay}
 use Rattle.std.specs.Prelude.{nat_le}
 use Rattle.std.proofs.lemmas.Bool.Decides.{nat_tests}
@@ -60,7 +60,7 @@ replays_nothing server first r before start = record {
 }
 
 numbers_add : (old mid new : ℕ) (text more : List ℕ) → mid ≡ old + count_by is_end text → new ≡ mid + count_by is_end more → new ≡ old + count_by is_end (text ++ more)
-numbers_add old mid new text more h1 h2 = let sum : count_by is_end (text ++ more) ≡ count_by is_end text + count_by is_end more = ends_add text more in omega (arith, h1, h2, sum)
+numbers_add old mid new text more h1 h2 = let sum : count_by is_end (text ++ more) ≡ count_by is_end text + count_by is_end more = sum_by-append (λ b. cond (is_end b) 1 0) text more in omega (arith, h1, h2, sum)
 
 pub replays_more : RunsJoin → (server : Server) (first mid new : ProxyState) (old part rest : Reading) (before middle after start half written : Option (List ℕ))
     → Replays server first mid old part before middle start half → PlaysNext server mid new part rest middle after half written → Replays server first new old rest before after start written

@@ -10,7 +10,7 @@ use Rattle.sip_model.specs.state.declared.server.Server.{Server}
 use Rattle.sip_model.specs.state.declared.proxy_state.ProxyState.{ProxyState}
 use Rattle.sip_model.specs.Step.{Act, Given, Passing, IsStep}
 use Rattle.sip_model.specs.Run.{Link, IsRun, IsPaced, IsUpTo, event_moment, events_of, steps_of, next_moment, first_moment}
-use Rattle.sip_loop.specs.Print.{step_text, printed}
+use Rattle.sip_script.specs.Print.{step_text, printed}
 use Rattle.sip_loop.specs.Replays.{Plays}
 
 -- no step yet

@@ -15,13 +15,13 @@ use Rattle.sip_model.specs.Run.{Link, IsRun, event_moment, events_of, steps_of}
 use Rattle.sip_engine.specs.declared.error.StepError.{StepError}
 use Rattle.sip_engine.specs.declared.error.StepError.TheVariants as step_errors
 use Rattle.sip_engine.specs.StepError.{refusal_at, refusal_of, is_too_large}
-use Rattle.sip_loop.specs.Print.{step_text, printed}
+use Rattle.sip_script.specs.Print.{step_text, printed}
 use Rattle.sip_loop.specs.Errors.{stop_of_step}
-use Rattle.sip_loop.specs.Devices.{WritesFront, PrintStops}
+use Rattle.sip_script.specs.Devices.{WritesFront, PrintStops}
 use Rattle.sip_loop.specs.Refusals.{refusal_of_event, StepStops, PlaysPart, PlaysUpTo, PlaysSome, FiringStops, TakingStops}
 use Rattle.sip_loop.specs.Replays.{Plays}
-use Rattle.sip_loop.specs.declared.stop.Stop.{Stop}
-use Rattle.sip_loop.specs.declared.stop.Stop.TheVariants as stops
+use Rattle.sip_script.specs.declared.stop.Stop.{Stop}
+use Rattle.sip_script.specs.declared.stop.Stop.TheVariants as stops
 use Rattle.sip_loop.proofs.Fronts.{front_all, front_second}
 use Rattle.sip_loop.proofs.Running.{Fires, printed_more}
 

@@ -1,9 +1,10 @@
 -- The numbers of refusals, and why an event wasn't replayed.
-use Rattle.std.specs.Prelude.{ℕ}
+use Rattle.std.specs.Prelude.{◌≡◌, ◌≤◌, ⊤, ℕ, Option}
 use Rattle.sip_engine.specs.declared.error.StepError.{StepError}
 use Rattle.sip_engine.specs.declared.error.StepError.TheVariants as step_errors
-use Rattle.sip_loop.specs.declared.stop.Stop.{Stop}
-use Rattle.sip_loop.specs.declared.stop.Stop.TheVariants as stops
+use Rattle.sip_script.specs.declared.stop.Stop.{Stop}
+use Rattle.sip_script.specs.declared.stop.Stop.TheVariants as stops
+use Rattle.sip_script.specs.Devices.{later}
 use Rattle.sip_loop.specs.declared.error.ReplayError.{ReplayError}
 use Rattle.sip_loop.specs.declared.error.ReplayError.TheVariants.{NoMemory, Script, Read, Write}
 
@@ -26,3 +27,16 @@ abbrev pub stop_of_step : StepError → Stop
 stop_of_step step_errors.NoMemory = stops.NoMemory
 stop_of_step step_errors.MomentTooLarge = stops.Script
 stop_of_step step_errors.Worn = stops.Script
+
+-- a reader was asked at most that often
+pub record IsAsked (most : ℕ) (old new : Option ℕ) : Type 0 where
+  pub times : ℕ
+  pub within : times ≤ most
+  pub counted : new ≡ later times old
+
+-- Read is answered where the reader failed, or was asked as often as it may be; Write where the writer gave up.
+abbrev pub IsFaulted : Type 0 → Type 0 → ReplayError → Type 0
+IsFaulted reader_stopped writer_stopped NoMemory = ⊤
+IsFaulted reader_stopped writer_stopped (Script line) = ⊤
+IsFaulted reader_stopped writer_stopped Read = reader_stopped
+IsFaulted reader_stopped writer_stopped Write = writer_stopped

@@ -11,13 +11,13 @@ use Rattle.sip_model.specs.state.State.{first_state}
 use Rattle.sip_model.specs.Run.{Link, IsRun, event_moment}
 use Rattle.sip_engine.specs.declared.error.StepError.{StepError}
 use Rattle.sip_engine.specs.StepError.{refusal_at, refusal_of}
-use Rattle.sip_loop.specs.Print.{printed}
-use Rattle.sip_loop.specs.Devices.{WritesFront}
-use Rattle.sip_loop.specs.Lines.{is_end}
-use Rattle.sip_loop.specs.Events.{SaysEvent, IsNoEvent}
+use Rattle.sip_script.specs.Print.{printed}
+use Rattle.sip_script.specs.Devices.{WritesFront}
+use Rattle.sip_script.specs.Lines.{is_end}
+use Rattle.sip_script.specs.Events.{SaysEvent, IsNoEvent}
 use Rattle.sip_loop.specs.Replays.{SaysEvents, server_with, Plays}
-use Rattle.sip_loop.specs.declared.stop.Stop.{Stop}
-use Rattle.sip_loop.specs.declared.stop.Stop.TheVariants as stops
+use Rattle.sip_script.specs.declared.stop.Stop.{Stop}
+use Rattle.sip_script.specs.declared.stop.Stop.TheVariants as stops
 use Rattle.sip_loop.specs.declared.error.ReplayError.{ReplayError}
 use Rattle.sip_loop.specs.declared.error.ReplayError.TheVariants.{NoMemory, Script, Read, Write}
 

@@ -10,9 +10,9 @@ use Rattle.sip_model.specs.state.State.{first_state}
 use Rattle.sip_model.specs.Step.{NoneBy, NoneAgainBy}
 use Rattle.sip_model.specs.Run.{Link, IsRun}
 use Rattle.sip_model.specs.Access.{Access}
-use Rattle.sip_loop.specs.Print.{printed}
-use Rattle.sip_loop.specs.Lines.{Reading}
-use Rattle.sip_loop.specs.Events.{SaysEvent, GivesEvent}
+use Rattle.sip_script.specs.Print.{printed}
+use Rattle.sip_script.specs.Lines.{Reading}
+use Rattle.sip_script.specs.Events.{SaysEvent, GivesEvent}
 
 -- a text that says an event, in front of one that says others
 pub record SaysFirst (text : List ℕ) (event : Event) (SaysOthers : List ℕ → Type 0) : Type 0 where

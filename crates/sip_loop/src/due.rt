@@ -1,14 +1,13 @@
 ghost use Rattle.std.specs.Prelude.{◌≡◌, [], false, Some, IfErr, OnOk};
 ghost use Rattle.sip_model.specs.Step.{moment_of};
-ghost use Rattle.sip_loop.specs.Devices.{GaveUp};
+ghost use Rattle.sip_script.specs.Devices.{GaveUp};
 ghost use Rattle.sip_loop.specs.Refusals.{FiringStops};
 ghost use Rattle.sip_loop.specs.Replays.{NothingDueBy, Plays};
 
-use crate::device::TellingWriter;
-use crate::print::print_step;
-use crate::stop::Stop;
+use crate::error::stop_of;
 use sip_engine::Engine;
 use sip_model::policy::Rules;
+use sip_script::{Stop, TellingWriter, print_step};
 use sip_timers::Timers;
 use std::alloc::Global;
 
@@ -39,7 +38,10 @@ pub fn fire_due<T: Timers, R: Rules, W: TellingWriter>(
         if !is_due(engine, at) {
             return Ok(());
         }
-        let out = engine.fire(at)?;
+        let out = match engine.fire(at) {
+            Ok(out) => out,
+            Err(e) => return Err(stop_of(e)),
+        };
         print_step(alloc, writer, &out)?;
     }
     Err(Stop::Script)

@@ -1,6 +1,8 @@
 ghost use Rattle.std.specs.Prelude.{◌≡◌};
-ghost use Rattle.sip_loop.specs.Errors.{number_of_error};
+ghost use Rattle.sip_loop.specs.Errors.{error_at, number_of_error, stop_of_step};
 
+use sip_engine::StepError;
+use sip_script::Stop;
 use std::error::Error;
 use std::fmt;
 
@@ -18,6 +20,18 @@ pub enum ReplayError {
 }
 
 impl ReplayError {
+    /// The refusal of the event that begins with this line.
+    pub(crate) fn at_line(stop: Stop, line: u64) -> ReplayError
+        ensures { result ≡ error_at stop line }
+    {
+        match stop {
+            Stop::NoMemory => ReplayError::NoMemory,
+            Stop::Script => ReplayError::Script(line),
+            Stop::Read => ReplayError::Read,
+            Stop::Write => ReplayError::Write,
+        }
+    }
+
     /// The number of this refusal.
     pub fn number(&self) -> u8
         ensures { result ≡ number_of_error self.now }
@@ -43,3 +57,13 @@ impl fmt::Display for ReplayError {
 }
 
 impl Error for ReplayError {}
+
+/// Why an event whose step was refused isn't replayed.
+pub(crate) fn stop_of(e: StepError) -> Stop
+    ensures { result ≡ stop_of_step e }
+{
+    match e {
+        StepError::NoMemory => Stop::NoMemory,
+        StepError::MomentTooLarge | StepError::Worn => Stop::Script,
+    }
+}

@@ -1,24 +1,20 @@
 ghost use Rattle.std.specs.Prelude.{◌≡◌, ◌≤◌, ◌⊎◌, [], ◌∷◌, true, false, None, Err, IfOk, IfErr, OnOk};
 ghost use Rattle.sip_model.specs.Run.{event_moment};
 ghost use Rattle.sip_model.specs.Step.{Given, IsStep, moment_of};
-ghost use Rattle.sip_loop.specs.Devices.{later, GaveUp, IsAsked, IsFaulted};
-ghost use Rattle.sip_loop.specs.Lines.{pending, IsOver, IsSpent};
+ghost use Rattle.sip_script.specs.Devices.{later, GaveUp};
+ghost use Rattle.sip_loop.specs.Errors.{IsAsked, IsFaulted};
+ghost use Rattle.sip_script.specs.Lines.{pending, IsOver, IsSpent};
 ghost use Rattle.sip_loop.specs.Refusals.{refusal_of_event, IsRefused, Refuses, StepStops, TakingStops};
 ghost use Rattle.sip_loop.specs.Replays.{IsLawfulReplay, IsReplay, NothingDueBy, Plays, PlaysNext};
 
-use crate::device::{TellingReader, TellingWriter};
 use crate::due::fire_due;
-use crate::error::ReplayError;
-use crate::event::next_event;
-use crate::lines::Lines;
-use crate::print::print_step;
-use crate::stop::Stop;
-use crate::writing::hand_on;
+use crate::error::{ReplayError, stop_of};
 use sip_engine::Engine;
 use sip_event::{Boot, Event, StepOut};
 use sip_model::laws::every_run_has_access;
 use sip_model::policy::Rules;
 use sip_model::runs::runs_join;
+use sip_script::{Lines, Stop, TellingReader, TellingWriter, hand_on, next_event, print_step};
 use sip_state::settings::Config;
 use sip_timers::Timers;
 use std::alloc::Global;
@@ -108,11 +104,11 @@ fn take_next<T: Timers, R: Rules, I: TellingReader, W: TellingWriter>(
     let event = match next_event(alloc, lines, reader, line) {
         Ok(Some(event)) => event,
         Ok(None) => return Ok(false),
-        Err(stop) => return Err(stop.at_line(first)),
+        Err(stop) => return Err(ReplayError::at_line(stop, first)),
     };
     match take_event(alloc, engine, event, writer) {
         Ok(()) => Ok(true),
-        Err(stop) => Err(stop.at_line(first)),
+        Err(stop) => Err(ReplayError::at_line(stop, first)),
     }
 }
 
@@ -152,14 +148,18 @@ fn own_step<T: Timers, R: Rules>(engine: &mut Engine<T, R>, event: Event) -> Res
     ensures step { IfOk result (λ out. IsStep engine.old.server engine.old.state (Given event) out engine.new.state) }
     ensures stopped { IfErr result (StepStops (refusal_of_event engine.old.state event)) }
 {
-    match event {
+    let taken = match event {
         Event::Datagram {
             at,
             word,
             from,
             bytes,
-        } => Ok(engine.deliver(at, word, from, bytes.as_slice())?),
-        Event::Time { at } => Ok(engine.fire(at)?),
-        Event::Fault { at, ticket } => Ok(engine.fault(at, ticket)?),
+        } => engine.deliver(at, word, from, bytes.as_slice()),
+        Event::Time { at } => engine.fire(at),
+        Event::Fault { at, ticket } => engine.fault(at, ticket),
+    };
+    match taken {
+        Ok(out) => Ok(out),
+        Err(e) => Err(stop_of(e)),
     }
 }

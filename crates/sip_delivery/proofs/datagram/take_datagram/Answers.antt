@@ -1,5 +1,5 @@
 use Rattle.std.proofs.Common.{◌∙◌, sym}
-use Rattle.sip_proxy.specs.opening.Arrivals.{arrival_of}
+use Rattle.sip_admitting.specs.proxy.opening.Arrivals.{arrival_of}
 use Rattle.sip_delivery.proofs.Taken.{silent}
 use Rattle.sip_delivery.proofs.datagram.take_datagram.Goals as goal
 

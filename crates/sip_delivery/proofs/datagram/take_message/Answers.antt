@@ -1,9 +1,9 @@
 use Rattle.std.proofs.Common.{ap, subst, sym}
 use Rattle.sip_incoming.specs.Incoming.{Is}
 use Rattle.sip_incoming.specs.declared.incoming.Incoming.{Incoming}
-use Rattle.sip_proxy.specs.opening.Arrivals.{arrival_of}
-use Rattle.sip_proxy.specs.state.declared.server.Server.{Server}
-use Rattle.sip_proxy.specs.verdict.Verdict as Definition
+use Rattle.sip_admitting.specs.proxy.opening.Arrivals.{arrival_of}
+use Rattle.sip_admitting.specs.proxy.state.declared.server.Server.{Server}
+use Rattle.sip_admitting.specs.proxy.verdict.Verdict as Definition
 use Rattle.sip_delivery.proofs.Taken.{dropped_as}
 use Rattle.sip_delivery.proofs.datagram.take_message.Goals as goal
 

@@ -1,4 +1,4 @@
-use Rattle.sip_proxy.specs.opening.Arrivals.{arrival_of}
+use Rattle.sip_admitting.specs.proxy.opening.Arrivals.{arrival_of}
 use Rattle.sip_delivery.proofs.Taken.{known}
 use Rattle.sip_delivery.proofs.datagram.take_request.Goals as goal
 

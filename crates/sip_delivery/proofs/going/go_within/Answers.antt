@@ -1,4 +1,4 @@
-use Rattle.sip_proxy.specs.verdict.Verdict as Definition
+use Rattle.sip_admitting.specs.proxy.verdict.Verdict as Definition
 use Rattle.sip_delivery.proofs.Taken.{message_is}
 use Rattle.sip_delivery.proofs.going.go_within.Goals as goal
 

@@ -1,6 +1,6 @@
 use Rattle.std.proofs.Common.{IfOk, sym, subst}
-use Rattle.sip_proxy.specs.verdict.Verdict as Definition
-use Rattle.sip_proxy.specs.state.declared.server.Server.{Server}
+use Rattle.sip_admitting.specs.proxy.verdict.Verdict as Definition
+use Rattle.sip_admitting.specs.proxy.state.declared.server.Server.{Server}
 use Rattle.sip_delivery.specs.Delivery.{Takes}
 use Rattle.sip_delivery.proofs.Taken.{stopped, went_on}
 use Rattle.sip_delivery.proofs.known.take_ack.Goals as goal

@@ -1,8 +1,8 @@
 use Rattle.std.proofs.Common.{IfOk, sym, subst}
-use Rattle.sip_proxy.specs.arrival.Verdict.{Is}
-use Rattle.sip_proxy.specs.opening.Arrivals.{arrival_of}
-use Rattle.sip_proxy.specs.state.declared.server.Server.{Server}
-use Rattle.sip_proxy.specs.verdict.Verdict as Definition
+use Rattle.sip_admitting.specs.proxy.arrival.Verdict.{Is}
+use Rattle.sip_admitting.specs.proxy.opening.Arrivals.{arrival_of}
+use Rattle.sip_admitting.specs.proxy.state.declared.server.Server.{Server}
+use Rattle.sip_admitting.specs.proxy.verdict.Verdict as Definition
 use Rattle.sip_delivery.specs.Delivery.{IsServed, Takes}
 use Rattle.sip_delivery.proofs.Taken.{new_told, served}
 use Rattle.sip_delivery.proofs.new.take_new.Goals as goal

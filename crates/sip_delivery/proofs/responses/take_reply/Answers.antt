@@ -1,6 +1,6 @@
 use Rattle.std.proofs.Common.{refl}
-use Rattle.sip_proxy.specs.context.FoundBranch.{found_branch}
-use Rattle.sip_proxy.specs.opening.Arrivals.{arrival_of}
+use Rattle.sip_admitting.specs.proxy.context.FoundBranch.{found_branch}
+use Rattle.sip_admitting.specs.proxy.opening.Arrivals.{arrival_of}
 use Rattle.sip_delivery.proofs.Taken.{replied, unfound}
 use Rattle.sip_delivery.proofs.responses.take_reply.Goals as goal
 

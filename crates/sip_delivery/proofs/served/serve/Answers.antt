@@ -1,7 +1,7 @@
 use Rattle.std.proofs.Common.{subst}
-use Rattle.sip_proxy.specs.arrival.Verdict.{Is}
-use Rattle.sip_proxy.specs.arrival.declared.verdict.Verdict.{Verdict}
-use Rattle.sip_proxy.specs.verdict.Verdict as Definition
+use Rattle.sip_admitting.specs.proxy.arrival.Verdict.{Is}
+use Rattle.sip_admitting.specs.proxy.arrival.declared.verdict.Verdict.{Verdict}
+use Rattle.sip_admitting.specs.proxy.verdict.Verdict as Definition
 use Rattle.sip_delivery.proofs.Taken.{dropped_as}
 use Rattle.sip_delivery.proofs.served.serve.Goals as goal
 

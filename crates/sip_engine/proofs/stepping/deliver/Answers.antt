@@ -1,7 +1,7 @@
 use Rattle.std.proofs.Common.{◌<◌, ◌^◌, ℕ, subst, sym, arith}
-use Rattle.sip_proxy.specs.model.Step.{NoneAgainBefore, NoneAgainBy, NoneBefore, NoneBy, moment_of}
-use Rattle.sip_proxy.specs.retransmission.Retransmission.{resends}
-use Rattle.sip_proxy.specs.state.State.{deadlines}
+use Rattle.sip_firing.specs.proxy.model.Step.{NoneAgainBefore, NoneAgainBy, NoneBefore, NoneBy, moment_of}
+use Rattle.sip_firing.specs.proxy.retransmission.Retransmission.{resends}
+use Rattle.sip_firing.specs.proxy.state.State.{deadlines}
 use Rattle.sip_engine.proofs.Numbered.{later_is_not_before}
 use Rattle.sip_engine.proofs.stepping.deliver.Goals as goal
 
@@ -9,8 +9,8 @@ pub take_datagram-requires : goal.take_datagram-requires
 take_datagram-requires g c =
     let old = c.args.proxy.now.state in
     let now = moment_of old c.args.at in
-    let early : c.args.at < 2 ^ 62 = omega (arith, c.if-at-ge-TOO_LARGE.false) in
-    let few : old.next < 2 ^ 62 = omega (arith, c.if-next-ge-TOO_LARGE.false, c.next.ensures) in
+    let early : c.args.at < 2 ^ 62 = c.is_too_large.ensures.small c.if-is_too_large.false in
+    let few : old.next < 2 ^ 62 = omega (arith, c.is_too_large-2.ensures.small c.if-is_too_large-2.false, c.next.ensures) in
     let none : NoneBy now old.requests × NoneAgainBy now old.requests = c.requires.none_due early in
     record {
       coming = record {

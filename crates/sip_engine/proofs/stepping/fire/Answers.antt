@@ -1,6 +1,6 @@
 use Rattle.std.proofs.Common.{◌≤◌, ℕ, subst, sym}
-use Rattle.sip_proxy.specs.model.Step.{Passing, IsStep, moment_of}
-use Rattle.sip_proxy.specs.state.declared.server.Server.{Server}
+use Rattle.sip_firing.specs.proxy.model.Step.{Passing, IsStep, moment_of}
+use Rattle.sip_firing.specs.proxy.state.declared.server.Server.{Server}
 use Rattle.sip_engine.proofs.Leading.{passes_for}
 use Rattle.sip_engine.proofs.stepping.fire.Goals as goal
 

@@ -1,6 +1,7 @@
 use Rattle.std.proofs.Common.{◌≡◌, ◌⊎◌}
 use Rattle.std.proofs.lemmas.Result.{on_ok_weaker, IfErr-weaker}
-use Rattle.sip_loop.specs.Devices.{later, GaveUp, IsFaulted}
+use Rattle.sip_script.specs.Devices.{later, GaveUp}
+use Rattle.sip_loop.specs.Errors.{IsFaulted}
 use Rattle.sip_loop.specs.Refusals.{IsRefused}
 use Rattle.sip_loop.proofs.Refusing.{refused_kept, faulted_still, unflushed}
 use Rattle.sip_loop.proofs.Replaying.{lawful, replay_kept}

@@ -1,5 +1,5 @@
 use Rattle.std.proofs.lemmas.Result.{err_from_is_err_and}
-use Rattle.sip_loop.specs.Devices.{GaveUp}
+use Rattle.sip_script.specs.Devices.{GaveUp}
 use Rattle.sip_loop.proofs.Running.{plays_event}
 use Rattle.sip_loop.proofs.Stopping.{taking_unfired, taking_refused, taking_unprinted}
 use Rattle.sip_loop.proofs.playback.take_event.Goals as goal

@@ -1,6 +1,7 @@
 use Rattle.std.proofs.Common.{◌+◌, sym, ap, subst}
-use Rattle.sip_loop.specs.Devices.{GaveUp, IsFaulted}
-use Rattle.sip_loop.specs.Lines.{pending, IsSpent}
+use Rattle.sip_script.specs.Devices.{GaveUp}
+use Rattle.sip_loop.specs.Errors.{IsFaulted}
+use Rattle.sip_script.specs.Lines.{pending, IsSpent}
 use Rattle.sip_loop.specs.Refusals.{Refuses}
 use Rattle.sip_loop.proofs.Refusing.{event_refused, event_faulted, taking_refuses, taking_faulted}
 use Rattle.sip_loop.proofs.playback.take_next.Goals as goal

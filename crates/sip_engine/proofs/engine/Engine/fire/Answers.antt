@@ -1,4 +1,4 @@
-use Rattle.sip_proxy.specs.model.Step.{Passing}
+use Rattle.sip_firing.specs.proxy.model.Step.{Passing}
 use Rattle.sip_engine.proofs.Leading.{led_by}
 use Rattle.sip_engine.proofs.engine.Engine.fire.Goals as goal
 

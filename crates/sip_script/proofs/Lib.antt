@@ -1,0 +1,6 @@
+pub mod Calls
+pub mod Datagrams
+pub mod Fronts
+pub mod Keeping
+pub mod LineEnds
+pub mod Written

@@ -1,0 +1,5 @@
+pub mod Devices
+pub mod Events
+pub mod Lines
+pub mod Print
+pub mod Script

@@ -1,0 +1,104 @@
+ghost use Rattle.std.specs.Prelude.{◌≡◌, ◌≤◌, ◌<◌, ◌++◌, length, take, OnOk, IfOk, IfErr, IfSome, IfNone};
+ghost use Rattle.sip_script.specs.Devices.{later};
+ghost use Rattle.sip_script.specs.Events;
+ghost use Rattle.sip_script.specs.Events.{GivesEvent, GivesDatagram, EventStops, DatagramStops};
+ghost use Rattle.sip_script.specs.Lines.{left, pending, IsOver, IsSpent};
+ghost use Rattle.sip_script.specs.Script;
+ghost use Rattle.sip_script.specs.declared.stop.Stop.TheVariants.{NoMemory};
+
+use crate::device::TellingReader;
+use crate::lines::Lines;
+use crate::script::{DatagramHead, Line, line_of, unstuffed};
+use crate::stop::Stop;
+use sip_event::Event;
+use sip_text::Bytes;
+use std::alloc::Global;
+
+/// One byte more than a datagram has. What comes behind isn't kept: a datagram over 65,507 bytes is
+/// refused as too long, whatever its bytes are.
+const KEPT: usize = 65_508;
+
+/// The next event of a script; `None` at its end.
+pub fn next_event<R: TellingReader>(
+    alloc: Global,
+    lines: &mut Lines,
+    reader: &mut R,
+    line: &mut Vec<u8>,
+) -> Result<Option<Event>, Stop>
+    ensures given { IfOk result (λ found. IfSome found (λ event. GivesEvent lines.old lines.new (R.remaining reader.old) (R.remaining reader.new) event)) }
+    ensures over { IfOk result (λ found. IfNone found (IsOver lines.old lines.new (R.remaining reader.old) (R.remaining reader.new))) }
+    ensures stopped { IfErr result (EventStops (IsSpent (R.has_failed reader.new) lines.new.asks) (pending lines.old (R.remaining reader.old))) }
+    ensures asked { later lines.new.asks (R.asked reader.new) ≡ later lines.old.asks (R.asked reader.old) }
+    ensures less { lines.new.asks ≤ lines.old.asks }
+{
+    if !lines.next(reader, line)? {
+        return Ok(None);
+    }
+    match line_of(alloc, line)? {
+        None => Err(Stop::Script),
+        Some(Line::Whole(event)) => Ok(Some(event)),
+        Some(Line::Head(head)) => {
+            let bytes = datagram_bytes(alloc, lines, reader, line)?;
+            Ok(Some(datagram_at(head, bytes)))
+        }
+    }
+}
+
+/// A datagram whose bytes are known.
+fn datagram_at(head: DatagramHead, bytes: Bytes) -> Event
+    ensures { result ≡ Script.datagram_at head bytes }
+{
+    Event::Datagram {
+        at: head.at,
+        word: head.word,
+        from: head.from,
+        bytes,
+    }
+}
+
+/// The bytes that the lines up to a line `.` say.
+fn datagram_bytes<R: TellingReader>(
+    alloc: Global,
+    lines: &mut Lines,
+    reader: &mut R,
+    line: &mut Vec<u8>,
+) -> Result<Bytes, Stop>
+    ensures given { IfOk result (λ bytes. GivesDatagram lines.old lines.new (R.remaining reader.old) (R.remaining reader.new) bytes) }
+    ensures fewer { OnOk result (left lines.new ≤ left lines.old) }
+    ensures stopped { IfErr result (DatagramStops (IsSpent (R.has_failed reader.new) lines.new.asks) (pending lines.old (R.remaining reader.old))) }
+    ensures asked { later lines.new.asks (R.asked reader.new) ≡ later lines.old.asks (R.asked reader.old) }
+    ensures less { lines.new.asks ≤ lines.old.asks }
+{
+    let mut bytes = Bytes::new(alloc);
+    while lines.next(reader, line)? {
+        if is_dot(line) {
+            return Ok(bytes);
+        }
+        keep(&mut bytes, unstuffed(line))?;
+        keep(&mut bytes, b"\r\n")?;
+    }
+    Err(Stop::Script)
+}
+
+/// Whether a line ends a datagram.
+fn is_dot(line: &[u8]) -> bool
+    ensures { result ≡ Events.is_dot line.now }
+{
+    line == b".".as_slice()
+}
+
+/// Adds a part to a datagram, as far as it is kept.
+fn keep(bytes: &mut Bytes, part: &[u8]) -> Result<(), Stop>
+    requires { length bytes.old ≤ KEPT }
+    ensures kept { OnOk result (bytes.new ≡ take KEPT (bytes.old ++ part.now)) }
+    ensures most { OnOk result (length bytes.new ≤ KEPT) }
+    ensures stopped { IfErr result (λ stop. stop ≡ NoMemory) }
+{
+    let room = KEPT - bytes.as_slice().len();
+    if part.len() <= room {
+        bytes.extend(part)?;
+    } else {
+        bytes.extend(&part[..room])?;
+    }
+    Ok(())
+}

@@ -1,0 +1,20 @@
+//! The text of a script and of what a replay prints: lines are read as events, and steps are printed, through readers and writers
+//! that may fail at any call.
+#![tactic(auto)]
+
+mod device;
+mod event;
+pub mod examples;
+mod lines;
+mod print;
+mod script;
+mod stop;
+mod writing;
+
+pub use device::{TellingReader, TellingWriter};
+pub use event::next_event;
+pub use lines::Lines;
+pub use print::{head_text, print_step};
+pub use script::{DatagramHead, Line, line_of};
+pub use stop::Stop;
+pub use writing::hand_on;
