@@ -9,7 +9,7 @@ use Rattle.sip_nonces.specs.declared.nonces.Nonce.{Nonce}
 use Rattle.sip_nonces.specs.digest.Protection.{Protection}
 use Rattle.sip_nonces.specs.digest.Credential.{count_of}
 use Rattle.sip_credentials.specs.declared.credentials.Credentials.{Credentials}
-use Rattle.sip_policy.specs.declared.user.User.{User}
+use Rattle.sip_policy.specs.users.declared.user.User.{User}
 use Rattle.sip_policy.specs.User.{is_named}
 use Rattle.sip_auth.specs.Offer.{offers_sha256, HasMd5Alone, with_md5_alone}
 use Rattle.sip_auth.specs.Proof.{Proof, Claim, Wrong, algorithm_of, protection_of, claim_with, claim_by, claim_of, key_of, proof_with_key, proof_by, proof_from, is_equal_uri}

@@ -19,7 +19,7 @@ use Rattle.sip_nonces.specs.declared.nonces.Nonce.{Nonce}
 use Rattle.sip_nonces.specs.declared.nonces.Worth.{Worth}
 use Rattle.sip_nonces.specs.declared.nonces.Worth.TheVariants as Worths
 use Rattle.sip_nonces.proofs.NonceTexts.{names_word}
-use Rattle.sip_policy.specs.declared.user.User.{User}
+use Rattle.sip_policy.specs.users.declared.user.User.{User}
 use Rattle.sip_policy.specs.User.{is_named}
 use Rattle.sip_auth.specs.Proof as Proofs
 use Rattle.sip_auth.specs.Proof.{Claim, for_realm, or_else, first_for_realm, credentials_field, claim_of, is_equal_uri, key_of, proof_with_key, proof_by, proof_from, proof_in, proof_of}

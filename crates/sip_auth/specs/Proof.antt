@@ -24,7 +24,7 @@ use Rattle.sip_credentials.specs.form.declared.message.Message.{Message}
 use Rattle.sip_credentials.specs.declared.credentials.Credentials.{Credentials}
 use Rattle.sip_credentials.specs.field.Values.{values_of}
 use Rattle.sip_credentials.specs.Credentials.{credentials_of, is_realm}
-use Rattle.sip_policy.specs.declared.user.User.{User}
+use Rattle.sip_policy.specs.users.declared.user.User.{User}
 use Rattle.sip_policy.specs.User.{is_named}
 
 -- A request proves to come from the user of a name by a credential; or would, but for the nonce of it; or proves nothing.

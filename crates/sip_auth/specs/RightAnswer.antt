@@ -10,7 +10,7 @@ use Rattle.sip_nonces.specs.digest.Credential.{Credential, count_of}
 use Rattle.sip_nonces.specs.NonceText.{nonce_text}
 use Rattle.sip_nonces.specs.Nonces.{IsLive}
 use Rattle.sip_nonces.specs.declared.nonces.Nonce.{Nonce}
-use Rattle.sip_policy.specs.declared.user.User.{User}
+use Rattle.sip_policy.specs.users.declared.user.User.{User}
 use Rattle.sip_auth.specs.Proof.{claim_of, credentials_field, is_equal_uri, key_of}
 
 -- A credential proves a user: some value of the request's field for credentials says it, for this realm and for its Request-URI; its response is the answer by the key of a configured

@@ -3,7 +3,7 @@ use Rattle.std.specs.Prelude.{ℕ, List, [], ◌∷◌, ◌++◌, codes, Some}
 use Rattle.sip_credentials.specs.field.declared.field_name.FieldName.TheVariants as Name
 use Rattle.sip_credentials.specs.form.declared.message.Message.{Message}
 use Rattle.sip_way.specs.Examples.{sample_realm}
-use Rattle.sip_policy.specs.declared.user.User.{User}
+use Rattle.sip_policy.specs.users.declared.user.User.{User}
 use Rattle.sip_policy.specs.Examples.{user_of, mufasas_a1}
 use Rattle.sip_auth.specs.Examples.{request_with, used_often}
 use Rattle.sip_auth.specs.Proof.{Proof, proof_of}

@@ -5,7 +5,7 @@ ghost use Rattle.sip_nonces.specs.digest.Credential.{Credential};
 ghost use Rattle.sip_nonces.specs.declared.nonces.Nonce.{Nonce};
 ghost use Rattle.sip_credentials.specs.form.declared.message.Message.{Message};
 ghost use Rattle.sip_credentials.specs.declared.credentials.Credentials.{Credentials};
-ghost use Rattle.sip_policy.specs.declared.user.User.{User};
+ghost use Rattle.sip_policy.specs.users.declared.user.User.{User};
 ghost use Rattle.sip_auth.specs.Offer.{offers_sha256, HasMd5Alone, with_md5_alone};
 ghost use Rattle.sip_auth.specs.Proof.{Proof, Claim, claim_of, proof_from, proof_of};
 ghost use Rattle.sip_auth.specs.RightAnswer.{IsRightAnswer};

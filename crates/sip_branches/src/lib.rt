@@ -7,11 +7,13 @@ mod branches;
 mod cancels;
 mod hearing;
 mod phase;
+mod status;
 
 pub use branches::{all_final, mark, set_phase, want_cancel};
 pub use cancels::{add_cancels, new_cancels};
 pub use hearing::{invite_heard, other_heard};
 pub use phase::is_final;
+pub use status::{is_decline, is_failure, is_invite, is_provisional, is_success};
 
 /// Of `sip_shared`.
 pub mod shared {

@@ -8,7 +8,7 @@ use Rattle.std.proofs.lemmas.Bool.Decides.{nat_tests}
 use Rattle.toml.specs.Data.{Items, no_items, item, Members}
 use Rattle.sip_rulebook.specs.hops.declared.hop.Hop.{Hop}
 use Rattle.sip_rulebook.specs.hops.declared.host_address.HostAddress.{HostAddress}
-use Rattle.sip_rulebook.specs.policy.declared.user.User.{User}
+use Rattle.sip_rulebook.specs.policy.users.declared.user.User.{User}
 use Rattle.sip_rulebook.specs.policy.declared.rule.Rule.{Rule}
 use Rattle.sip_rulebook.specs.policy.declared.rule_verdict.RuleVerdict.{RuleVerdict}
 use Rattle.sip_rulebook.specs.policy.Rule.{is_numbered}

@@ -8,7 +8,7 @@ use Rattle.sip_rulebook.specs.host.Host.{is_host}
 use Rattle.sip_rulebook.specs.hops.declared.hop.Hop.{Hop}
 use Rattle.sip_rulebook.specs.hops.declared.host_address.HostAddress.{HostAddress}
 use Rattle.sip_rulebook.specs.hops.HostAddress.{is_row_for}
-use Rattle.sip_rulebook.specs.policy.declared.user.User.{User}
+use Rattle.sip_rulebook.specs.policy.users.declared.user.User.{User}
 use Rattle.sip_settings.specs.declared.config.Config.{Config}
 use Rattle.sip_rulebook.specs.values.declared.error.ConfigError.{ConfigError}
 use Rattle.sip_rulebook.specs.values.declared.error.ConfigError.TheVariants.{BadValue}

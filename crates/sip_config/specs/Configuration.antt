@@ -2,7 +2,7 @@
 use Rattle.std.specs.Prelude.{ℕ, not, List, codes, Option, None, Some, Result, Ok, Err}
 use Rattle.toml.specs.Data.{Members}
 use Rattle.toml.specs.Parse.{parse_document}
-use Rattle.sip_rulebook.specs.policy.declared.user.User.{User}
+use Rattle.sip_rulebook.specs.policy.users.declared.user.User.{User}
 use Rattle.sip_rulebook.specs.policy.declared.rule.Rule.{Rule}
 use Rattle.sip_rulebook.specs.hops.declared.hop.Hop.{Hop}
 use Rattle.sip_rulebook.specs.hops.declared.host_address.HostAddress.{HostAddress}

@@ -3,7 +3,7 @@ use Rattle.std.specs.Prelude.{◌≡◌, ℕ, ◌≤◌, Bool, true, ◌&&◌, �
 use Rattle.std.specs.List.{list_all, list_any}
 use Rattle.sip_rulebook.specs.host.Host.{is_host}
 use Rattle.sip_rulebook.specs.hops.declared.hop.Hop.{Hop}
-use Rattle.sip_rulebook.specs.policy.declared.user.User.{User}
+use Rattle.sip_rulebook.specs.policy.users.declared.user.User.{User}
 use Rattle.sip_rulebook.specs.policy.declared.rule.Rule.{Rule}
 use Rattle.sip_rulebook.specs.policy.declared.rule_verdict.RuleVerdict.{RuleVerdict}
 use Rattle.sip_rulebook.specs.policy.Rule.{is_numbered}

@@ -3,7 +3,7 @@ use Rattle.std.specs.Prelude.{ℕ, not, List, [], ◌∷◌, ◌++◌, codes, Op
 use Rattle.std.specs.List.{list_any}
 use Rattle.std.specs.Str.{bytes_eq}
 use Rattle.toml.specs.Data.{Data, Items, Members, get_member}
-use Rattle.sip_rulebook.specs.policy.declared.user.User.{User}
+use Rattle.sip_rulebook.specs.policy.users.declared.user.User.{User}
 use Rattle.sip_rulebook.specs.policy.Users.{have_own_names}
 use Rattle.sip_rulebook.specs.values.declared.error.ConfigError.{ConfigError}
 use Rattle.sip_rulebook.specs.values.declared.grammar.Grammar.TheVariants.{Name}

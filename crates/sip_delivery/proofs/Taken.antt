@@ -1,5 +1,5 @@
 -- What a step did for a verdict, where that is the one on the datagram.
-use Rattle.std.proofs.Common.{◌≡◌, ◌∙◌, ◌<◌, ◌||◌, ℕ, Bool, true, false, cond, List, [], length, slice_get, position, Option, Result, Some, None, Ok, Err, IfOk, refl, sym, ap, subst}
+use Rattle.std.proofs.Common.{◌≡◌, ◌∙◌, ◌||◌, ℕ, Bool, true, false, cond, List, [], slice_get, position, Option, Result, Some, None, Ok, Err, IfOk, refl, sym, ap, subst}
 use Rattle.std.specs.Prelude.{find}
 use Rattle.std.specs.Option.{option_map}
 use Rattle.std.specs.Option.{option_map_or}

@@ -1,5 +1,5 @@
 -- What is one step for a datagram, and what a verdict asks for.
-use Rattle.std.specs.Prelude.{ℕ, Bool, ◌≡◌, false, ⊤, Option, Some, None}
+use Rattle.std.specs.Prelude.{Bool, ◌≡◌, false, ⊤, Option, Some, None}
 use Rattle.sip_admitting.specs.proxy.event.declared.event.StepOut.{StepOut}
 use Rattle.sip_admitting.specs.proxy.arrival.Verdict.{Is}
 use Rattle.sip_admitting.specs.proxy.arrival.declared.verdict.Verdict.{Verdict}

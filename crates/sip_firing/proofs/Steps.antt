@@ -56,6 +56,11 @@ both_true true true u is = refl
 both_true true false u is = absurd (cc)
 both_true false t u is = absurd (cc)
 
+-- what is left where neither test lets anything else be
+stays_for : (a b : Bool) (x y : List Dialog) → b ≡ false → cond (a && b) x y ≡ y
+stays_for true b x y e = ap (λ (t : Bool). cond t x y) e
+stays_for false b x y e = refl
+
 pub answer_stays : (r : OpenRequest) (due : ℕ) → answer_due r ≡ Some due → has_left (record r { again = answer_next r }) ≡ false
 answer_stays r due is =
     side_open r.side (list_all (λ (b : Branch). is_ended b.phase) r.branches)
@@ -175,7 +180,7 @@ module _ (server : Server) (now : ℕ) (old : ProxyState) (out : StepOut) (new :
       → has_left next ≡ false → LeavesDraft draft → Does server old now (resent now old packets next) out new
   resend_done rows packets next draft known becomes sent teach stays l =
       let none_learnt : after_lessons now draft.drafted.lessons old.dialogs ≡ old.dialogs =
-      teach (sym known) old.dialogs ∙ ap (λ (t : Bool). cond t (after_invite now next.number old.dialogs) old.dialogs) stays in
+      teach (sym known) old.dialogs ∙ stays_for (is_invite next) (has_left next) (after_invite now next.number old.dialogs) old.dialogs stays in
       record {
         at_moment = l.at_moment;
         sends = ap originals l.packets_are ∙ sent.originals;

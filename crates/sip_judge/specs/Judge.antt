@@ -2,7 +2,7 @@
 use Rattle.std.specs.Prelude.{◌≡◌, ℕ, List}
 use Rattle.sip_verdict.specs.hops.Hops.{HopTables}
 use Rattle.sip_verdict.specs.policy.declared.rule.Rule.{Rule}
-use Rattle.sip_verdict.specs.policy.declared.user.User.{User}
+use Rattle.sip_verdict.specs.policy.users.declared.user.User.{User}
 use Rattle.sip_verdict.specs.settings.declared.config.Config.{Config}
 
 -- rules, users, own domains and tables are those of a configuration

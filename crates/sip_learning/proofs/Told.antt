@@ -90,9 +90,9 @@ pub renewed_by : (server : Server) (now : ℕ) (id : DialogId) (m : Message) (ro
 renewed_by server now id m rows addresses old new dialogs e is pushed =
     one_more now old new (Renew id addresses) dialogs pushed ∙ ap (λ (given : List Addr). renewed now id given (after_lessons now old dialogs)) (given server rows m addresses e is)
 
-pub left_by : (now : ℕ) (r : OpenRequest) (old new : List Lesson) (dialogs : List Dialog) → has_left r ≡ true → new ≡ old ++ Expire r.number ∷ []
+pub left_by : (now : ℕ) (r : OpenRequest) (old new : List Lesson) (dialogs : List Dialog) → (is_invite r && has_left r) ≡ true → new ≡ old ++ Expire r.number ∷ []
     → after_lessons now new dialogs ≡ Dialogs.after_leaving now r (after_lessons now old dialogs)
-left_by now r old new dialogs left pushed = one_more now old new (Expire r.number) dialogs pushed ∙ if_true (has_left r) _ _ left
+left_by now r old new dialogs left pushed = one_more now old new (Expire r.number) dialogs pushed ∙ if_true (is_invite r && has_left r) _ _ left
 
 pub next_told : (server : Server) (now : ℕ) (r : OpenRequest) (us : List Upward) (i : ℕ) (u : Upward) (before after total : List Dialog) → i < length us → u ≡ get_or us i u
     → Dialogs.after_answers server now r (drop i us) before ≡ total → after ≡ Dialogs.after_answer server now r u before → Dialogs.after_answers server now r (drop (i + 1) us) after ≡ total

@@ -1,4 +1,4 @@
-ghost use Rattle.std.specs.Prelude.{◌≡◌, codes};
+ghost use Rattle.std.specs.Prelude.{◌≡◌, ◌&&◌, codes};
 ghost use Rattle.std.specs.List.{list_all};
 ghost use Rattle.std.specs.Str.{bytes_eq};
 ghost use Rattle.sip_state.specs.declared.branch.Branch.{Branch};
@@ -58,8 +58,15 @@ fn all_ended(branches: &[Branch]) -> bool
 }
 
 /// Whether a request stays open no longer.
-pub(crate) fn has_left(call: &OpenRequest) -> bool
+fn has_left(call: &OpenRequest) -> bool
     ensures { result ≡ States.has_left call.now }
 {
     is_closed(call.side) && all_ended(call.branches.as_slice())
+}
+
+/// Whether it is an INVITE that stays open no longer.
+pub(crate) fn is_left_invite(call: &OpenRequest) -> bool
+    ensures { result ≡ (States.is_invite call.now && States.has_left call.now) }
+{
+    is_invite(call) && has_left(call)
 }

@@ -9,7 +9,7 @@ ghost use Rattle.sip_learning.specs.Lessons.{after_lessons, beginnings, may_begi
 ghost use Rattle.sip_learning.specs.Telling.{Adds, is_early_or_success};
 
 use crate::answers::lesson_of;
-use crate::calls::has_left;
+use crate::calls::is_left_invite;
 use crate::given::addresses_of;
 use crate::lesson::Lesson;
 use crate::taking::take_all;
@@ -74,12 +74,12 @@ fn put_answers(
     Ok(())
 }
 
-/// Adds that a request left the open ones, if it did.
+/// Adds that an INVITE left the open requests, if it did.
 fn put_leaving(list: &mut Vec<Lesson>, call: &OpenRequest) -> Result<(), AllocError>
     ensures told { OnOk result ((now : ℕ) (dialogs : List Dialog) → after_lessons now list.new.items dialogs ≡ Definitions.after_leaving now call.now (after_lessons now list.old.items dialogs)) }
     ensures room { OnOk result (beginnings list.new.items ≡ beginnings list.old.items) }
 {
-    if has_left(call) {
+    if is_left_invite(call) {
         list.push(Lesson::Expire(call.number))?;
     }
     Ok(())

@@ -1,6 +1,6 @@
 -- What holds where a replay is refused.
-use Rattle.std.proofs.Common.{◌≡◌, ℕ, ◌+◌, ◌-◌, ◌^◌, ◌≤◌, ◌⊎◌, inl, inr, List, [], ◌∷◌, ◌++◌, length, length-append, Option, None, Some, IfSome, Result, Ok, Err, OnOk, IfErr, refl, sym, ◌∙◌, ap, subst, arith, append-nil, append_assoc}
-use Rattle.std.specs.Prelude.{count_by, cond, IsSome}
+use Rattle.std.proofs.Common.{◌≡◌, ℕ, ◌+◌, ◌-◌, inl, inr, List, [], ◌∷◌, ◌++◌, length, length-append, Option, None, Some, IfSome, Result, Ok, Err, OnOk, IfErr, refl, sym, ◌∙◌, ap, subst, arith, append-nil, append_assoc}
+use Rattle.std.specs.Prelude.{count_by, cond}
 use Rattle.std.specs.Io.KnownBytes.{Appends, Consumes, Keeps, prepend_known}
 use Rattle.std.proofs.KnownBytes.{Appends-nil, Appends-trans}
 use Rattle.std.proofs.lemmas.Grind.{flat_map-append}
@@ -10,15 +10,15 @@ use Rattle.sip_model.specs.settings.declared.config.Config.{Config}
 use Rattle.sip_model.specs.state.declared.server.Server.{Server}
 use Rattle.sip_model.specs.state.declared.proxy_state.ProxyState.{ProxyState}
 use Rattle.sip_model.specs.state.State.{first_state}
-use Rattle.sip_model.specs.Run.{first_moment, event_moment}
+use Rattle.sip_model.specs.Run.{first_moment}
 use Rattle.sip_script.specs.Print.{step_text, printed}
 use Rattle.sip_loop.specs.Errors.{error_at}
 use Rattle.sip_script.specs.Devices.{WritesFront}
 use Rattle.sip_loop.specs.Errors.{IsFaulted}
 use Rattle.sip_script.specs.Lines.{Reading, is_end, pending}
-use Rattle.sip_script.specs.Events.{SaysEvent, GivesEvent, IsNoEvent, EventStops}
+use Rattle.sip_script.specs.Events.{GivesEvent, IsNoEvent, EventStops}
 use Rattle.sip_loop.specs.Replays.{SaysEvents, server_with, IsReplay}
-use Rattle.sip_loop.specs.Refusals.{BeginsWith, NoEventBehind, ComesTo, CantGoOn, StopsAtLine, StopsBetween, StopsWithin, Refuses, IsRefused, PlaysSome, TakingStops, moment_ahead, refusal_of_event}
+use Rattle.sip_loop.specs.Refusals.{BeginsWith, NoEventBehind, ComesTo, CantGoOn, StopsWithin, Refuses, IsRefused, PlaysSome, TakingStops, moment_ahead}
 use Rattle.sip_loop.specs.declared.error.ReplayError.{ReplayError}
 use Rattle.sip_loop.specs.declared.error.ReplayError.TheVariants as errors
 use Rattle.sip_script.specs.declared.stop.Stop.{Stop}

@@ -1,9 +1,7 @@
 -- How a replay stops.
-use Rattle.std.proofs.Common.{◌≡◌, ℕ, ◌+◌, ◌-◌, ◌^◌, ◌≤◌, ◌⊎◌, inl, inr, List, [], ◌∷◌, ◌++◌, length, length-append, Bool, true, false, Option, None, Some, IfSome, refl, sym, ◌∙◌, ap, subst, arith, append-nil, append_assoc}
-use Rattle.std.specs.Prelude.{IsSome, if◌then◌else◌, count_by, option_map}
-use Rattle.std.specs.Io.KnownBytes.{Appends, Consumes, Keeps, prepend_known}
-use Rattle.std.proofs.KnownBytes.{Appends-nil, Appends-trans}
-use Rattle.std.proofs.lemmas.Grind.{flat_map-append}
+use Rattle.std.proofs.Common.{◌≡◌, ℕ, ◌+◌, ◌-◌, ◌^◌, ◌≤◌, ◌⊎◌, inl, inr, List, [], ◌∷◌, ◌++◌, length, Bool, true, false, Option, None, Some, refl, sym, ◌∙◌, ap, subst, arith}
+use Rattle.std.specs.Prelude.{IsSome, if◌then◌else◌}
+use Rattle.std.specs.Io.KnownBytes.{Appends}
 use Rattle.std.proofs.lemmas.List.{reverse-append}
 use Rattle.sip_event.specs.declared.event.Event.{Event}
 use Rattle.sip_event.specs.declared.event.Event.TheVariants.{Datagram, Time, Fault}
@@ -11,14 +9,14 @@ use Rattle.sip_event.specs.declared.event.StepOut.{StepOut}
 use Rattle.sip_model.specs.state.declared.server.Server.{Server}
 use Rattle.sip_model.specs.state.declared.proxy_state.ProxyState.{ProxyState}
 use Rattle.sip_model.specs.Step.{Given, Passing, IsStep}
-use Rattle.sip_model.specs.Run.{Link, IsRun, event_moment, events_of, steps_of}
+use Rattle.sip_model.specs.Run.{event_moment, events_of, steps_of}
 use Rattle.sip_engine.specs.declared.error.StepError.{StepError}
 use Rattle.sip_engine.specs.declared.error.StepError.TheVariants as step_errors
-use Rattle.sip_engine.specs.StepError.{refusal_at, refusal_of, is_too_large}
+use Rattle.sip_engine.specs.StepError.{refusal_at, is_too_large}
 use Rattle.sip_script.specs.Print.{step_text, printed}
 use Rattle.sip_loop.specs.Errors.{stop_of_step}
 use Rattle.sip_script.specs.Devices.{WritesFront, PrintStops}
-use Rattle.sip_loop.specs.Refusals.{refusal_of_event, StepStops, PlaysPart, PlaysUpTo, PlaysSome, FiringStops, TakingStops}
+use Rattle.sip_loop.specs.Refusals.{refusal_of_event, StepStops, PlaysPart, PlaysUpTo, FiringStops, TakingStops}
 use Rattle.sip_loop.specs.Replays.{Plays}
 use Rattle.sip_script.specs.declared.stop.Stop.{Stop}
 use Rattle.sip_script.specs.declared.stop.Stop.TheVariants as stops

@@ -8,7 +8,7 @@ use Rattle.sip_state.specs.form.declared.message.Start.TheVariants.{Request, Sta
 use Rattle.sip_verdict.specs.message.Reading.{reading_of}
 use Rattle.sip_state.specs.header.declared.core_fields.CoreFields.{CoreFields}
 use Rattle.sip_verdict.specs.policy.declared.decision.Decision.{Decision}
-use Rattle.sip_verdict.specs.policy.declared.user.User.{User}
+use Rattle.sip_verdict.specs.policy.users.declared.user.User.{User}
 use Rattle.sip_verdict.specs.policy.User.{is_named}
 use Rattle.sip_state.specs.nonces.declared.nonces.Nonce.{Nonce}
 use Rattle.sip_state.specs.nonces.declared.nonces.Worth.{Worth}

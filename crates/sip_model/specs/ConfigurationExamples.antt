@@ -5,7 +5,7 @@ use Rattle.sip_state.specs.form.declared.message.Start.TheVariants.{Request}
 use Rattle.sip_state.specs.form.declared.message.Message.{Message}
 use Rattle.sip_context.specs.reply.Examples as Replies
 use Rattle.sip_context.specs.edit.OnwardExamples as Onward
-use Rattle.sip_verdict.specs.policy.declared.user.User.{User}
+use Rattle.sip_verdict.specs.policy.users.declared.user.User.{User}
 use Rattle.sip_verdict.specs.policy.declared.window.Window.{Window}
 use Rattle.sip_verdict.specs.policy.Examples.{user_of, mufasas_a1, alices_a1, rules_with}
 use Rattle.sip_state.specs.settings.Sample as Settings

@@ -1,3 +1,2 @@
 pub mod FirstMatch
-pub mod Names
 pub mod Windows

@@ -3,15 +3,13 @@ ghost use Rattle.std.specs.Option.{option_copied};
 ghost use Rattle.sip_policy.specs.Decision as Definitions;
 ghost use Rattle.sip_policy.specs.Decision.{decision_of, recorded_minute};
 
-use crate::error::PolicyError;
 use crate::operation::Operation;
 use crate::rule::Rule;
 use crate::rules::Rules;
 use crate::ruling::{Ruling, ruling_by};
-use crate::texts::copy_texts;
-use crate::users::Users;
-use sip_uri::Aor;
-use sip_uri::text::{Bytes, Items};
+use sip_users::text::{Bytes, Items};
+use sip_users::uri::Aor;
+use sip_users::{PolicyError, Users, copy_texts};
 use std::alloc::{AllocError, Global};
 use std::marker::Model;
 

@@ -7,11 +7,11 @@ use crate::decision::Decision;
 use crate::operation::{Operation, OperationPattern};
 use crate::rule_verdict::RuleVerdict;
 use crate::target_pattern::TargetPattern;
-use crate::users::Users;
 use crate::who::Who;
 use crate::window::{Window, holds};
-use sip_uri::Aor;
-use sip_uri::text::Bytes;
+use sip_users::Users;
+use sip_users::text::Bytes;
+use sip_users::uri::Aor;
 use std::alloc::AllocError;
 
 /// A policy rule.

@@ -2,7 +2,7 @@ ghost use Rattle.std.specs.Prelude.{◌≡◌, ◌<◌, ◌+◌, ◌^◌};
 ghost use Rattle.sip_branches.specs.context.Branches as Contexts;
 
 use crate::side::was_refused;
-use crate::status::is_invite;
+use sip_branches::is_invite;
 use sip_branches::state::{OpenRequest, Side};
 
 /// Timer I: how long an INVITE stays after the ACK of its final answer, in milliseconds (RFC 3261 17.2.1).

@@ -4,13 +4,12 @@ ghost use Rattle.sip_branches.specs.state.State as States;
 ghost use Rattle.sip_branches.specs.context.Branches as Contexts;
 
 use crate::side::{first_resend, is_answering, side_after};
-use crate::status::{is_invite, is_provisional, is_success};
-use sip_branches::all_final;
 use sip_branches::best::{Final, best};
 use sip_branches::form::{Kept, write_view};
 use sip_branches::shared::Shared;
 use sip_branches::state::{LastAnswer, OpenRequest, Server, Upward};
 use sip_branches::text::{Bytes, Items};
+use sip_branches::{all_final, is_invite, is_provisional, is_success};
 use sip_sending::kept_answer;
 use std::alloc::{AllocError, Global};
 

@@ -5,9 +5,8 @@ ghost use Rattle.sip_processing.specs.Sent.{change_of};
 use crate::sent::Sent;
 use crate::settling::settle_alone;
 use crate::side::is_answering;
-use crate::status::is_invite;
-use sip_branches::mark;
 use sip_branches::state::{OpenRequest, Server};
+use sip_branches::{is_invite, mark};
 use std::alloc::{AllocError, Global};
 
 /// A CANCEL from the caller: an INVITE without a final answer is cancelled, each branch once a provisional response

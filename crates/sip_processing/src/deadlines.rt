@@ -6,9 +6,8 @@ ghost use Rattle.sip_processing.specs.Sent.{change_of};
 use crate::finals::{end, give_up};
 use crate::sent::Sent;
 use crate::settling::settle_alone;
-use crate::status::is_invite;
 use sip_branches::state::{Branch, OpenRequest, Phase, Server, Side};
-use sip_branches::want_cancel;
+use sip_branches::{is_invite, want_cancel};
 use std::alloc::{AllocError, Global};
 
 /// Timer C of a branch to a target that was heard: an INVITE is to be cancelled, another request counts as 408

@@ -14,7 +14,6 @@ mod responses;
 mod sent;
 mod settling;
 mod side;
-mod status;
 
 pub use acknowledging::take_ack;
 pub use answers::answered;
@@ -25,7 +24,7 @@ pub use responses::take_response;
 pub use sent::Sent;
 pub use settling::settle_alone;
 pub use side::{first_resend, is_accepted};
-pub use status::is_invite;
+pub use sip_branches::is_invite;
 
 /// Of `sip_shared`.
 pub mod shared {

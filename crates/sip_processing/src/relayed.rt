@@ -4,12 +4,11 @@ ghost use Rattle.sip_branches.specs.state.State as States;
 ghost use Rattle.sip_branches.specs.context.Branches as Contexts;
 
 use crate::side::{is_accepted, is_answering};
-use crate::status::{is_invite, is_success};
 use sip_branches::edit::pop_via;
 use sip_branches::form::{Kept, View};
-use sip_branches::is_final;
 use sip_branches::shared::Shared;
 use sip_branches::state::{Branch, OpenRequest, Phase, Upward};
+use sip_branches::{is_final, is_invite, is_success};
 use std::alloc::{AllocError, Global};
 
 /// A response without its top Via, which is kept once however many have it.

@@ -10,7 +10,6 @@ use crate::finals::keep_final;
 use crate::relayed::{further, kept_response, relayed_answer, relayed_provisional};
 use crate::sent::Sent;
 use crate::settling::{settle, settle_alone};
-use crate::status::{is_decline, is_failure, is_invite, is_provisional, is_success};
 use sip_branches::best::Final;
 use sip_branches::event::Packet;
 use sip_branches::field::FieldName;
@@ -18,7 +17,10 @@ use sip_branches::form::View;
 use sip_branches::shared::Shared;
 use sip_branches::state::{Branch, OpenRequest, Phase, Server, Upward};
 use sip_branches::text::{Bytes, Items};
-use sip_branches::{invite_heard, is_final, mark, other_heard, set_phase};
+use sip_branches::{
+    invite_heard, is_decline, is_failure, is_final, is_invite, is_provisional, is_success, mark,
+    other_heard, set_phase,
+};
 use sip_sending::ack_packets;
 use std::alloc::{AllocError, Global};
 

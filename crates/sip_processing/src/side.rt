@@ -3,8 +3,8 @@ ghost use Rattle.sip_branches.specs.state.State as States;
 ghost use Rattle.sip_branches.specs.context.Branches as Contexts;
 ghost use Rattle.sip_processing.specs.Sides;
 
-use crate::status::{is_failure, is_invite, is_provisional, is_success};
 use sip_branches::state::{LastAnswer, OpenRequest, Resend, Side};
+use sip_branches::{is_failure, is_invite, is_provisional, is_success};
 
 /// How long the answering side stays after its final answer, in milliseconds: 64 times T1 (RFC 3261 17.2, RFC 6026 7.1:
 /// Timers H, J and L).

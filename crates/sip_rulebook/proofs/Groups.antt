@@ -5,7 +5,7 @@ use Rattle.std.specs.Str.{bytes_eq}
 use Rattle.std.specs.Cmp.Lexicographic.{same_text}
 use Rattle.std.proofs.lemmas.List.{take_more, take_all}
 use Rattle.std.proofs.lemmas.List.Folds.{list_any-append}
-use Rattle.sip_policy.specs.declared.user.User.{User}
+use Rattle.sip_policy.specs.users.declared.user.User.{User}
 use Rattle.sip_policy.specs.declared.rule.Rule.{Rule}
 use Rattle.sip_policy.specs.declared.who.Who.{Who}
 use Rattle.sip_rulebook.specs.Rules.{has_member, is_known, is_listed, names_known_group}

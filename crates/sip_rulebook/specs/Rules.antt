@@ -4,7 +4,7 @@ use Rattle.std.specs.List.{list_all, list_any}
 use Rattle.std.specs.Str.{bytes_eq}
 use Rattle.toml.specs.Data.{Data, Items, Members, get_member}
 use Rattle.sip_hops.specs.declared.hop.Hop.{Hop}
-use Rattle.sip_policy.specs.declared.user.User.{User}
+use Rattle.sip_policy.specs.users.declared.user.User.{User}
 use Rattle.sip_policy.specs.declared.who.Who.{Who}
 use Rattle.sip_policy.specs.declared.who.Who.TheVariants.{Group}
 use Rattle.sip_policy.specs.declared.operation.OperationPattern.{OperationPattern}

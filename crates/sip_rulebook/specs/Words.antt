@@ -4,7 +4,7 @@ use Rattle.std.specs.Str.{byte, bytes_eq}
 use Rattle.sip_values.specs.text.Splits.{split_at_byte}
 use Rattle.sip_values.specs.host.Host.{is_host}
 use Rattle.sip_hops.specs.declared.hop.Hop.{Hop}
-use Rattle.sip_policy.specs.declared.user.User.{User}
+use Rattle.sip_policy.specs.users.declared.user.User.{User}
 use Rattle.sip_policy.specs.User.{is_users_name}
 use Rattle.sip_policy.specs.declared.who.Who.{Who}
 use Rattle.sip_policy.specs.declared.operation.OperationPattern.{OperationPattern}

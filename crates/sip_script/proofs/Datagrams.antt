@@ -12,7 +12,7 @@ use Rattle.sip_event.specs.declared.event.Event.{Event}
 use Rattle.sip_script.specs.declared.script.DatagramHead.{DatagramHead}
 use Rattle.sip_script.specs.declared.script.Line.TheVariants.{Head, Whole}
 use Rattle.sip_script.specs.Script.{line_of, unstuffed, datagram_at}
-use Rattle.sip_script.specs.Lines.{Reading, IsLine, IsUnended, HasNoLine, is_end, pending, left, GivesLine, IsOver, LineStops}
+use Rattle.sip_script.specs.Lines.{Reading, IsLine, IsUnended, is_end, pending, left, GivesLine, IsOver, LineStops}
 use Rattle.sip_script.specs.declared.stop.Stop.{Stop}
 use Rattle.sip_script.specs.declared.stop.Stop.TheVariants as stops
 use Rattle.sip_script.proofs.LineEnds.{ends_add, one_end}

@@ -1,13 +1,13 @@
 -- The first LF of some bytes, and lines read in parts.
 use Rattle.std.proofs.Common.{◌≡◌, ℕ, zero, suc, ◌+◌, ◌-◌, ◌<◌, ◌≤◌, List, ◌∷◌, ◌++◌, length, take, drop, get_or, Bool, true, false, Option, None, Some, MatchOption, refl, sym, ◌∙◌, ap, subst, arith, append-nil, append_assoc, length-append, [], add-one, take-append-drop, slice_range}
 use Rattle.std.specs.Prelude.{count_by, cond, ◌≢◌, IfSome, IfErr, Result, Ok, Err}
-use Rattle.std.specs.Io.KnownBytes.{Consumes, Keeps, IsAtEnd, prepend_known}
+use Rattle.std.specs.Io.KnownBytes.{Consumes, Keeps, IsAtEnd}
 use Rattle.std.proofs.lemmas.Bool.Decides.{nat_tests}
 use Rattle.std.proofs.lemmas.List.{take_all, drop-take, drop-drop, length-take, take-append-le}
 use Rattle.std.proofs.lemmas.List.Sums.{count_by_more_no, sum_by-append, sum_by-take-le}
 use Rattle.std.proofs.Math.Seq.{drop-cons}
 use Rattle.memchr.specs.Find.{IsFirstByte, is_byte}
-use Rattle.sip_script.specs.Lines.{Reading, is_end, pending, EndsAt, EndsLine, IsLine, IsUnended, IsTooLong, HasNoLine, LineStops, PartStops, PutStops}
+use Rattle.sip_script.specs.Lines.{Reading, is_end, pending, EndsAt, EndsLine, IsLine, IsUnended, IsTooLong, LineStops, PartStops, PutStops}
 use Rattle.sip_script.specs.declared.stop.Stop.{Stop}
 use Rattle.sip_script.specs.declared.stop.Stop.TheVariants as stops
 

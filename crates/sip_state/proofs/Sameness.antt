@@ -58,9 +58,9 @@ pub after_request_same : (server : Server) (now : ℕ) (id : DialogId) (m : Mess
     → SameDialogs now (after_request server now id m left) (after_request server now id m right)
 after_request_same server now id m left right h = edited_same now id (λ d. record (told (addresses_of server m) d) { since = now }) left right h
 
--- and that a request stays open no longer
+-- and that an INVITE stays open no longer
 pub after_leaving_same : (now : ℕ) (r : OpenRequest) (left right : List Dialog) → SameDialogs now left right → SameDialogs now (after_leaving now r left) (after_leaving now r right)
-after_leaving_same now r left right h = either_same now (has_left r) _ _ _ _ (after_invite_same now r.number left right h) h
+after_leaving_same now r left right h = either_same now (is_invite r && has_left r) _ _ _ _ (after_invite_same now r.number left right h) h
 
 -- ---- what is asked of a state
 

@@ -75,6 +75,6 @@ abbrev pub after_answers : Server → ℕ → OpenRequest → List Upward → Li
 after_answers server now r [] dialogs = dialogs
 after_answers server now r (u ∷ us) dialogs = after_answers server now r us (after_answer server now r u dialogs)
 
--- when a request stays open no longer, those of its dialogs end to which no 2xx was forwarded (RFC 3261 12.3)
+-- when an INVITE stays open no longer, those of its dialogs end to which no 2xx was forwarded (RFC 3261 12.3)
 abbrev pub after_leaving : ℕ → OpenRequest → List Dialog → List Dialog
-after_leaving now r dialogs = if has_left r then after_invite now r.number dialogs else dialogs
+after_leaving now r dialogs = if is_invite r && has_left r then after_invite now r.number dialogs else dialogs

@@ -1,4 +1,4 @@
-use Rattle.std.proofs.Common.{◌+◌, drop, length, arith, rules}
+use Rattle.std.proofs.Common.{rules}
 use Rattle.sip_script.proofs.Fronts.{appends_slice}
 use Rattle.sip_script.proofs.Calls.{later_more}
 use Rattle.sip_script.proofs.writing.put.Goals as goal

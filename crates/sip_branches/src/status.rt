@@ -1,0 +1,39 @@
+ghost use Rattle.std.specs.Prelude.{◌≡◌, codes};
+ghost use Rattle.sip_context.specs.state.State as States;
+
+use sip_context::state::OpenRequest;
+
+/// Whether a request is an INVITE.
+pub fn is_invite(call: &OpenRequest) -> bool
+    ensures { result ≡ States.is_invite call.now }
+{
+    call.key.get().method.as_slice() == b"INVITE".as_slice()
+}
+
+/// 1xx (RFC 3261 7.2).
+pub fn is_provisional(status: u16) -> bool
+    ensures { result ≡ States.is_provisional status }
+{
+    status <= 199
+}
+
+/// 2xx.
+pub fn is_success(status: u16) -> bool
+    ensures { result ≡ States.is_success status }
+{
+    200 <= status && status <= 299
+}
+
+/// 3xx and above.
+pub fn is_failure(status: u16) -> bool
+    ensures { result ≡ States.is_failure status }
+{
+    300 <= status
+}
+
+/// 6xx.
+pub fn is_decline(status: u16) -> bool
+    ensures { result ≡ States.is_decline status }
+{
+    600 <= status
+}
