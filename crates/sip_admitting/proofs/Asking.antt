@@ -1,5 +1,5 @@
 -- What policy decided about a request that is answered here, as the step of the definitions that does it.
-use Rattle.std.proofs.Common.{◌≡◌, ◌∙◌, ℕ, true, List, [], ◌∷◌, Option, Result, Some, None, Ok, refl, sym, ap, subst, true≢false}
+use Rattle.std.proofs.Common.{◌≡◌, ◌∙◌, ◌≤◌, ℕ, IfSome, true, List, [], ◌∷◌, Option, Result, Some, None, Ok, refl, sym, ap, subst, true≢false}
 use Rattle.sip_event.specs.declared.event.StepOut.{StepOut}
 use Rattle.sip_proxy.specs.Proxy.{Becomes, with_bindings, with_nonces}
 use Rattle.sip_proxy.specs.arrival.Verdict.{IsOutcome}
@@ -9,6 +9,7 @@ use Rattle.sip_proxy.specs.arrival.declared.verdict.Outcome.TheVariants.{Challen
 use Rattle.sip_proxy.specs.context.Opening.{closing}
 use Rattle.sip_proxy.specs.field.declared.field.Field.{Field}
 use Rattle.sip_proxy.specs.form.declared.message.Message.{Message}
+use Rattle.sip_proxy.specs.judge.declared.registering.Registering.TheVariants as Judge
 use Rattle.sip_proxy.specs.location.Binding.{live}
 use Rattle.sip_proxy.specs.location.Locations.{IsPlan, Planned}
 use Rattle.sip_proxy.specs.location.Registration.{registered}
@@ -29,7 +30,8 @@ use Rattle.sip_proxy.specs.targets.declared.targets.Targets.{Targets}
 use Rattle.sip_proxy.specs.targets.declared.targets.Targets.TheVariants as To
 use Rattle.sip_proxy.specs.verdict.Verdict as Definition
 use Rattle.sip_proxy.specs.verdict.declared.question.Question.{Question}
-use Rattle.sip_serving.specs.Asking.{after_asking, are_nobody, is_answered_here, plan_of}
+use Rattle.sip_serving.specs.Asking.{after_asking, are_nobody, is_answered_here}
+use Rattle.sip_proxy.specs.arrival.Verdict.{HasRoomFor, plan_of}
 use Rattle.sip_serving.specs.Drafts as Drafts
 use Rattle.sip_serving.specs.Drafts.{AreBound, with_opened}
 use Rattle.sip_serving.specs.declared.draft.Draft.{Draft}
@@ -49,6 +51,17 @@ stays old new same = λ now after is aor moment later. ap (λ (rows : List Bindi
 pub follows : (old new : List Binding) (plan : Planned) → ((r : Registration) (at : ℕ) → IsPlan old r at plan → SameOutcome at (Ok new) (registered old r at)) → Binds (Some plan) old new
 follows old new plan applied = λ now after is.
     subst (λ (outcome : Result (List Binding) LocationError). SameOutcome now (Ok new) outcome) is.registered_are (applied is.registration now is.is_plan)
+
+-- there is room for the plan of what was decided, if it has one
+has_room_for : (room : ℕ) (outcome : Outcome) → HasRoomFor room outcome → IfSome (plan_of outcome) (λ plan. 1 ≤ room)
+has_room_for room Challenge has = tt
+has_room_for room (Deny id) has = tt
+has_room_for room (Send id targets) has = tt
+has_room_for room (Register id (Judge.Planned plan)) has = has
+has_room_for room (Register id (Judge.Refused status extras)) has = tt
+
+pub has_room : (room : ℕ) (outcome : Outcome) (plan : Planned) → plan_of outcome ≡ Some plan → HasRoomFor room outcome → 1 ≤ room
+has_room room outcome plan is has = subst (λ (planned : Option Planned). IfSome planned (λ p. 1 ≤ room)) is (has_room_for room outcome has)
 
 -- ---- answers
 

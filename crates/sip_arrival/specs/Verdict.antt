@@ -1,11 +1,12 @@
 -- When what was decided about a request is the verdict on it.
-use Rattle.std.specs.Prelude.{◌≡◌, ℕ, Bool, List, Option, ⊤}
+use Rattle.std.specs.Prelude.{◌≡◌, ℕ, Bool, List, Option, None, ⊤}
 use Rattle.sip_judge.specs.dialog.declared.dialog.Dialog.{Dialog}
 use Rattle.sip_judge.specs.form.declared.message.Start.{Start}
 use Rattle.sip_judge.specs.form.declared.message.Start.TheVariants.{Request, Status}
 use Rattle.sip_judge.specs.Registering as Registering
 use Rattle.sip_judge.specs.declared.registering.Registering.{Registering}
 use Rattle.sip_judge.specs.location.declared.binding.Binding.{Binding}
+use Rattle.sip_judge.specs.location.Locations.{Planned}
 use Rattle.sip_judge.specs.nonces.declared.nonces.Nonce.{Nonce}
 use Rattle.sip_judge.specs.state.declared.open_request.OpenRequest.{OpenRequest}
 use Rattle.sip_judge.specs.state.declared.proxy_state.ProxyState.{ProxyState}
@@ -55,6 +56,15 @@ Is server rows now named verdict (Answer status extras) = verdict ≡ Definition
 Is server rows now named verdict (InDialog address id) = verdict ≡ Definition.InDialog address id
 Is server rows now named verdict (Judged judged) =
     (judged.minute ≡ Definition.minute_on server judged.question) × IsOutcome rows now judged.question verdict judged.outcome
+
+-- ---- bindings
+
+-- the plan of what was decided, if it has one
+abbrev pub plan_of : Outcome → Option Planned
+plan_of Challenge = None
+plan_of (Deny id) = None
+plan_of (Send id targets) = None
+plan_of (Register id registering) = Registering.plan_in registering
 
 -- ---- room
 

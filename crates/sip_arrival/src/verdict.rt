@@ -1,7 +1,11 @@
+ghost use Rattle.std.specs.Prelude.{◌≡◌};
+ghost use Rattle.sip_arrival.specs.Verdict.{plan_of};
+
 use sip_judge::Registering;
 use sip_judge::dialog::DialogId;
 use sip_judge::field::Fields;
 use sip_judge::host::Addr;
+use sip_judge::location::Plan;
 use sip_judge::targets::Targets;
 use sip_judge::verdict::Question;
 
@@ -23,7 +27,6 @@ pub enum Verdict<'v> {
 }
 
 /// What policy was asked about a request, and what comes of what it decided.
-#[derive(Drop)]
 pub struct Judged<'v> {
     pub question: Question<'v>,
     /// The minute of the day that is recorded, where the rule that decided has a window; of a challenge none.
@@ -31,8 +34,32 @@ pub struct Judged<'v> {
     pub outcome: Outcome,
 }
 
+/// Written out, so that it is proved once and not wherever one is dropped.
+impl<'v> Drop for Judged<'v> {
+    fn drop(self) {
+        let Judged {
+            question: _,
+            minute: _,
+            outcome: _,
+        } = self;
+    }
+}
+
+impl<'v> Judged<'v> {
+    /// What came of what policy decided.
+    pub fn into_outcome(self) -> Outcome
+        ensures { result ≡ self.entry.outcome }
+    {
+        let Judged {
+            question: _,
+            minute: _,
+            outcome,
+        } = self;
+        outcome
+    }
+}
+
 /// What comes of what policy decided. The first numbers are those of the deciding rules; 0 is no rule's.
-#[derive(Drop)]
 pub enum Outcome {
     /// The one who asks has to prove to be a user first.
     Challenge,
@@ -42,4 +69,28 @@ pub enum Outcome {
     Send(u32, Targets),
     /// It is a REGISTER, and comes to this.
     Register(u32, Registering),
+}
+
+/// Written out, so that it is proved once and not wherever one is dropped.
+impl Drop for Outcome {
+    fn drop(self) {
+        match self {
+            Outcome::Challenge => {}
+            Outcome::Deny(_) => {}
+            Outcome::Send(_, _) => {}
+            Outcome::Register(_, _) => {}
+        }
+    }
+}
+
+impl Outcome {
+    /// The bindings that are planned, if any are.
+    pub fn into_plan(self) -> Option<Plan>
+        ensures { result ≡ plan_of self }
+    {
+        match self {
+            Outcome::Register(_, registering) => registering.into_plan(),
+            Outcome::Challenge | Outcome::Deny(_) | Outcome::Send(_, _) => None,
+        }
+    }
 }

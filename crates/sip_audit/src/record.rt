@@ -29,7 +29,7 @@ pub enum Outcome {
 /// it, its method, which is a token, the name of the user that was proven, the address of record that it
 /// is for, what it asks for, the minute of the day at which the rule decided, if it has a window, and what
 /// became of it.
-#[derive(Debug, Drop)]
+#[derive(Debug)]
 pub struct Record {
     pub at: u64,
     pub number: u64,
@@ -39,4 +39,20 @@ pub struct Record {
     pub operation: Operation,
     pub minute: Option<u16>,
     pub outcome: Outcome,
+}
+
+/// Written out, so that it is proved once and not wherever one is dropped.
+impl Drop for Record {
+    fn drop(self) {
+        let Record {
+            at: _,
+            number: _,
+            method: _,
+            who: _,
+            target: _,
+            operation: _,
+            minute: _,
+            outcome: _,
+        } = self;
+    }
 }

@@ -1,5 +1,6 @@
 //! Edits of the branches of an open request: their phases, which of them are to be cancelled, and their CANCELs
-//! (RFC 3261 9.1, 16.7, 16.8, 16.10). A branch is told by its number and by whether it is a CANCEL.
+//! (RFC 3261 9.1, 16.7, 16.8, 16.10). A branch is told by its number and by whether it is a CANCEL. What is asked of
+//! a status stands here too.
 #![tactic(auto)]
 
 mod branch;

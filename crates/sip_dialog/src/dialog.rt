@@ -3,11 +3,21 @@ use sip_header::text::{Bytes, Items};
 
 /// What names a dialog (RFC 3261 12): its Call-ID and both tags, as a message of it has them. A From
 /// without a tag has an empty one.
-#[derive(Drop)]
 pub struct DialogId {
     pub call_id: Bytes,
     pub from_tag: Bytes,
     pub to_tag: Bytes,
+}
+
+/// Written out, so that it is proved once and not wherever one is dropped.
+impl Drop for DialogId {
+    fn drop(self) {
+        let DialogId {
+            call_id: _,
+            from_tag: _,
+            to_tag: _,
+        } = self;
+    }
 }
 
 /// A dialog (RFC 3261 12).

@@ -28,11 +28,21 @@ use std::alloc::{AllocError, Global};
 use std::marker::Model;
 
 /// The server. Each call takes one step, or is refused and changes nothing.
-#[derive(Drop)]
 pub struct Engine<T: Timers, R: Rules> {
     alloc: Global,
     judge: Judge<R>,
     proxy: Proxy<T>,
+}
+
+/// Written out, so that it is proved once and not wherever one is dropped.
+impl<T: Timers, R: Rules> Drop for Engine<T, R> {
+    fn drop(self) {
+        let Engine {
+            alloc: _,
+            judge: _,
+            proxy: _,
+        } = self;
+    }
 }
 
 impl<T: Timers, R: Rules> Model for Engine<T, R> {

@@ -36,9 +36,19 @@ pub enum Event {
 
 /// What a step puts out: the moment at which it stood, in milliseconds, its packets, in the order in
 /// which they are to be sent, and its records.
-#[derive(Drop)]
 pub struct StepOut {
     pub at: u64,
     pub packets: Items<Packet>,
     pub records: Items<Record>,
+}
+
+/// Written out, so that it is proved once and not wherever one is dropped.
+impl Drop for StepOut {
+    fn drop(self) {
+        let StepOut {
+            at: _,
+            packets: _,
+            records: _,
+        } = self;
+    }
 }

@@ -39,11 +39,21 @@ use std::marker::Model;
 
 /// The open requests in rising order of their numbers, each with a key of its own, and exactly the timers that they name.
 /// Moments are milliseconds.
-#[derive(Drop)]
 pub struct Contexts<T: Timers> {
     table: Table<Standing>,
     timers: Queue<T>,
     moment: u64,
+}
+
+/// Written out, so that it is proved once and not wherever one is dropped.
+impl<T: Timers> Drop for Contexts<T> {
+    fn drop(self) {
+        let Contexts {
+            table: _,
+            timers: _,
+            moment: _,
+        } = self;
+    }
 }
 
 impl<T: Timers> Model for Contexts<T> {

@@ -1,5 +1,5 @@
 -- What a REGISTER that was let through comes to, with the plan for its bindings.
-use Rattle.std.specs.Prelude.{◌≡◌, ◌≤◌, ℕ, List, ⊤}
+use Rattle.std.specs.Prelude.{◌≡◌, ◌≤◌, ℕ, List, Option, Some, None, ⊤}
 use Rattle.sip_verdict.specs.location.declared.binding.Binding.{Binding}
 use Rattle.sip_verdict.specs.location.declared.registration.Registration.{Registration}
 use Rattle.sip_verdict.specs.location.Locations.{Planned, IsPlan}
@@ -20,6 +20,11 @@ pub record IsPlanned (rows : List Binding) (now : ℕ) (aor : Aor) (outcome : Re
 abbrev pub ComesTo : List Binding → ℕ → Aor → Registered → Registering → Type 0
 ComesTo rows now aor outcome (Judged.Refused status extras) = outcome ≡ Refused status extras
 ComesTo rows now aor outcome (Judged.Planned plan) = IsPlanned rows now aor outcome plan
+
+-- the plan of a registration that isn't refused
+abbrev pub plan_in : Registering → Option Planned
+plan_in (Judged.Planned plan) = Some plan
+plan_in (Judged.Refused status extras) = None
 
 -- There is room for a plan, so that applying it takes no memory.
 abbrev pub HasRoom : ℕ → Registering → Type 0

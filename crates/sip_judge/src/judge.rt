@@ -14,11 +14,21 @@ use std::marker::Model;
 
 /// A configured server with its rules and its tables of addresses, by which it judges requests. Seen as the server:
 /// the rules and tables are those that it was configured with.
-#[derive(Drop)]
 pub struct Judge<R: Rules> {
     server: Server,
     rules: R,
     hops: Hops,
+}
+
+/// Written out, so that it is proved once and not wherever one is dropped.
+impl<R: Rules> Drop for Judge<R> {
+    fn drop(self) {
+        let Judge {
+            server: _,
+            rules: _,
+            hops: _,
+        } = self;
+    }
 }
 
 impl<R: Rules> Model for Judge<R> {

@@ -56,7 +56,7 @@ pub mod dialog {
 
 /// Of `sip_location`.
 pub mod location {
-    pub use sip_verdict::location::Locations;
+    pub use sip_verdict::location::{Locations, Plan};
 }
 
 /// Of `sip_way`.

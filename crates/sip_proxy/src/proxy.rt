@@ -25,13 +25,25 @@ use std::marker::Model;
 
 /// What a proxy knows while it runs: its open requests with their timers, the bindings, nonces and dialogs, the last
 /// moment, in milliseconds, and the number of the next datagram.
-#[derive(Drop)]
 pub struct Proxy<T: Timers> {
     pub(crate) contexts: Contexts<T>,
     pub(crate) locations: Locations,
     pub(crate) nonces: Nonces,
     pub(crate) dialogs: Dialogs,
     next: u64,
+}
+
+/// Written out, so that it is proved once and not wherever one is dropped.
+impl<T: Timers> Drop for Proxy<T> {
+    fn drop(self) {
+        let Proxy {
+            contexts: _,
+            locations: _,
+            nonces: _,
+            dialogs: _,
+            next: _,
+        } = self;
+    }
 }
 
 impl<T: Timers> Model for Proxy<T> {

@@ -1,6 +1,8 @@
 -- What is sent of an open request, by what is the same of it for all its branches (RFC 3261 16.6).
 use Rattle.std.specs.Prelude.{ℕ, Bool, if◌then◌else◌, List, [], ◌∷◌, Option}
 use Rattle.std.specs.Option.{option_map_or}
+use Rattle.sip_context.specs.field.declared.field_name.FieldName.TheVariants as Name
+use Rattle.sip_context.specs.field.Values.{with_first}
 use Rattle.sip_context.specs.form.declared.message.Message.{Message}
 use Rattle.sip_context.specs.form.Text.{text_of}
 use Rattle.sip_context.specs.edit.OwnVia.{branch_text, own_via}
@@ -18,6 +20,10 @@ via_value server number target = own_via server.config.own (branch_text server.w
 -- what is the same of a request, which begins a dialog or doesn't, for all branches
 unfoldable pub base_by : Server → Bool → Message → Message
 base_by server begins received = onward_base server.config.own server.config.realm begins received
+
+-- the same, of a request given the value that its top Via gets
+abbrev pub base_over : Server → Bool → List ℕ → Message → Message
+base_over server begins via request = base_by server begins (record request { fields = with_first Name.Via via request.fields })
 
 -- the request of a branch
 unfoldable pub request_by : Server → ℕ → Message → Branch → Message

@@ -171,6 +171,25 @@ fn base_of<'v>(
     )
 }
 
+/// Adds what a branch sends of a request, given the value that its top Via gets.
+fn put_received_branch(
+    alloc: Global,
+    out: &mut Items<Packet>,
+    server: &Server,
+    again: bool,
+    number: u64,
+    begins_dialog: bool,
+    request: &View<'_>,
+    via: &[u8],
+    branch: &Branch,
+) -> Result<(), AllocError>
+    ensures { OnOk result (out.new ≡ out.old ++ Base.packets_by server.now again number (Base.base_over server.now begins_dialog via.now request.now) branch.now) }
+{
+    let received = with_top_via(alloc, request, via)?;
+    let base = base_of(alloc, server, begins_dialog, &received)?;
+    put_branch(alloc, out, server, again, number, &base, branch)
+}
+
 /// Adds what a branch of an open request sends: its request, or the CANCEL of that (RFC 3261 9.1, 16.6). It is written
 /// once. `AllocError` is the only refusal.
 pub fn branch_packets(
@@ -186,9 +205,36 @@ pub fn branch_packets(
     let request = context.request.get().view(alloc)?;
     let begins = begins_dialog(alloc, context, &request)?;
     let via = received_value(alloc, &request, context.source)?;
-    let received = with_top_via(alloc, &request, via.as_slice())?;
-    let base = base_of(alloc, server, begins, &received)?;
-    put_branch(alloc, out, server, again, context.number, &base, branch)
+    put_received_branch(
+        alloc,
+        out,
+        server,
+        again,
+        context.number,
+        begins,
+        &request,
+        via.as_slice(),
+        branch,
+    )
+}
+
+/// Adds what some branches send of a request, given the value that its top Via gets.
+fn put_received_branches(
+    alloc: Global,
+    out: &mut Items<Packet>,
+    server: &Server,
+    again: bool,
+    number: u64,
+    begins_dialog: bool,
+    request: &View<'_>,
+    via: &[u8],
+    branches: &[Branch],
+) -> Result<(), AllocError>
+    ensures { OnOk result (out.new ≡ out.old ++ flat_map (Base.packets_by server.now again number (Base.base_over server.now begins_dialog via.now request.now)) branches.now) }
+{
+    let received = with_top_via(alloc, request, via)?;
+    let base = base_of(alloc, server, begins_dialog, &received)?;
+    put_branches(alloc, out, server, again, number, &base, branches)
 }
 
 /// Adds what some branches of an open request send, in their order. What is the same for all is made once, and each packet
@@ -206,9 +252,17 @@ pub fn packets_of_branches(
     let request = context.request.get().view(alloc)?;
     let begins = begins_dialog(alloc, context, &request)?;
     let via = received_value(alloc, &request, context.source)?;
-    let received = with_top_via(alloc, &request, via.as_slice())?;
-    let base = base_of(alloc, server, begins, &received)?;
-    put_branches(alloc, out, server, again, context.number, &base, branches)
+    put_received_branches(
+        alloc,
+        out,
+        server,
+        again,
+        context.number,
+        begins,
+        &request,
+        via.as_slice(),
+        branches,
+    )
 }
 
 /// The text of the ACK of a branch, by what is the same of the request for all branches.
@@ -257,6 +311,26 @@ fn put_ack(
     })
 }
 
+/// Adds the ACK of a branch of a request, given the value that its top Via gets.
+fn put_received_ack(
+    alloc: Global,
+    out: &mut Items<Packet>,
+    server: &Server,
+    again: bool,
+    number: u64,
+    begins_dialog: bool,
+    request: &View<'_>,
+    via: &[u8],
+    branch: &Branch,
+    to: Option<&[u8]>,
+) -> Result<(), AllocError>
+    ensures { OnOk result (out.new ≡ out.old ++ Base.acks_by server.now again number (Base.base_over server.now begins_dialog via.now request.now) branch.now (option_map (λ value. value.now) to.entry)) }
+{
+    let received = with_top_via(alloc, request, via)?;
+    let base = base_of(alloc, server, begins_dialog, &received)?;
+    put_ack(alloc, out, server, again, number, &base, branch, to)
+}
+
 /// Adds the ACK of a final answer of an INVITE that is no 2xx, which a branch sends, with this To if that had one (RFC 3261
 /// 17.1.1.3). `AllocError` is the only refusal.
 pub fn ack_packets(
@@ -273,7 +347,16 @@ pub fn ack_packets(
     let request = context.request.get().view(alloc)?;
     let begins = begins_dialog(alloc, context, &request)?;
     let via = received_value(alloc, &request, context.source)?;
-    let received = with_top_via(alloc, &request, via.as_slice())?;
-    let base = base_of(alloc, server, begins, &received)?;
-    put_ack(alloc, out, server, again, context.number, &base, branch, to)
+    put_received_ack(
+        alloc,
+        out,
+        server,
+        again,
+        context.number,
+        begins,
+        &request,
+        via.as_slice(),
+        branch,
+        to,
+    )
 }

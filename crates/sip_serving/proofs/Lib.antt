@@ -2,4 +2,3 @@ pub mod Replying
 pub mod Answered
 pub mod Serving
 pub mod Final
-pub mod Planned

@@ -23,11 +23,11 @@ use Rattle.sip_arrival.specs.declared.verdict.Outcome.TheVariants.{Challenge, De
 use Rattle.sip_arrival.specs.declared.verdict.Verdict.TheVariants as Arrived
 use Rattle.sip_arrival.specs.judge.declared.registering.Registering.{Registering}
 use Rattle.sip_arrival.specs.judge.declared.registering.Registering.TheVariants as Judge
-use Rattle.sip_arrival.specs.judge.Registering.{ComesTo, IsPlanned}
-use Rattle.sip_arrival.specs.Verdict.{Is, IsOutcome}
+use Rattle.sip_arrival.specs.judge.Registering.{ComesTo, IsPlanned, plan_in}
+use Rattle.sip_arrival.specs.Verdict.{Is, IsOutcome, plan_of}
 use Rattle.sip_fitting.specs.Fits.{IsFinalAnswer}
 use Rattle.sip_serving.specs.declared.draft.Draft.{Draft}
-use Rattle.sip_serving.specs.Asking.{after_outcome, after_asking, plan_in, plan_of, RefusesFinally, AnswersFinally}
+use Rattle.sip_serving.specs.Asking.{after_outcome, after_asking, RefusesFinally, AnswersFinally}
 use Rattle.sip_serving.specs.Drafts.{Does, Drafts, IsOpenable}
 
 module _ (server : Server) (a : Arrival) (m : Message) (key : Key) (q : Question) (minute : Option ℕ) (full : Bool) where

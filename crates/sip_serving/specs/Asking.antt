@@ -7,12 +7,9 @@ use Rattle.sip_opening.specs.nonces.Nonces.{issued}
 use Rattle.sip_opening.specs.targets.declared.targets.Targets.{Targets}
 use Rattle.sip_opening.specs.targets.declared.targets.Targets.TheVariants.{Bindings, Hop, NotFound, Unavailable}
 use Rattle.sip_opening.specs.verdict.Verdict as Definition
-use Rattle.sip_answering.specs.location.Locations.{Planned}
 use Rattle.sip_arrival.specs.declared.verdict.Judged.{Judged}
 use Rattle.sip_arrival.specs.declared.verdict.Outcome.{Outcome}
 use Rattle.sip_arrival.specs.declared.verdict.Outcome.TheVariants.{Challenge, Deny, Send, Register}
-use Rattle.sip_arrival.specs.judge.declared.registering.Registering.{Registering}
-use Rattle.sip_arrival.specs.judge.declared.registering.Registering.TheVariants as Judge
 use Rattle.sip_fitting.specs.Fits.{IsFinalAnswer}
 
 -- ---- who answers
@@ -50,20 +47,6 @@ after_outcome a (Register id registering) nonces = nonces
 -- a right credential is used up, whatever was decided (RFC 2617 3.2.2: nonce-count)
 abbrev pub after_asking : Arrival → Judged → List Nonce → List Nonce
 after_asking a judged nonces = after_outcome a judged.outcome (used nonces a.now judged.question.proof)
-
--- ---- bindings
-
--- the plan of a registration
-abbrev pub plan_in : Registering → Option Planned
-plan_in (Judge.Planned plan) = Some plan
-plan_in (Judge.Refused status extras) = None
-
--- the plan of what was decided, if it has one
-abbrev pub plan_of : Outcome → Option Planned
-plan_of Challenge = None
-plan_of (Deny id) = None
-plan_of (Send id targets) = None
-plan_of (Register id registering) = plan_in registering
 
 -- ---- answers
 

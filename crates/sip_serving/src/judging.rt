@@ -12,8 +12,8 @@ ghost use Rattle.sip_answering.specs.location.declared.registration.Registration
 ghost use Rattle.sip_answering.specs.location.Locations.{IsPlan};
 ghost use Rattle.sip_answering.specs.location.Registration.{registered};
 ghost use Rattle.sip_arrival.specs.declared.verdict.Verdict.TheVariants as Arrived;
-ghost use Rattle.sip_arrival.specs.judge.Registering.{ComesTo};
-ghost use Rattle.sip_arrival.specs.Verdict.{Is};
+ghost use Rattle.sip_arrival.specs.judge.Registering.{ComesTo, plan_in};
+ghost use Rattle.sip_arrival.specs.Verdict.{Is, plan_of};
 ghost use Rattle.sip_fitting.specs.Fits.{IsFinalAnswer};
 ghost use Rattle.sip_serving.specs.Asking as Asking;
 ghost use Rattle.sip_serving.specs.Drafts.{Does, Drafts, IsOpenable};
@@ -208,7 +208,7 @@ fn registering(
     requires now { arrival.now + 32000 < 2 ^ 64 }
     ensures does { IfOk result (λ draft. judged.now.minute ≡ Definition.minute_on server.now judged.now.question
         → (state : ProxyState) (registered : Definition.Registered) → Definition.is_full state ≡ is_full → ComesTo state.bindings arrival.now judged.now.question.target registered outcome.now
-        → Does arrival.now draft (used state.nonces arrival.now judged.now.question.proof) (Asking.plan_in outcome.now) state
+        → Does arrival.now draft (used state.nonces arrival.now judged.now.question.proof) (plan_in outcome.now) state
         (Effects.registering server.now (arrival_of arrival) request judged.now.question rule registered state)) }
     ensures opens { IfOk result (λ draft. (rows : List Binding) (registered : Definition.Registered) → ComesTo rows arrival.now judged.now.question.target registered outcome.now
         → Asking.RefusesFinally registered → IfSome draft.opened (IsOpenable arrival key)) }
@@ -241,7 +241,7 @@ pub fn judged(
     requires here { Asking.is_answered_here judged.now.outcome ≡ true }
     ensures does { IfOk result (λ draft. (state : ProxyState) (rows : List Binding) (named : Option OpenRequest) (verdict : Definition.Verdict) → state.bindings ≡ rows → Definition.is_full state ≡ is_full
         → Is server.now rows arrival.now named verdict (Arrived.Judged judged.now)
-        → Does arrival.now draft (Asking.after_asking (arrival_of arrival) judged.now state.nonces) (Asking.plan_of judged.now.outcome) state
+        → Does arrival.now draft (Asking.after_asking (arrival_of arrival) judged.now state.nonces) (plan_of judged.now.outcome) state
         (Effects.effect_of server.now (arrival_of arrival) request verdict state)) }
     ensures opens { IfOk result (λ draft. (rows : List Binding) (named : Option OpenRequest) (verdict : Definition.Verdict)
         → Is server.now rows arrival.now named verdict (Arrived.Judged judged.now) → Asking.AnswersFinally verdict → IfSome draft.opened (IsOpenable arrival key)) }

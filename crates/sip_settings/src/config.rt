@@ -4,7 +4,6 @@ use sip_policy::{Rule, Users};
 use sip_way::Own;
 
 /// What a server is told before it starts.
-#[derive(Drop)]
 pub struct Config {
     /// Where it is.
     pub own: Own,
@@ -23,4 +22,20 @@ pub struct Config {
     pub hops: Items<Hop>,
     /// The addresses of hosts.
     pub addresses: Items<HostAddress>,
+}
+
+/// Written out, so that it is proved once and not wherever one is dropped.
+impl Drop for Config {
+    fn drop(self) {
+        let Config {
+            own: _,
+            bound_port: _,
+            realm: _,
+            users: _,
+            rules: _,
+            offset: _,
+            hops: _,
+            addresses: _,
+        } = self;
+    }
 }

@@ -19,7 +19,7 @@ pub enum Phase {
 }
 
 /// A branch of an open request (RFC 3261 16.6).
-#[derive(Clone, Drop)]
+#[derive(Clone)]
 pub struct Branch {
     /// The number of its target, from 1.
     pub number: u32,
@@ -36,4 +36,20 @@ pub struct Branch {
     pub final_to: Option<Shared<Bytes>>,
     /// When what it sends goes again, while it does.
     pub again: Resend,
+}
+
+/// Written out, so that it is proved once and not wherever one is dropped.
+impl Drop for Branch {
+    fn drop(self) {
+        let Branch {
+            number: _,
+            is_cancel: _,
+            uri: _,
+            address: _,
+            wants_cancel: _,
+            phase: _,
+            final_to: _,
+            again: _,
+        } = self;
+    }
 }

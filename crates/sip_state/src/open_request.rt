@@ -28,7 +28,7 @@ pub struct LastAnswer {
 }
 
 /// An open request. What many of its states have in common is shared: a clone copies its branches and its numbers, and no text.
-#[derive(Clone, Drop)]
+#[derive(Clone)]
 pub struct OpenRequest {
     pub key: Shared<Key>,
     /// The request as it came.
@@ -47,6 +47,24 @@ pub struct OpenRequest {
     /// The final answers of its branches, in order of arrival (RFC 3261 16: response context).
     pub finals: Items<Final>,
     pub branches: Items<Branch>,
+}
+
+/// Written out, so that it is proved once and not wherever one is dropped.
+impl Drop for OpenRequest {
+    fn drop(self) {
+        let OpenRequest {
+            key: _,
+            request: _,
+            source: _,
+            number: _,
+            arrived_at: _,
+            answer: _,
+            side: _,
+            again: _,
+            finals: _,
+            branches: _,
+        } = self;
+    }
 }
 
 /// An answer that goes to the caller: its status, the message, and the address of the branch that it came

@@ -1,8 +1,14 @@
 use sip_settings::Config;
 
 /// A server: what it was configured with, and the word that its branches and tags begin with.
-#[derive(Drop)]
 pub struct Server {
     pub config: Config,
     pub word: u64,
+}
+
+/// Written out, so that it is proved once and not wherever one is dropped.
+impl Drop for Server {
+    fn drop(self) {
+        let Server { config: _, word: _ } = self;
+    }
 }

@@ -16,10 +16,16 @@ const OPEN: usize = 1024;
 
 /// The open requests, in rising order of their numbers, each with a key of its own.
 /// Seen as the list of them, and how many more can be added with no memory.
-#[derive(Drop)]
 pub struct Table<R: Row> {
     rows: Numbered<R>,
     keys: Keys,
+}
+
+/// Written out, so that it is proved once and not wherever one is dropped.
+impl<R: Row> Drop for Table<R> {
+    fn drop(self) {
+        let Table { rows: _, keys: _ } = self;
+    }
 }
 
 impl<R: Row> Model for Table<R> {

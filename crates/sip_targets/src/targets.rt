@@ -4,7 +4,6 @@ use sip_policy::text::Items;
 use sip_policy::uri::Uri;
 
 /// Where a request goes that policy lets through.
-#[derive(Drop)]
 pub enum Targets {
     /// One target for each live binding of the address of record, in their order.
     Bindings(Items<Target>),
@@ -14,4 +13,16 @@ pub enum Targets {
     NotFound,
     /// No live binding: 480 (Temporarily Unavailable).
     Unavailable,
+}
+
+/// Written out, so that it is proved once and not wherever one is dropped.
+impl Drop for Targets {
+    fn drop(self) {
+        match self {
+            Targets::Bindings(_) => {}
+            Targets::Hop(_, _) => {}
+            Targets::NotFound => {}
+            Targets::Unavailable => {}
+        }
+    }
 }

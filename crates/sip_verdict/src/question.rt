@@ -3,7 +3,6 @@ use sip_auth::policy::Operation;
 use sip_uri::Aor;
 
 /// What policy is asked about a request.
-#[derive(Drop)]
 pub struct Question<'v> {
     /// Whom it proves to come from.
     pub proof: Proof<'v>,
@@ -13,4 +12,16 @@ pub struct Question<'v> {
     pub target: Aor,
     /// The minute of the day at which it came.
     pub minute: u16,
+}
+
+/// Written out, so that it is proved once and not wherever one is dropped.
+impl<'v> Drop for Question<'v> {
+    fn drop(self) {
+        let Question {
+            proof: _,
+            operation: _,
+            target: _,
+            minute: _,
+        } = self;
+    }
 }

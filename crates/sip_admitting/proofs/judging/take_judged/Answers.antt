@@ -2,7 +2,8 @@ use Rattle.std.proofs.Common.{refl, sym}
 use Rattle.sip_proxy.specs.model.Effect.{counted, effect_of}
 use Rattle.sip_proxy.specs.opening.Arrivals.{arrival_of}
 use Rattle.sip_proxy.specs.state.declared.proxy_state.ProxyState.{ProxyState}
-use Rattle.sip_serving.specs.Asking.{after_asking, plan_of}
+use Rattle.sip_proxy.specs.arrival.Verdict.{plan_of}
+use Rattle.sip_serving.specs.Asking.{after_asking}
 use Rattle.sip_admitting.proofs.Answering.{opened_in}
 use Rattle.sip_admitting.proofs.Asking.{judged_done, judged_replies}
 use Rattle.sip_admitting.proofs.judging.take_judged.Goals as goal

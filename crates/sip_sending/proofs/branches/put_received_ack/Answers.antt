@@ -1,0 +1,9 @@
+use Rattle.std.proofs.Common.{◌≡◌, List, ◌++◌, ◌∙◌, ap, subst, OnOk, option_map}
+use Rattle.sip_context.specs.form.declared.message.Message.{Message}
+use Rattle.sip_sending.specs.Base.{base_by, acks_by}
+use Rattle.sip_sending.proofs.branches.put_received_ack.Goals as goal
+
+pub returns : goal.returns
+returns c =
+    subst (λ (m : Message). OnOk c.put_ack.result (c.put_ack.new.out ≡ c.args.out.now ++ acks_by c.args.server.now c.args.again c.args.number m c.args.branch.now (option_map (λ value. value.now) c.args.to)))
+    (c.in_ok-base.ensures ∙ ap (base_by c.args.server.now c.args.begins_dialog) c.in_ok-received.ensures) c.put_ack.ensures

@@ -1,0 +1,9 @@
+use Rattle.std.proofs.Common.{◌≡◌, List, ◌++◌, ◌∙◌, ap, subst, OnOk}
+use Rattle.sip_context.specs.form.declared.message.Message.{Message}
+use Rattle.sip_sending.specs.Base.{base_by, packets_by}
+use Rattle.sip_sending.proofs.branches.put_received_branch.Goals as goal
+
+pub returns : goal.returns
+returns c =
+    subst (λ (m : Message). OnOk c.put_branch.result (c.put_branch.new.out ≡ c.args.out.now ++ packets_by c.args.server.now c.args.again c.args.number m c.args.branch.now))
+    (c.in_ok-base.ensures ∙ ap (base_by c.args.server.now c.args.begins_dialog) c.in_ok-received.ensures) c.put_branch.ensures

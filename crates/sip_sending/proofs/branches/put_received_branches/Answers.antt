@@ -1,0 +1,10 @@
+use Rattle.std.proofs.Common.{◌≡◌, List, ◌++◌, ◌∙◌, ap, subst, OnOk}
+use Rattle.std.specs.List.{flat_map}
+use Rattle.sip_context.specs.form.declared.message.Message.{Message}
+use Rattle.sip_sending.specs.Base.{base_by, packets_by}
+use Rattle.sip_sending.proofs.branches.put_received_branches.Goals as goal
+
+pub returns : goal.returns
+returns c =
+    subst (λ (m : Message). OnOk c.put_branches.result (c.put_branches.new.out ≡ c.args.out.now ++ flat_map (packets_by c.args.server.now c.args.again c.args.number m) c.args.branches.now))
+    (c.in_ok-base.ensures ∙ ap (base_by c.args.server.now c.args.begins_dialog) c.in_ok-received.ensures) c.put_branches.ensures
