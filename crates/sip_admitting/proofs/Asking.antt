@@ -1,8 +1,8 @@
 -- What policy decided about a request that is answered here, as the step of the definitions that does it.
-use Rattle.std.proofs.Common.{◌≡◌, ◌∙◌, ◌≤◌, ℕ, IfSome, true, List, [], ◌∷◌, Option, Result, Some, None, Ok, refl, sym, ap, subst, true≢false}
+use Rattle.std.proofs.Common.{◌≡◌, ◌∙◌, ◌≤◌, ℕ, IfSome, true, List, [], ◌∷◌, Option, Result, Some, Ok, refl, sym, ap, subst, true≢false}
 use Rattle.sip_event.specs.declared.event.StepOut.{StepOut}
 use Rattle.sip_proxy.specs.Proxy.{Becomes, with_bindings, with_nonces}
-use Rattle.sip_proxy.specs.arrival.Verdict.{IsOutcome}
+use Rattle.sip_proxy.specs.arrival.Verdict.{HasRoomFor, IsOutcome, plan_of}
 use Rattle.sip_proxy.specs.arrival.declared.verdict.Judged.{Judged}
 use Rattle.sip_proxy.specs.arrival.declared.verdict.Outcome.{Outcome}
 use Rattle.sip_proxy.specs.arrival.declared.verdict.Outcome.TheVariants.{Challenge, Deny, Send, Register}
@@ -10,7 +10,6 @@ use Rattle.sip_proxy.specs.context.Opening.{closing}
 use Rattle.sip_proxy.specs.field.declared.field.Field.{Field}
 use Rattle.sip_proxy.specs.form.declared.message.Message.{Message}
 use Rattle.sip_proxy.specs.judge.declared.registering.Registering.TheVariants as Judge
-use Rattle.sip_proxy.specs.location.Binding.{live}
 use Rattle.sip_proxy.specs.location.Locations.{IsPlan, Planned}
 use Rattle.sip_proxy.specs.location.Registration.{registered}
 use Rattle.sip_proxy.specs.location.Sameness.{SameBindings, SameOutcome}
@@ -31,7 +30,6 @@ use Rattle.sip_proxy.specs.targets.declared.targets.Targets.TheVariants as To
 use Rattle.sip_proxy.specs.verdict.Verdict as Definition
 use Rattle.sip_proxy.specs.verdict.declared.question.Question.{Question}
 use Rattle.sip_serving.specs.Asking.{after_asking, are_nobody, is_answered_here}
-use Rattle.sip_proxy.specs.arrival.Verdict.{HasRoomFor, plan_of}
 use Rattle.sip_serving.specs.Drafts as Drafts
 use Rattle.sip_serving.specs.Drafts.{AreBound, with_opened}
 use Rattle.sip_serving.specs.declared.draft.Draft.{Draft}
@@ -43,11 +41,7 @@ use Rattle.sip_admitting.proofs.Answering.{Replies, step_done, text_by}
 abbrev pub Binds : Option Planned → List Binding → List Binding → Type 0
 Binds plan old new = (now : ℕ) (after : List Binding) → AreBound now plan old after → SameBindings now new after
 
--- without one nothing changed
-pub stays : (old new : List Binding) → new ≡ old → Binds None old new
-stays old new same = λ now after is aor moment later. ap (λ (rows : List Binding). live aor moment rows) (same ∙ sym is)
-
--- with one the bindings are those after its registration
+-- with a plan the bindings are those after its registration
 pub follows : (old new : List Binding) (plan : Planned) → ((r : Registration) (at : ℕ) → IsPlan old r at plan → SameOutcome at (Ok new) (registered old r at)) → Binds (Some plan) old new
 follows old new plan applied = λ now after is.
     subst (λ (outcome : Result (List Binding) LocationError). SameOutcome now (Ok new) outcome) is.registered_are (applied is.registration now is.is_plan)

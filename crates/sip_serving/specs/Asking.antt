@@ -1,5 +1,5 @@
 -- What becomes of what a proxy knows once policy was asked about a request.
-use Rattle.std.specs.Prelude.{ℕ, Bool, true, false, List, Option, Some, None, ⊤}
+use Rattle.std.specs.Prelude.{ℕ, Bool, true, false, List, ⊤}
 use Rattle.sip_opening.specs.state.Arrival.{Arrival}
 use Rattle.sip_opening.specs.auth.Proof.{used}
 use Rattle.sip_opening.specs.nonces.declared.nonces.Nonce.{Nonce}
