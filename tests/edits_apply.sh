@@ -1,5 +1,5 @@
 #!/bin/sh
-# Whether each must-fail edit can be made: each of its old texts stands exactly once in its file. Proves
+# Whether each must-fail edit can be made, also one that the gate leaves out (.edit.md): each of its old texts stands exactly once in its file. Proves
 # nothing and takes a second; run it at the top of the repository after `rt fmt`, or from anywhere.
 cd "$(dirname "$0")/.." || exit 2
 exec python3 - <<'PY'
@@ -7,7 +7,7 @@ import glob
 import sys
 
 faults = 0
-edits = sorted(glob.glob("crates/*/must-fail/*.edit"))
+edits = sorted(glob.glob("crates/*/must-fail/*.edit") + glob.glob("crates/*/must-fail/*.edit.md"))
 for edit in edits:
     crate = edit.split("/must-fail/")[0]
     text, olds, news = None, 0, 0

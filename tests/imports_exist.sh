@@ -14,17 +14,17 @@ IMPORT = re.compile(r"\s*(?:pub )?(?:ghost )?use Rattle\.(sip_\w+)\.(specs|proof
 MADE = ("declared.", "contracts.")
 
 
-# A crate that passes on the specs of another one, under a short name.
-PASSED = re.compile(r"(?m)^pub use Rattle\.(sip_\w+)\.specs((?:\.\w+)*?)(?:\.(\w+)|\s+as\s+(\w+))$")
+# A crate that passes on the specs or the proofs of another one, under a short name.
+PASSED = re.compile(r"(?m)^pub use Rattle\.(sip_\w+)\.(?:specs|proofs)((?:\.\w+)*?)(?:\.(\w+)|\s+as\s+(\w+))$")
 
 
 def text(path):
     return open(path, encoding="utf-8").read()
 
 
-def passed_on(crate):
+def passed_on(crate, kind):
     """What a crate passes on: by its short name, the crate that it is taken from, and under which path there."""
-    path = f"crates/{crate}/specs/Lib.antt"
+    path = f"crates/{crate}/{kind}/Lib.antt"
     found = PASSED.findall(text(path)) if os.path.exists(path) else []
     return {last or name: (low, (inner + "." + last if last else inner).lstrip(".")) for low, inner, last, name in found}
 
@@ -32,9 +32,9 @@ def passed_on(crate):
 def home_of(crate, kind, path):
     """The crate where a path stands, and the path there."""
     first, _, rest = path.partition(".")
-    if kind != "specs" or first not in passed_on(crate):
+    if first not in passed_on(crate, kind):
         return crate, path
-    low, inner = passed_on(crate)[first]
+    low, inner = passed_on(crate, kind)[first]
     return home_of(low, kind, ".".join(part for part in (inner, rest) if part))
 
 

@@ -6,7 +6,7 @@ use std::error::Error;
 use std::fmt;
 
 /// Why a line wasn't written or read.
-#[derive(Clone, Copy, Debug, PartialEq, Eq)]
+#[derive(Clone, Copy, Debug)]
 pub enum AuditError {
     /// Memory ran out.
     NoMemory = 1,

@@ -2,7 +2,7 @@ use sip_text::Bytes;
 use sip_uri::Aor;
 
 /// What a request asks for.
-#[derive(Clone, Copy, Debug, PartialEq, Eq)]
+#[derive(Clone, Copy)]
 pub enum Operation {
     /// A REGISTER with a Contact.
     Register,
@@ -13,7 +13,7 @@ pub enum Operation {
 }
 
 /// What became of a request, and by which rule of the policy; rule 0 says that none matched.
-#[derive(Clone, Copy, Debug, PartialEq, Eq)]
+#[derive(Clone, Copy, PartialEq, Eq)]
 pub enum Outcome {
     /// It was challenged with this status; no rule decided.
     Challenge { status: u16 },
@@ -29,7 +29,6 @@ pub enum Outcome {
 /// it, its method, which is a token, the name of the user that was proven, the address of record that it
 /// is for, what it asks for, the minute of the day at which the rule decided, if it has a window, and what
 /// became of it.
-#[derive(Debug)]
 pub struct Record {
     pub at: u64,
     pub number: u64,

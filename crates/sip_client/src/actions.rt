@@ -1,7 +1,7 @@
 use sip_transaction::Letter;
 
 /// What goes up to the core.
-#[derive(Clone, Copy, PartialEq, Eq)]
+#[derive(Clone, Copy)]
 pub enum Report {
     /// The response that came.
     Response,
@@ -12,7 +12,7 @@ pub enum Report {
 }
 
 /// What is to be done for a client transaction.
-#[derive(Clone, Copy, Default, PartialEq, Eq)]
+#[derive(Clone, Copy, Default)]
 pub enum Action {
     /// Send the request.
     #[default]

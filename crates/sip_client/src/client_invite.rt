@@ -39,7 +39,7 @@ use sip_transaction::{Actions, Letter, T1, doubled};
 ///
 /// To the left of a `:` stands what the transaction hears, to the right what is to be done; times are in
 /// milliseconds. What stands beside a state leaves it as it is.
-#[derive(Clone, Copy, PartialEq, Eq)]
+#[derive(Clone, Copy)]
 pub enum ClientInvite {
     /// No response came.
     Calling {
@@ -57,7 +57,7 @@ pub enum ClientInvite {
 }
 
 /// What a client transaction of an INVITE hears.
-#[derive(Clone, Copy, PartialEq, Eq)]
+#[derive(Clone, Copy)]
 pub enum ClientInviteInput {
     /// A response of this status came.
     Received(u16),

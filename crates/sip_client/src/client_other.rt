@@ -36,7 +36,7 @@ use sip_transaction::{Actions, Letter, T1, T2, T4, doubled};
 ///
 /// To the left of a `:` stands what the transaction hears, to the right what is to be done; times are in
 /// milliseconds. What stands beside a state leaves it as it is.
-#[derive(Clone, Copy, PartialEq, Eq)]
+#[derive(Clone, Copy)]
 pub enum ClientOther {
     /// No response came.
     Trying {
@@ -52,7 +52,7 @@ pub enum ClientOther {
 }
 
 /// What a client transaction of a request that isn't an INVITE hears.
-#[derive(Clone, Copy, PartialEq, Eq)]
+#[derive(Clone, Copy)]
 pub enum ClientOtherInput {
     /// A response of this status came.
     Received(u16),

@@ -4,7 +4,7 @@ use clap::{Arg, ArgAction, ArgMatches, Command};
 use std::alloc::{AllocError, Global};
 
 /// What is to be done.
-#[derive(Debug, Drop)]
+#[derive(Drop)]
 pub enum Call {
     /// Check the configuration of this file.
     Check(String),
@@ -13,7 +13,7 @@ pub enum Call {
 }
 
 /// What a command line says.
-#[derive(Debug, Drop)]
+#[derive(Drop)]
 pub enum Parsed {
     /// It asks for this text.
     Text(String),

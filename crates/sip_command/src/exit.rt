@@ -8,7 +8,7 @@ use std::alloc::{AllocError, AllocFailed};
 use std::{fmt, io};
 
 /// Why the program stops.
-#[derive(Debug, Drop)]
+#[derive(Drop)]
 pub enum Exit {
     /// The command line is none that it knows; the text says how to call it.
     Usage(String),

@@ -2,11 +2,11 @@ ghost use Rattle.std.specs.Prelude.{◌≡◌, IfOk, OnOk, map, option_map};
 ghost use Rattle.sip_text.specs.Cuts.{parts_at};
 ghost use Rattle.sip_credentials.specs.Credentials.{value_said, item_from, item_in, items_in, item_value, names_differ, credentials_from, from_items, credentials_of};
 
+use sip_header::form::Value;
 use sip_text::{
     Text, TextError, all_differ, first_part, is_token, plain_quoted, same_no_case, split_outside,
     split_word, unquote, without_blanks,
 };
-use sip_view::Value;
 use std::alloc::{AllocError, Global};
 
 /// What Digest credentials say (RFC 2617 3.2.2), without quotes: parts of what was read, but for quoted text with

@@ -10,7 +10,7 @@ pub use credentials::{Credentials, credentials_of};
 
 /// Of `sip_field`.
 pub mod field {
-    pub use sip_view::field::{Field, FieldName};
+    pub use sip_header::form::{Field, FieldName};
 }
 
 /// Of `sip_host`.
@@ -25,17 +25,12 @@ pub mod uri {
 
 /// Of `sip_view`.
 pub mod view {
-    pub use sip_view::{Value, ViewField, ViewFields};
+    pub use sip_header::form::{Value, ViewField, ViewFields};
 }
 
 /// Of `sip_form`.
 pub mod form {
-    pub use sip_header::form::{View, ViewStart};
-}
-
-/// Of `sip_message`.
-pub mod message {
-    pub use sip_header::message::{
+    pub use sip_header::form::{
         Field, FieldName, Fields, Value, View, ViewField, ViewFields, ViewName, ViewStart,
         write_view,
     };

@@ -6,7 +6,7 @@ use std::error::Error;
 use std::fmt;
 
 /// Why a dialog is not learnt.
-#[derive(Clone, Copy, Debug, PartialEq, Eq)]
+#[derive(Clone, Copy, Debug)]
 pub enum DialogError {
     /// Memory ran out.
     NoMemory = 1,

@@ -9,7 +9,6 @@ pub mod OwnRequests
 pub mod OnwardExamples
 pub use Rattle.sip_credentials.specs.field
 pub use Rattle.sip_credentials.specs.form
-pub use Rattle.sip_credentials.specs.message
 pub use Rattle.sip_credentials.specs.header
 pub use Rattle.sip_credentials.specs as credentials
 pub use Rattle.sip_way.specs as way

@@ -38,9 +38,9 @@ pub mod view {
     pub use sip_credentials::view::{Value, ViewField, ViewFields};
 }
 
-/// Of `sip_message`.
-pub mod message {
-    pub use sip_credentials::message::{
+/// Of `sip_form`.
+pub mod form {
+    pub use sip_credentials::form::{
         Field, FieldName, Fields, Value, View, ViewField, ViewFields, ViewName, ViewStart,
         write_view,
     };

@@ -10,10 +10,8 @@ ghost use Rattle.sip_edit.specs.FirstField.{first_of};
 ghost use Rattle.sip_edit.specs.Onward.{seventy};
 ghost use Rattle.sip_edit.specs.OwnRequests;
 
+use sip_credentials::form::{FieldName, Value, View, ViewField, ViewFields, ViewName, ViewStart};
 use sip_credentials::header::cseq_of;
-use sip_credentials::message::{
-    FieldName, Value, View, ViewField, ViewFields, ViewName, ViewStart,
-};
 use sip_text::Bytes;
 use std::alloc::{AllocError, Global};
 

@@ -2,7 +2,7 @@ ghost use Rattle.std.specs.Prelude.{◌≡◌, IfOk};
 ghost use Rattle.sip_credentials.specs.field.Values;
 ghost use Rattle.sip_edit.specs.OwnVia;
 
-use sip_credentials::message::{FieldName, View, ViewField, ViewFields};
+use sip_credentials::form::{FieldName, View, ViewField, ViewFields};
 use sip_text::{Bytes, hex_text};
 use sip_way::Own;
 use std::alloc::{AllocError, Global};

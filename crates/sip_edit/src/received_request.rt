@@ -3,9 +3,9 @@ ghost use Rattle.sip_credentials.specs.field.declared.field_name.FieldName.TheVa
 ghost use Rattle.sip_credentials.specs.field.Values.{with_first};
 ghost use Rattle.sip_edit.specs.ReceivedRequest.{address_by, response_port};
 
+use sip_credentials::form::{FieldName, View};
 use sip_credentials::header::{Via, parameter_of};
 use sip_credentials::host::Addr;
-use sip_credentials::message::{FieldName, View};
 use std::alloc::{AllocError, Global};
 
 /// A request whose top Via has another value, as `received_via` gives it (RFC 3261 18.2.1). No byte is copied.

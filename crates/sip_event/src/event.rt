@@ -5,7 +5,7 @@ use sip_audit::text::{Bytes, Items};
 
 /// What a server starts with: the word that its branches and To tags begin with, the number of its first
 /// datagram, and what its maps of keys that peers choose are hashed with.
-#[derive(Clone, Copy, PartialEq, Eq)]
+#[derive(Clone, Copy)]
 pub struct Boot {
     pub word: u64,
     pub first: u64,

@@ -5,7 +5,7 @@ use sip_text::Bytes;
 use std::alloc::{AllocError, Global};
 
 /// A field of a message: its name, and its value without blanks at both ends (RFC 3261 7.3.1).
-#[derive(Clone, Debug, Drop)]
+#[derive(Clone, Drop)]
 pub struct Field {
     pub name: FieldName,
     pub value: Bytes,

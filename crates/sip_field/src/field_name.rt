@@ -6,7 +6,7 @@ use sip_text::{Bytes, same_no_case};
 use std::alloc::{AllocError, Global};
 
 /// The name of a field: one that this project knows (RFC 3261 20), or any other as it was written.
-#[derive(Clone, Debug)]
+#[derive(Clone)]
 pub enum FieldName {
     Via,
     From,

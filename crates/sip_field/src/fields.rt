@@ -7,7 +7,7 @@ use std::alloc::{AllocError, Global};
 use std::marker::Model;
 
 /// The fields of a message, in their order, seen as the list of them.
-#[derive(Clone, Debug, Drop)]
+#[derive(Clone, Drop)]
 pub struct Fields {
     list: Vec<Field>,
 }

@@ -8,7 +8,7 @@ use std::error::Error;
 use std::fmt;
 
 /// Why bytes are not read as a message.
-#[derive(Debug, Drop)]
+#[derive(Drop)]
 pub enum ReadError {
     /// 1: memory ran out.
     NoMemory,
@@ -57,6 +57,13 @@ impl fmt::Display for ReadError {
             ReadError::TooLong => write!(f, "too long"),
             ReadError::TooManyFields => write!(f, "too many fields"),
         }
+    }
+}
+
+/// Its words alone, without what it carries.
+impl fmt::Debug for ReadError {
+    fn fmt<W: fmt::Write>(&self, f: &mut fmt::Formatter<W>) -> fmt::Result {
+        fmt::Display::fmt(self, f)
     }
 }
 

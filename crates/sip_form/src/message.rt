@@ -3,7 +3,7 @@ use sip_view::text::Bytes;
 
 /// The first line of a message: a request line (RFC 3261 7.1) or a status line (7.2), of which the version is
 /// always SIP/2.0.
-#[derive(Clone, Debug)]
+#[derive(Clone)]
 pub enum Start {
     Request {
         method: Bytes,
@@ -32,7 +32,7 @@ impl Drop for Start {
 
 /// A message: its first line, its fields without Content-Length, which the written form gives anew, and its body
 /// (RFC 3261 7).
-#[derive(Clone, Debug, Drop)]
+#[derive(Clone, Drop)]
 pub struct Message {
     pub start: Start,
     pub fields: Fields,

@@ -9,11 +9,21 @@ use std::alloc::{AllocError, Global};
 use std::marker::Model;
 
 /// A message as parts of a datagram or of another message, seen as that message.
-#[derive(Debug, Drop)]
 pub struct View<'a> {
     start: ViewStart<'a>,
     fields: ViewFields<'a>,
     body: &'a [u8],
+}
+
+/// Written out, so that it is proved once and not wherever a view is dropped.
+impl<'a> Drop for View<'a> {
+    fn drop(self) {
+        let View {
+            start: _,
+            fields: _,
+            body: _,
+        } = self;
+    }
 }
 
 impl<'a> Model for View<'a> {

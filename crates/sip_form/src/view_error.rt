@@ -10,7 +10,7 @@ use std::alloc::{AllocError, AllocFailed, Global};
 use std::marker::Model;
 
 /// Why bytes are not viewed as a message, seen as the refusal of `read`.
-#[derive(Debug, Drop)]
+#[derive(Drop)]
 pub struct ViewError<'a> {
     refusal: ViewRefusal<'a>,
 }

@@ -1,7 +1,6 @@
 use crate::message_view::View;
 
 /// Why bytes are not viewed as a message: the refusals of `read`, of which a short body carries the view.
-#[derive(Debug)]
 pub enum ViewRefusal<'a> {
     NoMemory,
     NotSip,

@@ -7,7 +7,6 @@ use sip_view::text::Bytes;
 use std::alloc::{AllocError, Global};
 
 /// The first line of a view. A version that was written in lower case has bytes of its own.
-#[derive(Debug)]
 pub enum ViewStart<'a> {
     Request {
         method: &'a [u8],

@@ -1,13 +1,13 @@
 ghost use Rattle.std.specs.Prelude.{◌≡◌, ℕ};
 ghost use Rattle.sip_header.specs.declared.error.HeaderError.TheVariants.{NoMemory};
 
-use sip_message::FieldName;
+use sip_form::field::FieldName;
 use std::alloc::{AllocError, AllocFailed};
 use std::error::Error;
 use std::fmt;
 
 /// Why a field has no reading.
-#[derive(Debug, Drop)]
+#[derive(Drop)]
 pub enum HeaderError {
     /// 1: memory ran out.
     NoMemory,
@@ -44,6 +44,13 @@ impl fmt::Display for HeaderError {
             HeaderError::Missing(_) => write!(f, "a field is missing"),
             HeaderError::Malformed(_) => write!(f, "a field is malformed"),
         }
+    }
+}
+
+/// Its words alone, without what it carries.
+impl fmt::Debug for HeaderError {
+    fn fmt<W: fmt::Write>(&self, f: &mut fmt::Formatter<W>) -> fmt::Result {
+        fmt::Display::fmt(self, f)
     }
 }
 

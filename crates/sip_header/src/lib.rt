@@ -44,13 +44,7 @@ pub mod uri {
 
 /// Of `sip_form`.
 pub mod form {
-    pub use sip_message::form::{View, ViewStart};
-}
-
-/// Of `sip_message`.
-pub mod message {
-    pub use sip_message::{
-        Field, FieldName, Fields, Value, View, ViewError, ViewField, ViewFields, ViewName,
-        ViewRefusal, ViewStart, view, write_view,
-    };
+    pub use sip_form::field::{Field, FieldName, Fields};
+    pub use sip_form::view::{Value, ViewField, ViewFields, ViewName};
+    pub use sip_form::{View, ViewStart, write_view};
 }

@@ -5,7 +5,7 @@ ghost use Rattle.sip_text.specs.Cuts.{parts_at, split_outside};
 ghost use Rattle.sip_header.specs.NameAddr.{is_opaque_byte, is_opaque, other_of, any_uri_of, with_parameters, is_bare_byte, bare_in, is_word_byte, is_display, behind_bracket, bracketed_by, name_addr_of};
 
 use crate::parameters::{Parameter, parameters_from};
-use sip_message::Value;
+use sip_form::view::Value;
 use sip_text::{
     Items, Text, first_part, is_quoted, is_space_or_tab, is_token, split_outside, without_blanks,
 };

@@ -6,7 +6,7 @@ use std::error::Error;
 use std::fmt;
 
 /// Why no tables were made.
-#[derive(Clone, Copy, Debug, PartialEq, Eq)]
+#[derive(Clone, Copy, Debug)]
 pub enum HopsError {
     /// Memory ran out.
     NoMemory = 1,

@@ -10,7 +10,6 @@ pub use Rattle.sip_processing.specs.form
 pub use Rattle.sip_processing.specs.best
 pub use Rattle.sip_processing.specs.event
 pub use Rattle.sip_processing.specs.hops
-pub use Rattle.sip_processing.specs.message
 pub use Rattle.sip_processing.specs.header
 pub use Rattle.sip_processing.specs.dialog
 pub use Rattle.sip_processing.specs.key

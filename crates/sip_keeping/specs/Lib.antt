@@ -12,7 +12,6 @@ pub use Rattle.sip_request.specs.form
 pub use Rattle.sip_request.specs.best
 pub use Rattle.sip_request.specs.event
 pub use Rattle.sip_request.specs.hops
-pub use Rattle.sip_request.specs.message
 pub use Rattle.sip_request.specs.header
 pub use Rattle.sip_request.specs.dialog
 pub use Rattle.sip_request.specs.key

@@ -2,7 +2,7 @@ use sip_form::view::{Piece, ViewName};
 
 /// A field as it stands in a datagram: its name, and its value as a part of the datagram, or joined where its line
 /// has a fold.
-#[derive(Debug, Drop)]
+#[derive(Drop)]
 pub struct PartField<'a> {
     pub name: ViewName<'a>,
     pub value: Piece<'a>,

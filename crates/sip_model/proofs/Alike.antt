@@ -1,31 +1,31 @@
 -- What a datagram does is the same in states that are the same.
 use Rattle.std.proofs.Common.{◌≡◌, ℕ, ◌≤◌, Bool, true, false, cond, List, [], ◌∷◌, refl, sym, subst, codes, Option, Some, None, bytes_eq}
 use Rattle.std.specs.Option.{option_map_or}
-use Rattle.sip_state.specs.field.declared.field.Field.{Field}
-use Rattle.sip_state.specs.form.declared.message.Message.{Message}
-use Rattle.sip_location.specs.declared.binding.Binding.{Binding}
-use Rattle.sip_location.specs.Sameness.{SameBindings}
-use Rattle.sip_location.proofs.Sameness.{same_later}
-use Rattle.sip_context.specs.targets.declared.targets.Targets.{Targets}
-use Rattle.sip_dialog.specs.declared.dialog.Dialog.{Dialog}
-use Rattle.sip_dialog.specs.Sameness.{SameDialogs}
-use Rattle.sip_dialog.proofs.Sameness.{dialogs_later}
-use Rattle.sip_state.specs.nonces.declared.nonces.Nonce.{Nonce}
-use Rattle.sip_state.specs.nonces.Nonces.{issued}
-use Rattle.sip_auth.specs.Proof.{used}
-use Rattle.sip_context.specs.audit.declared.record.Record.{Record}
-use Rattle.sip_state.specs.declared.server.Server.{Server}
-use Rattle.sip_state.specs.declared.open_request.OpenRequest.{OpenRequest}
-use Rattle.sip_state.specs.declared.proxy_state.ProxyState.{ProxyState}
-use Rattle.sip_state.specs.SameState.{SameState}
-use Rattle.sip_state.proofs.Sameness.{after_request_same}
-use Rattle.sip_state.specs.Arrival.{Arrival}
+use Rattle.sip_verdict.specs.field.declared.field.Field.{Field}
+use Rattle.sip_verdict.specs.form.declared.message.Message.{Message}
+use Rattle.sip_verdict.specs.location.declared.binding.Binding.{Binding}
+use Rattle.sip_verdict.specs.location.Sameness.{SameBindings}
+use Rattle.sip_verdict.proofs.of_context.of_state.of_location.Sameness.{same_later}
+use Rattle.sip_verdict.specs.targets.declared.targets.Targets.{Targets}
+use Rattle.sip_verdict.specs.dialog.declared.dialog.Dialog.{Dialog}
+use Rattle.sip_verdict.specs.dialog.Sameness.{SameDialogs}
+use Rattle.sip_verdict.proofs.of_context.of_state.of_dialog.Sameness.{dialogs_later}
+use Rattle.sip_verdict.specs.nonces.declared.nonces.Nonce.{Nonce}
+use Rattle.sip_verdict.specs.nonces.Nonces.{issued}
+use Rattle.sip_verdict.specs.auth.Proof.{used}
+use Rattle.sip_verdict.specs.context.audit.declared.record.Record.{Record}
+use Rattle.sip_verdict.specs.state.declared.server.Server.{Server}
+use Rattle.sip_verdict.specs.state.declared.open_request.OpenRequest.{OpenRequest}
+use Rattle.sip_verdict.specs.state.declared.proxy_state.ProxyState.{ProxyState}
+use Rattle.sip_verdict.specs.state.SameState.{SameState}
+use Rattle.sip_verdict.proofs.of_context.of_state.Sameness.{after_request_same}
+use Rattle.sip_verdict.specs.state.Arrival.{Arrival}
 use Rattle.sip_verdict.specs.declared.question.Question.{Question}
 use Rattle.sip_verdict.specs.Verdict.{Registered, Bound, Refused, Verdict, Drop, Respond, Copy, AckOn, Cancel, Answer, InDialog, Challenge, Deny, Send, Register, verdict_of}
 use Rattle.sip_verdict.specs.Sameness.{SameRegistered, SameVerdict, Alike, AlikeRegister, SameSaid}
 use Rattle.sip_verdict.proofs.Alike.{with_others, others_alone, verdicts_alike}
-use Rattle.sip_context.specs.Branches.{responded, cancelled, settled, acknowledged}
-use Rattle.sip_context.specs.Opening.{forking, branches_from, dialog_branch, tried, trying}
+use Rattle.sip_verdict.specs.context.Branches.{responded, cancelled, settled, acknowledged}
+use Rattle.sip_verdict.specs.context.Opening.{forking, branches_from, dialog_branch, tried, trying}
 use Rattle.sip_model.specs.Effect.{counted, nothing, replaced, replied, registering, refused, sending, forked, copied, method_of, effect_of, datagram_effect, contact_fields}
 use Rattle.sip_model.specs.SameEffect.{SameEffect}
 use Rattle.sip_model.proofs.Sameness.{contact_fields_same, dialogs_after_same}

@@ -1,36 +1,36 @@
 -- What a verdict on a datagram does sends what is owed.
 use Rattle.std.proofs.Common.{◌≡◌, ◌∙◌, ℕ, ◌+◌, ◌≤◌, ◌&&◌, not, is_some, List, [], ◌∷◌, ◌++◌, length, map, filter, flat_map, cond, codes, bytes_eq, Bool, true, false, refl, sym, ap, ap₂, subst, Contains, Option, Some, None, IfSome, true≢false, arith}
 use Rattle.std.specs.List.{AllByRecursion}
-use Rattle.sip_state.specs.uri.declared.aor.Aor.{Aor}
-use Rattle.sip_state.specs.field.declared.field.Field.{Field}
-use Rattle.sip_state.specs.form.declared.message.Message.{Message}
-use Rattle.sip_state.specs.form.Text.{text_of}
-use Rattle.sip_state.specs.header.declared.core_fields.CoreFields.{CoreFields}
-use Rattle.sip_state.specs.host.declared.addr.Addr.{Addr}
-use Rattle.sip_context.specs.reply.Extras.{denial_warning}
-use Rattle.sip_context.specs.edit.Onward.{onward_uri, with_record_route}
+use Rattle.sip_verdict.specs.uri.declared.aor.Aor.{Aor}
+use Rattle.sip_verdict.specs.field.declared.field.Field.{Field}
+use Rattle.sip_verdict.specs.form.declared.message.Message.{Message}
+use Rattle.sip_verdict.specs.form.Text.{text_of}
+use Rattle.sip_verdict.specs.header.declared.core_fields.CoreFields.{CoreFields}
+use Rattle.sip_verdict.specs.host.declared.addr.Addr.{Addr}
+use Rattle.sip_verdict.specs.reply.Extras.{denial_warning}
+use Rattle.sip_verdict.specs.edit.Onward.{onward_uri, with_record_route}
 use Rattle.sip_verdict.specs.policy.declared.decision.Decision.{Decision}
 use Rattle.sip_verdict.specs.policy.declared.operation.Operation.{Operation}
-use Rattle.sip_best.specs.declared.final_answer.Final.{Final}
-use Rattle.sip_location.specs.Binding.{live}
-use Rattle.sip_context.specs.targets.declared.target.Target.{Target}
-use Rattle.sip_context.specs.targets.declared.targets.Targets.{Targets}
-use Rattle.sip_context.specs.targets.Targets.{target_list}
-use Rattle.sip_dialog.specs.declared.dialog.DialogId.{DialogId}
-use Rattle.sip_context.specs.audit.declared.record.Record.{Record}
-use Rattle.sip_context.specs.event.declared.packet.Packet.{Packet}
-use Rattle.sip_state.specs.declared.server.Server.{Server}
-use Rattle.sip_state.specs.declared.branch.Branch.{Branch}
-use Rattle.sip_state.specs.declared.open_request.OpenRequest.{OpenRequest}
-use Rattle.sip_state.specs.declared.proxy_state.ProxyState.{ProxyState}
-use Rattle.sip_state.specs.State.{is_invite}
-use Rattle.sip_context.specs.Sending.{made_answer, branch_packets, request_of, onward_as, begins_dialog}
-use Rattle.sip_state.specs.declared.open_request.Upward.{Upward}
-use Rattle.sip_context.specs.Branches.{Change, settled, answered, responded, cancelled, acknowledged, is_ready, is_cancellable, cancel_branch, new_cancels}
-use Rattle.sip_state.specs.Arrival.{Arrival}
+use Rattle.sip_verdict.specs.best.declared.final_answer.Final.{Final}
+use Rattle.sip_verdict.specs.location.Binding.{live}
+use Rattle.sip_verdict.specs.targets.declared.target.Target.{Target}
+use Rattle.sip_verdict.specs.targets.declared.targets.Targets.{Targets}
+use Rattle.sip_verdict.specs.targets.Targets.{target_list}
+use Rattle.sip_verdict.specs.dialog.declared.dialog.DialogId.{DialogId}
+use Rattle.sip_verdict.specs.context.audit.declared.record.Record.{Record}
+use Rattle.sip_verdict.specs.event.declared.packet.Packet.{Packet}
+use Rattle.sip_verdict.specs.state.declared.server.Server.{Server}
+use Rattle.sip_verdict.specs.state.declared.branch.Branch.{Branch}
+use Rattle.sip_verdict.specs.state.declared.open_request.OpenRequest.{OpenRequest}
+use Rattle.sip_verdict.specs.state.declared.proxy_state.ProxyState.{ProxyState}
+use Rattle.sip_verdict.specs.state.State.{is_invite}
+use Rattle.sip_verdict.specs.context.Sending.{made_answer, branch_packets, request_of, onward_as, begins_dialog}
+use Rattle.sip_verdict.specs.state.declared.open_request.Upward.{Upward}
+use Rattle.sip_verdict.specs.context.Branches.{Change, settled, answered, responded, cancelled, acknowledged, is_ready, is_cancellable, cancel_branch, new_cancels}
+use Rattle.sip_verdict.specs.state.Arrival.{Arrival}
 use Rattle.sip_verdict.specs.declared.question.Question.{Question}
 use Rattle.sip_verdict.specs.Verdict.{Registered, Bound, Refused, Verdict, Drop, Respond, Copy, AckOn, Cancel, Answer, InDialog, Challenge, Deny, Send, Register, is_full, question_of, request_targets}
-use Rattle.sip_context.specs.Opening.{arriving, branches_from, unsent, forking, is_tried, trying, tried, dialog_branch}
+use Rattle.sip_verdict.specs.context.Opening.{arriving, branches_from, unsent, forking, is_tried, trying, tried, dialog_branch}
 use Rattle.sip_model.specs.Effect.{upward_packets, change_packets, Effect, replaced, changed, nothing, opened, replied, is_registration, challenge_status, registering, forked, sent_to, sending, renewing, copied, cancelling, counted, asked, issuing, method_of, effect_of}
 use Rattle.sip_model.specs.Step.{Act}
 use Rattle.sip_model.specs.Run.{Link}

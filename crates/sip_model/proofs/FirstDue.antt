@@ -2,15 +2,15 @@
 use Rattle.std.proofs.Common.{◌≡◌, ◌⊎◌, ◌∙◌, inl, inr, ℕ, ◌+◌, ◌≤◌, Bool, true, false, cond, ◌==◌, nat_le, List, [], ◌∷◌, map, Option, Some, None, refl, ap, arith, count_by}
 use Rattle.std.proofs.lemmas.Bool.Decides.{nat_tests}
 use Rattle.std.specs.List.{AllByRecursion}
-use Rattle.sip_context.specs.event.declared.packet.Packet.{Packet}
-use Rattle.sip_state.specs.declared.server.Server.{Server}
-use Rattle.sip_state.specs.declared.resend.Resend.{Resend}
-use Rattle.sip_state.specs.declared.branch.Branch.{Branch}
-use Rattle.sip_state.specs.declared.open_request.OpenRequest.{OpenRequest}
-use Rattle.sip_state.specs.State.{is_invite, phase_deadline, side_deadline}
-use Rattle.sip_context.specs.Branches.{Change, is_same_branch, overdue, side_overdue}
+use Rattle.sip_verdict.specs.event.declared.packet.Packet.{Packet}
+use Rattle.sip_verdict.specs.state.declared.server.Server.{Server}
+use Rattle.sip_verdict.specs.state.declared.resend.Resend.{Resend}
+use Rattle.sip_verdict.specs.state.declared.branch.Branch.{Branch}
+use Rattle.sip_verdict.specs.state.declared.open_request.OpenRequest.{OpenRequest}
+use Rattle.sip_verdict.specs.state.State.{is_invite, phase_deadline, side_deadline}
+use Rattle.sip_verdict.specs.context.Branches.{Change, is_same_branch, overdue, side_overdue}
 use Rattle.sip_retransmission.specs.Retransmission.{answers_again, answer_due, answer_next, branch_next, insists, goes_again, resent_branch, with_resend, IsResent, OfAnswer, OfRequest}
-use Rattle.sip_context.specs.Sending.{branch_packets}
+use Rattle.sip_verdict.specs.context.Sending.{branch_packets}
 use Rattle.sip_model.specs.Step.{IsOverdue, OfSide, OfBranch}
 use Rattle.sip_model.proofs.Places.{IsIn, contains_from_in, in_from_contains, all_weaker, count_cons, one_at, none_at}
 use Rattle.sip_model.proofs.Resending.{DueFrom, due_is, again_at, IsBranchAgain, IsAgain, branch_again, after_again, next_again}

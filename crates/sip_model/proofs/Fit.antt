@@ -1,14 +1,14 @@
 -- The numbers of open requests and of their branches are in the ranges of their types.
 use Rattle.std.proofs.Common.{◌≡◌, ℕ, ◌≤◌, ◌<◌, ◌^◌, List, [], ◌∷◌, arith}
 use Rattle.std.specs.List.{AllByRecursion}
-use Rattle.sip_state.specs.declared.server.Server.{Server}
-use Rattle.sip_state.specs.declared.branch.Branch.{Branch}
-use Rattle.sip_state.specs.declared.open_request.OpenRequest.{OpenRequest}
-use Rattle.sip_state.specs.declared.proxy_state.ProxyState.{ProxyState}
-use Rattle.sip_state.specs.State.{first_state}
-use Rattle.sip_context.specs.FoundBranch.{found_branch}
-use Rattle.sip_context.specs.BranchById.{branch_by_id, HasNumbers}
-use Rattle.sip_context.proofs.ByNumbers.{by_numbers}
+use Rattle.sip_verdict.specs.state.declared.server.Server.{Server}
+use Rattle.sip_verdict.specs.state.declared.branch.Branch.{Branch}
+use Rattle.sip_verdict.specs.state.declared.open_request.OpenRequest.{OpenRequest}
+use Rattle.sip_verdict.specs.state.declared.proxy_state.ProxyState.{ProxyState}
+use Rattle.sip_verdict.specs.state.State.{first_state}
+use Rattle.sip_verdict.specs.context.FoundBranch.{found_branch}
+use Rattle.sip_verdict.specs.context.BranchById.{branch_by_id, HasNumbers}
+use Rattle.sip_verdict.proofs.of_context.ByNumbers.{by_numbers}
 use Rattle.sip_model.specs.Run.{Link, IsChain}
 use Rattle.sip_model.proofs.Places.{all_weaker}
 use Rattle.sip_model.proofs.Finals.{IsOfSixteen, AreHonest}

@@ -4,18 +4,18 @@ use Rattle.std.specs.Prelude.{◌++◌, ◌==◌, not, filter}
 use Rattle.std.specs.Option.{option_map_or}
 use Rattle.std.specs.List.{flat_map}
 use Rattle.std.proofs.lemmas.List.Elements.{filter-append}
-use Rattle.sip_state.specs.form.Text.{text_of}
-use Rattle.sip_state.specs.host.declared.addr.Addr.{Addr}
-use Rattle.sip_context.specs.targets.declared.target.Target.{Target}
-use Rattle.sip_context.specs.audit.declared.record.Record.{Record}
-use Rattle.sip_context.specs.event.declared.packet.Packet.{Packet}
-use Rattle.sip_state.specs.declared.server.Server.{Server}
-use Rattle.sip_state.specs.declared.proxy_state.ProxyState.{ProxyState}
-use Rattle.sip_state.specs.declared.open_request.OpenRequest.{OpenRequest}
-use Rattle.sip_context.specs.Sending.{branch_packets, sent_of}
-use Rattle.sip_state.specs.declared.open_request.Upward.{Upward}
-use Rattle.sip_context.specs.Branches.{Change, best_upward, is_cancellable, cancel_branch, new_cancels, after_upward, settled}
-use Rattle.sip_context.specs.Opening.{branch_to, branches_from, trying, tried}
+use Rattle.sip_verdict.specs.form.Text.{text_of}
+use Rattle.sip_verdict.specs.host.declared.addr.Addr.{Addr}
+use Rattle.sip_verdict.specs.targets.declared.target.Target.{Target}
+use Rattle.sip_verdict.specs.context.audit.declared.record.Record.{Record}
+use Rattle.sip_verdict.specs.event.declared.packet.Packet.{Packet}
+use Rattle.sip_verdict.specs.state.declared.server.Server.{Server}
+use Rattle.sip_verdict.specs.state.declared.proxy_state.ProxyState.{ProxyState}
+use Rattle.sip_verdict.specs.state.declared.open_request.OpenRequest.{OpenRequest}
+use Rattle.sip_verdict.specs.context.Sending.{branch_packets, sent_of}
+use Rattle.sip_verdict.specs.state.declared.open_request.Upward.{Upward}
+use Rattle.sip_verdict.specs.context.Branches.{Change, best_upward, is_cancellable, cancel_branch, new_cancels, after_upward, settled}
+use Rattle.sip_verdict.specs.context.Opening.{branch_to, branches_from, trying, tried}
 use Rattle.sip_model.specs.Effect.{upward_packets, change_packets, forked}
 
 -- whether a packet is a branch's request

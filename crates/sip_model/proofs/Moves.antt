@@ -1,17 +1,17 @@
 -- What a step makes of the list of open requests: it stays, one more is opened, or one that is open changes.
 use Rattle.std.proofs.Common.{◌≡◌, ℕ, ◌+◌, ◌≤◌, false, cond, List, [], ◌∷◌, ◌++◌, None, sym, ap, subst, ◌∙◌, append_assoc, count_by, is_some}
 use Rattle.std.specs.List.{AllByRecursion}
-use Rattle.sip_state.specs.form.declared.message.Message.{Message}
-use Rattle.sip_context.specs.event.declared.packet.Packet.{Packet}
-use Rattle.sip_state.specs.declared.server.Server.{Server}
-use Rattle.sip_state.specs.declared.branch.Branch.{Branch}
-use Rattle.sip_state.specs.declared.open_request.OpenRequest.{OpenRequest}
-use Rattle.sip_state.specs.declared.branch.Phase.TheVariants.{Unheard, Ended}
-use Rattle.sip_state.specs.State.{first_resend, has_key}
+use Rattle.sip_verdict.specs.form.declared.message.Message.{Message}
+use Rattle.sip_verdict.specs.event.declared.packet.Packet.{Packet}
+use Rattle.sip_verdict.specs.state.declared.server.Server.{Server}
+use Rattle.sip_verdict.specs.state.declared.branch.Branch.{Branch}
+use Rattle.sip_verdict.specs.state.declared.open_request.OpenRequest.{OpenRequest}
+use Rattle.sip_verdict.specs.state.declared.branch.Phase.TheVariants.{Unheard, Ended}
+use Rattle.sip_verdict.specs.state.State.{first_resend, has_key}
 use Rattle.sip_retransmission.specs.Retransmission.{IsResent}
-use Rattle.sip_context.specs.Branches.{Change, settled, acknowledged}
-use Rattle.sip_state.specs.Arrival.{Arrival}
-use Rattle.sip_context.specs.Opening.{closing, forking, tried, trying}
+use Rattle.sip_verdict.specs.context.Branches.{Change, settled, acknowledged}
+use Rattle.sip_verdict.specs.state.Arrival.{Arrival}
+use Rattle.sip_verdict.specs.context.Opening.{closing, forking, tried, trying}
 use Rattle.sip_model.specs.Effect.{replaced}
 use Rattle.sip_model.specs.Order.{IsChangeOf, FinalAnswer, change_finals, reply_finals, forked_finals}
 use Rattle.sip_model.proofs.Places.{IsIn}

@@ -2,13 +2,13 @@
 use Rattle.std.proofs.Common.{◌≡◌, ◌⊎◌, ◌∙◌, inl, inr, ℕ, zero, suc, ◌+◌, ◌-◌, ◌≤◌, ◌<◌, List, [], ◌∷◌, ◌++◌, reverse, max, Option, Some, refl, sym, ap, subst, arith, sum_by}
 use Rattle.std.proofs.lemmas.List.{reverse-append, reverse-reverse, append_assoc, append-nil}
 use Rattle.std.specs.List.{AllByRecursion}
-use Rattle.sip_context.specs.event.declared.event.StepOut.{StepOut}
-use Rattle.sip_context.specs.event.declared.event.Event.{Event}
-use Rattle.sip_context.specs.event.declared.event.Event.TheVariants.{Datagram, Time, Fault}
-use Rattle.sip_state.specs.declared.server.Server.{Server}
-use Rattle.sip_state.specs.declared.open_request.OpenRequest.{OpenRequest}
-use Rattle.sip_state.specs.declared.proxy_state.ProxyState.{ProxyState}
-use Rattle.sip_state.specs.State.{first_state, deadlines}
+use Rattle.sip_verdict.specs.event.declared.event.StepOut.{StepOut}
+use Rattle.sip_verdict.specs.event.declared.event.Event.{Event}
+use Rattle.sip_verdict.specs.event.declared.event.Event.TheVariants.{Datagram, Time, Fault}
+use Rattle.sip_verdict.specs.state.declared.server.Server.{Server}
+use Rattle.sip_verdict.specs.state.declared.open_request.OpenRequest.{OpenRequest}
+use Rattle.sip_verdict.specs.state.declared.proxy_state.ProxyState.{ProxyState}
+use Rattle.sip_verdict.specs.state.State.{first_state, deadlines}
 use Rattle.sip_retransmission.specs.Retransmission.{resends}
 use Rattle.sip_model.specs.Effect.{Effect, changed, nothing, datagram_effect}
 use Rattle.sip_model.specs.Step.{Act, Given, Passing, IsStep, NoneBy, NoneAgainBy, IsDeadline, IsResend, moment_of, arrival_of, resent, fault_effect}

@@ -2,11 +2,11 @@
 use Rattle.std.proofs.Common.{◌≡◌, ◌∙◌, ℕ, ◌≤◌, ◌<◌, ◌==◌, Bool, true, false, cond, List, [], ◌∷◌, ◌++◌, refl, sym, subst, arith}
 use Rattle.std.proofs.lemmas.Bool.Decides.{nat_tests}
 use Rattle.std.specs.List.{AllByRecursion}
-use Rattle.sip_state.specs.declared.server.Server.{Server}
-use Rattle.sip_state.specs.declared.open_request.OpenRequest.{OpenRequest}
-use Rattle.sip_state.specs.declared.proxy_state.ProxyState.{ProxyState}
-use Rattle.sip_state.specs.State.{first_state, has_left}
-use Rattle.sip_context.specs.Branches.{acknowledged}
+use Rattle.sip_verdict.specs.state.declared.server.Server.{Server}
+use Rattle.sip_verdict.specs.state.declared.open_request.OpenRequest.{OpenRequest}
+use Rattle.sip_verdict.specs.state.declared.proxy_state.ProxyState.{ProxyState}
+use Rattle.sip_verdict.specs.state.State.{first_state, has_left}
+use Rattle.sip_verdict.specs.context.Branches.{acknowledged}
 use Rattle.sip_model.specs.Effect.{replaced}
 use Rattle.sip_model.specs.Run.{Link, IsChain}
 use Rattle.sip_model.specs.Order.{AreRising, FinalAnswer}

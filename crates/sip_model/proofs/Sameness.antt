@@ -3,25 +3,25 @@ use Rattle.std.proofs.Common.{◌≡◌, ℕ, ◌≤◌, Bool, false, List, [], 
 use Rattle.std.specs.Prelude.{Contains, max}
 use Rattle.std.specs.Option.{option_map_or}
 use Rattle.std.specs.Result.{result_ok}
-use Rattle.sip_state.specs.uri.declared.aor.Aor.{Aor}
-use Rattle.sip_state.specs.form.declared.message.Message.{Message}
-use Rattle.sip_state.specs.header.declared.core_fields.CoreFields.{CoreFields}
-use Rattle.sip_state.specs.header.CoreFields.{core_of}
-use Rattle.sip_location.specs.declared.binding.Binding.{Binding}
-use Rattle.sip_location.specs.Registering.{to_aor}
-use Rattle.sip_location.specs.Sameness.{SameBindings}
-use Rattle.sip_location.proofs.Sameness.{same_later}
-use Rattle.sip_context.specs.targets.Targets.{target_list}
-use Rattle.sip_dialog.specs.declared.dialog.Dialog.{Dialog}
-use Rattle.sip_dialog.specs.Sameness.{SameDialogs}
-use Rattle.sip_context.specs.event.declared.packet.Packet.{Packet}
-use Rattle.sip_context.specs.event.declared.event.StepOut.{StepOut}
-use Rattle.sip_context.specs.event.declared.event.Event.TheVariants.{Datagram, Time, Fault}
-use Rattle.sip_state.specs.declared.server.Server.{Server}
-use Rattle.sip_state.specs.declared.proxy_state.ProxyState.{ProxyState}
-use Rattle.sip_context.specs.Branches.{Change}
-use Rattle.sip_state.proofs.Sameness.{after_answers_same, after_leaving_same}
-use Rattle.sip_state.specs.Arrival.{Arrival}
+use Rattle.sip_verdict.specs.uri.declared.aor.Aor.{Aor}
+use Rattle.sip_verdict.specs.form.declared.message.Message.{Message}
+use Rattle.sip_verdict.specs.header.declared.core_fields.CoreFields.{CoreFields}
+use Rattle.sip_verdict.specs.header.CoreFields.{core_of}
+use Rattle.sip_verdict.specs.location.declared.binding.Binding.{Binding}
+use Rattle.sip_verdict.specs.location.Registering.{to_aor}
+use Rattle.sip_verdict.specs.location.Sameness.{SameBindings}
+use Rattle.sip_verdict.proofs.of_context.of_state.of_location.Sameness.{same_later}
+use Rattle.sip_verdict.specs.targets.Targets.{target_list}
+use Rattle.sip_verdict.specs.dialog.declared.dialog.Dialog.{Dialog}
+use Rattle.sip_verdict.specs.dialog.Sameness.{SameDialogs}
+use Rattle.sip_verdict.specs.event.declared.packet.Packet.{Packet}
+use Rattle.sip_verdict.specs.event.declared.event.StepOut.{StepOut}
+use Rattle.sip_verdict.specs.event.declared.event.Event.TheVariants.{Datagram, Time, Fault}
+use Rattle.sip_verdict.specs.state.declared.server.Server.{Server}
+use Rattle.sip_verdict.specs.state.declared.proxy_state.ProxyState.{ProxyState}
+use Rattle.sip_verdict.specs.context.Branches.{Change}
+use Rattle.sip_verdict.proofs.of_context.of_state.Sameness.{after_answers_same, after_leaving_same}
+use Rattle.sip_verdict.specs.state.Arrival.{Arrival}
 use Rattle.sip_verdict.specs.Verdict.{Registered, Bound, Refused, is_register, question_of, registration_by}
 use Rattle.sip_verdict.specs.Sameness.{SameRegistered}
 use Rattle.sip_verdict.proofs.Sameness.{request_targets_same, registration_same, bound_back, refused_back}

@@ -2,28 +2,28 @@
 use Rattle.std.proofs.Common.{◌≡◌, ℕ, List, [], ◌∷◌, cond, Bool, true, false, refl, ◌∙◌, ap, Option, Some, None, arith}
 use Rattle.std.specs.Prelude.{length}
 use Rattle.std.specs.Option.{option_map_or}
-use Rattle.sip_state.specs.uri.declared.uri.Uri.{Uri}
-use Rattle.sip_state.specs.uri.declared.aor.Aor.{Aor}
-use Rattle.sip_state.specs.field.declared.field.Field.{Field}
-use Rattle.sip_state.specs.form.declared.message.Message.{Message}
-use Rattle.sip_state.specs.header.declared.core_fields.CoreFields.{CoreFields}
+use Rattle.sip_verdict.specs.uri.declared.uri.Uri.{Uri}
+use Rattle.sip_verdict.specs.uri.declared.aor.Aor.{Aor}
+use Rattle.sip_verdict.specs.field.declared.field.Field.{Field}
+use Rattle.sip_verdict.specs.form.declared.message.Message.{Message}
+use Rattle.sip_verdict.specs.header.declared.core_fields.CoreFields.{CoreFields}
 use Rattle.sip_verdict.specs.way.Way.{request_uri_of}
 use Rattle.sip_verdict.specs.policy.declared.decision.Decision.{Decision}
-use Rattle.sip_location.specs.declared.binding.Binding.{Binding}
-use Rattle.sip_context.specs.targets.declared.target.Target.{Target}
-use Rattle.sip_context.specs.targets.declared.targets.Targets.{Targets}
-use Rattle.sip_context.specs.targets.Targets.{target_list}
-use Rattle.sip_context.specs.audit.declared.record.Outcome.{Outcome}
-use Rattle.sip_context.specs.event.declared.event.StepOut.{StepOut}
-use Rattle.sip_context.specs.event.declared.event.Event.TheVariants.{Datagram, Time, Fault}
-use Rattle.sip_context.specs.event.declared.packet.Packet.{Packet}
-use Rattle.sip_state.specs.declared.server.Server.{Server}
-use Rattle.sip_location.specs.Registering.{to_aor, aor_or_nobody}
-use Rattle.sip_state.specs.declared.proxy_state.ProxyState.{ProxyState}
-use Rattle.sip_state.specs.Arrival.{Arrival}
+use Rattle.sip_verdict.specs.location.declared.binding.Binding.{Binding}
+use Rattle.sip_verdict.specs.targets.declared.target.Target.{Target}
+use Rattle.sip_verdict.specs.targets.declared.targets.Targets.{Targets}
+use Rattle.sip_verdict.specs.targets.Targets.{target_list}
+use Rattle.sip_verdict.specs.context.audit.declared.record.Outcome.{Outcome}
+use Rattle.sip_verdict.specs.event.declared.event.StepOut.{StepOut}
+use Rattle.sip_verdict.specs.event.declared.event.Event.TheVariants.{Datagram, Time, Fault}
+use Rattle.sip_verdict.specs.event.declared.packet.Packet.{Packet}
+use Rattle.sip_verdict.specs.state.declared.server.Server.{Server}
+use Rattle.sip_verdict.specs.location.Registering.{to_aor, aor_or_nobody}
+use Rattle.sip_verdict.specs.state.declared.proxy_state.ProxyState.{ProxyState}
+use Rattle.sip_verdict.specs.state.Arrival.{Arrival}
 use Rattle.sip_verdict.specs.declared.question.Question.{Question}
 use Rattle.sip_verdict.specs.Verdict.{Registered, Bound, Refused, Send, Register, is_register, question_of, answer_of, registration_by, targets_by, request_targets, let_through, decided, policy_verdict, verdict_in}
-use Rattle.sip_context.specs.Opening.{forking, branches_from}
+use Rattle.sip_verdict.specs.context.Opening.{forking, branches_from}
 use Rattle.sip_model.specs.Effect.{Effect, registering, sending, sent_to, record_of, contact_fields, counted, asked, effect_of, datagram_effect, nothing}
 use Rattle.sip_model.specs.Step.{Act, Given, Passing, IsStep, originals, arrival_of}
 use Rattle.sip_model.specs.Access.{IsNewRequest, requests_to, rule_of, answer_alone, IsServed, Serves}

@@ -1,15 +1,15 @@
 -- What settling makes of an open request, after every event of it.
 use Rattle.std.proofs.Common.{◌≡◌, ℕ, ◌+◌, ◌≤◌, Bool, true, false, not, ◌&&◌, cond, List, [], ◌∷◌, ◌++◌, map, Option, Some, None, refl, sym, ap, subst, ◌∙◌, arith}
 use Rattle.std.specs.List.{AllByRecursion}
-use Rattle.sip_context.specs.event.declared.packet.Packet.{Packet}
-use Rattle.sip_state.specs.declared.server.Server.{Server}
-use Rattle.sip_state.specs.declared.open_request.Side.{Side}
-use Rattle.sip_state.specs.declared.branch.Branch.{Branch}
-use Rattle.sip_state.specs.declared.open_request.OpenRequest.{OpenRequest}
-use Rattle.sip_state.specs.declared.open_request.Side.TheVariants.{Closing}
-use Rattle.sip_state.specs.State.{is_answering, phase_deadline, side_deadline, is_provisional}
-use Rattle.sip_state.specs.declared.open_request.Upward.{Upward}
-use Rattle.sip_context.specs.Branches.{Change, best_upward, with_cancels, after_upward, settled}
+use Rattle.sip_verdict.specs.event.declared.packet.Packet.{Packet}
+use Rattle.sip_verdict.specs.state.declared.server.Server.{Server}
+use Rattle.sip_verdict.specs.state.declared.open_request.Side.{Side}
+use Rattle.sip_verdict.specs.state.declared.branch.Branch.{Branch}
+use Rattle.sip_verdict.specs.state.declared.open_request.OpenRequest.{OpenRequest}
+use Rattle.sip_verdict.specs.state.declared.open_request.Side.TheVariants.{Closing}
+use Rattle.sip_verdict.specs.state.State.{is_answering, phase_deadline, side_deadline, is_provisional}
+use Rattle.sip_verdict.specs.state.declared.open_request.Upward.{Upward}
+use Rattle.sip_verdict.specs.context.Branches.{Change, best_upward, with_cancels, after_upward, settled}
 use Rattle.sip_model.proofs.Cancels.{all_with_cancels}
 use Rattle.sip_model.proofs.Resending.{DueFrom, IsAgain, settled_again}
 use Rattle.sip_model.proofs.Events.{IsDue, IsEvent}

@@ -2,48 +2,48 @@
 use Rattle.std.specs.Prelude.{◌≡◌, ◌⊎◌, ℕ, ◌==◌, Bool, true, false, not, if◌then◌else◌, List, [], ◌∷◌, filter, find, codes, Contains, Option, Some, None, Ok}
 use Rattle.std.specs.List.{AllByRecursion, flat_map}
 use Rattle.std.specs.Str.{bytes_eq}
-use Rattle.sip_state.specs.field.declared.field.Field.{Field}
-use Rattle.sip_state.specs.form.declared.message.Start.TheVariants.{Request, Status}
-use Rattle.sip_state.specs.form.declared.message.Message.{Message}
-use Rattle.sip_state.specs.field.declared.field_name.FieldName.TheVariants as Name
-use Rattle.sip_state.specs.field.Values.{first_value}
+use Rattle.sip_verdict.specs.field.declared.field.Field.{Field}
+use Rattle.sip_verdict.specs.form.declared.message.Start.TheVariants.{Request, Status}
+use Rattle.sip_verdict.specs.form.declared.message.Message.{Message}
+use Rattle.sip_verdict.specs.field.declared.field_name.FieldName.TheVariants as Name
+use Rattle.sip_verdict.specs.field.Values.{first_value}
 use Rattle.sip_verdict.specs.message.Reading.{reading_of}
-use Rattle.sip_state.specs.form.Text.{text_of}
-use Rattle.sip_state.specs.key.declared.key.Key.{Key}
-use Rattle.sip_state.specs.header.declared.core_fields.CoreFields.{CoreFields}
-use Rattle.sip_state.specs.key.Key.{key_of}
-use Rattle.sip_state.specs.header.CoreFields.{core_of}
-use Rattle.sip_state.specs.host.declared.addr.Addr.{Addr}
-use Rattle.sip_context.specs.reply.Extras.{denial_warning}
-use Rattle.sip_context.specs.edit.Onward.{onward_uri}
-use Rattle.sip_context.specs.edit.OwnRequests.{cancel_of}
-use Rattle.sip_context.specs.edit.OwnVia.{without_top_via}
+use Rattle.sip_verdict.specs.form.Text.{text_of}
+use Rattle.sip_verdict.specs.key.declared.key.Key.{Key}
+use Rattle.sip_verdict.specs.header.declared.core_fields.CoreFields.{CoreFields}
+use Rattle.sip_verdict.specs.key.Key.{key_of}
+use Rattle.sip_verdict.specs.header.CoreFields.{core_of}
+use Rattle.sip_verdict.specs.host.declared.addr.Addr.{Addr}
+use Rattle.sip_verdict.specs.reply.Extras.{denial_warning}
+use Rattle.sip_verdict.specs.edit.Onward.{onward_uri}
+use Rattle.sip_verdict.specs.edit.OwnRequests.{cancel_of}
+use Rattle.sip_verdict.specs.edit.OwnVia.{without_top_via}
 use Rattle.sip_verdict.specs.policy.declared.decision.Decision.{Decision}
 use Rattle.sip_verdict.specs.policy.Operation.{operation_of}
-use Rattle.sip_location.specs.declared.binding.Binding.{Binding}
-use Rattle.sip_location.specs.Sameness.{SameBindings}
-use Rattle.sip_context.specs.targets.declared.target.Target.{Target}
-use Rattle.sip_context.specs.targets.declared.targets.Targets.{Targets}
-use Rattle.sip_context.specs.targets.Targets.{target_list}
+use Rattle.sip_verdict.specs.location.declared.binding.Binding.{Binding}
+use Rattle.sip_verdict.specs.location.Sameness.{SameBindings}
+use Rattle.sip_verdict.specs.targets.declared.target.Target.{Target}
+use Rattle.sip_verdict.specs.targets.declared.targets.Targets.{Targets}
+use Rattle.sip_verdict.specs.targets.Targets.{target_list}
 use Rattle.sip_verdict.specs.validate.Refusal.{refusal_of}
-use Rattle.sip_best.specs.Best.{is_challenge_status, is_challenge_field, taking_along}
-use Rattle.sip_dialog.specs.declared.dialog.DialogId.{DialogId}
-use Rattle.sip_dialog.specs.Dialogs.{IsInDialog}
-use Rattle.sip_context.specs.event.declared.packet.Packet.{Packet}
-use Rattle.sip_context.specs.event.declared.event.StepOut.{StepOut}
-use Rattle.sip_context.specs.event.declared.event.Event.TheVariants.{Datagram, Time, Fault}
-use Rattle.sip_state.specs.declared.server.Server.{Server}
-use Rattle.sip_location.specs.Registering.{to_aor}
-use Rattle.sip_state.specs.declared.proxy_state.ProxyState.{ProxyState}
-use Rattle.sip_state.specs.declared.open_request.OpenRequest.{OpenRequest}
-use Rattle.sip_state.specs.declared.branch.Branch.{Branch}
-use Rattle.sip_state.specs.State.{is_invite, has_key, is_failure, is_provisional}
-use Rattle.sip_state.specs.Dialogs.{dialog_of}
-use Rattle.sip_context.specs.Sending.{made_answer, answer_packet, answer_to, to_branch, ack_packets, branch_packets, onward_as, request_of}
-use Rattle.sip_context.specs.Branches.{is_ready}
-use Rattle.sip_state.specs.Arrival.{Arrival}
+use Rattle.sip_verdict.specs.best.Best.{is_challenge_status, is_challenge_field, taking_along}
+use Rattle.sip_verdict.specs.dialog.declared.dialog.DialogId.{DialogId}
+use Rattle.sip_verdict.specs.dialog.Dialogs.{IsInDialog}
+use Rattle.sip_verdict.specs.event.declared.packet.Packet.{Packet}
+use Rattle.sip_verdict.specs.event.declared.event.StepOut.{StepOut}
+use Rattle.sip_verdict.specs.event.declared.event.Event.TheVariants.{Datagram, Time, Fault}
+use Rattle.sip_verdict.specs.state.declared.server.Server.{Server}
+use Rattle.sip_verdict.specs.location.Registering.{to_aor}
+use Rattle.sip_verdict.specs.state.declared.proxy_state.ProxyState.{ProxyState}
+use Rattle.sip_verdict.specs.state.declared.open_request.OpenRequest.{OpenRequest}
+use Rattle.sip_verdict.specs.state.declared.branch.Branch.{Branch}
+use Rattle.sip_verdict.specs.state.State.{is_invite, has_key, is_failure, is_provisional}
+use Rattle.sip_verdict.specs.state.Dialogs.{dialog_of}
+use Rattle.sip_verdict.specs.context.Sending.{made_answer, answer_packet, answer_to, to_branch, ack_packets, branch_packets, onward_as, request_of}
+use Rattle.sip_verdict.specs.context.Branches.{is_ready}
+use Rattle.sip_verdict.specs.state.Arrival.{Arrival}
 use Rattle.sip_verdict.specs.Verdict.{Bound, Refused, has_contact, is_full, is_register, is_outside, question_of, answer_of, request_targets, registration_by, next_address, responding, message_in}
-use Rattle.sip_context.specs.Opening.{arriving, branches_from}
+use Rattle.sip_verdict.specs.context.Opening.{arriving, branches_from}
 use Rattle.sip_model.specs.Effect.{contact_fields, challenge_status, challenges_to, method_of}
 use Rattle.sip_model.specs.Step.{Act, Given, Passing, originals, arrival_of}
 use Rattle.sip_model.specs.Run.{Link}

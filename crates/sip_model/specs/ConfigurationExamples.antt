@@ -1,17 +1,17 @@
 -- The sample configuration with a window, and with a second key, for the worked examples.
 use Rattle.std.specs.Prelude.{ℕ, false, List, [], ◌∷◌, ◌++◌, codes, pos, Some}
-use Rattle.sip_state.specs.field.declared.field_name.FieldName.TheVariants as Name
-use Rattle.sip_state.specs.form.declared.message.Start.TheVariants.{Request}
-use Rattle.sip_state.specs.form.declared.message.Message.{Message}
-use Rattle.sip_context.specs.reply.Examples as Replies
-use Rattle.sip_context.specs.edit.OnwardExamples as Onward
+use Rattle.sip_verdict.specs.field.declared.field_name.FieldName.TheVariants as Name
+use Rattle.sip_verdict.specs.form.declared.message.Start.TheVariants.{Request}
+use Rattle.sip_verdict.specs.form.declared.message.Message.{Message}
+use Rattle.sip_verdict.specs.reply.Examples as Replies
+use Rattle.sip_verdict.specs.edit.OnwardExamples as Onward
 use Rattle.sip_verdict.specs.policy.users.declared.user.User.{User}
 use Rattle.sip_verdict.specs.policy.declared.window.Window.{Window}
 use Rattle.sip_verdict.specs.policy.Examples.{user_of, mufasas_a1, alices_a1, rules_with}
-use Rattle.sip_state.specs.settings.Sample as Settings
-use Rattle.sip_state.specs.declared.proxy_state.ProxyState.{ProxyState}
-use Rattle.sip_state.specs.State.{first_state}
-use Rattle.sip_state.specs.declared.server.Server.{Server}
+use Rattle.sip_verdict.specs.settings.Sample as Settings
+use Rattle.sip_verdict.specs.state.declared.proxy_state.ProxyState.{ProxyState}
+use Rattle.sip_verdict.specs.state.State.{first_state}
+use Rattle.sip_verdict.specs.state.declared.server.Server.{Server}
 use Rattle.sip_verdict.specs.Verdict.{message_verdict}
 use Rattle.sip_model.specs.Effect.{Effect, counted, effect_of}
 use Rattle.sip_model.specs.Examples.{arriving_at, authorized}

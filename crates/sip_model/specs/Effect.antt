@@ -3,48 +3,48 @@ use Rattle.std.specs.Prelude.{ℕ, ◌+◌, Bool, true, false, ◌==◌, if◌th
 use Rattle.std.specs.Option.{option_map_or}
 use Rattle.std.specs.List.{flat_map}
 use Rattle.std.specs.Str.{bytes_eq}
-use Rattle.sip_state.specs.nonces.NonceText.{nonce_text}
-use Rattle.sip_state.specs.nonces.Nonces.{issued}
-use Rattle.sip_state.specs.uri.declared.aor.Aor.{Aor}
-use Rattle.sip_state.specs.uri.Uri as UriText
-use Rattle.sip_state.specs.field.declared.field.Field.{Field}
-use Rattle.sip_state.specs.field.declared.field_name.FieldName.{FieldName}
-use Rattle.sip_state.specs.field.declared.field_name.FieldName.TheVariants as Name
-use Rattle.sip_state.specs.form.declared.message.Start.{Start}
-use Rattle.sip_state.specs.form.declared.message.Start.TheVariants.{Request, Status}
-use Rattle.sip_state.specs.form.declared.message.Message.{Message}
-use Rattle.sip_state.specs.form.Text.{text_of}
-use Rattle.sip_state.specs.host.declared.addr.Addr.{Addr}
-use Rattle.sip_context.specs.reply.Challenges.{challenge_fields}
-use Rattle.sip_auth.specs.Offer.{offers_sha256}
-use Rattle.sip_context.specs.reply.Contacts.{contact_value}
-use Rattle.sip_context.specs.reply.Extras.{denial_warning}
-use Rattle.sip_context.specs.edit.Onward.{onward_uri}
+use Rattle.sip_verdict.specs.nonces.NonceText.{nonce_text}
+use Rattle.sip_verdict.specs.nonces.Nonces.{issued}
+use Rattle.sip_verdict.specs.uri.declared.aor.Aor.{Aor}
+use Rattle.sip_verdict.specs.uri.Uri as UriText
+use Rattle.sip_verdict.specs.field.declared.field.Field.{Field}
+use Rattle.sip_verdict.specs.field.declared.field_name.FieldName.{FieldName}
+use Rattle.sip_verdict.specs.field.declared.field_name.FieldName.TheVariants as Name
+use Rattle.sip_verdict.specs.form.declared.message.Start.{Start}
+use Rattle.sip_verdict.specs.form.declared.message.Start.TheVariants.{Request, Status}
+use Rattle.sip_verdict.specs.form.declared.message.Message.{Message}
+use Rattle.sip_verdict.specs.form.Text.{text_of}
+use Rattle.sip_verdict.specs.host.declared.addr.Addr.{Addr}
+use Rattle.sip_verdict.specs.reply.Challenges.{challenge_fields}
+use Rattle.sip_verdict.specs.auth.Offer.{offers_sha256}
+use Rattle.sip_verdict.specs.reply.Contacts.{contact_value}
+use Rattle.sip_verdict.specs.reply.Extras.{denial_warning}
+use Rattle.sip_verdict.specs.edit.Onward.{onward_uri}
 use Rattle.sip_verdict.specs.policy.declared.operation.Operation.{Operation}
-use Rattle.sip_location.specs.declared.binding.Binding.{Binding}
-use Rattle.sip_location.specs.Binding.{live, seconds_left}
-use Rattle.sip_context.specs.targets.declared.target.Target.{Target}
-use Rattle.sip_context.specs.targets.declared.targets.Targets.{Targets}
-use Rattle.sip_context.specs.targets.Targets.{target_list}
-use Rattle.sip_dialog.specs.declared.dialog.DialogId.{DialogId}
-use Rattle.sip_dialog.specs.declared.dialog.Dialog.{Dialog}
-use Rattle.sip_context.specs.audit.declared.record.Record.{Record}
-use Rattle.sip_context.specs.audit.declared.record.Operation.TheVariants as RecordedAs
-use Rattle.sip_context.specs.audit.declared.record.Operation as AuditOperation
-use Rattle.sip_context.specs.audit.declared.record.Outcome.{Outcome}
-use Rattle.sip_context.specs.event.declared.packet.Packet.{Packet}
-use Rattle.sip_state.specs.declared.server.Server.{Server}
-use Rattle.sip_auth.specs.Proof.{proven, is_stale, used}
-use Rattle.sip_state.specs.declared.open_request.OpenRequest.{OpenRequest}
-use Rattle.sip_state.specs.declared.proxy_state.ProxyState.{ProxyState}
-use Rattle.sip_state.specs.State.{has_left, with_one_more}
-use Rattle.sip_context.specs.Sending.{made_answer, answer_packet, answer_to, onward_as, branch_packets}
-use Rattle.sip_state.specs.declared.open_request.Upward.{Upward}
-use Rattle.sip_state.specs.Dialogs.{after_request, after_answers, after_leaving}
-use Rattle.sip_context.specs.Branches.{Change, responded, cancelled, acknowledged}
-use Rattle.sip_context.specs.Opening.{closing, branches_from, dialog_branch, forking, trying, opening}
+use Rattle.sip_verdict.specs.location.declared.binding.Binding.{Binding}
+use Rattle.sip_verdict.specs.location.Binding.{live, seconds_left}
+use Rattle.sip_verdict.specs.targets.declared.target.Target.{Target}
+use Rattle.sip_verdict.specs.targets.declared.targets.Targets.{Targets}
+use Rattle.sip_verdict.specs.targets.Targets.{target_list}
+use Rattle.sip_verdict.specs.dialog.declared.dialog.DialogId.{DialogId}
+use Rattle.sip_verdict.specs.dialog.declared.dialog.Dialog.{Dialog}
+use Rattle.sip_verdict.specs.context.audit.declared.record.Record.{Record}
+use Rattle.sip_verdict.specs.context.audit.declared.record.Operation.TheVariants as RecordedAs
+use Rattle.sip_verdict.specs.context.audit.declared.record.Operation as AuditOperation
+use Rattle.sip_verdict.specs.context.audit.declared.record.Outcome.{Outcome}
+use Rattle.sip_verdict.specs.event.declared.packet.Packet.{Packet}
+use Rattle.sip_verdict.specs.state.declared.server.Server.{Server}
+use Rattle.sip_verdict.specs.auth.Proof.{proven, is_stale, used}
+use Rattle.sip_verdict.specs.state.declared.open_request.OpenRequest.{OpenRequest}
+use Rattle.sip_verdict.specs.state.declared.proxy_state.ProxyState.{ProxyState}
+use Rattle.sip_verdict.specs.state.State.{has_left, with_one_more}
+use Rattle.sip_verdict.specs.context.Sending.{made_answer, answer_packet, answer_to, onward_as, branch_packets}
+use Rattle.sip_verdict.specs.state.declared.open_request.Upward.{Upward}
+use Rattle.sip_verdict.specs.state.Dialogs.{after_request, after_answers, after_leaving}
+use Rattle.sip_verdict.specs.context.Branches.{Change, responded, cancelled, acknowledged}
+use Rattle.sip_verdict.specs.context.Opening.{closing, branches_from, dialog_branch, forking, trying, opening}
 use Rattle.sip_retransmission.specs.Retransmission.{answers_again, acked_again}
-use Rattle.sip_state.specs.Arrival.{Arrival}
+use Rattle.sip_verdict.specs.state.Arrival.{Arrival}
 use Rattle.sip_verdict.specs.declared.question.Question.{Question}
 use Rattle.sip_verdict.specs.Verdict.{Registered, Bound, Refused, Verdict, Drop, Respond, Copy, AckOn, Cancel, Answer, InDialog, Challenge, Deny, Send, Register, is_full, minute_on, verdict_of}
 

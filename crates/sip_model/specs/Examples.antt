@@ -3,30 +3,30 @@ use Rattle.std.specs.Prelude.{ℕ, ◌==◌, Bool, false, not, List, [], ◌∷�
 use Rattle.std.specs.Option.{option_map_or}
 use Rattle.std.specs.List.{take_while}
 use Rattle.std.specs.Str.{byte}
-use Rattle.sip_state.specs.uri.declared.uri.Uri.{Uri}
-use Rattle.sip_state.specs.uri.declared.aor.Aor.{Aor}
-use Rattle.sip_state.specs.uri.Examples as Uris
-use Rattle.sip_state.specs.field.declared.field_name.FieldName.TheVariants as Name
-use Rattle.sip_state.specs.field.declared.field.Field.{Field}
-use Rattle.sip_state.specs.form.declared.message.Start.TheVariants.{Request, Status}
-use Rattle.sip_state.specs.form.declared.message.Message.{Message}
-use Rattle.sip_state.specs.host.declared.addr.Addr.{Addr}
-use Rattle.sip_state.specs.hops.Examples as Places
-use Rattle.sip_context.specs.reply.Examples as Replies
-use Rattle.sip_context.specs.edit.OnwardExamples as Onward
-use Rattle.sip_context.specs.edit.OwnVia.{branch_text}
+use Rattle.sip_verdict.specs.uri.declared.uri.Uri.{Uri}
+use Rattle.sip_verdict.specs.uri.declared.aor.Aor.{Aor}
+use Rattle.sip_verdict.specs.uri.Examples as Uris
+use Rattle.sip_verdict.specs.field.declared.field_name.FieldName.TheVariants as Name
+use Rattle.sip_verdict.specs.field.declared.field.Field.{Field}
+use Rattle.sip_verdict.specs.form.declared.message.Start.TheVariants.{Request, Status}
+use Rattle.sip_verdict.specs.form.declared.message.Message.{Message}
+use Rattle.sip_verdict.specs.host.declared.addr.Addr.{Addr}
+use Rattle.sip_verdict.specs.hops.Examples as Places
+use Rattle.sip_verdict.specs.reply.Examples as Replies
+use Rattle.sip_verdict.specs.edit.OnwardExamples as Onward
+use Rattle.sip_verdict.specs.edit.OwnVia.{branch_text}
 use Rattle.sip_verdict.specs.policy.Examples.{mufasas_a1, alices_a1}
-use Rattle.sip_state.specs.settings.Sample as Settings
-use Rattle.sip_auth.specs.Examples.{credential}
-use Rattle.sip_location.specs.declared.binding.Binding.{Binding}
-use Rattle.sip_context.specs.event.declared.packet.Packet.{Packet}
-use Rattle.sip_state.specs.declared.server.Server.{Server}
-use Rattle.sip_state.specs.declared.proxy_state.ProxyState.{ProxyState}
-use Rattle.sip_state.specs.declared.open_request.OpenRequest.{OpenRequest}
-use Rattle.sip_state.specs.declared.branch.Branch.{Branch}
-use Rattle.sip_state.specs.State.{first_state, phase_deadline}
-use Rattle.sip_context.specs.Branches.{overdue, side_overdue}
-use Rattle.sip_state.specs.Arrival.{Arrival}
+use Rattle.sip_verdict.specs.settings.Sample as Settings
+use Rattle.sip_verdict.specs.auth.Examples.{credential}
+use Rattle.sip_verdict.specs.location.declared.binding.Binding.{Binding}
+use Rattle.sip_verdict.specs.event.declared.packet.Packet.{Packet}
+use Rattle.sip_verdict.specs.state.declared.server.Server.{Server}
+use Rattle.sip_verdict.specs.state.declared.proxy_state.ProxyState.{ProxyState}
+use Rattle.sip_verdict.specs.state.declared.open_request.OpenRequest.{OpenRequest}
+use Rattle.sip_verdict.specs.state.declared.branch.Branch.{Branch}
+use Rattle.sip_verdict.specs.state.State.{first_state, phase_deadline}
+use Rattle.sip_verdict.specs.context.Branches.{overdue, side_overdue}
+use Rattle.sip_verdict.specs.state.Arrival.{Arrival}
 use Rattle.sip_verdict.specs.Verdict.{message_verdict}
 use Rattle.sip_model.specs.Effect.{Effect, counted, effect_of, changed, nothing}
 use Rattle.sip_model.specs.Step.{fault_effect}

@@ -1,10 +1,10 @@
 -- REGISTERs beside what else is known, for the worked examples.
 use Rattle.std.specs.Prelude.{ℕ, List, [], ◌∷◌, ◌++◌, codes}
-use Rattle.sip_state.specs.field.declared.field_name.FieldName.TheVariants as Name
-use Rattle.sip_state.specs.form.declared.message.Message.{Message}
-use Rattle.sip_state.specs.form.Text.{text_of}
-use Rattle.sip_state.specs.nonces.declared.nonces.Nonce.{Nonce}
-use Rattle.sip_location.specs.declared.binding.Binding.{Binding}
+use Rattle.sip_verdict.specs.field.declared.field_name.FieldName.TheVariants as Name
+use Rattle.sip_verdict.specs.form.declared.message.Message.{Message}
+use Rattle.sip_verdict.specs.form.Text.{text_of}
+use Rattle.sip_verdict.specs.nonces.declared.nonces.Nonce.{Nonce}
+use Rattle.sip_verdict.specs.location.declared.binding.Binding.{Binding}
 use Rattle.sip_model.specs.Effect.{Effect, datagram_effect}
 use Rattle.sip_model.specs.Examples.{sample, arriving_at, whole_effect, challenge_effect, registering_by, authorized, mufasas, alices, binding_until}
 

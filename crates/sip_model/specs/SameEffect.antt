@@ -1,6 +1,6 @@
 -- When two effects are the same.
 use Rattle.std.specs.Prelude.{◌≡◌}
-use Rattle.sip_state.specs.SameState.{SameState}
+use Rattle.sip_verdict.specs.state.SameState.{SameState}
 use Rattle.sip_model.specs.Effect.{Effect}
 
 -- Two effects are the same where they send the same packets, for the first time and again, in the same order, record the same, and leave states that are the same.

@@ -1,21 +1,21 @@
 -- One step of a proxy: a datagram, a deadline, something that goes again, the passing of time, or a send that failed.
 use Rattle.std.specs.Prelude.{◌≡◌, ◌≤◌, ◌<◌, ◌⊎◌, ℕ, ◌==◌, Bool, not, ◌&&◌, max, List, [], filter, find, Contains, Option, Some, None}
 use Rattle.std.specs.List.{AllByRecursion}
-use Rattle.sip_state.specs.host.declared.addr.Addr.{Addr}
-use Rattle.sip_context.specs.event.declared.packet.Packet.{Packet}
-use Rattle.sip_context.specs.event.declared.packet.Ticket.{Ticket}
-use Rattle.sip_context.specs.event.declared.event.StepOut.{StepOut}
-use Rattle.sip_context.specs.event.declared.event.Event.{Event}
-use Rattle.sip_context.specs.event.declared.event.Event.TheVariants.{Datagram, Time, Fault}
-use Rattle.sip_state.specs.declared.server.Server.{Server}
-use Rattle.sip_state.specs.declared.branch.Branch.{Branch}
-use Rattle.sip_state.specs.declared.open_request.OpenRequest.{OpenRequest}
-use Rattle.sip_state.specs.declared.proxy_state.ProxyState.{ProxyState}
-use Rattle.sip_state.specs.SameState.{SameState}
-use Rattle.sip_state.specs.State.{deadlines, phase_deadline, side_deadline}
-use Rattle.sip_context.specs.Branches.{Change, overdue, side_overdue, send_failed, is_unheard}
+use Rattle.sip_verdict.specs.host.declared.addr.Addr.{Addr}
+use Rattle.sip_verdict.specs.event.declared.packet.Packet.{Packet}
+use Rattle.sip_verdict.specs.event.declared.packet.Ticket.{Ticket}
+use Rattle.sip_verdict.specs.event.declared.event.StepOut.{StepOut}
+use Rattle.sip_verdict.specs.event.declared.event.Event.{Event}
+use Rattle.sip_verdict.specs.event.declared.event.Event.TheVariants.{Datagram, Time, Fault}
+use Rattle.sip_verdict.specs.state.declared.server.Server.{Server}
+use Rattle.sip_verdict.specs.state.declared.branch.Branch.{Branch}
+use Rattle.sip_verdict.specs.state.declared.open_request.OpenRequest.{OpenRequest}
+use Rattle.sip_verdict.specs.state.declared.proxy_state.ProxyState.{ProxyState}
+use Rattle.sip_verdict.specs.state.SameState.{SameState}
+use Rattle.sip_verdict.specs.state.State.{deadlines, phase_deadline, side_deadline}
+use Rattle.sip_verdict.specs.context.Branches.{Change, overdue, side_overdue, send_failed, is_unheard}
 use Rattle.sip_model.specs.Effect.{Effect, replaced, changed, nothing, datagram_effect}
-use Rattle.sip_state.specs.Arrival.{Arrival}
+use Rattle.sip_verdict.specs.state.Arrival.{Arrival}
 use Rattle.sip_retransmission.specs.Retransmission.{resends, IsResent}
 
 -- ---- what is sent

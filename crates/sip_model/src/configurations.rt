@@ -1,5 +1,5 @@
 ghost use Rattle.std.specs.Prelude.{◌≡◌, [], ◌∷◌, codes, map};
-ghost use Rattle.sip_context.specs.audit.Lines.{line_of};
+ghost use Rattle.sip_verdict.specs.context.audit.Lines.{line_of};
 ghost use Rattle.sip_verdict.specs.policy.Examples as Policy;
 ghost use Rattle.sip_model.specs.Examples;
 ghost use Rattle.sip_model.specs.ConfigurationExamples as Configurations;

@@ -1,10 +1,10 @@
 ghost use Rattle.std.specs.Prelude.{◌≡◌, ◌∷◌, [], codes, length, map, None, Some};
-ghost use Rattle.sip_context.specs.audit.declared.record.Outcome.TheVariants.{Challenge, Deny, Sent, Answer};
-ghost use Rattle.sip_context.specs.audit.Lines.{line_of};
-ghost use Rattle.sip_context.specs.reply.Examples as Replies;
-ghost use Rattle.sip_context.specs.reply.ExtrasExamples as Extras;
-ghost use Rattle.sip_context.specs.edit.OnwardExamples as Onward;
-ghost use Rattle.sip_state.specs.hops.Examples as Places;
+ghost use Rattle.sip_verdict.specs.context.audit.declared.record.Outcome.TheVariants.{Challenge, Deny, Sent, Answer};
+ghost use Rattle.sip_verdict.specs.context.audit.Lines.{line_of};
+ghost use Rattle.sip_verdict.specs.reply.Examples as Replies;
+ghost use Rattle.sip_verdict.specs.reply.ExtrasExamples as Extras;
+ghost use Rattle.sip_verdict.specs.edit.OnwardExamples as Onward;
+ghost use Rattle.sip_verdict.specs.hops.Examples as Places;
 ghost use Rattle.sip_model.specs.Examples;
 
 /// A REGISTER without credentials gets the 401 of 348 bytes, to the byte, at the port of its Via, and

@@ -12,32 +12,32 @@ pub mod runs;
 
 /// Of `sip_text`.
 pub mod text {
-    pub use sip_state::text::{Bytes, Items};
+    pub use sip_verdict::text::{Bytes, Items};
 }
 
 /// Of `sip_field`.
 pub mod field {
-    pub use sip_state::field::{Field, FieldName, Fields};
+    pub use sip_verdict::field::{Field, FieldName, Fields};
 }
 
 /// Of `sip_nonces`.
 pub mod nonces {
-    pub use sip_state::nonces::nonce_text;
+    pub use sip_verdict::nonces::nonce_text;
 }
 
 /// Of `sip_uri`.
 pub mod uri {
-    pub use sip_state::uri::write_uri;
+    pub use sip_verdict::uri::write_uri;
 }
 
 /// Of `sip_audit`.
 pub mod audit {
-    pub use sip_context::audit::{Operation, Outcome, Record};
+    pub use sip_verdict::audit::{Operation, Outcome, Record};
 }
 
 /// Of `sip_form`.
 pub mod form {
-    pub use sip_state::form::{View, ViewStart};
+    pub use sip_verdict::form::{View, ViewStart};
 }
 
 /// Of `sip_policy`.
@@ -47,29 +47,29 @@ pub mod policy {
 
 /// Of `sip_key`.
 pub mod key {
-    pub use sip_state::key::Key;
+    pub use sip_verdict::key::Key;
 }
 
 /// Of `sip_auth`.
 pub mod auth {
-    pub use sip_auth::{Proof, offers_sha256};
+    pub use sip_verdict::auth::{Proof, offers_sha256};
 }
 
 /// Of `sip_edit`.
 pub mod edit {
-    pub use sip_context::edit::branch_of_text;
+    pub use sip_verdict::edit::branch_of_text;
 }
 
 /// Of `sip_reply`.
 pub mod reply {
-    pub use sip_context::reply::{
+    pub use sip_verdict::reply::{
         challenge_fields, contact_value, denial_warning, unsupported_field,
     };
 }
 
 /// Of `sip_state`.
 pub mod state {
-    pub use sip_state::{Branch, OpenRequest, Phase, Server, Side};
+    pub use sip_verdict::state::{Branch, OpenRequest, Phase, Server, Side};
 }
 
 /// Of `sip_verdict`.
@@ -79,5 +79,5 @@ pub mod verdict {
 
 /// Of `sip_context`.
 pub mod context {
-    pub use sip_context::laws;
+    pub use sip_verdict::context::laws;
 }

@@ -1,5 +1,5 @@
 ghost use Rattle.std.specs.Prelude.{◌≡◌, [], ◌∷◌, codes, length, map};
-ghost use Rattle.sip_context.specs.audit.Lines.{line_of};
+ghost use Rattle.sip_verdict.specs.context.audit.Lines.{line_of};
 ghost use Rattle.sip_model.specs.Examples;
 ghost use Rattle.sip_model.specs.RegisterExamples as Registers;
 

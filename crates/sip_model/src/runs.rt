@@ -1,9 +1,9 @@
 ghost use Rattle.std.specs.Prelude.{ℕ, List, ◌++◌, Option};
-ghost use Rattle.sip_context.specs.event.declared.event.Event.{Event};
-ghost use Rattle.sip_context.specs.event.declared.event.StepOut.{StepOut};
-ghost use Rattle.sip_state.specs.declared.server.Server.{Server};
-ghost use Rattle.sip_state.specs.declared.proxy_state.ProxyState.{ProxyState};
-ghost use Rattle.sip_state.specs.State.{first_state};
+ghost use Rattle.sip_verdict.specs.event.declared.event.Event.{Event};
+ghost use Rattle.sip_verdict.specs.event.declared.event.StepOut.{StepOut};
+ghost use Rattle.sip_verdict.specs.state.declared.server.Server.{Server};
+ghost use Rattle.sip_verdict.specs.state.declared.proxy_state.ProxyState.{ProxyState};
+ghost use Rattle.sip_verdict.specs.state.State.{first_state};
 ghost use Rattle.sip_model.specs.Run.{Link, IsChain, IsRun, HasRun, first_moment};
 
 /// Two runs, one behind the other, are one: the first stops where the second goes on, and what had passed

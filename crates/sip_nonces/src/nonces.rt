@@ -21,7 +21,7 @@ const BUCKETS: usize = 4096;
 
 /// A nonce that was issued: the word that its text writes, when it was issued, in milliseconds, and
 /// the greatest count that was accepted for it.
-#[derive(Clone, Copy, Debug, PartialEq, Eq)]
+#[derive(Clone, Copy)]
 pub struct Nonce {
     pub word: u128,
     pub since: u64,
@@ -30,7 +30,7 @@ pub struct Nonce {
 
 /// What a credential is worth: `Right` proves its user, `Stale` is the user's answer to a nonce that
 /// no longer counts, `Wrong` is no answer of the user's.
-#[derive(Clone, Copy, Debug, PartialEq, Eq)]
+#[derive(Clone, Copy)]
 pub enum Worth {
     Right,
     Stale,

@@ -1,2 +1,1 @@
 pub mod Lowering
-pub use Rattle.sip_edit.specs.message

@@ -9,7 +9,7 @@ mod record_route;
 pub use onward::{onward_base, onward_uri, to_target};
 pub use record_route::push_record_route;
 
-/// Of `sip_message`.
-pub mod message {
-    pub use sip_edit::message::{FieldName, Fields, View, write_view};
+/// Of `sip_form`.
+pub mod form {
+    pub use sip_edit::form::{FieldName, Fields, View, write_view};
 }

@@ -7,8 +7,8 @@ ghost use Rattle.sip_edit.specs.credentials.Credentials.{is_realm};
 
 use crate::record_route::record_route;
 use sip_edit::credentials::credentials_of;
+use sip_edit::form::{FieldName, Value, View, ViewField, ViewFields, ViewName, ViewStart};
 use sip_edit::header::{MaxForwards, max_forwards_of};
-use sip_edit::message::{FieldName, Value, View, ViewField, ViewFields, ViewName, ViewStart};
 use sip_edit::text::Bytes;
 use sip_edit::uri::{UriError, parse_uri, write_uri};
 use sip_edit::way::{Own, RoutesKept, kept_routes, way_of};

@@ -2,7 +2,7 @@ ghost use Rattle.std.specs.Prelude.{◌≡◌, ◌++◌, IfOk, OnOk};
 ghost use Rattle.sip_edit.specs.Onward as Spec;
 
 use crate::onward::put_all;
-use sip_edit::message::{FieldName, Value, View, ViewField, ViewFields, ViewName};
+use sip_edit::form::{FieldName, Value, View, ViewField, ViewFields, ViewName};
 use sip_edit::text::Bytes;
 use sip_edit::way::Own;
 use std::alloc::{AllocError, Global};

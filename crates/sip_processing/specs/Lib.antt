@@ -11,7 +11,6 @@ pub use Rattle.sip_branches.specs.form
 pub use Rattle.sip_branches.specs.best
 pub use Rattle.sip_branches.specs.event
 pub use Rattle.sip_branches.specs.hops
-pub use Rattle.sip_sending.specs.message
 pub use Rattle.sip_branches.specs.header
 pub use Rattle.sip_branches.specs.dialog
 pub use Rattle.sip_branches.specs.key

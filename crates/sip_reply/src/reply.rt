@@ -7,8 +7,8 @@ ghost use Rattle.sip_reply.specs.Reply;
 ghost use Rattle.sip_edit.specs.header.NameAddr.{name_addr_of};
 
 use crate::reasons::reason_of;
+use sip_edit::form::{FieldName, Fields, View, ViewStart, write_view};
 use sip_edit::header::{name_addr_of, tag_of};
-use sip_edit::message::{FieldName, Fields, View, ViewStart, write_view};
 use sip_edit::view::{Value, ViewField, ViewFields};
 use sip_uri::text::Bytes;
 use std::alloc::{AllocError, Global};

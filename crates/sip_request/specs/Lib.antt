@@ -15,7 +15,6 @@ pub use Rattle.sip_inputs.specs.form
 pub use Rattle.sip_inputs.specs.best
 pub use Rattle.sip_inputs.specs.event
 pub use Rattle.sip_inputs.specs.hops
-pub use Rattle.sip_inputs.specs.message
 pub use Rattle.sip_inputs.specs.header
 pub use Rattle.sip_inputs.specs.dialog
 pub use Rattle.sip_inputs.specs.key

@@ -12,7 +12,7 @@ use std::alloc::{AllocError, Global};
 const TOO_LARGE: u64 = 0x4000_0000_0000_0000;
 
 /// A datagram without its bytes: the moment in milliseconds, the word of a nonce, and the source.
-#[derive(Clone, Copy, PartialEq, Eq)]
+#[derive(Clone, Copy)]
 pub struct DatagramHead {
     pub at: u64,
     pub word: u128,

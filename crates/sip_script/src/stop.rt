@@ -4,7 +4,7 @@ ghost use Rattle.sip_script.specs.declared.stop.Stop.TheVariants.{NoMemory};
 use std::alloc::{AllocError, AllocFailed};
 
 /// Why an event wasn't read or replayed.
-#[derive(Clone, Copy, PartialEq, Eq)]
+#[derive(Clone, Copy)]
 pub enum Stop {
     /// Memory ran out.
     NoMemory,

@@ -1,3 +1,2 @@
 pub mod Base
-pub use Rattle.sip_onward.specs.message
 pub use Rattle.sip_onward.specs as onward

@@ -13,7 +13,7 @@ use sip_context::host::Addr;
 use sip_context::reply::{reply_view, respond, to_tag};
 use sip_context::state::{OpenRequest, Server};
 use sip_context::text::Bytes;
-use sip_onward::message::{FieldName, Fields, View, write_view};
+use sip_onward::form::{FieldName, Fields, View, write_view};
 use std::alloc::{AllocError, Global};
 
 /// Where the answers to a request go that came from an address.

@@ -13,7 +13,7 @@ use sip_context::event::{Packet, Ticket};
 use sip_context::header::{HeaderError, core_of, tag_of};
 use sip_context::state::{Branch, OpenRequest, Server};
 use sip_context::text::{Bytes, Items};
-use sip_onward::message::{View, write_view};
+use sip_onward::form::{View, write_view};
 use sip_onward::{onward_base, to_target};
 use std::alloc::{AllocError, Global};
 

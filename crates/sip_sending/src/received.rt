@@ -7,7 +7,7 @@ use sip_context::edit::received_via;
 use sip_context::header::via_of;
 use sip_context::host::Addr;
 use sip_context::text::Bytes;
-use sip_onward::message::{FieldName, View};
+use sip_onward::form::{FieldName, View};
 use std::alloc::{AllocError, Global};
 
 /// The value that the top Via of a request gets, which came from an address (RFC 3261 18.2.1); empty where there is no

@@ -1,7 +1,7 @@
 use sip_transaction::Letter;
 
 /// What is to be done for a server transaction.
-#[derive(Clone, Copy, Default, PartialEq, Eq)]
+#[derive(Clone, Copy, Default)]
 pub enum Action {
     /// Send the answer that the core hands down.
     #[default]

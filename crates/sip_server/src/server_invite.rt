@@ -35,7 +35,7 @@ use sip_transaction::{Actions, Letter, T1, T2, T4, doubled};
 ///
 /// To the left of a `:` stands what the transaction hears, to the right what is to be done; times are in
 /// milliseconds. What stands beside a state leaves it as it is.
-#[derive(Clone, Copy, PartialEq, Eq)]
+#[derive(Clone, Copy)]
 pub enum ServerInvite {
     /// The core has given no final answer.
     Proceeding {
@@ -56,7 +56,7 @@ pub enum ServerInvite {
 }
 
 /// What a server transaction of an INVITE hears.
-#[derive(Clone, Copy, PartialEq, Eq)]
+#[derive(Clone, Copy)]
 pub enum ServerInviteInput {
     /// The INVITE came again.
     Invite,

@@ -33,7 +33,7 @@ use sip_transaction::{Actions, Letter, T1};
 ///
 /// To the left of a `:` stands what the transaction hears, to the right what is to be done; times are in
 /// milliseconds. What stands beside a state leaves it as it is.
-#[derive(Clone, Copy, PartialEq, Eq)]
+#[derive(Clone, Copy)]
 pub enum ServerOther {
     /// The core has answered nothing yet.
     Trying,
@@ -46,7 +46,7 @@ pub enum ServerOther {
 }
 
 /// What a server transaction of a request that isn't an INVITE hears.
-#[derive(Clone, Copy, PartialEq, Eq)]
+#[derive(Clone, Copy)]
 pub enum ServerOtherInput {
     /// The request came again.
     Request,

@@ -7,7 +7,7 @@ use std::fmt;
 
 /// Why a text could not be taken apart: `NoMemory` where memory ran out, `Unbalanced` where a quote
 /// or a bracket is open or an item is empty, `BadEscape` where a `%` begins no escape.
-#[derive(Clone, Copy, Debug, PartialEq, Eq)]
+#[derive(Clone, Copy, Debug)]
 pub enum TextError {
     NoMemory = 1,
     Unbalanced = 2,

@@ -1,5 +1,5 @@
 /// A part of a source: the bytes from index `start` up to index `end`, which is not in it.
-#[derive(Clone, Copy, PartialEq, Eq)]
+#[derive(Clone, Copy)]
 pub struct Span {
     pub start: usize,
     pub end: usize,

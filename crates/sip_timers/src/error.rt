@@ -6,7 +6,7 @@ use std::error::Error;
 use std::fmt;
 
 /// Why no timer is set.
-#[derive(Clone, Copy, Debug, PartialEq, Eq)]
+#[derive(Clone, Copy, Debug)]
 pub enum TimerError {
     /// Memory ran out.
     NoMemory = 1,

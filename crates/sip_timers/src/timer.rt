@@ -21,7 +21,7 @@ pub struct Name {
 
 /// A timer that stands: the key by which it is cancelled, the moment at which it is due, in
 /// milliseconds, and its name.
-#[derive(Clone, Copy, PartialEq, Eq)]
+#[derive(Clone, Copy)]
 pub struct Timer {
     pub key: usize,
     pub due: u64,

@@ -5,3 +5,4 @@ pub mod ListLaws
 pub mod ReadingLaws
 pub mod Escapes
 pub mod Names
+pub use Rattle.sip_host.proofs as of_host

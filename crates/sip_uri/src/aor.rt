@@ -14,7 +14,7 @@ use std::alloc::{AllocError, Global};
 use std::hash::{Hash, Hasher};
 
 /// An address of record: the user and the host that a registrar keeps bindings for (RFC 3261 10.3).
-#[derive(Debug, Drop)]
+#[derive(Drop)]
 pub struct Aor {
     /// The user without escapes; empty where a URI has none.
     pub user: Bytes,

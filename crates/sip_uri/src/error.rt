@@ -6,7 +6,7 @@ use std::error::Error;
 use std::fmt;
 
 /// Why bytes are no SIP or SIPS URI.
-#[derive(Clone, Copy, Debug, PartialEq, Eq)]
+#[derive(Clone, Copy, Debug)]
 pub enum UriError {
     /// Memory ran out.
     NoMemory = 1,

@@ -6,7 +6,7 @@ use crate::error::UriError;
 use sip_host::text::same_no_case;
 
 /// The scheme of a URI (RFC 3261 19.1).
-#[derive(Clone, Copy, PartialEq, Eq)]
+#[derive(Clone, Copy)]
 pub enum Scheme {
     Sip,
     Sips,

@@ -6,7 +6,7 @@ use std::error::Error;
 use std::fmt;
 
 /// Why users or rules are refused.
-#[derive(Clone, Copy, Debug, PartialEq, Eq)]
+#[derive(Clone, Copy, Debug)]
 pub enum PolicyError {
     /// Memory ran out.
     NoMemory = 1,

@@ -7,21 +7,21 @@ use Rattle.sip_context.specs.host.declared.addr.Addr.{Addr}
 use Rattle.sip_context.specs.form.declared.message.Start.{Start}
 use Rattle.sip_context.specs.form.declared.message.Start.TheVariants.{Request, Status}
 use Rattle.sip_context.specs.form.declared.message.Message.{Message}
-use Rattle.sip_header.specs.message.Reading.{reading_of}
+use Rattle.sip_message.specs.Reading.{reading_of}
 use Rattle.sip_context.specs.key.declared.key.Key.{Key}
 use Rattle.sip_header.specs.declared.core_fields.CoreFields.{CoreFields}
 use Rattle.sip_context.specs.key.Key.{key_of}
 use Rattle.sip_header.specs.CoreFields.{core_of}
 use Rattle.sip_context.specs.nonces.declared.nonces.Nonce.{Nonce}
 use Rattle.sip_auth.specs.policy.declared.decision.Decision.{Decision}
-use Rattle.sip_location.specs.declared.binding.Binding.{Binding}
-use Rattle.sip_location.specs.Sameness.{SameBindings}
-use Rattle.sip_location.proofs.Sameness.{same_later}
+use Rattle.sip_context.specs.location.declared.binding.Binding.{Binding}
+use Rattle.sip_context.specs.location.Sameness.{SameBindings}
+use Rattle.sip_context.proofs.of_state.of_location.Sameness.{same_later}
 use Rattle.sip_validate.specs.Refusal.{refusal_of}
-use Rattle.sip_dialog.specs.declared.dialog.DialogId.{DialogId}
-use Rattle.sip_dialog.specs.declared.dialog.Dialog.{Dialog}
-use Rattle.sip_dialog.specs.Sameness.{SameDialogs}
-use Rattle.sip_dialog.proofs.Sameness.{in_dialog_same, dialogs_later}
+use Rattle.sip_context.specs.dialog.declared.dialog.DialogId.{DialogId}
+use Rattle.sip_context.specs.dialog.declared.dialog.Dialog.{Dialog}
+use Rattle.sip_context.specs.dialog.Sameness.{SameDialogs}
+use Rattle.sip_context.proofs.of_state.of_dialog.Sameness.{in_dialog_same, dialogs_later}
 use Rattle.sip_context.specs.state.declared.server.Server.{Server}
 use Rattle.sip_context.specs.state.declared.open_request.OpenRequest.{OpenRequest}
 use Rattle.sip_context.specs.state.declared.proxy_state.ProxyState.{ProxyState}

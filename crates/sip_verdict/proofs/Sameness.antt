@@ -9,14 +9,14 @@ use Rattle.sip_header.specs.declared.core_fields.CoreFields.{CoreFields}
 use Rattle.sip_auth.specs.way.Way.{request_uri_of}
 use Rattle.sip_auth.specs.policy.declared.decision.Decision.{Decision}
 use Rattle.sip_auth.specs.policy.User.{is_users_address}
-use Rattle.sip_location.specs.declared.binding.Binding.{Binding}
-use Rattle.sip_location.specs.declared.error.LocationError.{LocationError}
-use Rattle.sip_location.specs.declared.error.LocationError.TheVariants.{NoMemory, BadStar, TooBrief, OldCSeq, TooMany}
-use Rattle.sip_location.specs.Binding.{live}
-use Rattle.sip_location.specs.Registration.{registered}
-use Rattle.sip_location.specs.Registering.{to_aor, registration_of}
-use Rattle.sip_location.specs.Sameness.{SameBindings, SameOutcome}
-use Rattle.sip_location.proofs.Sameness.{registered_same}
+use Rattle.sip_context.specs.location.declared.binding.Binding.{Binding}
+use Rattle.sip_context.specs.location.declared.error.LocationError.{LocationError}
+use Rattle.sip_context.specs.location.declared.error.LocationError.TheVariants.{NoMemory, BadStar, TooBrief, OldCSeq, TooMany}
+use Rattle.sip_context.specs.location.Binding.{live}
+use Rattle.sip_context.specs.location.Registration.{registered}
+use Rattle.sip_context.specs.location.Registering.{to_aor, registration_of}
+use Rattle.sip_context.specs.location.Sameness.{SameBindings, SameOutcome}
+use Rattle.sip_context.proofs.of_state.of_location.Sameness.{registered_same}
 use Rattle.sip_context.specs.targets.Targets.{targets_of}
 use Rattle.sip_context.specs.state.declared.server.Server.{Server}
 use Rattle.sip_verdict.specs.declared.question.Question.{Question}

@@ -17,8 +17,8 @@ use Rattle.sip_auth.specs.policy.Examples as Policy
 use Rattle.sip_context.specs.settings.Sample as Settings
 use Rattle.sip_auth.specs.Proof.{Wrong}
 use Rattle.sip_auth.specs.Examples.{credential, used_often}
-use Rattle.sip_dialog.specs.declared.dialog.Dialog.{Dialog}
-use Rattle.sip_dialog.specs.Examples as Dialogs
+use Rattle.sip_context.specs.dialog.declared.dialog.Dialog.{Dialog}
+use Rattle.sip_context.specs.dialog.Examples as Dialogs
 use Rattle.sip_context.specs.state.declared.server.Server.{Server}
 use Rattle.sip_context.specs.state.declared.branch.Branch.{Branch}
 use Rattle.sip_context.specs.state.declared.branch.Phase.TheVariants.{Unheard, Cancelled}

@@ -13,11 +13,11 @@ pub use Rattle.sip_auth.specs.policy
 pub use Rattle.sip_context.specs.best
 pub use Rattle.sip_context.specs.event
 pub use Rattle.sip_context.specs.hops
-pub use Rattle.sip_header.specs.message
+pub use Rattle.sip_message.specs as message
 pub use Rattle.sip_header.specs as header
-pub use Rattle.sip_dialog.specs as dialog
+pub use Rattle.sip_context.specs.dialog
 pub use Rattle.sip_context.specs.key
-pub use Rattle.sip_location.specs as location
+pub use Rattle.sip_context.specs.location
 pub use Rattle.sip_auth.specs.way
 pub use Rattle.sip_auth.specs as auth
 pub use Rattle.sip_context.specs.edit

@@ -1,7 +1,7 @@
 -- When a REGISTER comes to the same, and when verdicts are the same.
 use Rattle.std.specs.Prelude.{◌≡◌, ℕ, Option, Some, None}
 use Rattle.sip_context.specs.form.declared.message.Message.{Message}
-use Rattle.sip_location.specs.Sameness.{SameBindings}
+use Rattle.sip_context.specs.location.Sameness.{SameBindings}
 use Rattle.sip_verdict.specs.declared.question.Question.{Question}
 use Rattle.sip_verdict.specs.Verdict.{Registered, Bound, Refused, Verdict, Register}
 

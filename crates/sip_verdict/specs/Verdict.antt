@@ -12,7 +12,7 @@ use Rattle.sip_context.specs.form.declared.message.Start.TheVariants.{Request, S
 use Rattle.sip_context.specs.form.declared.message.Message.{Message}
 use Rattle.sip_context.specs.form.declared.error.ReadError.{ReadError}
 use Rattle.sip_context.specs.form.declared.error.ReadError.TheVariants as Refusal
-use Rattle.sip_header.specs.message.Reading.{reading_of}
+use Rattle.sip_message.specs.Reading.{reading_of}
 use Rattle.sip_context.specs.key.declared.key.Key.{Key}
 use Rattle.sip_header.specs.declared.core_fields.CoreFields.{CoreFields}
 use Rattle.sip_header.specs.declared.via.Via.{Via}
@@ -32,21 +32,21 @@ use Rattle.sip_auth.specs.policy.Operation.{operation_of}
 use Rattle.sip_auth.specs.policy.User.{is_users_address, is_own_domain}
 use Rattle.sip_auth.specs.policy.Window.{minute_of}
 use Rattle.sip_auth.specs.policy.Decision.{decision_of, recorded_minute}
-use Rattle.sip_location.specs.declared.binding.Binding.{Binding}
-use Rattle.sip_location.specs.declared.error.LocationError.{LocationError}
-use Rattle.sip_location.specs.declared.error.LocationError.TheVariants.{NoMemory, BadStar, TooBrief, OldCSeq, TooMany}
-use Rattle.sip_location.specs.Binding.{contacts_of}
-use Rattle.sip_location.specs.Registration.{registered}
+use Rattle.sip_context.specs.location.declared.binding.Binding.{Binding}
+use Rattle.sip_context.specs.location.declared.error.LocationError.{LocationError}
+use Rattle.sip_context.specs.location.declared.error.LocationError.TheVariants.{NoMemory, BadStar, TooBrief, OldCSeq, TooMany}
+use Rattle.sip_context.specs.location.Binding.{contacts_of}
+use Rattle.sip_context.specs.location.Registration.{registered}
 use Rattle.sip_context.specs.targets.declared.targets.Targets.{Targets}
 use Rattle.sip_context.specs.targets.Targets.{targets_of}
 use Rattle.sip_validate.specs.Refusal.{refusal_of, is_bad_request}
-use Rattle.sip_dialog.specs.declared.dialog.DialogId.{DialogId}
-use Rattle.sip_dialog.specs.DialogId.{id_of}
-use Rattle.sip_dialog.specs.Dialogs.{is_in_dialog}
+use Rattle.sip_context.specs.dialog.declared.dialog.DialogId.{DialogId}
+use Rattle.sip_context.specs.dialog.DialogId.{id_of}
+use Rattle.sip_context.specs.dialog.Dialogs.{is_in_dialog}
 use Rattle.sip_context.specs.state.declared.server.Server.{Server}
 use Rattle.sip_auth.specs.Proof.{proof_of, proven}
 use Rattle.sip_verdict.specs.declared.question.Question.{Question}
-use Rattle.sip_location.specs.Registering.{aor_or_nobody, to_aor, registration_of}
+use Rattle.sip_context.specs.location.Registering.{aor_or_nobody, to_aor, registration_of}
 use Rattle.sip_context.specs.state.declared.proxy_state.ProxyState.{ProxyState}
 use Rattle.sip_context.specs.state.declared.open_request.OpenRequest.{OpenRequest}
 use Rattle.sip_context.specs.state.declared.branch.Branch.{Branch}

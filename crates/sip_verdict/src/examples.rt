@@ -2,7 +2,7 @@ ghost use Rattle.std.specs.Prelude.{◌≡◌, ◌∷◌, [], codes, Some, None,
 ghost use Rattle.sip_context.specs.hops.Examples.{local};
 ghost use Rattle.sip_context.specs.reply.Examples.{register};
 ghost use Rattle.sip_context.specs.edit.OnwardExamples as Onward;
-ghost use Rattle.sip_dialog.specs.Examples as Dialogs;
+ghost use Rattle.sip_context.specs.dialog.Examples as Dialogs;
 ghost use Rattle.sip_context.specs.targets.declared.targets.Targets.{Targets};
 ghost use Rattle.sip_context.specs.Calls;
 ghost use Rattle.sip_verdict.specs.Verdict.{Drop, Respond, Copy, AckOn, Cancel, Answer, InDialog, Challenge, Send, message_verdict};

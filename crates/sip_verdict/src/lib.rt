@@ -25,12 +25,12 @@ pub mod host {
 
 /// Of `sip_nonces`.
 pub mod nonces {
-    pub use sip_context::nonces::Nonces;
+    pub use sip_context::nonces::{Nonces, nonce_text};
 }
 
 /// Of `sip_uri`.
 pub mod uri {
-    pub use sip_uri::{Aor, Uri, aor_of};
+    pub use sip_uri::{Aor, Uri, aor_of, write_uri};
 }
 
 /// Of `sip_form`.
@@ -52,9 +52,7 @@ pub mod hops {
 
 /// Of `sip_message`.
 pub mod message {
-    pub use sip_header::message::{
-        View, ViewError, ViewField, ViewFields, ViewRefusal, ViewStart, view,
-    };
+    pub use sip_message::{View, ViewError, ViewField, ViewFields, ViewRefusal, ViewStart, view};
 }
 
 /// Of `sip_header`.
@@ -67,7 +65,7 @@ pub mod header {
 
 /// Of `sip_dialog`.
 pub mod dialog {
-    pub use sip_dialog::{DialogId, Dialogs};
+    pub use sip_context::dialog::{DialogId, Dialogs};
 }
 
 /// Of `sip_key`.
@@ -77,7 +75,7 @@ pub mod key {
 
 /// Of `sip_location`.
 pub mod location {
-    pub use sip_location::{LocationError, Locations, Plan, Registration};
+    pub use sip_context::location::{LocationError, Locations, Plan, Registration};
 }
 
 /// Of `sip_way`.
@@ -87,7 +85,7 @@ pub mod way {
 
 /// Of `sip_auth`.
 pub mod auth {
-    pub use sip_auth::proof_of;
+    pub use sip_auth::{Proof, offers_sha256, proof_of};
 }
 
 /// Of `sip_targets`.
@@ -102,15 +100,32 @@ pub mod validate {
 
 /// Of `sip_reply`.
 pub mod reply {
-    pub use sip_context::reply::{min_expires, unsupported_field};
+    pub use sip_context::reply::{
+        challenge_fields, contact_value, denial_warning, min_expires, unsupported_field,
+    };
 }
 
 /// Of `sip_state`.
 pub mod state {
-    pub use sip_context::state::Server;
+    pub use sip_context::state::{Branch, OpenRequest, Phase, Server, Side};
 }
 
 /// Of `sip_view`.
 pub mod view {
     pub use sip_auth::view::ViewFields;
+}
+
+/// Of `sip_audit`.
+pub mod audit {
+    pub use sip_context::audit::{Operation, Outcome, Record};
+}
+
+/// Of `sip_edit`.
+pub mod edit {
+    pub use sip_context::edit::branch_of_text;
+}
+
+/// Of `sip_context`.
+pub mod context {
+    pub use sip_context::laws;
 }

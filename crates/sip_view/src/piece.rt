@@ -8,7 +8,7 @@ use sip_field::text::{Bytes, Span};
 use std::alloc::{AllocError, Global};
 
 /// Bytes as a view has them: a part of what was read, or bytes of their own where no part is the same.
-#[derive(Clone, Debug)]
+#[derive(Clone)]
 pub enum Piece<'a> {
     Part(&'a [u8]),
     Joined(Bytes),

@@ -6,7 +6,7 @@ use std::alloc::{AllocError, Global};
 use std::marker::Model;
 
 /// A value of a view, seen as its bytes, wherever they stand.
-#[derive(Clone, Debug, Drop)]
+#[derive(Clone, Drop)]
 pub struct Value<'a> {
     piece: Piece<'a>,
 }

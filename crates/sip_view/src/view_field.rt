@@ -7,7 +7,7 @@ use std::alloc::{AllocError, Global};
 use std::marker::Model;
 
 /// A field of a view, seen as that field.
-#[derive(Clone, Debug, Drop)]
+#[derive(Clone, Drop)]
 pub struct ViewField<'a> {
     name: ViewName<'a>,
     value: Value<'a>,

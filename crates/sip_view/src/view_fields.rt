@@ -8,7 +8,7 @@ use std::alloc::{AllocError, Global};
 use std::marker::Model;
 
 /// The fields of a view, in their order, seen as the list of them.
-#[derive(Clone, Debug, Drop)]
+#[derive(Clone, Drop)]
 pub struct ViewFields<'a> {
     list: Vec<ViewField<'a>>,
 }

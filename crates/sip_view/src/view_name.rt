@@ -11,7 +11,7 @@ use std::marker::Model;
 
 /// The name of a field of a view, seen as that name: one that this project knows, or any other as a part of what
 /// was read.
-#[derive(Clone, Debug, Drop)]
+#[derive(Clone, Drop)]
 pub struct ViewName<'a> {
     known: Option<FieldName>,
     spelling: Value<'a>,

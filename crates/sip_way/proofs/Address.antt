@@ -5,8 +5,8 @@ use Rattle.std.specs.List.{list_all}
 use Rattle.std.specs.Str.{bytes_eq}
 use Rattle.std.proofs.lemmas.Slice.Eq.{bytes_eq-Decides}
 use Rattle.std.proofs.lemmas.Bool.Decides.{same_from_decides, nat_tests}
-use Rattle.sip_host.specs.Addresses.{ip_text, ip_of}
-use Rattle.sip_host.proofs.Dotted.{text_read, text_written}
+use Rattle.sip_uri.specs.host.Addresses.{ip_text, ip_of}
+use Rattle.sip_uri.proofs.of_host.Dotted.{text_read, text_written}
 
 some_same : (a b : List ℕ) → Some a ≡ Some b → a ≡ b
 some_same a b e = cc

@@ -3,11 +3,11 @@ use Rattle.std.specs.Prelude.{ℕ, Bool, ◌&&◌, ◌||◌, ◌==◌, List, [],
 use Rattle.std.specs.Option.{unwrap_or}
 use Rattle.std.specs.List.{list_any}
 use Rattle.std.specs.Str.{bytes_eq}
-use Rattle.sip_host.specs.text.Words.{is_same_text}
-use Rattle.sip_host.specs.Addresses.{ip_text}
+use Rattle.sip_uri.specs.text.Words.{is_same_text}
+use Rattle.sip_uri.specs.host.Addresses.{ip_text}
 use Rattle.sip_uri.specs.declared.scheme.Scheme.TheVariants as Scheme
 use Rattle.sip_uri.specs.declared.uri.Uri.{Uri}
-use Rattle.sip_host.specs.Port.{port_number}
+use Rattle.sip_uri.specs.host.Port.{port_number}
 use Rattle.sip_header.specs.declared.via.Via.{Via}
 use Rattle.sip_way.specs.declared.own.Own.{Own}
 

@@ -1,12 +1,12 @@
 ghost use Rattle.std.specs.Prelude.{◌≡◌, IfOk, [], ◌∷◌, codes, decimal, None};
 ghost use Rattle.std.specs.List.{list_any};
 ghost use Rattle.std.specs.Str.{bytes_eq};
-ghost use Rattle.sip_host.specs.text.Words.{is_same_text};
-ghost use Rattle.sip_host.specs.Addresses.{ip_text};
+ghost use Rattle.sip_uri.specs.text.Words.{is_same_text};
+ghost use Rattle.sip_uri.specs.host.Addresses.{ip_text};
 
 use sip_header::Via;
-use sip_host::ip_of;
-use sip_host::text::{Bytes, Items, same_no_case};
+use sip_uri::host::ip_of;
+use sip_uri::text::{Bytes, Items, same_no_case};
 use sip_uri::{Parameter, Scheme, Uri};
 use std::alloc::{AllocError, Global};
 

@@ -4,7 +4,7 @@ ghost use Rattle.sip_way.specs.Routes.{all_but_last, without_own};
 
 use crate::own::Own;
 use sip_header::{AnyUri, NameAddr, route_of};
-use sip_host::text::{Items, Text};
+use sip_uri::text::{Items, Text};
 use std::alloc::{AllocError, Global};
 
 /// Whether a URI of any scheme names this server.

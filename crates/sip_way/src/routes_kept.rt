@@ -7,7 +7,7 @@ ghost use Rattle.sip_way.specs.RoutesKept as Kept;
 use crate::own::Own;
 use crate::routes::is_own_route;
 use crate::way::{request_uri, restored_of};
-use sip_header::message::{FieldName, View, ViewField};
+use sip_header::form::{FieldName, View, ViewField};
 use std::alloc::{AllocError, Global};
 
 /// Which fields of a request are left once this server's own part of its way is taken off: of its Routes so many are

@@ -7,9 +7,9 @@ ghost use Rattle.sip_way.specs.Routes.{way_with, way_by};
 use crate::own::Own;
 use crate::routes::{last_route, others_left, routes_left};
 use sip_equality::{same, says_same_no_case};
-use sip_header::message::{FieldName, Value, View, ViewStart};
+use sip_header::form::{FieldName, Value, View, ViewStart};
 use sip_header::{AnyUri, NameAddr, route_of};
-use sip_host::text::{Items, Text};
+use sip_uri::text::{Items, Text};
 use sip_uri::{Uri, UriError, parse_uri};
 use std::alloc::{AllocError, Global};
 

@@ -3,9 +3,9 @@ use Rattle.std.specs.Fmt.{digits}
 use Rattle.md5.specs.Md5.{block_words, rounds, compress, hash_after, digest_bytes, md5}
 use Rattle.sha2.specs.Sha256.{first_words, schedule, rounds as rounds256, compress as compress256, hash_after as hash_after256, digest_bytes as digest_bytes256, sha256}
 use Rattle.hex.specs.Hex.{encode_with}
-use Rattle.sip_state.specs.uri.Reading.{rest_of, reading_of}
-use Rattle.sip_state.specs.header.CoreFields.{core_in}
-use Rattle.sip_state.specs.nonces.NonceText.{nonce_text}
+use Rattle.sip_verdict.specs.uri.Reading.{rest_of, reading_of}
+use Rattle.sip_verdict.specs.header.CoreFields.{core_in}
+use Rattle.sip_verdict.specs.nonces.NonceText.{nonce_text}
 use Rattle.sip_model.proofs.configurations.sha256_without_key.Goals as goal
 
 pub returns-clause-challenged : goal.returns-clause-challenged

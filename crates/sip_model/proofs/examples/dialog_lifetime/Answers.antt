@@ -1,9 +1,9 @@
 use Rattle.std.proofs.Common.{refl}
 use Rattle.std.specs.Fmt.{digits}
 use Rattle.hex.specs.Hex.{encode_with}
-use Rattle.sip_state.specs.uri.Reading.{rest_of, reading_of}
-use Rattle.sip_state.specs.header.CoreFields.{core_in}
-use Rattle.sip_state.specs.nonces.NonceText.{nonce_text}
+use Rattle.sip_verdict.specs.uri.Reading.{rest_of, reading_of}
+use Rattle.sip_verdict.specs.header.CoreFields.{core_in}
+use Rattle.sip_verdict.specs.nonces.NonceText.{nonce_text}
 use Rattle.sip_model.proofs.examples.dialog_lifetime.Goals as goal
 
 pub returns-clause-last : goal.returns-clause-last

@@ -1,8 +1,8 @@
 use Rattle.std.proofs.Common.{ap, Bool}
-use Rattle.sip_state.specs.nonces.NonceText.{nonce_text}
-use Rattle.sip_auth.specs.Proof.{is_stale}
-use Rattle.sip_auth.proofs.Algorithms.{alone_is}
-use Rattle.sip_context.specs.reply.Challenges.{challenge_fields}
+use Rattle.sip_verdict.specs.nonces.NonceText.{nonce_text}
+use Rattle.sip_verdict.specs.auth.Proof.{is_stale}
+use Rattle.sip_verdict.proofs.of_auth.Algorithms.{alone_is}
+use Rattle.sip_verdict.specs.reply.Challenges.{challenge_fields}
 use Rattle.sip_model.specs.Effect.{challenge_name}
 use Rattle.sip_model.proofs.laws.md5_alone_is_unchanged.Goals as goal
 

@@ -4,13 +4,13 @@ use Rattle.std.specs.Option.{option_map_or}
 use Rattle.std.specs.Fmt.{digits}
 use Rattle.md5.specs.Md5.{block_words, rounds, compress, hash_after, digest_bytes, md5}
 use Rattle.hex.specs.Hex.{encode_with}
-use Rattle.sip_state.specs.uri.Reading.{rest_of, reading_of}
+use Rattle.sip_verdict.specs.uri.Reading.{rest_of, reading_of}
 use Rattle.sip_verdict.specs.message.Reading as Bytes
-use Rattle.sip_state.specs.form.Text.{text_of}
-use Rattle.sip_state.specs.form.declared.message.Message.{Message}
-use Rattle.sip_state.specs.header.CoreFields.{core_in}
-use Rattle.sip_state.specs.nonces.NonceText.{nonce_text}
-use Rattle.sip_context.specs.audit.Lines.{line_of}
+use Rattle.sip_verdict.specs.form.Text.{text_of}
+use Rattle.sip_verdict.specs.form.declared.message.Message.{Message}
+use Rattle.sip_verdict.specs.header.CoreFields.{core_in}
+use Rattle.sip_verdict.specs.nonces.NonceText.{nonce_text}
+use Rattle.sip_verdict.specs.context.audit.Lines.{line_of}
 use Rattle.sip_verdict.specs.Verdict.{message_in, verdict_in}
 use Rattle.sip_model.specs.Effect.{Effect, effect_of, counted, nothing}
 use Rattle.sip_model.specs.Examples.{sample, arriving_at, packet_of, whole_effect, challenge_effect}

@@ -2,9 +2,9 @@ use Rattle.std.proofs.Common.{refl}
 use Rattle.std.specs.Fmt.{digits}
 use Rattle.md5.specs.Md5.{block_words, rounds, compress, hash_after, digest_bytes, md5}
 use Rattle.hex.specs.Hex.{encode_with}
-use Rattle.sip_state.specs.uri.Reading.{rest_of, reading_of}
-use Rattle.sip_state.specs.header.CoreFields.{core_in}
-use Rattle.sip_state.specs.nonces.NonceText.{nonce_text}
+use Rattle.sip_verdict.specs.uri.Reading.{rest_of, reading_of}
+use Rattle.sip_verdict.specs.header.CoreFields.{core_in}
+use Rattle.sip_verdict.specs.nonces.NonceText.{nonce_text}
 use Rattle.sip_model.proofs.registrations.registered_beside_others.Goals as goal
 
 pub returns-clause-alone : goal.returns-clause-alone

@@ -1,6 +1,7 @@
 //! Tests of the engine and of replays as calls: a worked example through the engine, the limits, many
 //! requests, and want of memory. Whole worked runs are stored as files, in `stored_runs`. Each test
-//! asserts predicates that own one value at most.
+//! asserts predicates that own one value at most. The program does nothing: the gate builds no library of
+//! a program, which above the engine would take it minutes.
 #![tactic(auto)]
 
 #[cfg(test)]
@@ -21,3 +22,5 @@ mod limits;
 mod memory;
 #[cfg(test)]
 mod replay;
+
+fn main(_rt: HostRuntime) {}

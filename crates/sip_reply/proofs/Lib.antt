@@ -1,0 +1,1 @@
+pub use Rattle.sip_edit.proofs as of_edit
