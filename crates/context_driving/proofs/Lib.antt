@@ -1,3 +1,0 @@
-pub mod AsKept
-pub mod Earlier
-pub mod OnTime
