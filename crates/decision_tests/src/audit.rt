@@ -1,8 +1,6 @@
-use sip_audit::{AuditError, Operation, Outcome, Record, line_of, read_line};
-use sip_text::Bytes;
-use sip_uri::Aor;
-use std::alloc::{AllocError, Global};
-use test_forms::{gives, gives_bytes, gives_text, refuses};
+use sip_audit::{AuditError, line_of, read_line};
+use std::alloc::Global;
+use test_forms::{gives, gives_bytes, gives_text};
 
 /// Lines of each operation and outcome, with and without a user, and of rules with and without a window.
 const LINES: &[&[u8]] = &[
@@ -28,6 +26,7 @@ fn is_kept(alloc: Global, line: &[u8]) -> bool {
     )
 }
 
+/// The server writes lines, and reads none.
 #[test]
 fn lines_are_kept(rt: HostRuntime) {
     for line in LINES {
@@ -35,6 +34,7 @@ fn lines_are_kept(rt: HostRuntime) {
     }
 }
 
+/// Lines of no record.
 const REFUSED: &[&[u8]] = &[
     b"",
     b" ",
@@ -76,8 +76,9 @@ const REFUSED: &[&[u8]] = &[
     b"1000 1 INVITE a a@host.com send -@480 challenge 407",
 ];
 
+/// Whether a line is the line of no record.
 fn is_refused(alloc: Global, line: &[u8]) -> bool {
-    refuses(read_line(alloc, line), |e| *e == AuditError::BadLine)
+    matches!(read_line(alloc, line), Err(AuditError::BadLine))
 }
 
 #[test]
@@ -86,89 +87,4 @@ fn bad_lines(rt: HostRuntime) {
         assert!(rt; is_refused(rt.alloc(), line), "{line:?}");
     }
     assert!(rt; gives_text(AuditError::BadLine.to_string(rt.alloc()), "no audit line"));
-}
-
-/// A record for a user, of a request that was sent on to two targets.
-fn record_for(alloc: Global, user: &[u8]) -> Result<Record, AllocError> {
-    let method = Bytes::copy(alloc, b"INVITE")?;
-    let user = Bytes::copy(alloc, user)?;
-    let host = Bytes::copy(alloc, b"host.com")?;
-    Ok(Record {
-        at: 5,
-        number: 6,
-        method,
-        who: None,
-        target: Aor { user, host },
-        operation: Operation::Send,
-        minute: None,
-        outcome: Outcome::Sent {
-            rule: 4,
-            targets: 2,
-        },
-    })
-}
-
-fn is_written(alloc: Global, user: &[u8], line: &[u8]) -> bool {
-    gives(
-        record_for(alloc, user),
-        |record| gives_bytes(line_of(alloc, record), line),
-    )
-}
-
-#[test]
-fn audit_target(rt: HostRuntime) {
-    let alloc = rt.alloc();
-    assert!(rt; is_written(alloc, b"a b", b"5 6 INVITE - a%20b@host.com send 4 sent 2"));
-    assert!(rt;
-        is_written(
-            alloc,
-            b"a-_.+1",
-            b"5 6 INVITE - a-_.+1@host.com send 4 sent 2"
-        )
-    );
-    assert!(rt;
-        is_written(
-            alloc,
-            b"%/\xAF",
-            b"5 6 INVITE - %25%2F%AF@host.com send 4 sent 2"
-        )
-    );
-}
-
-fn is_text(text: &Option<Bytes>, wanted: &[u8]) -> bool {
-    match text {
-        Some(text) => text.as_slice() == wanted,
-        None => false,
-    }
-}
-
-/// Whether a record is of Mufasa's REGISTER for a user with a blank.
-fn is_mufasas(record: &Record) -> bool {
-    record.at == 2000
-        && record.number == 3
-        && record.method.as_slice() == b"REGISTER".as_slice()
-        && is_text(&record.who, b"Mufasa")
-        && record.target.user.as_slice() == b"a b".as_slice()
-        && record.target.host.as_slice() == b"host.com".as_slice()
-}
-
-fn is_answered(record: &Record) -> bool {
-    record.operation == Operation::Register
-        && record.minute == Some(480)
-        && record.outcome
-            == Outcome::Answer {
-                rule: 1,
-                status: 200,
-            }
-}
-
-#[test]
-fn record_of_a_line(rt: HostRuntime) {
-    let line = b"2000 3 REGISTER Mufasa a%20b@host.com register 1@480 answer 200";
-    assert!(rt;
-        gives(
-            read_line(rt.alloc(), line),
-            |record| is_mufasas(record) && is_answered(record)
-        )
-    );
 }

@@ -1,6 +1,6 @@
-//! Tests of what is decided about a request: whom it proves to come from, where it goes, which of its
-//! answers goes up, and the line that is written of it. One module for each crate under test, as in
-//! `part_tests`: outside vectors, printed text, and each call that takes memory once with enough of it.
+//! Tests of what is decided about a request, where neither a worked example of the definitions (`examples` in each
+//! crate) nor a stored run says it: whom it proves to come from, which of its answers goes up, and the line that is
+//! written of it, read back. One module for each crate under test, as in `part_tests`.
 #![tactic(auto)]
 
 #[cfg(test)]
@@ -9,5 +9,3 @@ mod audit;
 mod auth;
 #[cfg(test)]
 mod best;
-#[cfg(test)]
-mod targets;

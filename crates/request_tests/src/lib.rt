@@ -1,6 +1,6 @@
-//! Tests of what a server makes of one request: its way, its checks, the request as it goes on, the server's own
-//! requests and answers, and timers. One module for each crate under test, as in `part_tests`: outside vectors,
-//! printed text, and each call that takes memory once with enough of it.
+//! Tests of what a server makes of one request, where neither a worked example of the definitions (`examples` in each
+//! crate) nor a stored run says it: reason phrases, and calls that nothing else makes. One module for each crate under
+//! test, as in `part_tests`.
 #![tactic(auto)]
 
 #[cfg(test)]
@@ -8,12 +8,4 @@ mod edit;
 #[cfg(test)]
 mod onward;
 #[cfg(test)]
-mod own_requests;
-#[cfg(test)]
 mod reply;
-#[cfg(test)]
-mod timers;
-#[cfg(test)]
-mod validate;
-#[cfg(test)]
-mod way;
