@@ -1,6 +1,6 @@
-use sip_message::{FieldName, Message, read, write, written_length};
-use std::alloc::{AllocError, Global};
-use test_forms::{gives, gives_bytes, refuses};
+use sip_message::{FieldName, Message, View, read, view, write, written_length};
+use std::alloc::Global;
+use test_forms::{gives, gives_bytes};
 
 const COMPACT_AND_FOLDED: &[u8] =
     b"\r\n\r\nOPTIONS sip:a@host.com sip/2.0\r\nv : SIP/2.0/UDP a;branch=1 , \tSIP/2.0/UDP b\r\nSubject: I know\r\n  you\r\nX-Note: one \r\n \r\n\ttwo\r\nl: 2\r\n\r\nabcd";
@@ -8,39 +8,59 @@ const COMPACT_AND_FOLDED: &[u8] =
 const WRITTEN: &[u8] =
     b"OPTIONS sip:a@host.com SIP/2.0\r\nVia: SIP/2.0/UDP a;branch=1\r\nVia: SIP/2.0/UDP b\r\nSubject: I know you\r\nX-Note: one two\r\nContent-Length: 2\r\n\r\nab";
 
-/// Whether a message has the four fields of these texts, two of them a Via.
-fn has_fields(alloc: Global, message: &Message) -> bool {
-    message.fields.as_slice().len() == 4
+/// Whether a message is the one of these texts: four fields, two of them a Via.
+fn is_message(alloc: Global, message: &Message) -> bool {
+    gives_bytes(write(alloc, message), WRITTEN)
+        && written_length(message) == WRITTEN.len()
+        && gives(message.fields.clone(), |copy| copy.as_slice().len() == 4)
         && gives(
             message.fields.values(alloc, &FieldName::Via),
             |vias| vias.len() == 2,
         )
-        && gives(message.fields.clone(), |copy| copy.as_slice().len() == 4)
 }
 
-fn is_written(alloc: Global, message: &Message) -> bool {
-    gives_bytes(write(alloc, message), WRITTEN) && written_length(message) == WRITTEN.len()
+/// Whether a view is of that message.
+fn is_seen(alloc: Global, view: &View<'_>) -> bool {
+    gives(view.to_message(alloc), |message| is_message(alloc, message))
 }
 
 #[test]
-fn read_and_written(rt: HostRuntime) {
+fn read_seen_and_written(rt: HostRuntime) {
     let alloc = rt.alloc();
-    assert!(rt;
-        gives(
-            read(alloc, COMPACT_AND_FOLDED),
-            |message| has_fields(alloc, message)
-        )
-    );
-    assert!(rt;
-        gives(
-            read(alloc, COMPACT_AND_FOLDED),
-            |message| is_written(alloc, message)
-        )
-    );
-    assert!(rt; gives(read(alloc, WRITTEN), |message| is_written(alloc, message)));
+    for text in [COMPACT_AND_FOLDED, WRITTEN] {
+        assert!(rt;
+            gives(
+                read(alloc, text),
+                |message| gives(message.view(alloc), |view| is_seen(alloc, view))
+            ),
+            "{text:?}"
+        );
+    }
 }
 
-const REFUSED: &[(&[u8], u8)] = &[
+/// Whether the first value of a name is a part of what was read.
+fn is_part(view: &View<'_>, name: &FieldName) -> bool {
+    match view.fields().first_field(name) {
+        Some(field) => field.value().as_part().is_some(),
+        None => false,
+    }
+}
+
+/// No byte of a value is copied, but of one with a fold.
+#[test]
+fn parts_of_the_datagram(rt: HostRuntime) {
+    assert!(rt;
+        gives(
+            view(rt.alloc(), COMPACT_AND_FOLDED),
+            |view| is_part(view, &FieldName::Via) && !is_part(view, &FieldName::Subject)
+        )
+    );
+}
+
+/// Texts, and the numbers of their refusals, 0 where they are read.
+const TEXTS: &[(&[u8], u8)] = &[
+    (b"OPTIONS sip:a SIP/7.10\r\n\r\n", 0),
+    (b"SIP/2.0 200 \r\n\r\n", 0),
     // an empty line is missing: NotSip comes before the bad field
     (b"OPTIONS sip:a SIP/2.0\r\nbad\r\n", 2),
     (b"OPTIONS sip:a SIP/2.0\r\nbad\r\n\r\n", 3),
@@ -59,75 +79,17 @@ const REFUSED: &[(&[u8], u8)] = &[
     (b"OPTIONS sip:a SIP/2.0\r\nl: 3\r\n\r\nab", 4),
 ];
 
-/// Whether a text is refused with this number.
-fn is_refused(alloc: Global, text: &[u8], number: u8) -> bool {
-    refuses(read(alloc, text), |e| e.number() == number)
-}
-
-fn is_taken(alloc: Global, text: &[u8]) -> bool {
-    gives(read(alloc, text), |_| true)
-}
-
-#[test]
-fn refusals_in_order(rt: HostRuntime) {
-    for (text, number) in REFUSED {
-        assert!(rt; is_refused(rt.alloc(), text, *number), "{text:?}");
+/// The number of a text's refusal, 0 where it is read.
+fn refusal_of(alloc: Global, text: &[u8]) -> u8 {
+    match read(alloc, text) {
+        Ok(_) => 0,
+        Err(e) => e.number(),
     }
 }
 
 #[test]
-fn taken(rt: HostRuntime) {
-    assert!(rt; is_taken(rt.alloc(), b"OPTIONS sip:a SIP/7.10\r\n\r\n"));
-    assert!(rt; is_taken(rt.alloc(), b"SIP/2.0 200 \r\n\r\n"));
-}
-
-/// A text, and another so many times.
-fn repeated(alloc: Global, front: &[u8], part: &[u8], count: u32) -> Result<Vec<u8>, AllocError> {
-    let mut text = Vec::from_slice(alloc, front)?;
-    for _ in 0..count {
-        text.extend_from_slice(part)?;
+fn refusals(rt: HostRuntime) {
+    for (text, number) in TEXTS {
+        assert!(rt; refusal_of(rt.alloc(), text) == *number, "{text:?}");
     }
-    Ok(text)
-}
-
-/// A message with so many fields.
-fn with_fields(alloc: Global, count: u32) -> Result<Vec<u8>, AllocError> {
-    let mut text = repeated(alloc, b"OPTIONS sip:a SIP/2.0\r\n", b"X: y\r\n", count)?;
-    text.extend_from_slice(b"\r\n")?;
-    Ok(text)
-}
-
-/// A message whose body has so many bytes.
-fn with_body(alloc: Global, length: u32) -> Result<Vec<u8>, AllocError> {
-    repeated(alloc, b"OPTIONS sip:a SIP/2.0\r\n\r\n", b"a", length)
-}
-
-/// The start line, `Content-Length: 49104` and their ends of line are 48 bytes.
-#[test]
-fn limits(rt: HostRuntime) {
-    let alloc = rt.alloc();
-    assert!(rt;
-        gives(
-            with_fields(alloc, 256),
-            |text| is_taken(alloc, text.as_slice())
-        )
-    );
-    assert!(rt;
-        gives(
-            with_fields(alloc, 257),
-            |text| is_refused(alloc, text.as_slice(), 6)
-        )
-    );
-    assert!(rt;
-        gives(
-            with_body(alloc, 49_104),
-            |text| is_taken(alloc, text.as_slice())
-        )
-    );
-    assert!(rt;
-        gives(
-            with_body(alloc, 49_105),
-            |text| is_refused(alloc, text.as_slice(), 5)
-        )
-    );
 }
