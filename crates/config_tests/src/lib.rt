@@ -1,10 +1,9 @@
-//! Tests of the configuration: its reader, and the users, rules and windows that it states. As in `part_tests`:
-//! printed text, and each call that takes memory once with enough of it.
+//! Tests of the configuration: that the examples are read, bad values that no worked example of `sip_config` has, and
+//! printed text. What the sample states, the other refusals, rules, users and windows are examples that the
+//! definitions of `sip_config` and `sip_policy` compute, and stored runs.
 #![tactic(auto)]
 
 #[cfg(test)]
 mod config;
 #[cfg(test)]
 mod config_texts;
-#[cfg(test)]
-mod policy;

@@ -1,4 +1,4 @@
-//! The datagrams of the worked examples, what they are answered, and a script of them with its print.
+//! The datagrams of the stored run `registered`, and its script with its print.
 
 /// A REGISTER without credentials.
 pub const REGISTER: &[u8] = b"\
@@ -25,45 +25,6 @@ Call-ID: c1@127.0.0.1\r\n\
 CSeq: 2 REGISTER\r\n\
 Contact: <sip:Mufasa@127.0.0.1:5062>\r\n\
 Authorization: Digest username=\"Mufasa\", realm=\"testrealm@host.com\", nonce=\"00000000000000000000000000000001\", uri=\"sip:host.com\", response=\"bd9454039b0b6bed147dae94f4738ec0\", qop=auth, nc=00000001, cnonce=\"0a4f113b\"\r\n\
-Content-Length: 0\r\n\
-\r\n\
-";
-
-/// What the first is answered.
-pub const CHALLENGE: &[u8] = b"\
-SIP/2.0 401 Unauthorized\r\n\
-Via: SIP/2.0/UDP 127.0.0.1:5062;branch=z9hG4bKreg1\r\n\
-From: <sip:Mufasa@host.com>;tag=a1\r\n\
-To: <sip:Mufasa@host.com>;tag=0000000000000000.1\r\n\
-Call-ID: c1@127.0.0.1\r\n\
-CSeq: 1 REGISTER\r\n\
-WWW-Authenticate: Digest realm=\"testrealm@host.com\", nonce=\"00000000000000000000000000000001\", algorithm=MD5, qop=\"auth\"\r\n\
-Content-Length: 0\r\n\
-\r\n\
-";
-
-/// What the second is answered.
-pub const LISTED: &[u8] = b"\
-SIP/2.0 200 OK\r\n\
-Via: SIP/2.0/UDP 127.0.0.1:5062;branch=z9hG4bKreg2\r\n\
-From: <sip:Mufasa@host.com>;tag=a1\r\n\
-To: <sip:Mufasa@host.com>;tag=0000000000000000.2\r\n\
-Call-ID: c1@127.0.0.1\r\n\
-CSeq: 2 REGISTER\r\n\
-Contact: <sip:Mufasa@127.0.0.1:5062>;expires=3600\r\n\
-Content-Length: 0\r\n\
-\r\n\
-";
-
-/// What the second is answered once its transaction has ended.
-pub const STALE_CHALLENGE: &[u8] = b"\
-SIP/2.0 401 Unauthorized\r\n\
-Via: SIP/2.0/UDP 127.0.0.1:5062;branch=z9hG4bKreg2\r\n\
-From: <sip:Mufasa@host.com>;tag=a1\r\n\
-To: <sip:Mufasa@host.com>;tag=0000000000000000.4\r\n\
-Call-ID: c1@127.0.0.1\r\n\
-CSeq: 2 REGISTER\r\n\
-WWW-Authenticate: Digest realm=\"testrealm@host.com\", nonce=\"00000000000000000000000000000004\", algorithm=MD5, qop=\"auth\", stale=true\r\n\
 Content-Length: 0\r\n\
 \r\n\
 ";

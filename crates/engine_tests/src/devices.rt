@@ -1,25 +1,23 @@
 //! A reader and a writer that fail once, at a given call.
 
-use std::alloc::Global;
 use std::io;
 use std::io::{ErrorKind, Read, Write};
 
 /// A script, given in parts of at most 16 bytes. The call with this number, from 0, fails.
 #[derive(Drop)]
 pub struct FailingReader<'a> {
-    script: &'a [u8],
-    fails: Option<u32>,
-    kind: ErrorKind,
+    pub script: &'a [u8],
+    pub fails: Option<u32>,
+    pub kind: ErrorKind,
 }
 
-impl<'a> FailingReader<'a> {
-    pub fn new(script: &'a [u8], fails: Option<u32>, kind: ErrorKind) -> Self {
-        FailingReader {
-            script,
-            fails,
-            kind,
-        }
-    }
+/// What was written, in parts of at most 5 bytes. The write with this number, from 0, fails, or the flush.
+#[derive(Drop)]
+pub struct FailingWriter {
+    pub text: Vec<u8>,
+    pub write_fails: Option<u32>,
+    pub flush_fails: Option<u32>,
+    pub kind: ErrorKind,
 }
 
 /// Whether a call is the one that fails, and what is left to count then.
@@ -40,36 +38,6 @@ impl Read for FailingReader<'_> {
         }
         let most = buffer.len().min(16);
         self.script.read(&mut buffer[..most])
-    }
-}
-
-/// What was written, in parts of at most 5 bytes. The write with this number, from 0, fails, or the flush.
-#[derive(Drop)]
-pub struct FailingWriter {
-    text: Vec<u8>,
-    write_fails: Option<u32>,
-    flush_fails: Option<u32>,
-    kind: ErrorKind,
-}
-
-impl FailingWriter {
-    pub fn new(
-        alloc: Global,
-        write_fails: Option<u32>,
-        flush_fails: Option<u32>,
-        kind: ErrorKind,
-    ) -> Self {
-        FailingWriter {
-            text: Vec::new(alloc),
-            write_fails,
-            flush_fails,
-            kind,
-        }
-    }
-
-    /// What was written.
-    pub fn text(&self) -> &[u8] {
-        self.text.as_slice()
     }
 }
 

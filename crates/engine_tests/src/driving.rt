@@ -3,7 +3,7 @@
 ghost use Rattle.std.specs.Prelude.{◌≡◌, false};
 ghost use Rattle.sip_model.specs.Step.{NoneBy, NoneAgainBy, moment_of};
 
-use sip_event::{Boot, StepOut};
+use sip_event::Boot;
 use sip_host::Addr;
 use sip_loop::engine::{Engine, StepError};
 use sip_loop::{ReplayError, replay};
@@ -39,29 +39,26 @@ fn is_due(engine: &Engine<ListTimers, ListRules>, at: u64) -> bool
     }
 }
 
-/// Takes a datagram, where nothing is due by its moment.
+/// Delivers a datagram, where nothing is due by its moment. Answers how long the packet is that goes out for it; 0,
+/// where there is none, or more than one.
 pub fn hear(
     engine: &mut Engine<ListTimers, ListRules>,
     at: u64,
     word: u128,
     bytes: &[u8],
-) -> Result<StepOut, StepError> {
+) -> Result<usize, StepError> {
     if is_due(engine, at) {
         return Err(StepError::MomentTooLarge);
     }
-    engine.deliver(at, word, PHONE, bytes)
-}
-
-/// Whether the first timer that is due by a moment fires, at its own.
-pub fn is_fired_at(engine: &mut Engine<ListTimers, ListRules>, at: u64, wanted: u64) -> bool {
-    match engine.fire(at) {
-        Ok(out) => out.at == wanted,
-        Err(_) => false,
+    let out = engine.deliver(at, word, PHONE, bytes)?;
+    match out.packets.as_slice() {
+        [packet] => Ok(packet.bytes.as_slice().len()),
+        _ => Ok(0),
     }
 }
 
 /// Replays what a reader gives with the sample configuration.
-pub fn replayed_between<I: Read, W: Write>(
+pub fn replayed<I: Read, W: Write>(
     alloc: Global,
     reader: &mut I,
     writer: &mut W,
@@ -70,10 +67,4 @@ pub fn replayed_between<I: Read, W: Write>(
         return Err(ReplayError::NoMemory);
     };
     replay::<ListTimers, ListRules, I, W>(alloc, config, reader, writer)
-}
-
-/// Replays a script with the sample configuration, and adds what is printed.
-pub fn replayed(alloc: Global, script: &[u8], print: &mut Vec<u8>) -> Result<(), ReplayError> {
-    let mut reader = script;
-    replayed_between(alloc, &mut reader, print)
 }

@@ -1,5 +1,4 @@
-use crate::checks::{gives_doing, refuses};
-use crate::driving::{PHONE, hear, is_fired_at, opened};
+use crate::driving::{PHONE, hear, opened};
 use sip_event::Ticket;
 use sip_loop::engine::{Engine, StepError};
 use sip_policy::ListRules;
@@ -14,29 +13,28 @@ const TICKET: Ticket = Ticket {
 
 /// Whether each step at a moment of 2^62 is refused, and nothing changes.
 fn is_too_late(engine: &mut Engine<ListTimers, ListRules>) -> bool {
-    let late = StepError::MomentTooLarge;
-    refuses(engine.deliver(TOO_LARGE, 1, PHONE, b""), late)
-        && refuses(engine.fire(TOO_LARGE), late)
-        && refuses(engine.fault(TOO_LARGE, TICKET), late)
+    let late = Some(StepError::MomentTooLarge);
+    engine.deliver(TOO_LARGE, 1, PHONE, b"").err() == late
+        && engine.fire(TOO_LARGE).err() == late
+        && engine.fault(TOO_LARGE, TICKET).err() == late
         && engine.moment() == 0
 }
 
-/// Whether an engine refuses datagrams as worn out, and time passes still.
-fn is_worn(engine: &mut Engine<ListTimers, ListRules>) -> bool {
-    refuses(hear(engine, 0, 1, b""), StepError::Worn)
-        && is_fired_at(engine, 7, 7)
-        && refuses(hear(engine, 7, 1, b""), StepError::Worn)
-}
-
-/// Whether an engine takes the last datagram that has a number, and no more.
+/// Whether an engine takes the last datagram that has a number and refuses more as worn out, and time passes still.
 fn is_worn_soon(engine: &mut Engine<ListTimers, ListRules>) -> bool {
-    hear(engine, 0, 1, b"").is_ok() && refuses(hear(engine, 0, 1, b""), StepError::Worn)
+    hear(engine, 0, 1, b"") == Ok(0)
+        && hear(engine, 0, 1, b"") == Err(StepError::Worn)
+        && engine.fire(7).err().is_none()
+        && engine.moment() == 7
+        && hear(engine, 7, 1, b"") == Err(StepError::Worn)
 }
 
 /// A moment of 2^62, and a number of a datagram of 2^62.
 #[test]
 fn time_and_number_limits(rt: HostRuntime) {
-    assert!(rt; gives_doing(opened(rt.alloc(), 1), is_too_late));
-    assert!(rt; gives_doing(opened(rt.alloc(), TOO_LARGE), is_worn));
-    assert!(rt; gives_doing(opened(rt.alloc(), TOO_LARGE - 1), is_worn_soon));
+    let is_limited = match opened(rt.alloc(), TOO_LARGE - 1) {
+        Ok(mut engine) => is_too_late(&mut engine) && is_worn_soon(&mut engine),
+        Err(_) => false,
+    };
+    assert!(rt; is_limited);
 }

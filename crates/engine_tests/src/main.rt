@@ -1,11 +1,9 @@
-//! Tests of the engine and of replays as calls: a worked example through the engine, the limits, many
-//! requests, and want of memory. Whole worked runs are stored as files, in `stored_runs`. Each test
-//! asserts predicates that own one value at most. The program does nothing: the gate builds no library of
-//! a program, which above the engine would take it minutes.
+//! Tests of the engine and of replays as calls: the bindings, the limits, faults of devices, many requests, and want
+//! of memory. Whole worked runs are stored as files, in `stored_runs`. Each test asserts predicates that own
+//! one value at most. The program does nothing: the gate builds no library of a program, which above the
+//! engine would take it minutes.
 #![tactic(auto)]
 
-#[cfg(test)]
-mod checks;
 #[cfg(test)]
 mod datagrams;
 #[cfg(test)]

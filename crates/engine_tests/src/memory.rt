@@ -1,46 +1,23 @@
-use crate::datagrams::{REGISTER, REGISTERED_PRINT, REGISTERED_SCRIPT};
-use crate::driving::{hear, opened, replayed};
-use sip_event::StepOut;
+use crate::datagrams::REGISTER;
+use crate::driving::{hear, opened};
+use crate::faults::ends;
 use sip_loop::ReplayError;
 use sip_loop::engine::{Engine, StepError};
 use sip_policy::ListRules;
 use sip_timers::ListTimers;
-use std::alloc::Global;
+use std::io::ErrorKind;
 
-/// Whether one packet goes out, as long as the challenge, and one record.
-fn is_challenge(out: &StepOut) -> bool {
-    match out.packets.as_slice() {
-        [packet] => packet.bytes.as_slice().len() == 348 && out.records.as_slice().len() == 1,
-        _ => false,
-    }
-}
-
-/// Whether a REGISTER is challenged; None where it is refused for want of memory.
-fn is_challenged(engine: &mut Engine<ListTimers, ListRules>) -> Option<bool> {
-    match hear(engine, 1_000, 1, REGISTER) {
-        Ok(out) => Some(is_challenge(&out)),
-        Err(StepError::NoMemory) => None,
-        Err(_) => Some(false),
-    }
-}
-
-/// Whether it is challenged, or is refused for want of memory, changes nothing, and is challenged when
-/// it comes again.
+/// Whether a REGISTER is challenged, or is refused for want of memory, changes nothing, and is challenged
+/// when it comes again.
 fn is_challenged_in_the_end(engine: &mut Engine<ListTimers, ListRules>) -> bool {
-    if let Some(right) = is_challenged(engine) {
-        return right;
-    }
-    if engine.moment() != 0 || engine.next_due().is_some() {
-        return false;
-    }
-    is_challenged(engine) == Some(true)
-}
-
-/// Whether an engine can't be had for want of memory, or does so.
-fn is_refused_or_challenged(alloc: Global) -> bool {
-    match opened(alloc, 1) {
-        Ok(mut engine) => is_challenged_in_the_end(&mut engine),
-        Err(_) => true,
+    match hear(engine, 1_000, 1, REGISTER) {
+        Ok(length) => length == 348,
+        Err(StepError::NoMemory) => {
+            engine.moment() == 0
+                && engine.next_due().is_none()
+                && hear(engine, 1_000, 1, REGISTER) == Ok(348)
+        }
+        Err(_) => false,
     }
 }
 
@@ -48,23 +25,18 @@ fn is_refused_or_challenged(alloc: Global) -> bool {
 /// gives NoMemory, and the engine is as it was.
 #[test]
 fn refused_inside_deliver(rt: HostRuntime) {
-    assert!(rt; is_refused_or_challenged(rt.alloc()));
-}
-
-/// Whether an answer of a replay of both datagrams fits its print: all, or with NoMemory a part. A
-/// writer over memory answers want of memory as a fault of its own.
-fn fits(answer: Result<(), ReplayError>, print: &[u8]) -> bool {
-    match answer {
-        Ok(()) => print == REGISTERED_PRINT,
-        Err(ReplayError::NoMemory) => REGISTERED_PRINT.starts_with(print),
-        Err(e) => e == ReplayError::Write,
+    if let Ok(mut engine) = opened(rt.alloc(), 1) {
+        assert!(rt; is_challenged_in_the_end(&mut engine));
     }
 }
 
-/// The same of a whole replay with both answers: it ends with NoMemory, or prints all.
+/// The same of a whole replay of both datagrams: it prints all, or ends with NoMemory and has printed a part. A writer
+/// over memory answers want of memory as a fault of its own.
 #[test]
 fn refused_inside_replay(rt: HostRuntime) {
-    let mut print = Vec::new(rt.alloc());
-    let answer = replayed(rt.alloc(), REGISTERED_SCRIPT, &mut print);
-    assert!(rt; fits(answer, print.as_slice()));
+    let (answer, is_front, is_whole) = ends(rt.alloc(), None, None, None, ErrorKind::Other);
+    match answer {
+        Ok(()) => assert!(rt; is_whole),
+        Err(e) => assert!(rt; is_front && (e == ReplayError::NoMemory || e == ReplayError::Write)),
+    }
 }
