@@ -32,16 +32,6 @@ pub fn says_nothing<T: Drop, E: Drop>(said: Result<Option<T>, E>) -> bool {
     matches!(said, Ok(None))
 }
 
-/// Whether a value is refused, for the right reason.
-pub fn refuses<T: Drop, E: Drop, F: FnOnce(&E) -> bool>(given: Result<T, E>, is_right: F) -> bool
-    requires { F.IsAlwaysCallable is_right }
-{
-    match given {
-        Ok(_) => false,
-        Err(e) => is_right(&e),
-    }
-}
-
 /// Whether these bytes are given.
 pub fn gives_bytes<E: Drop>(given: Result<Bytes, E>, wanted: &[u8]) -> bool {
     match given {
