@@ -1,14 +1,7 @@
-//! The program's command line: what its words ask for, what it reads and prints, what it complains about, and its
-//! exit status.
+//! The program's command line carried out: a configuration checked, or a script replayed with one.
 #![tactic(auto)]
 
-mod call;
-mod exit;
-mod files;
 mod program;
-mod summary;
 
-pub use call::{Call, Parsed, parse};
-pub use exit::Exit;
 pub use program::command;
-pub use summary::summary_of;
+pub use sip_arguments::{Call, Exit, Parsed, parse, summary_of};

@@ -1,10 +1,8 @@
-ghost use Rattle.std.specs.Prelude.{◌≤◌};
+ghost use Rattle.std.specs.Prelude.{◌≡◌, ◌≤◌};
+ghost use Rattle.sip_command.specs.Exits;
 
-use crate::call::{Call, Parsed, parse};
-use crate::exit::Exit;
-use crate::files::config_of;
-use crate::summary::summary_of;
-use sip_loop::replay;
+use sip_arguments::{Call, Exit, Parsed, config_of, parse, summary_of};
+use sip_loop::{ReplayError, replay};
 use sip_policy::ListRules;
 use sip_text::Bytes;
 use sip_timers::ListTimers;
@@ -33,6 +31,17 @@ fn check_file<R: Files + AllocGlobal, W: Write>(
     print(summary.as_slice(), output)
 }
 
+/// How the program ends where a replay is refused.
+fn exit_of_replay(e: ReplayError) -> Exit
+    ensures { result ≡ Exits.exit_of_replay e }
+{
+    match e {
+        ReplayError::NoMemory => Exit::Memory,
+        ReplayError::Script(line) => Exit::Script(line),
+        ReplayError::Read | ReplayError::Write => Exit::Device,
+    }
+}
+
 /// Replays the script of the input with the configuration of a file, or the sample.
 fn replay_script<R: Files + AllocGlobal, I: Read, W: Write>(
     rt: &R,
@@ -41,8 +50,10 @@ fn replay_script<R: Files + AllocGlobal, I: Read, W: Write>(
     output: &mut W,
 ) -> Result<(), Exit> {
     let config = config_of(rt, path)?;
-    replay::<ListTimers, ListRules, I, W>(rt.alloc(), config, input, output)?;
-    Ok(())
+    match replay::<ListTimers, ListRules, I, W>(rt.alloc(), config, input, output) {
+        Ok(()) => Ok(()),
+        Err(e) => Err(exit_of_replay(e)),
+    }
 }
 
 fn carry_out<R: Files + AllocGlobal, I: Read, W: Write>(

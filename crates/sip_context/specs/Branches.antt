@@ -7,7 +7,7 @@ use Rattle.sip_state.specs.form.declared.message.Message.{Message}
 use Rattle.sip_state.specs.form.Text.{text_of}
 use Rattle.sip_state.specs.field.declared.field_name.FieldName.TheVariants as Name
 use Rattle.sip_state.specs.field.Values.{first_value}
-use Rattle.sip_reply.specs.edit.OwnVia.{without_top_via}
+use Rattle.sip_edit.specs.OwnVia.{without_top_via}
 use Rattle.sip_state.specs.best.declared.final_answer.Final.{Final}
 use Rattle.sip_state.specs.best.Best.{best_of}
 use Rattle.sip_event.specs.declared.packet.Packet.{Packet}

@@ -5,8 +5,8 @@ use Rattle.sip_state.specs.field.declared.field_name.FieldName.TheVariants as Na
 use Rattle.sip_state.specs.form.declared.message.Start.TheVariants.{Status}
 use Rattle.sip_state.specs.form.declared.message.Message.{Message}
 use Rattle.sip_state.specs.hops.Examples.{local}
-use Rattle.sip_reply.specs.edit.OwnVia.{branch_text}
-use Rattle.sip_reply.specs.edit.OnwardExamples as Onward
+use Rattle.sip_edit.specs.OwnVia.{branch_text}
+use Rattle.sip_edit.specs.OnwardExamples as Onward
 use Rattle.sip_state.specs.settings.Sample as Settings
 use Rattle.sip_event.specs.declared.packet.Packet.{Packet}
 use Rattle.sip_state.specs.declared.server.Server.{Server}

@@ -19,7 +19,7 @@ pub use Rattle.sip_state.specs.header
 pub use Rattle.sip_state.specs.dialog
 pub use Rattle.sip_state.specs.key
 pub use Rattle.sip_state.specs.location
-pub use Rattle.sip_reply.specs.edit
+pub use Rattle.sip_edit.specs as edit
 pub use Rattle.sip_state.specs.settings
 pub use Rattle.sip_targets.specs as targets
 pub use Rattle.sip_reply.specs as reply

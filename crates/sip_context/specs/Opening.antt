@@ -7,7 +7,7 @@ use Rattle.sip_state.specs.uri.Uri as UriText
 use Rattle.sip_state.specs.form.declared.message.Message.{Message}
 use Rattle.sip_state.specs.key.declared.key.Key.{Key}
 use Rattle.sip_state.specs.key.Key.{key_of}
-use Rattle.sip_reply.specs.edit.Onward.{onward_uri}
+use Rattle.sip_edit.specs.Onward.{onward_uri}
 use Rattle.sip_targets.specs.declared.target.Target.{Target}
 use Rattle.sip_state.specs.best.declared.final_answer.Final.{Final}
 use Rattle.sip_state.specs.declared.server.Server.{Server}

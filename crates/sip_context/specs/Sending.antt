@@ -5,10 +5,10 @@ use Rattle.sip_state.specs.field.declared.field.Field.{Field}
 use Rattle.sip_state.specs.form.declared.message.Message.{Message}
 use Rattle.sip_state.specs.form.Text.{text_of}
 use Rattle.sip_state.specs.host.declared.addr.Addr.{Addr}
-use Rattle.sip_reply.specs.edit.OwnVia.{branch_text}
-use Rattle.sip_reply.specs.edit.Onward.{onward_of, with_record_route}
-use Rattle.sip_reply.specs.edit.OwnRequests.{ack_with, cancel_of}
-use Rattle.sip_reply.specs.edit.ReceivedRequest.{received, response_address}
+use Rattle.sip_edit.specs.OwnVia.{branch_text}
+use Rattle.sip_edit.specs.Onward.{onward_of, with_record_route}
+use Rattle.sip_edit.specs.OwnRequests.{ack_with, cancel_of}
+use Rattle.sip_edit.specs.ReceivedRequest.{received, response_address}
 use Rattle.sip_reply.specs.Reply.{reply_of}
 use Rattle.sip_reply.specs.Tags.{to_tag}
 use Rattle.sip_event.specs.declared.packet.Packet.{Packet}

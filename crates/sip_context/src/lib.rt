@@ -78,7 +78,7 @@ pub mod location {
 
 /// Of `sip_edit`.
 pub mod edit {
-    pub use sip_reply::edit::{
+    pub use sip_edit::{
         ack_with, branch_of_text, branch_text, cancel_of, own_via_value, pop_via, received_via,
         response_address, with_top_via,
     };

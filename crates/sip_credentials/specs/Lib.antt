@@ -1,4 +1,5 @@
 pub mod Credentials
+pub mod FirstField
 pub use Rattle.sip_header.specs.field
 pub use Rattle.sip_header.specs.host
 pub use Rattle.sip_header.specs.uri

@@ -1,4 +1,3 @@
-pub mod FirstField
 pub mod TopVia
 pub mod ReceivedRequest
 pub mod Examples

@@ -10,7 +10,7 @@ use Rattle.sip_credentials.specs.header.declared.cseq.CSeq.{CSeq}
 use Rattle.sip_credentials.specs.header.CSeq.{cseq_of}
 use Rattle.sip_credentials.specs.field.Values.{first_value}
 use Rattle.sip_way.specs.Way.{request_uri}
-use Rattle.sip_edit.specs.FirstField.{first_of}
+use Rattle.sip_credentials.specs.FirstField.{first_of}
 use Rattle.sip_edit.specs.Onward.{seventy}
 
 -- a CSeq with the number of another

@@ -6,7 +6,7 @@ ghost use Rattle.sip_credentials.specs.field.Values.{first_value};
 ghost use Rattle.sip_credentials.specs.form.ViewStart.{start_seen};
 ghost use Rattle.sip_credentials.specs.header.CSeq as CSeqs;
 ghost use Rattle.sip_way.specs.Way as Ways;
-ghost use Rattle.sip_edit.specs.FirstField.{first_of};
+ghost use Rattle.sip_credentials.specs.FirstField.{first_of};
 ghost use Rattle.sip_edit.specs.Onward.{seventy};
 ghost use Rattle.sip_edit.specs.OwnRequests;
 

@@ -1,1 +1,0 @@
-pub use Rattle.sip_edit.proofs as of_edit

@@ -1,7 +1,7 @@
 -- Challenges (RFC 2617 3.2.1; RFC 8760 2.3).
 use Rattle.std.specs.Prelude.{ℕ, Bool, true, false, List, [], ◌∷◌, ◌++◌, map, codes, if◌then◌else◌}
-use Rattle.sip_edit.specs.field.declared.field_name.FieldName.{FieldName}
-use Rattle.sip_edit.specs.field.declared.field.Field.{Field}
+use Rattle.sip_credentials.specs.field.declared.field_name.FieldName.{FieldName}
+use Rattle.sip_credentials.specs.field.declared.field.Field.{Field}
 use Rattle.sip_digest.specs.declared.algorithm.Algorithm.{Algorithm}
 use Rattle.sip_digest.specs.declared.algorithm.Algorithm.TheVariants.{Md5, Sha256}
 use Rattle.sip_digest.specs.Algorithm.{name_of}

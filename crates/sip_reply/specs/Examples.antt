@@ -1,16 +1,14 @@
 -- Worked examples.
 use Rattle.std.specs.Prelude.{ℕ, Bool, List, [], ◌∷◌, ◌++◌, codes, false}
-use Rattle.sip_edit.specs.field.declared.field_name.FieldName.TheVariants as Name
-use Rattle.sip_edit.specs.field.declared.field.Field.{Field}
-use Rattle.sip_edit.specs.form.declared.message.Start.TheVariants.{Request}
-use Rattle.sip_edit.specs.form.declared.message.Message.{Message}
-use Rattle.sip_edit.specs.Examples.{client}
-use Rattle.sip_edit.specs.ReceivedRequest.{received}
+use Rattle.sip_credentials.specs.field.declared.field_name.FieldName.TheVariants as Name
+use Rattle.sip_credentials.specs.field.declared.field.Field.{Field}
+use Rattle.sip_credentials.specs.form.declared.message.Start.TheVariants.{Request}
+use Rattle.sip_credentials.specs.form.declared.message.Message.{Message}
 use Rattle.sip_reply.specs.Challenges.{challenge_fields}
 use Rattle.sip_reply.specs.Reply.{reply_of}
 use Rattle.sip_reply.specs.Tags.{to_tag}
 
--- a REGISTER from 127.0.0.1:5062
+-- a REGISTER from 127.0.0.1:5062, whose Via stays as it is where it is received (RFC 3261 18.2.1)
 abbrev pub register : Message
 register = record {
   start = Request (codes "REGISTER") (codes "sip:host.com") (codes "SIP/2.0");
@@ -47,7 +45,7 @@ first_challenge with_sha256 = challenge_fields Name.WwwAuthenticate with_sha256 
 
 -- the REGISTER challenged by the first datagram's answer
 abbrev pub challenged_by : List Field → Message
-challenged_by fields = reply_of (received register (record client { port = 5062 })) 401 (to_tag 0 1) fields
+challenged_by fields = reply_of register 401 (to_tag 0 1) fields
 
 -- the same by MD5 alone
 abbrev pub challenged : Message

@@ -1,8 +1,8 @@
 -- Fields that only some responses have.
 use Rattle.std.specs.Prelude.{ℕ, List, ◌++◌, decimal, codes}
-use Rattle.sip_edit.specs.field.declared.field_name.FieldName.TheVariants as Name
-use Rattle.sip_edit.specs.field.declared.field.Field.{Field}
-use Rattle.sip_edit.specs.way.declared.own.Own.{Own}
+use Rattle.sip_credentials.specs.field.declared.field_name.FieldName.TheVariants as Name
+use Rattle.sip_credentials.specs.field.declared.field.Field.{Field}
+use Rattle.sip_way.specs.declared.own.Own.{Own}
 
 -- the rule that a 403 is by (RFC 3261 20.43, in this project's profile)
 abbrev pub denial_warning : Own → ℕ → Field

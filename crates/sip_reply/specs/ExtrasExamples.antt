@@ -1,16 +1,14 @@
 -- Requests that are refused, for the worked examples.
 use Rattle.std.specs.Prelude.{ℕ, List, [], ◌∷◌, ◌++◌, codes}
-use Rattle.sip_edit.specs.field.declared.field_name.FieldName.TheVariants as Name
-use Rattle.sip_edit.specs.field.declared.field.Field.{Field}
-use Rattle.sip_edit.specs.form.declared.message.Start.TheVariants.{Request}
-use Rattle.sip_edit.specs.form.declared.message.Message.{Message}
-use Rattle.sip_edit.specs.form.Text.{text_of}
-use Rattle.sip_edit.specs.Examples.{client}
-use Rattle.sip_edit.specs.ReceivedRequest.{received}
+use Rattle.sip_credentials.specs.field.declared.field_name.FieldName.TheVariants as Name
+use Rattle.sip_credentials.specs.field.declared.field.Field.{Field}
+use Rattle.sip_credentials.specs.form.declared.message.Start.TheVariants.{Request}
+use Rattle.sip_credentials.specs.form.declared.message.Message.{Message}
+use Rattle.sip_credentials.specs.form.Text.{text_of}
 use Rattle.sip_reply.specs.Reply.{reply_of}
 use Rattle.sip_reply.specs.Tags.{to_tag}
 
--- an INVITE, with a branch, To and Call-ID of its own
+-- an INVITE as it was received from 127.0.0.1:5070 (RFC 3261 18.2.1, RFC 3581 4), with a branch, To and Call-ID of its own
 abbrev pub invite_of : List ℕ → List ℕ → List ℕ → List ℕ → Message
 invite_of via to call_id cseq = record {
   start = Request (codes "INVITE") (codes "sip:help@host.com") (codes "SIP/2.0");
@@ -26,7 +24,7 @@ invite_of via to call_id cseq = record {
 }
 
 abbrev pub first_via : List ℕ
-first_via = codes "SIP/2.0/UDP pc.host.com:5070;branch=z9hG4bKinv1;rport"
+first_via = codes "SIP/2.0/UDP pc.host.com:5070;branch=z9hG4bKinv1;rport=5070;received=127.0.0.1"
 
 -- to vault@host.com, and to help@host.com
 abbrev pub to_vault : Message
@@ -37,11 +35,11 @@ to_help = invite_of first_via (codes "<sip:help@host.com>") (codes "k1") (codes 
 
 -- one that needs extensions
 abbrev pub extended : Message
-extended = invite_of (codes "SIP/2.0/UDP 127.0.0.1:5070;branch=z9hG4bKa2;rport") (codes "<sip:help@host.com>") (codes "k9") (codes "1 INVITE")
+extended = invite_of (codes "SIP/2.0/UDP 127.0.0.1:5070;branch=z9hG4bKa2;rport=5070;received=127.0.0.1") (codes "<sip:help@host.com>") (codes "k9") (codes "1 INVITE")
 
--- the text of the answer to the request that a datagram from 127.0.0.1:5070 brought
+-- the text of the answer to the request of a datagram
 abbrev pub answer_text : Message → ℕ → ℕ → List Field → List ℕ
-answer_text request number status extras = text_of (reply_of (received request client) status (to_tag 0 number) extras)
+answer_text request number status extras = text_of (reply_of request status (to_tag 0 number) extras)
 
 abbrev pub denied_text : List ℕ
 denied_text =

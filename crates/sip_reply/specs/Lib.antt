@@ -6,4 +6,3 @@ pub mod Reply
 pub mod Examples
 pub mod Extras
 pub mod ExtrasExamples
-pub use Rattle.sip_edit.specs as edit

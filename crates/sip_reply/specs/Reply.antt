@@ -1,14 +1,14 @@
 -- Responses that are made here (RFC 3261 8.2.6).
 use Rattle.std.specs.Prelude.{ℕ, Bool, false, ◌==◌, ◌&&◌, not, if◌then◌else◌, List, [], ◌++◌, map, codes, Option, Some, None, is_some}
-use Rattle.sip_edit.specs.field.declared.field_name.FieldName.TheVariants.{Via, From, To, CallId, CSeq, Timestamp}
-use Rattle.sip_edit.specs.field.declared.field.Field.{Field}
-use Rattle.sip_edit.specs.form.declared.message.Start.TheVariants.{Status}
-use Rattle.sip_edit.specs.form.declared.message.Message.{Message}
-use Rattle.sip_edit.specs.field.Named.{all_named}
-use Rattle.sip_edit.specs.header.declared.name_addr.NameAddr.{NameAddr}
-use Rattle.sip_edit.specs.header.NameAddr.{name_addr_of}
-use Rattle.sip_edit.specs.header.Parameters.{tag_of}
-use Rattle.sip_edit.specs.FirstField.{first_of}
+use Rattle.sip_credentials.specs.field.declared.field_name.FieldName.TheVariants.{Via, From, To, CallId, CSeq, Timestamp}
+use Rattle.sip_credentials.specs.field.declared.field.Field.{Field}
+use Rattle.sip_credentials.specs.form.declared.message.Start.TheVariants.{Status}
+use Rattle.sip_credentials.specs.form.declared.message.Message.{Message}
+use Rattle.sip_credentials.specs.field.Named.{all_named}
+use Rattle.sip_credentials.specs.header.declared.name_addr.NameAddr.{NameAddr}
+use Rattle.sip_credentials.specs.header.NameAddr.{name_addr_of}
+use Rattle.sip_credentials.specs.header.Parameters.{tag_of}
+use Rattle.sip_credentials.specs.FirstField.{first_of}
 use Rattle.sip_reply.specs.Reasons.{reason_of}
 
 -- whether a To takes a tag: it can be read, and it has none

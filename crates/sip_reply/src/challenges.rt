@@ -2,7 +2,7 @@ ghost use Rattle.std.specs.Prelude.{◌≡◌, [], ◌∷◌, ◌++◌, IfOk, On
 ghost use Rattle.sip_reply.specs.Challenges;
 
 use sip_digest::Algorithm;
-use sip_edit::form::{Field, FieldName, Fields};
+use sip_credentials::form::{Field, FieldName, Fields};
 use sip_uri::text::Bytes;
 use std::alloc::{AllocError, Global};
 

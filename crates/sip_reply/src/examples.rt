@@ -1,6 +1,6 @@
 ghost use Rattle.std.specs.Prelude.{◌≡◌, ◌∷◌, codes, length, [], true};
-ghost use Rattle.sip_edit.specs.form.Text.{text_of};
-ghost use Rattle.sip_edit.specs.field.declared.field_name.FieldName.TheVariants as Name;
+ghost use Rattle.sip_credentials.specs.form.Text.{text_of};
+ghost use Rattle.sip_credentials.specs.field.declared.field_name.FieldName.TheVariants as Name;
 ghost use Rattle.sip_reply.specs.Challenges.{challenge_fields};
 ghost use Rattle.sip_reply.specs.Examples;
 ghost use Rattle.sip_reply.specs.Reply.{answered_to, reply_of};

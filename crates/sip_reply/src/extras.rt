@@ -1,8 +1,8 @@
 ghost use Rattle.std.specs.Prelude.{◌≡◌, IfOk};
 ghost use Rattle.sip_reply.specs.Extras as Definitions;
 
-use sip_edit::field::{Field, FieldName};
-use sip_edit::way::Own;
+use sip_credentials::field::{Field, FieldName};
+use sip_way::Own;
 use sip_uri::text::Bytes;
 use std::alloc::{AllocError, Global};
 

@@ -1,5 +1,5 @@
 ghost use Rattle.std.specs.Prelude.{◌≡◌, ◌∷◌, [], ◌++◌, ℕ, List, codes, true, false};
-ghost use Rattle.sip_edit.specs.field.declared.field_name.FieldName.{FieldName};
+ghost use Rattle.sip_credentials.specs.field.declared.field_name.FieldName.{FieldName};
 ghost use Rattle.sip_reply.specs.Challenges.{challenge_fields};
 
 /// Where SHA-256 isn't offered a challenge is one field, as RFC 2617 3.2.1 has it.

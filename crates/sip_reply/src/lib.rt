@@ -18,11 +18,3 @@ pub use extras::{denial_warning, min_expires, unsupported_field};
 pub use reasons::reason_of;
 pub use reply::{reply_view, respond};
 pub use tags::to_tag;
-
-/// Of `sip_edit`.
-pub mod edit {
-    pub use sip_edit::{
-        ack_with, branch_of_text, branch_text, cancel_of, own_via_value, pop_via, received_via,
-        response_address, with_top_via,
-    };
-}

@@ -1,15 +1,15 @@
 ghost use Rattle.std.specs.Prelude.{◌≡◌, ◌++◌, map, option_map, IfOk, OnOk};
 ghost use Rattle.std.specs.Option.{option_to_list};
-ghost use Rattle.sip_edit.specs.field.Named.{first_named};
-ghost use Rattle.sip_edit.specs.FirstField.{first_of};
-ghost use Rattle.sip_edit.specs.form.Text.{text_of};
+ghost use Rattle.sip_credentials.specs.field.Named.{first_named};
+ghost use Rattle.sip_credentials.specs.FirstField.{first_of};
+ghost use Rattle.sip_credentials.specs.form.Text.{text_of};
 ghost use Rattle.sip_reply.specs.Reply;
-ghost use Rattle.sip_edit.specs.header.NameAddr.{name_addr_of};
+ghost use Rattle.sip_credentials.specs.header.NameAddr.{name_addr_of};
 
 use crate::reasons::reason_of;
-use sip_edit::form::{FieldName, Fields, View, ViewStart, write_view};
-use sip_edit::header::{name_addr_of, tag_of};
-use sip_edit::view::{Value, ViewField, ViewFields};
+use sip_credentials::form::{FieldName, Fields, View, ViewStart, write_view};
+use sip_credentials::header::{name_addr_of, tag_of};
+use sip_credentials::view::{Value, ViewField, ViewFields};
 use sip_uri::text::Bytes;
 use std::alloc::{AllocError, Global};
 

@@ -1,5 +1,5 @@
 ghost use Rattle.std.specs.Prelude.{◌≡◌, ◌∷◌, [], codes, length};
-ghost use Rattle.sip_edit.specs.way.Examples.{own};
+ghost use Rattle.sip_way.specs.Examples.{own};
 ghost use Rattle.sip_reply.specs.Extras.{denial_warning, min_expires, unsupported_field};
 ghost use Rattle.sip_reply.specs.ExtrasExamples;
 

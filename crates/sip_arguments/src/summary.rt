@@ -1,5 +1,5 @@
 ghost use Rattle.std.specs.Prelude.{◌≡◌, ◌++◌, length, decimal, IfOk, OnOk};
-ghost use Rattle.sip_command.specs.Summary;
+ghost use Rattle.sip_arguments.specs.Summary;
 
 use sip_settings::Config;
 use sip_text::Bytes;

@@ -1,9 +1,8 @@
 ghost use Rattle.std.specs.Prelude.{◌≡◌, ◌≤◌};
-ghost use Rattle.sip_command.specs.Exits.{status_of, exit_of_config, exit_of_replay};
-ghost use Rattle.sip_command.specs.declared.exit.Exit.TheVariants.{Memory};
+ghost use Rattle.sip_arguments.specs.Exits.{status_of, exit_of_config};
+ghost use Rattle.sip_arguments.specs.declared.exit.Exit.TheVariants.{Memory};
 
 use sip_config::ConfigError;
-use sip_loop::ReplayError;
 use std::alloc::{AllocError, AllocFailed};
 use std::{fmt, io};
 
@@ -81,18 +80,6 @@ impl From<ConfigError> for Exit {
         match e {
             ConfigError::NoMemory => Exit::Memory,
             _ => Exit::Configuration(e as u8),
-        }
-    }
-}
-
-impl From<ReplayError> for Exit {
-    ghost from_gives = { λ e exit. exit ≡ exit_of_replay e };
-
-    fn from(e: ReplayError) -> Exit {
-        match e {
-            ReplayError::NoMemory => Exit::Memory,
-            ReplayError::Script(line) => Exit::Script(line),
-            ReplayError::Read | ReplayError::Write => Exit::Device,
         }
     }
 }
