@@ -21,7 +21,7 @@ pub use Rattle.sip_model.specs.message
 pub use Rattle.sip_model.specs.header
 pub use Rattle.sip_model.specs.dialog
 pub use Rattle.sip_model.specs.key
-pub use Rattle.sip_keeping.specs.request.location
+pub use Rattle.sip_keeping.specs.location
 pub use Rattle.sip_model.specs.way
 pub use Rattle.sip_model.specs.auth
 pub use Rattle.sip_model.specs.edit
@@ -29,7 +29,7 @@ pub use Rattle.sip_model.specs.settings
 pub use Rattle.sip_table.specs as table
 pub use Rattle.sip_model.specs.targets
 pub use Rattle.sip_model.specs.validate
-pub use Rattle.sip_keeping.specs.request.onward
+pub use Rattle.sip_keeping.specs.onward
 pub use Rattle.sip_model.specs.reply
 pub use Rattle.sip_model.specs.state
 pub use Rattle.sip_model.specs.context
@@ -38,8 +38,8 @@ pub use Rattle.sip_keeping.specs.fitting.retransmission
 pub use Rattle.sip_model.specs as model
 pub use Rattle.sip_model.specs.verdict
 pub use Rattle.sip_model.specs.audit
-pub use Rattle.sip_keeping.specs.request.processing
-pub use Rattle.sip_keeping.specs.request.resend
-pub use Rattle.sip_keeping.specs.request.inputs
+pub use Rattle.sip_keeping.specs.processing
+pub use Rattle.sip_keeping.specs.resend
+pub use Rattle.sip_keeping.specs.inputs
 pub use Rattle.sip_keeping.specs.request
 pub use Rattle.sip_keeping.specs as keeping

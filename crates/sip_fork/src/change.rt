@@ -9,7 +9,7 @@ ghost use Rattle.sip_timers.specs.declared.error.TimerError.TheVariants.{NoMemor
 ghost use Rattle.sip_fork.specs.Contexts.{IsSame};
 
 use crate::row::Standing;
-use sip_keeping::request::inputs::Sending;
+use sip_keeping::inputs::Sending;
 use sip_keeping::request::{Plan, Request};
 use sip_keeping::ties::TimerKeys;
 use sip_model::state::{Branch, OpenRequest, Phase, Side};

@@ -13,7 +13,7 @@ ghost use Rattle.sip_model.specs.Step.{NoneBefore, NoneAgainBefore};
 ghost use Rattle.sip_keeping.specs.Keeping.{IsKeptAs, IsOf};
 ghost use Rattle.sip_keeping.specs.moments.Near.{IsWithin};
 ghost use Rattle.sip_keeping.specs.request.Near.{most_timers};
-ghost use Rattle.sip_keeping.specs.request.inputs.Inputs.{outcome, outcome_of};
+ghost use Rattle.sip_keeping.specs.inputs.Inputs.{outcome, outcome_of};
 ghost use Rattle.sip_fork.specs.Contexts.{IsFitting, IsSame};
 ghost use Rattle.sip_fork.specs.Due.{IsFirst, IsNothingDue};
 ghost use Rattle.sip_fork.specs.Places.{branch_at};
@@ -25,6 +25,7 @@ use crate::moving::{change_row, close_row, open_row};
 use crate::queue::Queue;
 use crate::row::Standing;
 use crate::timing::timers_stand_for_moments;
+use sip_keeping::Planned;
 use sip_keeping::inputs::Input;
 use sip_keeping::keeping::{inputs_fit, inputs_keep};
 use sip_keeping::moments::bounds::time_passes;
@@ -207,11 +208,8 @@ impl<T: Timers> Contexts<T> {
         inputs_fit();
         inputs_keep();
         let _moment = self.moment;
-        let planned = self
-            .table
-            .get(place)
-            .request
-            .plan(alloc, server, now, input)?;
+        let open = self.table.get(place);
+        let planned = Planned::of(alloc, server, now, &open.request.context, input)?;
         let change = Change::of_plan(alloc, planned.plan)?;
         Ok(Prepared {
             change,

@@ -24,7 +24,7 @@ pub mod timers {
 
 /// Of `sip_inputs`.
 pub mod inputs {
-    pub use sip_keeping::request::inputs::Input;
+    pub use sip_keeping::inputs::Input;
 }
 
 /// Of `sip_keeping`.

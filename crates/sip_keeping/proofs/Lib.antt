@@ -1,2 +1,3 @@
 pub mod Same
 pub mod Once
+pub mod Copied

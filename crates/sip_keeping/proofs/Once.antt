@@ -4,22 +4,22 @@ use Rattle.std.specs.Prelude.{◌&&◌, ◌||◌}
 use Rattle.std.specs.List.{AllByRecursion, list_all}
 use Rattle.std.proofs.lemmas.Bool.Decides.{nat_tests}
 use Rattle.std.proofs.lemmas.List.Elements.{All-from_recursion, All-contains}
-use Rattle.sip_request.specs.best.Best.{best_of}
-use Rattle.sip_request.specs.event.declared.packet.Packet.{Packet}
-use Rattle.sip_request.specs.form.declared.message.Message.{Message}
-use Rattle.sip_request.specs.state.declared.branch.Branch.{Branch}
-use Rattle.sip_request.specs.state.declared.branch.Phase.{Phase}
-use Rattle.sip_request.specs.state.declared.branch.Phase.TheVariants.{Unheard, Heard, Cancelled, Done, Ended}
-use Rattle.sip_request.specs.state.declared.open_request.OpenRequest.{OpenRequest}
-use Rattle.sip_request.specs.state.declared.open_request.Side.TheVariants.{Closing, Closed}
-use Rattle.sip_request.specs.state.declared.open_request.Upward.{Upward}
-use Rattle.sip_request.specs.state.declared.server.Server.{Server}
-use Rattle.sip_request.specs.state.State.{is_invite, is_final, is_answering, is_success, is_provisional}
-use Rattle.sip_request.specs.context.Branches.{Change, is_same_branch, turned, phased, with_phase, marked, given_up, all_final, answered, best_upward, upward_of, upward_list, settled, invite_heard, other_heard, heard, relayed_from, relayed_provisional, is_accepted, relayed_success, with_answer, acks_of, further, target_responded, cancel_responded, responded, branch_overdue}
-use Rattle.sip_request.specs.context.Opening.{opening, tried, trying}
-use Rattle.sip_request.specs.inputs.declared.input.Input.{Input}
-use Rattle.sip_request.specs.inputs.declared.input.Input.TheVariants.{Response, BranchDeadline, SideDeadline, SendFault, Cancel, Ack, BranchAgain, AnswerAgain}
-use Rattle.sip_request.specs.inputs.Inputs.{outcome_of}
+use Rattle.sip_inputs.specs.best.Best.{best_of}
+use Rattle.sip_inputs.specs.event.declared.packet.Packet.{Packet}
+use Rattle.sip_inputs.specs.form.declared.message.Message.{Message}
+use Rattle.sip_inputs.specs.state.declared.branch.Branch.{Branch}
+use Rattle.sip_inputs.specs.state.declared.branch.Phase.{Phase}
+use Rattle.sip_inputs.specs.state.declared.branch.Phase.TheVariants.{Unheard, Heard, Cancelled, Done, Ended}
+use Rattle.sip_inputs.specs.state.declared.open_request.OpenRequest.{OpenRequest}
+use Rattle.sip_inputs.specs.state.declared.open_request.Side.TheVariants.{Closing, Closed}
+use Rattle.sip_inputs.specs.state.declared.open_request.Upward.{Upward}
+use Rattle.sip_inputs.specs.state.declared.server.Server.{Server}
+use Rattle.sip_inputs.specs.state.State.{is_invite, is_final, is_answering, is_success, is_provisional}
+use Rattle.sip_inputs.specs.context.Branches.{Change, is_same_branch, turned, phased, with_phase, marked, given_up, all_final, answered, best_upward, upward_of, upward_list, settled, invite_heard, other_heard, heard, relayed_from, relayed_provisional, is_accepted, relayed_success, with_answer, acks_of, further, target_responded, cancel_responded, responded, branch_overdue}
+use Rattle.sip_inputs.specs.context.Opening.{opening, tried, trying}
+use Rattle.sip_inputs.specs.declared.input.Input.{Input}
+use Rattle.sip_inputs.specs.declared.input.Input.TheVariants.{Response, BranchDeadline, SideDeadline, SendFault, Cancel, Ack, BranchAgain, AnswerAgain}
+use Rattle.sip_inputs.specs.Inputs.{outcome_of}
 use Rattle.sip_keeping.specs.Keeping.{IsOf}
 
 -- one answer at most goes up with a change

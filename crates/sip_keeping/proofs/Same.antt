@@ -1,21 +1,21 @@
 -- Whatever happens to an open request, its number and its key stay.
 use Rattle.std.proofs.Common.{◌≡◌, ℕ, ◌+◌, Bool, true, false, cond, List, [], ◌∷◌, map, Option, Some, None, refl}
 use Rattle.std.specs.Prelude.{◌&&◌, ◌||◌}
-use Rattle.sip_request.specs.event.declared.packet.Packet.{Packet}
-use Rattle.sip_request.specs.form.declared.message.Message.{Message}
-use Rattle.sip_request.specs.state.declared.branch.Branch.{Branch}
-use Rattle.sip_request.specs.state.declared.branch.Phase.{Phase}
-use Rattle.sip_request.specs.state.declared.branch.Phase.TheVariants.{Unheard, Heard, Cancelled, Done, Ended}
-use Rattle.sip_request.specs.state.declared.open_request.OpenRequest.{OpenRequest}
-use Rattle.sip_request.specs.state.declared.open_request.Side.TheVariants.{Closed}
-use Rattle.sip_request.specs.state.declared.open_request.Upward.{Upward}
-use Rattle.sip_request.specs.state.declared.server.Server.{Server}
-use Rattle.sip_request.specs.state.State.{is_invite, is_final, is_answering, is_success, is_decline, is_provisional}
-use Rattle.sip_request.specs.context.Branches.{Change, is_same_branch, with_phase, with_final, marked, given_up, after_upward, answered, best_upward, settled, other_heard, heard, relayed_provisional, relayed_success, linger, final_of, told_to, with_answer, acks_of, further, target_responded, cancel_responded, responded, target_overdue, branch_overdue, acknowledged_side, was_refused}
-use Rattle.sip_request.specs.context.Opening.{opening, tried, trying}
-use Rattle.sip_request.specs.inputs.declared.input.Input.{Input}
-use Rattle.sip_request.specs.inputs.declared.input.Input.TheVariants.{Response, BranchDeadline, SideDeadline, SendFault, Cancel, Ack, BranchAgain, AnswerAgain}
-use Rattle.sip_request.specs.inputs.Inputs.{outcome_of}
+use Rattle.sip_inputs.specs.event.declared.packet.Packet.{Packet}
+use Rattle.sip_inputs.specs.form.declared.message.Message.{Message}
+use Rattle.sip_inputs.specs.state.declared.branch.Branch.{Branch}
+use Rattle.sip_inputs.specs.state.declared.branch.Phase.{Phase}
+use Rattle.sip_inputs.specs.state.declared.branch.Phase.TheVariants.{Unheard, Heard, Cancelled, Done, Ended}
+use Rattle.sip_inputs.specs.state.declared.open_request.OpenRequest.{OpenRequest}
+use Rattle.sip_inputs.specs.state.declared.open_request.Side.TheVariants.{Closed}
+use Rattle.sip_inputs.specs.state.declared.open_request.Upward.{Upward}
+use Rattle.sip_inputs.specs.state.declared.server.Server.{Server}
+use Rattle.sip_inputs.specs.state.State.{is_invite, is_final, is_answering, is_success, is_decline, is_provisional}
+use Rattle.sip_inputs.specs.context.Branches.{Change, is_same_branch, with_phase, with_final, marked, given_up, after_upward, answered, best_upward, settled, other_heard, heard, relayed_provisional, relayed_success, linger, final_of, told_to, with_answer, acks_of, further, target_responded, cancel_responded, responded, target_overdue, branch_overdue, acknowledged_side, was_refused}
+use Rattle.sip_inputs.specs.context.Opening.{opening, tried, trying}
+use Rattle.sip_inputs.specs.declared.input.Input.{Input}
+use Rattle.sip_inputs.specs.declared.input.Input.TheVariants.{Response, BranchDeadline, SideDeadline, SendFault, Cancel, Ack, BranchAgain, AnswerAgain}
+use Rattle.sip_inputs.specs.Inputs.{outcome_of}
 
 -- an open request has the number and the key of another one
 abbrev pub Same : OpenRequest → OpenRequest → Type 0

@@ -1,10 +1,10 @@
 -- Which inputs are about an open request, and what is kept of it with each event (RFC 3261 16.7 to 16.10, 17).
 use Rattle.std.specs.Prelude.{◌≡◌, ◌≤◌, ℕ, Contains, IsSomeAnd}
-use Rattle.sip_request.specs.state.declared.branch.Branch.{Branch}
-use Rattle.sip_request.specs.state.declared.open_request.OpenRequest.{OpenRequest}
-use Rattle.sip_request.specs.retransmission.Retransmission.{answer_due, branch_due}
-use Rattle.sip_request.specs.inputs.declared.input.Input.{Input}
-use Rattle.sip_request.specs.inputs.declared.input.Input.TheVariants.{Response, BranchDeadline, SideDeadline, SendFault, Cancel, Ack, BranchAgain, AnswerAgain}
+use Rattle.sip_inputs.specs.state.declared.branch.Branch.{Branch}
+use Rattle.sip_inputs.specs.state.declared.open_request.OpenRequest.{OpenRequest}
+use Rattle.sip_inputs.specs.retransmission.Retransmission.{answer_due, branch_due}
+use Rattle.sip_inputs.specs.declared.input.Input.{Input}
+use Rattle.sip_inputs.specs.declared.input.Input.TheVariants.{Response, BranchDeadline, SideDeadline, SendFault, Cancel, Ack, BranchAgain, AnswerAgain}
 use Rattle.sip_fitting.specs.Fits.{Fits}
 use Rattle.sip_moments.specs.Near.{IsWithin}
 

@@ -1,9 +1,9 @@
 ghost use Rattle.std.specs.Prelude.{◌≤◌, ℕ, length, count_by};
-ghost use Rattle.sip_request.specs.state.declared.open_request.OpenRequest.{OpenRequest};
-ghost use Rattle.sip_request.specs.state.declared.server.Server.{Server};
-ghost use Rattle.sip_request.specs.context.Opening.{opening};
-ghost use Rattle.sip_request.specs.inputs.declared.input.Input.{Input};
-ghost use Rattle.sip_request.specs.inputs.Inputs.{outcome_of};
+ghost use Rattle.sip_inputs.specs.state.declared.open_request.OpenRequest.{OpenRequest};
+ghost use Rattle.sip_inputs.specs.state.declared.server.Server.{Server};
+ghost use Rattle.sip_inputs.specs.context.Opening.{opening};
+ghost use Rattle.sip_inputs.specs.declared.input.Input.{Input};
+ghost use Rattle.sip_inputs.specs.Inputs.{outcome_of};
 ghost use Rattle.sip_learning.specs.Telling.{is_early_or_success};
 ghost use Rattle.sip_keeping.specs.Keeping.{IsOf};
 

@@ -1,10 +1,10 @@
 ghost use Rattle.std.specs.Prelude.{◌≡◌, ◌≤◌, ◌<◌, ◌^◌, ℕ, Contains, Some, slice_get};
-ghost use Rattle.sip_request.specs.state.declared.branch.Branch.{Branch};
-ghost use Rattle.sip_request.specs.state.declared.open_request.OpenRequest.{OpenRequest};
-ghost use Rattle.sip_request.specs.state.declared.server.Server.{Server};
-ghost use Rattle.sip_request.specs.inputs.declared.input.Input.{Input};
-ghost use Rattle.sip_request.specs.inputs.declared.sending.Sending.{Sending};
-ghost use Rattle.sip_request.specs.inputs.Inputs.{IsFit, outcome, outcome_of};
+ghost use Rattle.sip_inputs.specs.state.declared.branch.Branch.{Branch};
+ghost use Rattle.sip_inputs.specs.state.declared.open_request.OpenRequest.{OpenRequest};
+ghost use Rattle.sip_inputs.specs.state.declared.server.Server.{Server};
+ghost use Rattle.sip_inputs.specs.declared.input.Input.{Input};
+ghost use Rattle.sip_inputs.specs.declared.sending.Sending.{Sending};
+ghost use Rattle.sip_inputs.specs.Inputs.{IsFit, outcome, outcome_of};
 ghost use Rattle.sip_fitting.specs.Fits.{Fits};
 ghost use Rattle.sip_moments.specs.Near.{IsWithin};
 ghost use Rattle.sip_keeping.specs.Keeping.{IsKeptAs, IsOf};

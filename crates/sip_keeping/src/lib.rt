@@ -1,13 +1,16 @@
 //! What a server keeps of each open request, whatever happens to it: its parts fit their transactions, its moments are
 //! near that of the last event, and its number and key stay (RFC 3261 16, 17; RFC 6026). Here stand together the laws by
-//! which a holder of open requests plans what an input makes of one of them, takes it, and sets its timers. Nothing runs
-//! here.
+//! which a holder of open requests plans what an input makes of one of them, takes it, and sets its timers, and the plan
+//! itself.
 #![tactic(auto)]
 
 pub mod dialogs;
 pub mod keeping;
 pub mod nearness;
 pub mod openings;
+mod planning;
+
+pub use planning::Planned;
 
 /// Of `sip_fitting`.
 pub mod fitting {
@@ -16,7 +19,7 @@ pub mod fitting {
 
 /// Of `sip_inputs`.
 pub mod inputs {
-    pub use sip_request::inputs::Input;
+    pub use sip_inputs::{Input, Sending};
 }
 
 /// Of `sip_moments`.
@@ -27,12 +30,12 @@ pub mod moments {
 
 /// Of `sip_request`.
 pub mod request {
-    pub use sip_request::{Plan, Request, inputs};
+    pub use sip_request::{Plan, Request};
 }
 
 /// Of `sip_resend`.
 pub mod resend {
-    pub use sip_request::resend::{answer_due, branch_due};
+    pub use sip_inputs::resend::{answer_due, branch_due};
 }
 
 /// Of `sip_ties`.

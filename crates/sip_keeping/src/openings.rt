@@ -1,10 +1,10 @@
 ghost use Rattle.std.specs.Prelude.{◌∷◌, [], ℕ, List};
-ghost use Rattle.sip_request.specs.host.declared.addr.Addr.{Addr};
-ghost use Rattle.sip_request.specs.form.declared.message.Message.{Message};
-ghost use Rattle.sip_request.specs.targets.declared.target.Target.{Target};
-ghost use Rattle.sip_request.specs.state.Arrival.{Arrival};
-ghost use Rattle.sip_request.specs.state.declared.server.Server.{Server};
-ghost use Rattle.sip_request.specs.context.Opening.{arriving, branches_from, closing, dialog_branch, forking, opening};
+ghost use Rattle.sip_inputs.specs.host.declared.addr.Addr.{Addr};
+ghost use Rattle.sip_inputs.specs.form.declared.message.Message.{Message};
+ghost use Rattle.sip_inputs.specs.targets.declared.target.Target.{Target};
+ghost use Rattle.sip_inputs.specs.state.Arrival.{Arrival};
+ghost use Rattle.sip_inputs.specs.state.declared.server.Server.{Server};
+ghost use Rattle.sip_inputs.specs.context.Opening.{arriving, branches_from, closing, dialog_branch, forking, opening};
 ghost use Rattle.sip_fitting.specs.Fits.{IsFinalAnswer};
 ghost use Rattle.sip_keeping.specs.Keeping.{IsKeptAs};
 

@@ -8,12 +8,12 @@ use Rattle.sip_ties.specs.transaction.declared.letter.Letter.{Letter}
 use Rattle.sip_ties.specs.timers.declared.timer.Timer.{Timer}
 use Rattle.sip_ties.specs.timers.Timers.{KeysDiffer}
 use Rattle.sip_running.specs.Moves.{IsHeld, Moves}
-use Rattle.sip_inputs.specs.state.declared.branch.Branch.{Branch}
-use Rattle.sip_inputs.specs.state.declared.branch.Phase.{Phase}
-use Rattle.sip_inputs.specs.state.declared.branch.Phase.TheVariants.{Unheard, Heard, Cancelled, Done, Ended}
-use Rattle.sip_inputs.specs.state.declared.open_request.OpenRequest.{OpenRequest}
-use Rattle.sip_inputs.specs.state.declared.resend.Resend.{Resend}
-use Rattle.sip_inputs.specs.branches.Early.{IsEarly}
+use Rattle.sip_branches.specs.state.declared.branch.Branch.{Branch}
+use Rattle.sip_branches.specs.state.declared.branch.Phase.{Phase}
+use Rattle.sip_branches.specs.state.declared.branch.Phase.TheVariants.{Unheard, Heard, Cancelled, Done, Ended}
+use Rattle.sip_branches.specs.state.declared.open_request.OpenRequest.{OpenRequest}
+use Rattle.sip_branches.specs.state.declared.resend.Resend.{Resend}
+use Rattle.sip_branches.specs.Early.{IsEarly}
 use Rattle.sip_ties.specs.machines.InviteClient.{invite_timers, call_timers}
 use Rattle.sip_ties.specs.Ties.{branch_timers, branches_timers, owner_of, part_timers}
 use Rattle.sip_ties.specs.declared.timer_keys.TimerKeys.{TimerKeys}

@@ -1,7 +1,7 @@
 -- The timers that an open request names, and what a plan needs.
 use Rattle.std.specs.Prelude.{ℕ, ◌≡◌, ◌≤◌, ◌+◌, ◌^◌, List, length}
 use Rattle.sip_ties.specs.timers.declared.timer.Timer.{Timer}
-use Rattle.sip_inputs.specs.state.declared.open_request.OpenRequest.{OpenRequest}
+use Rattle.sip_branches.specs.state.declared.open_request.OpenRequest.{OpenRequest}
 use Rattle.sip_ties.specs.Ties.{timers_of}
 use Rattle.sip_ties.specs.declared.timer_keys.TimerKeys.{TimerKeys}
 use Rattle.sip_request.specs.declared.request.Plan.{Plan}

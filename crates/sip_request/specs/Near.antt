@@ -2,8 +2,8 @@
 use Rattle.std.specs.Prelude.{ℕ, ◌<◌, ◌+◌, ◌*◌, List, length}
 use Rattle.std.specs.List.{AllByRecursion}
 use Rattle.sip_ties.specs.transaction.declared.letter.Letter.{Letter}
-use Rattle.sip_inputs.specs.state.declared.branch.Branch.{Branch}
-use Rattle.sip_inputs.specs.state.declared.open_request.OpenRequest.{OpenRequest}
+use Rattle.sip_branches.specs.state.declared.branch.Branch.{Branch}
+use Rattle.sip_branches.specs.state.declared.open_request.OpenRequest.{OpenRequest}
 use Rattle.sip_ties.specs.Ties.{branch_timers, side_timers}
 
 -- these timers are due before a moment

@@ -1,7 +1,7 @@
 -- The timers of branches from a place on.
 use Rattle.std.specs.Prelude.{ℕ, List, drop}
 use Rattle.sip_ties.specs.timers.declared.timer.Timer.{Timer}
-use Rattle.sip_inputs.specs.state.declared.open_request.OpenRequest.{OpenRequest}
+use Rattle.sip_branches.specs.state.declared.open_request.OpenRequest.{OpenRequest}
 use Rattle.sip_ties.specs.Ties.{branches_timers}
 use Rattle.sip_ties.specs.declared.timer_keys.TimerKeys.{TimerKeys}
 

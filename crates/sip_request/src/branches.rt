@@ -7,7 +7,7 @@ ghost use Rattle.sip_request.specs.Walk.{left_timers};
 
 use crate::naming::branch_part;
 use crate::part::{NO_KEYS, Part, no_part, stop_part, sync_part};
-use sip_inputs::state::{Branch, OpenRequest};
+use sip_branches::state::{Branch, OpenRequest};
 use sip_ties::TimerKeys;
 use sip_ties::timers::Timers;
 

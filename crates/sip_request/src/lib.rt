@@ -8,7 +8,6 @@ mod branches;
 mod naming;
 mod near;
 mod part;
-mod planning;
 mod request;
 mod retiming;
 mod slots;
@@ -16,15 +15,4 @@ mod slots;
 pub use naming::{branch_part, side_part};
 pub use near::near_later;
 pub use part::{Part, PartTimers};
-pub use planning::Planned;
 pub use request::{Plan, Request};
-
-/// Of `sip_resend`.
-pub mod resend {
-    pub use sip_inputs::resend::{answer_due, branch_due};
-}
-
-/// Of `sip_inputs`.
-pub mod inputs {
-    pub use sip_inputs::{Input, Sending, take_input};
-}

@@ -2,9 +2,9 @@ ghost use Rattle.std.specs.Prelude.{◌≡◌, ◌++◌, ◌^◌, ℕ, Some, Non
 ghost use Rattle.sip_ties.specs.transaction.declared.letter.Letter.TheVariants.{D, M};
 ghost use Rattle.sip_ties.specs.timers.declared.timer.Owner.{Owner};
 ghost use Rattle.sip_ties.specs.timers.declared.timer.Owner.TheVariants as Of;
-ghost use Rattle.sip_inputs.specs.state.State as States;
-ghost use Rattle.sip_inputs.specs.context.Branches as Contexts;
-ghost use Rattle.sip_inputs.specs.branches.Early.{IsEarly};
+ghost use Rattle.sip_branches.specs.state.State as States;
+ghost use Rattle.sip_branches.specs.context.Branches as Contexts;
+ghost use Rattle.sip_branches.specs.Early.{IsEarly};
 ghost use Rattle.sip_ties.specs.machines.InviteClient.{invite_timers, call_timers};
 ghost use Rattle.sip_ties.specs.machines.OtherClient.{other_timers};
 ghost use Rattle.sip_ties.specs.machines.InviteServer.{invite_side_timers};
@@ -15,7 +15,7 @@ ghost use Rattle.sip_request.specs.Near.{AreBefore};
 ghost use Rattle.sip_request.specs.Slots.{listed, part_standing, slots_standing};
 
 use crate::part::{Part, PartTimers};
-use sip_inputs::state::{Branch, LastAnswer, OpenRequest, Phase, Resend, Side};
+use sip_branches::state::{Branch, LastAnswer, OpenRequest, Phase, Resend, Side};
 use sip_ties::timers::Owner;
 use sip_ties::transaction::Letter;
 

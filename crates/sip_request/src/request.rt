@@ -7,8 +7,8 @@ ghost use Rattle.sip_request.specs.Named.{HasKeys, IsReady, named_by};
 
 use crate::part::NO_KEYS;
 use crate::retiming::{begin, end, retime};
-use sip_inputs::state::OpenRequest;
-use sip_inputs::text::Items;
+use sip_branches::state::OpenRequest;
+use sip_branches::text::Items;
 use sip_ties::TimerKeys;
 use sip_ties::timers::{TimerError, Timers};
 use std::alloc::{AllocError, Global};

@@ -7,7 +7,7 @@ ghost use Rattle.sip_request.specs.Near.{IsNear, most_timers};
 use crate::branches::{stop_left, sync_branches};
 use crate::naming::side_part;
 use crate::part::{NO_KEYS, no_part, stop_part, sync_part};
-use sip_inputs::state::OpenRequest;
+use sip_branches::state::OpenRequest;
 use sip_ties::TimerKeys;
 use sip_ties::timers::Timers;
 

@@ -1,9 +1,9 @@
 use Rattle.std.proofs.Common.{◌≤◌, List, length, arith}
 use Rattle.std.specs.Prelude.{count_by}
 use Rattle.std.proofs.lemmas.List.Sums.{count_by-le-length}
-use Rattle.sip_request.specs.state.declared.open_request.Upward.{Upward}
-use Rattle.sip_request.specs.context.Opening.{opening}
-use Rattle.sip_request.specs.inputs.Inputs.{outcome_of}
+use Rattle.sip_inputs.specs.state.declared.open_request.Upward.{Upward}
+use Rattle.sip_inputs.specs.context.Opening.{opening}
+use Rattle.sip_inputs.specs.Inputs.{outcome_of}
 use Rattle.sip_learning.specs.Telling.{is_early_or_success}
 use Rattle.sip_keeping.proofs.Once.{input_once, opening_once}
 use Rattle.sip_keeping.proofs.dialogs.changes_begin_once.Goals as goal

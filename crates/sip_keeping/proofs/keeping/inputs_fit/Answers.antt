@@ -1,8 +1,8 @@
 use Rattle.std.proofs.Common.{ℕ, ◌+◌, ◌<◌, ◌≤◌, ◌^◌, arith}
-use Rattle.sip_request.specs.state.declared.open_request.OpenRequest.{OpenRequest}
-use Rattle.sip_request.specs.inputs.declared.input.Input.{Input}
-use Rattle.sip_request.specs.inputs.declared.input.Input.TheVariants.{Response, BranchDeadline, SideDeadline, SendFault, Cancel, Ack, BranchAgain, AnswerAgain}
-use Rattle.sip_request.specs.inputs.Inputs.{IsFit}
+use Rattle.sip_inputs.specs.state.declared.open_request.OpenRequest.{OpenRequest}
+use Rattle.sip_inputs.specs.declared.input.Input.{Input}
+use Rattle.sip_inputs.specs.declared.input.Input.TheVariants.{Response, BranchDeadline, SideDeadline, SendFault, Cancel, Ack, BranchAgain, AnswerAgain}
+use Rattle.sip_inputs.specs.Inputs.{IsFit}
 use Rattle.sip_moments.specs.Near.{IsWithin}
 use Rattle.sip_keeping.specs.Keeping.{IsOf}
 use Rattle.sip_keeping.proofs.keeping.inputs_fit.Goals as goal

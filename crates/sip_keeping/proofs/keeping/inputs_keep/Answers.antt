@@ -1,11 +1,11 @@
 use Rattle.std.proofs.Common.{◌≡◌, ℕ, ◌≤◌, Option, Some, None, IsSomeAnd, Contains, refl, sym, ap, subst}
-use Rattle.sip_request.specs.state.declared.branch.Branch.{Branch}
-use Rattle.sip_request.specs.state.declared.open_request.OpenRequest.{OpenRequest}
-use Rattle.sip_request.specs.state.declared.server.Server.{Server}
-use Rattle.sip_request.specs.retransmission.Retransmission.{answer_due, answer_next, branch_due, with_resend}
-use Rattle.sip_request.specs.inputs.declared.input.Input.{Input}
-use Rattle.sip_request.specs.inputs.declared.input.Input.TheVariants.{Response, BranchDeadline, SideDeadline, SendFault, Cancel, Ack, BranchAgain, AnswerAgain}
-use Rattle.sip_request.specs.inputs.Inputs.{Outcome, outcome_of}
+use Rattle.sip_inputs.specs.state.declared.branch.Branch.{Branch}
+use Rattle.sip_inputs.specs.state.declared.open_request.OpenRequest.{OpenRequest}
+use Rattle.sip_inputs.specs.state.declared.server.Server.{Server}
+use Rattle.sip_inputs.specs.retransmission.Retransmission.{answer_due, answer_next, branch_due, with_resend}
+use Rattle.sip_inputs.specs.declared.input.Input.{Input}
+use Rattle.sip_inputs.specs.declared.input.Input.TheVariants.{Response, BranchDeadline, SideDeadline, SendFault, Cancel, Ack, BranchAgain, AnswerAgain}
+use Rattle.sip_inputs.specs.Inputs.{Outcome, outcome_of}
 use Rattle.sip_fitting.specs.Fits.{Fits}
 use Rattle.sip_moments.specs.Near.{IsBranchWithin, IsWithin}
 use Rattle.sip_keeping.specs.Keeping.{IsKeptAs, IsOf}

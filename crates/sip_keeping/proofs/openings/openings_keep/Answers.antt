@@ -1,6 +1,6 @@
 use Rattle.std.proofs.Common.{[], ◌∷◌, refl}
-use Rattle.sip_request.specs.state.declared.open_request.OpenRequest.{OpenRequest}
-use Rattle.sip_request.specs.context.Opening.{arriving, branches_from, dialog_branch, forking}
+use Rattle.sip_inputs.specs.state.declared.open_request.OpenRequest.{OpenRequest}
+use Rattle.sip_inputs.specs.context.Opening.{arriving, branches_from, dialog_branch, forking}
 use Rattle.sip_keeping.proofs.Same.{opening_same}
 use Rattle.sip_keeping.proofs.openings.openings_keep.Goals as goal
 

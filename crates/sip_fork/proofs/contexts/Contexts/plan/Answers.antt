@@ -2,7 +2,7 @@ use Rattle.std.proofs.Common.{◌≡◌, ◌≤◌, Some, slice_get, sym, ◌∙
 use Rattle.std.specs.Option.{unwrap_or}
 use Rattle.sip_model.specs.state.declared.open_request.OpenRequest.{OpenRequest}
 use Rattle.sip_keeping.specs.request.declared.request.Request.{Request}
-use Rattle.sip_keeping.specs.request.inputs.Inputs.{outcome, outcome_of}
+use Rattle.sip_keeping.specs.inputs.Inputs.{outcome, outcome_of}
 use Rattle.sip_keeping.specs.fitting.Fits.{Fits}
 use Rattle.sip_keeping.specs.moments.Near.{IsWithin}
 use Rattle.sip_fork.specs.Contexts.{Contexts, IsKept}
