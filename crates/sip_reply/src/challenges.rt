@@ -1,8 +1,8 @@
 ghost use Rattle.std.specs.Prelude.{◌≡◌, [], ◌∷◌, ◌++◌, IfOk, OnOk};
 ghost use Rattle.sip_reply.specs.Challenges;
 
-use sip_digest::Algorithm;
 use sip_credentials::form::{Field, FieldName, Fields};
+use sip_digest::Algorithm;
 use sip_uri::text::Bytes;
 use std::alloc::{AllocError, Global};
 

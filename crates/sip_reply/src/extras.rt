@@ -2,8 +2,8 @@ ghost use Rattle.std.specs.Prelude.{◌≡◌, IfOk};
 ghost use Rattle.sip_reply.specs.Extras as Definitions;
 
 use sip_credentials::field::{Field, FieldName};
-use sip_way::Own;
 use sip_uri::text::Bytes;
+use sip_way::Own;
 use std::alloc::{AllocError, Global};
 
 /// The Warning of a 403, which names the rule that denies (RFC 3261 20.43, in this project's profile). `AllocError` is
