@@ -1,4 +1,4 @@
-use sip_digest::{Algorithm, Credential, answer};
+use sip_digest::{Algorithm, Credential, Protection, answer};
 use sip_nonces::{Nonces, Worth, nonce_text};
 use std::alloc::{AllocError, Global};
 use test_forms::gives;
@@ -19,12 +19,13 @@ fn full(alloc: Global) -> Result<Nonces, AllocError> {
 fn is_worth(nonces: &Nonces, word: u128, now: u64, wanted: Worth) -> bool {
     let nonce = nonce_text(word);
     let response = answer(MUFASA, b"REGISTER", b"sip:host.com", &nonce, None);
+    let protection: Option<Protection<'_>> = None;
     let credential = Credential {
         algorithm: Algorithm::Md5,
         method: b"REGISTER",
         uri: b"sip:host.com",
         nonce: nonce.as_slice(),
-        protection: None,
+        protection,
         response: response.as_slice(),
     };
     nonces.check(MUFASA, &credential, now) == wanted
