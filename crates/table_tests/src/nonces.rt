@@ -15,19 +15,27 @@ fn full(alloc: Global) -> Result<Nonces, AllocError> {
     Ok(nonces)
 }
 
+/// The credentials of a REGISTER with this nonce and this answer.
+fn register<'a>(
+    nonce: &'a [u8],
+    response: &'a [u8],
+    protection: Option<Protection<'a>>,
+) -> Credential<'a> {
+    Credential {
+        algorithm: Algorithm::Md5,
+        method: b"REGISTER",
+        uri: b"sip:host.com",
+        nonce,
+        protection,
+        response,
+    }
+}
+
 /// Whether the user's answer to the nonce of a word is worth this at a moment.
 fn is_worth(nonces: &Nonces, word: u128, now: u64, wanted: Worth) -> bool {
     let nonce = nonce_text(word);
     let response = answer(MUFASA, b"REGISTER", b"sip:host.com", &nonce, None);
-    let protection: Option<Protection<'_>> = None;
-    let credential = Credential {
-        algorithm: Algorithm::Md5,
-        method: b"REGISTER",
-        uri: b"sip:host.com",
-        nonce: nonce.as_slice(),
-        protection,
-        response: response.as_slice(),
-    };
+    let credential = register(nonce.as_slice(), response.as_slice(), None);
     nonces.check(MUFASA, &credential, now) == wanted
 }
 
