@@ -208,8 +208,8 @@ impl<T: Timers> Contexts<T> {
         inputs_fit();
         inputs_keep();
         let _moment = self.moment;
-        let open = self.table.get(place);
-        let planned = Planned::of(alloc, server, now, &open.request.context, input)?;
+        let row = self.table.get(place);
+        let planned = Planned::of(alloc, server, now, &row.request.context, input)?;
         let change = Change::of_plan(alloc, planned.plan)?;
         Ok(Prepared {
             change,
