@@ -1,5 +1,6 @@
 pub mod Calls
 pub mod Fronts
+pub mod OneList
 pub mod Refusing
 pub mod Replaying
 pub mod Running

@@ -1,12 +1,15 @@
-ghost use Rattle.std.specs.Prelude.{ℕ, List, Option};
+ghost use Rattle.std.specs.Prelude.{◌≡◌, ◌++◌, ℕ, List, Option};
+ghost use Rattle.sip_event.specs.declared.event.Event.{Event};
 ghost use Rattle.sip_event.specs.declared.event.StepOut.{StepOut};
 ghost use Rattle.sip_model.specs.settings.declared.config.Config.{Config};
 ghost use Rattle.sip_model.specs.Access.{Access};
 ghost use Rattle.sip_model.specs.state.State.{first_state};
 ghost use Rattle.sip_loop.specs.Refusals.{ComesTo};
-ghost use Rattle.sip_loop.specs.Replays.{server_with, IsReplay};
+ghost use Rattle.sip_loop.specs.Replays.{server_with, IsReplay, SaysEvents};
+ghost use Rattle.sip_script.specs.Events.{IsNoEvent};
 
 use sip_model::laws::every_run_has_access;
+use sip_script::laws::{event_is_no_refusal, next_event_is_one};
 
 /// Over every replay, each step is lawful by its history: each valid new request outside a dialog is sent to
 /// exactly the unexpired bindings or the configured hop that the first matching rule gives its proven user;
@@ -18,4 +21,14 @@ pub fn every_replay_has_access()
     ensures refused { (config : Config) (script : Option (List ℕ)) (steps : List StepOut) → (comes : ComesTo (server_with config) (first_state 1) script steps) → Access (server_with config) comes.history }
 {
     every_run_has_access();
+}
+
+/// A script says one list of events at most, so that a replay of it is a run over that list and no other. Where a
+/// script is refused behind some events, it says none as a whole.
+pub fn script_says_one_list()
+    ensures one { (events others : List Event) (text : List ℕ) → SaysEvents events text → SaysEvents others text → events ≡ others }
+    ensures refused { (events others : List Event) (text rest : List ℕ) → SaysEvents events text → IsNoEvent rest → SaysEvents others (text ++ rest) → ⊥ }
+{
+    next_event_is_one();
+    event_is_no_refusal();
 }

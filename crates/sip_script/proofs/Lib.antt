@@ -3,4 +3,5 @@ pub mod Datagrams
 pub mod Fronts
 pub mod Keeping
 pub mod LineEnds
+pub mod OneReading
 pub mod Written

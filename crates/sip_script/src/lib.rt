@@ -5,6 +5,7 @@
 mod device;
 mod event;
 pub mod examples;
+pub mod laws;
 mod lines;
 mod print;
 mod script;
