@@ -81,7 +81,7 @@ alone_at id (r ∷ rows) (suc at) row distinct h named test =
         let passes : cond (names id row.0 && true) 1 0 ≡ 1 = ap (λ (b : Bool). cond {A = ℕ} (b && true) 1 0) named in
         absurd (omega (arith, none, one, passes))
 
-past : (xs : List Row) (i : ℕ) → i < length xs → slice_get xs i ≡ None → ⊥
+pub past : (xs : List Row) (i : ℕ) → i < length xs → slice_get xs i ≡ None → ⊥
 past [] i lt e = omega arith
 past (x ∷ xs) zero lt e = cc
 past (x ∷ xs) (suc i) lt e = past xs i (omega arith) e

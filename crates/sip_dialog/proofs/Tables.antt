@@ -1,11 +1,10 @@
 -- What the rows of a table say of the dialogs that are known.
-use Rattle.std.proofs.Common.{◌≡◌, ℕ, zero, suc, ◌+◌, ◌≤◌, ◌<◌, List, [], ◌∷◌, ◌++◌, length, cond, ltb, Bool, true, false, refl, sym, subst, ◌∙◌, ap, ap₂, arith, map, slice_get, Option, None, Some, option_map, swap_remove, get_or, length-append}
-use Rattle.std.specs.Prelude.{◌&&◌, not, count_by, filter, nat_le, nat_lt, if◌then◌else◌, IfSome, IfErr, OnOk, Result, Ok, Err, ◌↔◌}
+use Rattle.std.proofs.Common.{◌≡◌, ℕ, zero, suc, ◌+◌, ◌≤◌, ◌<◌, List, [], ◌∷◌, ◌++◌, length, cond, ltb, Bool, true, false, refl, sym, subst, ◌∙◌, ap, ap₂, arith, map, slice_get, Option, Some, option_map, swap, length-append}
+use Rattle.std.specs.Prelude.{◌&&◌, not, count_by, filter, nat_le, nat_lt, if◌then◌else◌, IfErr, OnOk, Result, Ok, Err, ◌↔◌}
 use Rattle.std.specs.List.{list_any}
 use Rattle.std.specs.Map.{values_of}
 use Rattle.std.proofs.lemmas.Bool.Decides.{nat_tests}
-use Rattle.std.proofs.lemmas.List.Sums.{sum_by-swap_remove}
-use Rattle.std.proofs.lemmas.Option.{slice_get_within, slice_get-map, get_or_from_slice_get}
+use Rattle.std.proofs.lemmas.Option.{slice_get-map}
 use Rattle.indexmap.specs.IndexMap.{set_value_at}
 use Rattle.sip_header.specs.host.declared.addr.Addr.{Addr}
 use Rattle.sip_dialog.specs.declared.dialog.DialogId.{DialogId}
@@ -15,10 +14,11 @@ use Rattle.sip_dialog.specs.declared.error.DialogError.{DialogError}
 use Rattle.sip_dialog.specs.declared.error.DialogError.TheVariants.{NoMemory, Full}
 use Rattle.sip_dialog.specs.declared.standing.Standing.{Standing}
 use Rattle.sip_dialog.specs.Addresses.{is_same_addr}
-use Rattle.sip_dialog.specs.Dialogs.{is_known, known, is_named, holds, is_in_dialog, edited, learnt, knows, is_full_for, answered_again, begun, without_dialog, is_unconfirmed, after_invite}
-use Rattle.sip_dialog.specs.Rows.{names, dialog_of, dialogs_in, is_recent, StandsAt, StandsNowhere, IsKnownAt}
+use Rattle.sip_dialog.specs.Dialogs.{is_known, known, is_named, holds, is_in_dialog, edited, learnt, knows, is_full_for, answered_again, begun, without_dialog}
+use Rattle.sip_dialog.specs.Rows.{names, dialog_of, dialogs_in, is_recent, StandsAt, StandsNowhere, IsKnownAt, IsTakenOut}
 use Rattle.sip_dialog.specs.Sameness.{SameDialogs}
 use Rattle.sip_dialog.proofs.Alone.{Row}
+use Rattle.sip_dialog.proofs.Places.{count_swapped}
 use Rattle.sip_dialog.proofs.Sameness.{count_first, count_filter, count_map, any_counts, count_joined, count_alike, length_same, dialogs_joined, edited_same}
 
 -- the dialog of a row
@@ -26,7 +26,7 @@ abbrev pub dialog : Row → Dialog
 dialog r = dialog_of r.0 r.1
 
 -- what is known, counted by rows
-counted : (now : ℕ) (q : Dialog → Bool) (rows : List Row) → count_by q (known now (dialogs_in rows)) ≡ count_by (λ r. is_recent now r.1 && q (dialog r)) rows
+pub counted : (now : ℕ) (q : Dialog → Bool) (rows : List Row) → count_by q (known now (dialogs_in rows)) ≡ count_by (λ r. is_recent now r.1 && q (dialog r)) rows
 counted now q rows = count_filter q (is_known now) (dialogs_in rows) ∙ count_map (λ d. is_known now d && q d) dialog rows
 
 -- what stands at an index
@@ -49,6 +49,14 @@ and_between : (x y z : Bool) → (x && y && z) ≡ (y && (x && z))
 and_between true y z = refl
 and_between false true z = refl
 and_between false false z = refl
+
+-- lists that tests count the same of
+pub same_counts : (now : ℕ) (left right : List Dialog) → ((p : Dialog → Bool) → count_by p left ≡ count_by p right) → SameDialogs now left right
+same_counts now left right h = λ p. count_filter p (is_known now) left ∙ h (λ d. is_known now d && p d) ∙ sym (count_filter p (is_known now) right)
+
+-- rows that change places say the same
+pub swapped_same : (rows : List Row) (a b : ℕ) → a < length rows → b < length rows → (p : Dialog → Bool) → count_by p (dialogs_in (swap rows a b)) ≡ count_by p (dialogs_in rows)
+swapped_same rows a b inside_a inside_b = λ p. count_map p dialog (swap rows a b) ∙ count_swapped rows a b inside_a inside_b (λ r. p (dialog r)) ∙ sym (count_map p dialog rows)
 
 -- ---- whether a request is in a dialog
 
@@ -92,12 +100,6 @@ recent_there now rows id at s h e recent = record { stands = h; recent = ap (is_
 
 -- ---- rows that are taken out
 
-taken_out : (test : Row → Bool) (rows : List Row) (at : ℕ) (row other : Row) → slice_get rows at ≡ Some row → count_by test (swap_remove rows at other) + cond (test row) 1 0 ≡ count_by test rows
-taken_out test rows at row other h =
-    let is : get_or rows at other ≡ row = get_or_from_slice_get rows at row other h in
-    let here : cond (test (get_or rows at other)) 1 0 ≡ cond (test row) 1 0 = ap (λ (r : Row). cond {A = ℕ} (test r) 1 0) is in
-    omega (arith, sum_by-swap_remove (λ r. cond {A = ℕ} (test r) 1 0) rows at other (slice_get_within rows at row h), here)
-
 split_by : (p test : Row → Bool) (rows : List Row) → count_by test rows ≡ count_by (λ r. p r && test r) rows + count_by (λ r. not (p r) && test r) rows
 split_by p test [] = refl
 split_by p test (r ∷ rows) =
@@ -110,28 +112,21 @@ split_by p test (r ∷ rows) =
     by_tests false true = refl
     by_tests false false = refl
 
--- what the removal of a row left
-pub removed : {id : DialogId} {rows : List Row} {at : ℕ} (h : StandsAt id rows at) (new : List Row) (r : Option Row) → r ≡ slice_get rows at → IfSome r (λ other. new ≡ swap_remove rows at other) → new ≡ swap_remove rows at h.row
-removed {id} {rows} {at} h new r is e = by_result r (is ∙ h.there) e where
-  by_result : (r : Option Row) → r ≡ Some h.row → IfSome r (λ other. new ≡ swap_remove rows at other) → new ≡ swap_remove rows at h.row
-  by_result None is e = absurd (cc)
-  by_result (Some other) is e = let same : other ≡ h.row = cc in e ∙ ap (swap_remove rows at) same
-
 -- one that isn't known any more
-pub forgotten_same : (now : ℕ) (rows : List Row) (id : DialogId) (at : ℕ) (s : Standing) (other : Row) → StandsAt id rows at → slice_get (values_of rows) at ≡ Some s → is_recent now s ≡ false
-    → SameDialogs now (dialogs_in (swap_remove rows at other)) (dialogs_in rows)
-forgotten_same now rows id at s other h e past = λ p.
+pub forgotten_same : (now : ℕ) (rows new : List Row) (id : DialogId) (at : ℕ) (s : Standing) → StandsAt id rows at → slice_get (values_of rows) at ≡ Some s → is_recent now s ≡ false → IsTakenOut rows at new
+    → SameDialogs now (dialogs_in new) (dialogs_in rows)
+forgotten_same now rows new id at s h e past taken = λ p.
     let test : Row → Bool = λ r. is_recent now r.1 && p (dialog r) in
     let old : is_recent now h.row.1 ≡ false = ap (is_recent now) (standing_is h s e) ∙ past in
     let here : cond (test h.row) 1 0 ≡ 0 = ap (λ (b : Bool). cond {A = ℕ} (b && p (dialog h.row)) 1 0) old in
-    omega (arith, counted now p (swap_remove rows at other), counted now p rows, taken_out test rows at h.row other h.there, here)
+    omega (arith, counted now p new, counted now p rows, taken h.row h.there test, here)
 
 -- and then no row has its name
-pub forgotten_there : (rows : List Row) (id : DialogId) (at : ℕ) (other : Row) → StandsAt id rows at → StandsNowhere id (swap_remove rows at other)
-forgotten_there rows id at other h = record {
+pub forgotten_there : (rows new : List Row) (id : DialogId) (at : ℕ) → StandsAt id rows at → IsTakenOut rows at new → StandsNowhere id new
+forgotten_there rows new id at h taken = record {
   none = λ test.
       let here : cond (names id h.row.0 && test h.row) 1 0 ≡ cond (test h.row) 1 0 = ap (λ (b : Bool). cond {A = ℕ} (b && test h.row) 1 0) h.named in
-      omega (arith, taken_out (λ r. names id r.0 && test r) rows at h.row other h.there, h.alone test, here);
+      omega (arith, taken h.row h.there (λ r. names id r.0 && test r), h.alone test, here);
 }
 
 again : (x y : Bool) → (x && (x && y)) ≡ (x && y)
@@ -152,11 +147,11 @@ without_counts now rows id p =
     by_tests false true z = refl
     by_tests false false z = refl
 
-pub ended_same : (now : ℕ) (rows : List Row) (id : DialogId) (at : ℕ) (other : Row) → StandsAt id rows at
-    → SameDialogs now (dialogs_in (swap_remove rows at other)) (without_dialog now id (dialogs_in rows))
-ended_same now rows id at other h = λ p.
+pub ended_same : (now : ℕ) (rows new : List Row) (id : DialogId) (at : ℕ) → StandsAt id rows at → IsTakenOut rows at new
+    → SameDialogs now (dialogs_in new) (without_dialog now id (dialogs_in rows))
+ended_same now rows new id at h taken = λ p.
     let test : Row → Bool = λ r. is_recent now r.1 && p (dialog r) in
-    omega (arith, counted now p (swap_remove rows at other), without_counts now rows id p, taken_out test rows at h.row other h.there, split_by (λ r. names id r.0) test rows, h.alone test)
+    omega (arith, counted now p new, without_counts now rows id p, taken h.row h.there test, split_by (λ r. names id r.0) test rows, h.alone test)
 
 pub ended_none : (now : ℕ) (rows : List Row) (id : DialogId) → StandsNowhere id rows → SameDialogs now (dialogs_in rows) (without_dialog now id (dialogs_in rows))
 ended_none now rows id h = λ p.
@@ -165,16 +160,6 @@ ended_none now rows id h = λ p.
 
 -- ---- a pass over all
 
-filtered : (p q : Dialog → Bool) (rows : List Row) → dialogs_in (filter (λ r. p (dialog r) && q (dialog r)) rows) ≡ filter q (filter p (dialogs_in rows))
-filtered p q [] = refl
-filtered p q (r ∷ rows) = by_tests (p (dialog r)) (q (dialog r)) refl (filtered p q rows) where
-  by_tests : (x y : Bool) → q (dialog r) ≡ y → dialogs_in (filter (λ r. p (dialog r) && q (dialog r)) rows) ≡ filter q (filter p (dialogs_in rows))
-      → dialogs_in (cond (x && y) (r ∷ filter (λ r. p (dialog r) && q (dialog r)) rows) (filter (λ r. p (dialog r) && q (dialog r)) rows))
-      ≡ filter q (cond x (dialog r ∷ filter p (dialogs_in rows)) (filter p (dialogs_in rows)))
-  by_tests true true is e = rw is (ap (λ rest. dialog r ∷ rest) e)
-  by_tests true false is e = rw is e
-  by_tests false y is e = e
-
 pub forgotten : (now : ℕ) (rows : List Row) → dialogs_in (filter (λ r. is_recent now r.1) rows) ≡ known now (dialogs_in rows)
 forgotten now [] = refl
 forgotten now (r ∷ rows) = by_test (is_recent now r.1) (forgotten now rows) where
@@ -182,9 +167,6 @@ forgotten now (r ∷ rows) = by_test (is_recent now r.1) (forgotten now rows) wh
       → dialogs_in (cond b (r ∷ filter (λ r. is_recent now r.1) rows) (filter (λ r. is_recent now r.1) rows)) ≡ cond b (dialog r ∷ known now (dialogs_in rows)) (known now (dialogs_in rows))
   by_test true e = ap (λ rest. dialog r ∷ rest) e
   by_test false e = e
-
-pub left_by_invite : (now number : ℕ) (rows : List Row) → dialogs_in (filter (λ r. is_recent now r.1 && not (is_unconfirmed number (dialog r))) rows) ≡ after_invite now number (dialogs_in rows)
-left_by_invite now number rows = filtered (is_known now) (λ d. not (is_unconfirmed number d)) rows
 
 moved : (x y z : Bool) → (x && (y && z)) ≡ (y && (x && z))
 moved true y z = refl
@@ -370,11 +352,11 @@ full_is now id old new place same unknown is =
 -- what the insertion leaves
 pub learnt_from_begin : (now : ℕ) (a : InviteAnswer) (old met placed new : List Row) (r : Result (Unit {0}) DialogError)
     → SameDialogs now (dialogs_in met) (dialogs_in old) → SameDialogs now (dialogs_in placed) (dialogs_in met) → false ≡ knows now a.id (dialogs_in old)
-    → true ≡ not (nat_le 4096 (length (known now (dialogs_in met)))) → OnOk r (dialogs_in new ≡ dialogs_in placed ++ begun a ∷ [])
+    → true ≡ not (nat_le 4096 (length (known now (dialogs_in met)))) → OnOk r ((p : Dialog → Bool) → count_by p (dialogs_in new) ≡ count_by p (dialogs_in placed ++ begun a ∷ []))
     → OnOk r (SameDialogs now (dialogs_in new) (learnt now a (dialogs_in old)))
 learnt_from_begin now a old met placed new (Err e) same placed_same unknown place is = tt
 learnt_from_begin now a old met placed new (Ok u) same placed_same unknown place is =
-    subst (λ (ds : List Dialog). SameDialogs now ds (learnt now a (dialogs_in old))) (sym is)
+    dialogs_joined now _ _ _ (same_counts now (dialogs_in new) (dialogs_in placed ++ begun a ∷ []) is)
     (begun_same now a (dialogs_in old) (dialogs_in placed) (dialogs_joined now _ _ _ placed_same same) unknown (place_kept now (dialogs_in met) (dialogs_in placed) placed_same place))
 
 pub full_from_begin : (r : Result (Unit {0}) DialogError) (full : Bool) → full ≡ false → IfErr r (λ e. e ≡ NoMemory) → (r ≡ Err Full) ↔ (full ≡ true)

@@ -1,9 +1,10 @@
 -- The rows of a table of dialogs.
-use Rattle.std.specs.Prelude.{◌≡◌, ℕ, ◌-◌, Bool, true, ◌&&◌, nat_lt, List, map, count_by, slice_get, Some, if◌then◌else◌}
+use Rattle.std.specs.Prelude.{◌≡◌, ℕ, ◌+◌, ◌-◌, ◌<◌, ◌≤◌, Bool, true, false, ◌&&◌, nat_lt, List, length, map, count_by, get_or, slice_get, Some, if◌then◌else◌}
 use Rattle.sip_dialog.specs.declared.dialog.DialogId.{DialogId}
 use Rattle.sip_dialog.specs.declared.dialog.Dialog.{Dialog}
 use Rattle.sip_dialog.specs.declared.standing.Standing.{Standing}
 use Rattle.sip_dialog.specs.DialogId.{is_same_dialog}
+use Rattle.sip_dialog.specs.Dialogs.{is_unconfirmed}
 
 -- the dialog of a name and what is known of it
 abbrev pub dialog_of : DialogId → Standing → Dialog
@@ -36,3 +37,32 @@ pub record StandsNowhere (id : DialogId) (rows : List (DialogId × Standing)) : 
 pub record IsKnownAt (now : ℕ) (id : DialogId) (rows : List (DialogId × Standing)) (at : ℕ) : Type 0 where
   pub stands : StandsAt id rows at
   pub recent : is_recent now stands.row.1 ≡ true
+
+-- at an index and behind it every row is of a dialog with a 2xx
+abbrev pub HaveSuccessFrom : ℕ → List (DialogId × Standing) → Type 0
+HaveSuccessFrom early rows = (at : ℕ) (d : DialogId × Standing) → early ≤ at → at < length rows → (get_or rows at d).1.has_success ≡ true
+
+-- the rows of a table, and how many more can be put in with no memory
+pub record Entries : Type 0 where
+  pub entries : List (DialogId × Standing)
+  pub room : ℕ
+
+-- so many rows stand in front, and behind them all are of dialogs with a 2xx
+pub record IsFront (early : ℕ) (rows : List (DialogId × Standing)) : Type 0 where
+  pub within : early ≤ length rows
+  pub success : HaveSuccessFrom early rows
+
+-- at an index and behind it no row is of a dialog of an INVITE without a 2xx
+abbrev pub NoneUnconfirmedFrom : ℕ → ℕ → List (DialogId × Standing) → Type 0
+NoneUnconfirmedFrom number start rows = (at : ℕ) (d : DialogId × Standing) → start ≤ at → at < length rows → is_unconfirmed number (dialog_of d.0 (get_or rows at d).1) ≡ false
+
+-- the row at an index was taken out, and no other: tests count all of the others as before
+abbrev pub IsTakenOut : List (DialogId × Standing) → ℕ → List (DialogId × Standing) → Type 0
+IsTakenOut old at new = (row : DialogId × Standing) → slice_get old at ≡ Some row → (test : DialogId × Standing → Bool) → count_by test new + (if test row then 1 else 0) ≡ count_by test old
+
+-- what stands at an index now stood behind another
+pub record StoodBehind (old : List (DialogId × Standing)) (at : ℕ) (new : List (DialogId × Standing)) (k : ℕ) : Type 0 where
+  pub from : ℕ
+  pub behind : at < from
+  pub within : from < length old
+  pub same : (d : DialogId × Standing) → get_or new k d ≡ get_or old from d

@@ -5,9 +5,7 @@ ghost use Rattle.sip_dialog.specs.Sameness.{SameDialogs};
 
 use crate::dialog::{DialogId, InviteAnswer};
 use crate::error::DialogError;
-use crate::rows::{self, Rows};
-use indexmap::IndexMap;
-use sip_hasher::Keyed;
+use crate::rows::Rows;
 use sip_header::host::Addr;
 use std::alloc::Global;
 use std::marker::Model;
@@ -26,13 +24,12 @@ impl Model for Dialogs {
 
     ghost Value = { Table };
 
-    ghost use Rattle.std.specs.Prelude.{◌≤◌};
-    ghost use Rattle.indexmap.specs.IndexMap.{index_map_len, spare};
+    ghost use Rattle.std.specs.Prelude.{◌≤◌, length};
     ghost use Rattle.sip_dialog.specs.Rows.{dialogs_in};
 
-    ghost view = { λ d. record { dialogs = dialogs_in d.rows.entries; room = spare d.rows } };
+    ghost view = { λ d. record { dialogs = dialogs_in d.rows.entries; room = d.rows.room } };
 
-    ghost invariant = { λ d. index_map_len d.rows ≤ 4096 };
+    ghost invariant = { λ d. length d.rows.entries ≤ 4096 };
 }
 
 impl Dialogs {
@@ -41,7 +38,7 @@ impl Dialogs {
         ensures { result.dialogs ≡ [] }
     {
         Dialogs {
-            rows: IndexMap::with_hasher(alloc, Keyed::new(keys)),
+            rows: Rows::new(alloc, keys),
         }
     }
 
@@ -50,7 +47,7 @@ impl Dialogs {
     pub fn allows(&self, id: &DialogId, address: Addr, now: u64) -> bool
         ensures { result ≡ is_in_dialog now self.now.dialogs id.now address }
     {
-        rows::allows(&self.rows, id, address, now)
+        self.rows.allows(id, address, now)
     }
 
     /// Makes room for one more dialog, so that the next `learn` isn't refused for want of memory. `NoMemory`
@@ -61,7 +58,7 @@ impl Dialogs {
         ensures err { IfErr result (λ e. e ≡ NoMemory) }
         ensures room { self.old.room ≤ self.new.room }
     {
-        self.rows.reserve(1)?;
+        self.rows.reserve()?;
         Ok(())
     }
 
@@ -75,7 +72,7 @@ impl Dialogs {
         ensures memory { 1 ≤ self.old.room → result ≢ Err NoMemory }
         ensures room { self.old.room ≤ self.new.room + 1 }
     {
-        rows::learn(&mut self.rows, answer, now)
+        self.rows.learn(answer, now)
     }
 
     /// Tells the dialog of a name, if it is known, the addresses that an answer gives which was forwarded.
@@ -84,7 +81,7 @@ impl Dialogs {
         ensures taught { SameDialogs now self.new.dialogs (taught now id.now addresses.now self.old.dialogs) }
         ensures room { self.old.room ≤ self.new.room }
     {
-        rows::teach(&mut self.rows, id, addresses, now);
+        self.rows.teach(id, addresses, now);
     }
 
     /// Renews the dialog of a name, if it is known, by a request of it that was forwarded, and tells it the
@@ -93,7 +90,7 @@ impl Dialogs {
         ensures renewed { SameDialogs now self.new.dialogs (renewed now id.now addresses.now self.old.dialogs) }
         ensures room { self.old.room ≤ self.new.room }
     {
-        rows::renew(&mut self.rows, id, addresses, now);
+        self.rows.renew(id, addresses, now);
     }
 
     /// Ends the dialog of a name, at whichever moment: a 2xx to a BYE of it was forwarded (RFC 3261 15).
@@ -102,7 +99,7 @@ impl Dialogs {
         ensures ended { (now : ℕ) → SameDialogs now self.new.dialogs (without_dialog now id.now self.old.dialogs) }
         ensures room { self.old.room ≤ self.new.room }
     {
-        rows::end(&mut self.rows, id);
+        self.rows.end(id);
     }
 
     /// Ends the dialogs of an INVITE to which no 2xx was forwarded, once it left the open requests (RFC 3261
@@ -111,6 +108,6 @@ impl Dialogs {
         ensures left { SameDialogs now self.new.dialogs (after_invite now number self.old.dialogs) }
         ensures room { self.old.room ≤ self.new.room }
     {
-        rows::expire(&mut self.rows, number, now);
+        self.rows.expire(number, now);
     }
 }

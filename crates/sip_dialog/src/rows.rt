@@ -1,9 +1,9 @@
-ghost use Rattle.std.specs.Prelude.{◌≡◌, ◌≤◌, ◌<◌, ◌+◌, ◌++◌, ◌∷◌, [], true, not, length, MatchOption, ℕ, ◌&&◌, ◌==◌, is_some, IfSome, IfNone, IfErr, Err, nat_le, ◌↔◌, ◌≢◌, OnOk, OnErr, IsOk};
-ghost use Rattle.indexmap.specs.IndexMap.{index_map_len, spare};
+ghost use Rattle.std.specs.Prelude.{◌≡◌, ◌≤◌, ◌<◌, ◌+◌, ◌++◌, ◌∷◌, [], Bool, true, not, length, count_by, MatchOption, ℕ, ◌==◌, is_some, IfSome, IfNone, IfErr, Err, nat_le, ◌↔◌, ◌≢◌, OnOk, OnErr, IsOk};
 ghost use Rattle.sip_dialog.specs.declared.error.DialogError.TheVariants.{NoMemory, Full};
 ghost use Rattle.sip_dialog.specs.Dialogs.{known, knows, is_in_dialog, learnt, taught, renewed, is_full_for, begun, after_invite, without_dialog};
 ghost use Rattle.sip_dialog.specs.declared.dialog.DialogId.{DialogId};
-ghost use Rattle.sip_dialog.specs.Rows.{dialogs_in, is_recent, StandsAt, StandsNowhere, IsKnownAt};
+ghost use Rattle.sip_dialog.specs.declared.dialog.Dialog.{Dialog};
+ghost use Rattle.sip_dialog.specs.Rows.{dialogs_in, is_recent, StandsAt, StandsNowhere, IsKnownAt, IsTakenOut, StoodBehind};
 ghost use Rattle.sip_dialog.specs.Sameness.{SameDialogs};
 
 use crate::dialog::{DialogId, InviteAnswer};
@@ -12,162 +12,249 @@ use crate::standing::Standing;
 use indexmap::IndexMap;
 use sip_hasher::Keyed;
 use sip_header::host::Addr;
-
-/// The dialogs that stand in a table, by their names.
-pub(crate) type Rows = IndexMap<DialogId, Standing, Keyed>;
+use std::alloc::{AllocError, Global};
+use std::marker::Model;
 
 /// How many dialogs are known at most.
 const KNOWN: usize = 4096;
 
-/// Where the row of a name stands.
-fn find(rows: &Rows, id: &DialogId) -> Option<usize>
-    ensures { MatchOption result (StandsNowhere id.now rows.now.entries) (StandsAt id.now rows.now.entries) }
-{
-    rows.get_index_of(id)
+/// The dialogs that stand in a table, by their names: those without a 2xx in front, so that these alone are
+/// looked at where an INVITE leaves the open requests. Seen as all of them, in any order, and how many more can
+/// be put in with no memory.
+#[derive(Drop)]
+pub(crate) struct Rows {
+    map: IndexMap<DialogId, Standing, Keyed>,
+    /// How many stand in front: behind them all have a 2xx.
+    early: usize,
 }
 
-/// Whether a request is in a dialog that is known.
-pub(crate) fn allows(rows: &Rows, id: &DialogId, address: Addr, now: u64) -> bool
-    ensures { result ≡ is_in_dialog now (dialogs_in rows.now.entries) id.now address }
-{
-    match find(rows, id) {
-        Some(at) => rows[at].allows(address, now),
-        None => false,
+impl Model for Rows {
+    ghost use Rattle.sip_dialog.specs.Rows.{Entries};
+
+    ghost Value = { Entries };
+
+    ghost use Rattle.indexmap.specs.IndexMap.{spare};
+    ghost use Rattle.sip_dialog.specs.Rows.{IsFront};
+
+    ghost view = { λ r. record { entries = r.map.entries; room = spare r.map } };
+
+    ghost invariant = { λ r. IsFront r.early r.map.entries };
+}
+
+impl Rows {
+    /// No rows. Names are hashed under the secret `keys`.
+    pub(crate) fn new(alloc: Global, keys: u128) -> Self
+        ensures { result.entries ≡ [] }
+    {
+        Rows {
+            map: IndexMap::with_hasher(alloc, Keyed::new(keys)),
+            early: 0,
+        }
     }
-}
 
-/// Where the row of a dialog stands, if the dialog is known. A row that isn't known any more is forgotten.
-fn meet(rows: &mut Rows, id: &DialogId, now: u64) -> Option<usize>
-    ensures known { is_some result ≡ knows now id.now (dialogs_in rows.old.entries) }
-    ensures same { SameDialogs now (dialogs_in rows.new.entries) (dialogs_in rows.old.entries) }
-    ensures met { IfSome result (IsKnownAt now id.now rows.new.entries) }
-    ensures within { IfSome result (λ at. at < index_map_len rows.new) }
-    ensures unmet { IfNone result (StandsNowhere id.now rows.new.entries) }
-    ensures len { index_map_len rows.new ≤ index_map_len rows.old }
-    ensures room { spare rows.old ≤ spare rows.new }
-{
-    let at = match find(rows, id) {
-        Some(at) => at,
-        None => return None,
-    };
-    if rows[at].is_recent(now) {
-        return Some(at);
+    /// Makes room for one more row.
+    pub(crate) fn reserve(&mut self) -> Result<(), AllocError>
+        ensures entries { self.new.entries ≡ self.old.entries }
+        ensures ok { OnOk result (1 ≤ self.new.room) }
+        ensures room { self.old.room ≤ self.new.room }
+    {
+        self.map.reserve(1)
     }
-    let _forgotten = rows.swap_remove_index(at);
-    None
-}
 
-/// Tells the dialog of a name addresses, if it is known.
-pub(crate) fn teach(rows: &mut Rows, id: &DialogId, addresses: &[Addr], now: u64)
-    ensures taught { SameDialogs now (dialogs_in rows.new.entries) (taught now id.now addresses.now (dialogs_in rows.old.entries)) }
-    ensures len { index_map_len rows.new ≤ index_map_len rows.old }
-    ensures room { spare rows.old ≤ spare rows.new }
-{
-    if let Some(at) = meet(rows, id, now) {
-        rows[at].tell(addresses);
+    /// Where the row of a name stands.
+    fn find(&self, id: &DialogId) -> Option<usize>
+        ensures { MatchOption result (StandsNowhere id.now self.now.entries) (StandsAt id.now self.now.entries) }
+    {
+        self.map.get_index_of(id)
     }
-}
 
-/// Renews the dialog of a name, if it is known, and tells it addresses.
-pub(crate) fn renew(rows: &mut Rows, id: &DialogId, addresses: &[Addr], now: u64)
-    ensures renewed { SameDialogs now (dialogs_in rows.new.entries) (renewed now id.now addresses.now (dialogs_in rows.old.entries)) }
-    ensures len { index_map_len rows.new ≤ index_map_len rows.old }
-    ensures room { spare rows.old ≤ spare rows.new }
-{
-    if let Some(at) = meet(rows, id, now) {
-        rows[at].renew(addresses, now);
+    /// Takes a row out. The last of those in front takes the place of one of them, and the last of all the place
+    /// that is free then.
+    fn take_out(&mut self, at: usize)
+        requires { at < length self.old.entries }
+        ensures taken { IsTakenOut self.old.entries at self.new.entries }
+        ensures behind { (k : ℕ) → at ≤ k → k < length self.new.entries → StoodBehind self.old.entries at self.new.entries k }
+        ensures len { length self.new.entries + 1 ≡ length self.old.entries }
+        ensures room { self.old.room ≤ self.new.room }
+    {
+        if at >= self.early {
+            let _taken = self.map.swap_remove_index(at);
+            return;
+        }
+        self.early -= 1;
+        let last = self.early;
+        self.map.swap_indices(at, last);
+        let _early = self.map.swap_remove_index(last);
     }
-}
 
-/// Takes the dialog of a name out.
-pub(crate) fn end(rows: &mut Rows, id: &DialogId)
-    ensures ended { (now : ℕ) → SameDialogs now (dialogs_in rows.new.entries) (without_dialog now id.now (dialogs_in rows.old.entries)) }
-    ensures len { index_map_len rows.new ≤ index_map_len rows.old }
-    ensures room { spare rows.old ≤ spare rows.new }
-{
-    if let Some(at) = find(rows, id) {
-        let _ended = rows.swap_remove_index(at);
+    /// Puts a row that has a 2xx behind those without.
+    fn settle(&mut self, at: usize)
+        requires { at < length self.old.entries }
+        ensures same { (p : Dialog → Bool) → count_by p (dialogs_in self.new.entries) ≡ count_by p (dialogs_in self.old.entries) }
+        ensures len { length self.new.entries ≡ length self.old.entries }
+        ensures room { self.old.room ≤ self.new.room }
+    {
+        if at < self.early && self.map[at].has_success {
+            self.early -= 1;
+            self.map.swap_indices(at, self.early);
+        }
     }
-}
 
-/// Takes the dialogs of an INVITE out to which no 2xx was forwarded, and those that aren't known any more.
-pub(crate) fn expire(rows: &mut Rows, number: u64, now: u64)
-    ensures left { dialogs_in rows.new.entries ≡ after_invite now number (dialogs_in rows.old.entries) }
-    ensures len { index_map_len rows.new ≤ index_map_len rows.old }
-    ensures room { spare rows.old ≤ spare rows.new }
-{
-    rows.retain(
-        |_id: &DialogId, row: &mut Standing| -> bool
-            ensures { (result ≡ (is_recent now row.old && not (row.old.number == number && not row.old.has_success))) × (row.new ≡ row.old) }
-        { row.is_recent(now) && !(row.number == number && !row.has_success) },
-    );
-}
-
-/// Forgets the dialogs that aren't known any more.
-fn forget(rows: &mut Rows, now: u64)
-    ensures known { dialogs_in rows.new.entries ≡ known now (dialogs_in rows.old.entries) }
-    ensures absent { (id : DialogId) → StandsNowhere id rows.old.entries → StandsNowhere id rows.new.entries }
-    ensures len { index_map_len rows.new ≤ index_map_len rows.old }
-    ensures room { spare rows.old ≤ spare rows.new }
-{
-    rows.retain(
-        |_id: &DialogId, row: &mut Standing| -> bool
-            ensures { (result ≡ is_recent now row.old) × (row.new ≡ row.old) }
-        { row.is_recent(now) },
-    );
-}
-
-/// Whether one more dialog may become known. Only where as many rows stand as may be known, a pass over all
-/// forgets those that aren't known any more.
-fn has_place(rows: &mut Rows, now: u64) -> bool
-    requires { index_map_len rows.old ≤ 4096 }
-    ensures place { result ≡ not (nat_le 4096 (length (known now (dialogs_in rows.old.entries)))) }
-    ensures same { SameDialogs now (dialogs_in rows.new.entries) (dialogs_in rows.old.entries) }
-    ensures nowhere { (id : DialogId) → StandsNowhere id rows.old.entries → StandsNowhere id rows.new.entries }
-    ensures few { result ≡ true → index_map_len rows.new < 4096 }
-    ensures len { index_map_len rows.new ≤ index_map_len rows.old }
-    ensures room { spare rows.old ≤ spare rows.new }
-{
-    if rows.len() < KNOWN {
-        return true;
+    /// Whether a request is in a dialog that is known.
+    pub(crate) fn allows(&self, id: &DialogId, address: Addr, now: u64) -> bool
+        ensures { result ≡ is_in_dialog now (dialogs_in self.now.entries) id.now address }
+    {
+        match self.find(id) {
+            Some(at) => self.map[at].allows(address, now),
+            None => false,
+        }
     }
-    forget(rows, now);
-    rows.len() < KNOWN
-}
 
-/// Makes a dialog known that no row has. Of want of memory it says `NoMemory`, and leaves the rows.
-fn begin(rows: &mut Rows, answer: InviteAnswer) -> Result<(), DialogError>
-    requires { StandsNowhere answer.id rows.old.entries }
-    ensures ok { OnOk result (dialogs_in rows.new.entries ≡ dialogs_in rows.old.entries ++ begun answer ∷ []) }
-    ensures len { OnOk result (index_map_len rows.new ≡ index_map_len rows.old + 1) }
-    ensures err { OnErr result (rows.new.entries ≡ rows.old.entries) }
-    ensures memory { IfErr result (λ e. e ≡ NoMemory) }
-    ensures room { 1 ≤ spare rows.old → IsOk result }
-    ensures left { spare rows.old ≤ spare rows.new + 1 }
-{
-    let (id, standing) = Standing::begin(answer);
-    match rows.insert(id, standing) {
-        Ok(_none) => Ok(()),
-        Err(_refused) => Err(DialogError::NoMemory),
+    /// Where the row of a dialog stands, if the dialog is known. A row that isn't known any more is forgotten.
+    fn meet(&mut self, id: &DialogId, now: u64) -> Option<usize>
+        ensures known { is_some result ≡ knows now id.now (dialogs_in self.old.entries) }
+        ensures same { SameDialogs now (dialogs_in self.new.entries) (dialogs_in self.old.entries) }
+        ensures met { IfSome result (IsKnownAt now id.now self.new.entries) }
+        ensures within { IfSome result (λ at. at < length self.new.entries) }
+        ensures unmet { IfNone result (StandsNowhere id.now self.new.entries) }
+        ensures len { length self.new.entries ≤ length self.old.entries }
+        ensures room { self.old.room ≤ self.new.room }
+    {
+        let at = match self.find(id) {
+            Some(at) => at,
+            None => return None,
+        };
+        if self.map[at].is_recent(now) {
+            return Some(at);
+        }
+        self.take_out(at);
+        None
     }
-}
 
-/// Learns from an answer to an INVITE: of the dialog of its name, or that there is one more.
-pub(crate) fn learn(rows: &mut Rows, answer: InviteAnswer, now: u64) -> Result<(), DialogError>
-    requires { index_map_len rows.old ≤ 4096 }
-    ensures ok { OnOk result (SameDialogs now (dialogs_in rows.new.entries) (learnt now answer (dialogs_in rows.old.entries))) }
-    ensures err { OnErr result (SameDialogs now (dialogs_in rows.new.entries) (dialogs_in rows.old.entries)) }
-    ensures full { (result ≡ Err Full) ↔ (is_full_for now answer.id (dialogs_in rows.old.entries) ≡ true) }
-    ensures room { 1 ≤ spare rows.old → result ≢ Err NoMemory }
-    ensures left { spare rows.old ≤ spare rows.new + 1 }
-    ensures len { index_map_len rows.new ≤ 4096 }
-{
-    if let Some(at) = meet(rows, &answer.id, now) {
-        rows[at].answer_again(&answer);
-        return Ok(());
+    /// Tells the dialog of a name addresses, if it is known.
+    pub(crate) fn teach(&mut self, id: &DialogId, addresses: &[Addr], now: u64)
+        ensures taught { SameDialogs now (dialogs_in self.new.entries) (taught now id.now addresses.now (dialogs_in self.old.entries)) }
+        ensures len { length self.new.entries ≤ length self.old.entries }
+        ensures room { self.old.room ≤ self.new.room }
+    {
+        if let Some(at) = self.meet(id, now) {
+            self.map[at].tell(addresses);
+        }
     }
-    if !has_place(rows, now) {
-        return Err(DialogError::Full);
+
+    /// Renews the dialog of a name, if it is known, and tells it addresses.
+    pub(crate) fn renew(&mut self, id: &DialogId, addresses: &[Addr], now: u64)
+        ensures renewed { SameDialogs now (dialogs_in self.new.entries) (renewed now id.now addresses.now (dialogs_in self.old.entries)) }
+        ensures len { length self.new.entries ≤ length self.old.entries }
+        ensures room { self.old.room ≤ self.new.room }
+    {
+        if let Some(at) = self.meet(id, now) {
+            self.map[at].renew(addresses, now);
+        }
     }
-    begin(rows, answer)
+
+    /// Takes the dialog of a name out.
+    pub(crate) fn end(&mut self, id: &DialogId)
+        ensures ended { (now : ℕ) → SameDialogs now (dialogs_in self.new.entries) (without_dialog now id.now (dialogs_in self.old.entries)) }
+        ensures len { length self.new.entries ≤ length self.old.entries }
+        ensures room { self.old.room ≤ self.new.room }
+    {
+        if let Some(at) = self.find(id) {
+            self.take_out(at);
+        }
+    }
+
+    /// Takes the dialogs of an INVITE out to which no 2xx was forwarded.
+    pub(crate) fn expire(&mut self, number: u64, now: u64)
+        ensures left { SameDialogs now (dialogs_in self.new.entries) (after_invite now number (dialogs_in self.old.entries)) }
+        ensures len { length self.new.entries ≤ length self.old.entries }
+        ensures room { self.old.room ≤ self.new.room }
+    {
+        let mut at = self.early;
+        while at > 0 {
+            at -= 1;
+            if self.map[at].is_unconfirmed(number) {
+                self.take_out(at);
+            }
+        }
+    }
+
+    /// Forgets the dialogs that aren't known any more.
+    fn forget(&mut self, now: u64)
+        ensures known { dialogs_in self.new.entries ≡ known now (dialogs_in self.old.entries) }
+        ensures absent { (id : DialogId) → StandsNowhere id self.old.entries → StandsNowhere id self.new.entries }
+        ensures len { length self.new.entries ≤ length self.old.entries }
+        ensures room { self.old.room ≤ self.new.room }
+    {
+        self.map.retain(
+            |_id: &DialogId, row: &mut Standing| -> bool
+                ensures { (result ≡ is_recent now row.old) × (row.new ≡ row.old) }
+            { row.is_recent(now) },
+        );
+        self.early = self.early.min(self.map.len());
+    }
+
+    /// Whether one more dialog may become known. Only where as many rows stand as may be known, a pass over all
+    /// forgets those that aren't known any more.
+    fn has_place(&mut self, now: u64) -> bool
+        requires { length self.old.entries ≤ 4096 }
+        ensures place { result ≡ not (nat_le 4096 (length (known now (dialogs_in self.old.entries)))) }
+        ensures same { SameDialogs now (dialogs_in self.new.entries) (dialogs_in self.old.entries) }
+        ensures nowhere { (id : DialogId) → StandsNowhere id self.old.entries → StandsNowhere id self.new.entries }
+        ensures few { result ≡ true → length self.new.entries < 4096 }
+        ensures len { length self.new.entries ≤ length self.old.entries }
+        ensures room { self.old.room ≤ self.new.room }
+    {
+        if self.map.len() < KNOWN {
+            return true;
+        }
+        self.forget(now);
+        self.map.len() < KNOWN
+    }
+
+    /// Makes a dialog known that no row has. Of want of memory it says `NoMemory`, and leaves the rows.
+    fn begin(&mut self, answer: InviteAnswer) -> Result<(), DialogError>
+        requires { StandsNowhere answer.id self.old.entries }
+        ensures ok { OnOk result ((p : Dialog → Bool) → count_by p (dialogs_in self.new.entries) ≡ count_by p (dialogs_in self.old.entries ++ begun answer ∷ [])) }
+        ensures len { OnOk result (length self.new.entries ≡ length self.old.entries + 1) }
+        ensures err { OnErr result (self.new.entries ≡ self.old.entries) }
+        ensures memory { IfErr result (λ e. e ≡ NoMemory) }
+        ensures room { 1 ≤ self.old.room → IsOk result }
+        ensures left { self.old.room ≤ self.new.room + 1 }
+    {
+        let last = self.map.len();
+        let is_success = answer.is_success;
+        let (id, standing) = Standing::begin(answer);
+        match self.map.insert(id, standing) {
+            Ok(_none) => {
+                if !is_success {
+                    self.map.swap_indices(self.early, last);
+                    self.early += 1;
+                }
+                Ok(())
+            }
+            Err(_refused) => Err(DialogError::NoMemory),
+        }
+    }
+
+    /// Learns from an answer to an INVITE: of the dialog of its name, or that there is one more.
+    pub(crate) fn learn(&mut self, answer: InviteAnswer, now: u64) -> Result<(), DialogError>
+        requires { length self.old.entries ≤ 4096 }
+        ensures ok { OnOk result (SameDialogs now (dialogs_in self.new.entries) (learnt now answer (dialogs_in self.old.entries))) }
+        ensures err { OnErr result (SameDialogs now (dialogs_in self.new.entries) (dialogs_in self.old.entries)) }
+        ensures full { (result ≡ Err Full) ↔ (is_full_for now answer.id (dialogs_in self.old.entries) ≡ true) }
+        ensures room { 1 ≤ self.old.room → result ≢ Err NoMemory }
+        ensures left { self.old.room ≤ self.new.room + 1 }
+        ensures len { length self.new.entries ≤ 4096 }
+    {
+        if let Some(at) = self.meet(&answer.id, now) {
+            self.map[at].answer_again(&answer);
+            self.settle(at);
+            return Ok(());
+        }
+        if !self.has_place(now) {
+            return Err(DialogError::Full);
+        }
+        self.begin(answer)
+    }
 }

@@ -2,7 +2,7 @@ ghost use Rattle.std.specs.Prelude.{◌≡◌, ◌&&◌};
 ghost use Rattle.std.specs.List.{list_any};
 ghost use Rattle.sip_dialog.specs.declared.dialog.DialogId.{DialogId};
 ghost use Rattle.sip_dialog.specs.Addresses.{is_same_addr};
-ghost use Rattle.sip_dialog.specs.Dialogs.{told, answered_again, begun};
+ghost use Rattle.sip_dialog.specs.Dialogs.{told, answered_again, begun, is_unconfirmed};
 ghost use Rattle.sip_dialog.specs.Rows.{dialog_of, is_recent};
 
 use crate::addresses::Addresses;
@@ -50,6 +50,13 @@ impl Standing {
         ensures { result ≡ is_recent now self.now }
     {
         now.saturating_sub(self.since) < LIFE
+    }
+
+    /// Whether the dialog is one of an INVITE to which no 2xx was forwarded.
+    pub(crate) fn is_unconfirmed(&self, number: u64) -> bool
+        ensures { (id : DialogId) → result ≡ is_unconfirmed number (dialog_of id self.now) }
+    {
+        self.number == number && !self.has_success
     }
 
     /// Whether a request to this address is in the dialog.
