@@ -1,12 +1,14 @@
 -- A step leads on from a state that steps lead to, and is one for a moment that goes back.
-use Rattle.std.proofs.Common.{◌≡◌, ◌∙◌, ◌≤◌, inl, inr, ℕ, List, ◌∷◌, Result, Ok, Err, IfOk, OnErr, refl, sym, subst}
+use Rattle.std.proofs.Common.{◌≡◌, ◌∙◌, ◌≤◌, ◌⊎◌, inl, inr, ℕ, List, ◌∷◌, Result, Ok, Err, IfOk, OnErr, refl, sym, subst}
 use Rattle.std.proofs.Math.Nat.{le-max_left, max-eq_right}
 use Rattle.sip_firing.specs.proxy.event.declared.event.StepOut.{StepOut}
 use Rattle.sip_firing.specs.proxy.host.declared.addr.Addr.{Addr}
 use Rattle.sip_firing.specs.proxy.model.Effect.{datagram_effect}
-use Rattle.sip_firing.specs.proxy.model.Step.{Act, Does, Passing, IsDelivery, IsQuiet, IsStep, IsTime, NoneAgainBy, NoneBy, arrival_of, moment_of}
+use Rattle.sip_firing.specs.proxy.model.Step.{Act, Does, Passing, IsDeadline, IsDelivery, IsQuiet, IsResend, IsStep, IsTime, NoneAgainBy, NoneBy, arrival_of, moment_of}
 use Rattle.sip_firing.specs.proxy.state.declared.proxy_state.ProxyState.{ProxyState}
 use Rattle.sip_firing.specs.proxy.state.declared.server.Server.{Server}
+use Rattle.sip_firing.specs.proxy.timers.declared.timer.Timer.{Timer}
+use Rattle.sip_firing.specs.Timers.{IsFiredFirst, IsOfTimer}
 use Rattle.sip_engine.specs.Engine.{IsReached}
 use Rattle.sip_engine.specs.declared.error.StepError.{StepError}
 
@@ -38,36 +40,53 @@ quiet_for server old new at out quiet =
       does = quiet.does;
     }
 
+-- so is a deadline that passes
+abbrev deadline_for : (server : Server) (old new : ProxyState) (at : ℕ) (out : StepOut) → IsDeadline server old (moment_of old at) out new → IsDeadline server old at out new
+deadline_for server old new at out due = record {
+  request = due.request;
+  change = due.change;
+  is_open = due.is_open;
+  passes = due.passes;
+  is_due = subst (λ (n : ℕ). out.at ≤ n) (moment_again old at) due.is_due;
+  is_first = due.is_first;
+  none_again = due.none_again;
+  does = due.does;
+}
+
+-- and something that goes again
+abbrev resend_for : (server : Server) (old new : ProxyState) (at : ℕ) (out : StepOut) → IsResend server old (moment_of old at) out new → IsResend server old at out new
+resend_for server old new at out goes = record {
+  request = goes.request;
+  packets = goes.packets;
+  next = goes.next;
+  is_open = goes.is_open;
+  goes = goes.goes;
+  is_due = subst (λ (n : ℕ). out.at ≤ n) (moment_again old at) goes.is_due;
+  is_first = goes.is_first;
+  none_again = goes.none_again;
+  does = goes.does;
+}
+
 -- a step of time up to a moment that counts as the last one is one up to the moment that was given
 pub passes_for : (server : Server) (old new : ProxyState) (at : ℕ) (out : StepOut) → IsStep server old (Passing (moment_of old at)) out new → IsStep server old (Passing at) out new
 passes_for server old new at out (inl quiet) = inl (quiet_for server old new at out quiet)
-passes_for server old new at out (inr (inl due)) =
-    inr
-    (inl
-    record {
-      request = due.request;
-      change = due.change;
-      is_open = due.is_open;
-      passes = due.passes;
-      is_due = subst (λ (n : ℕ). out.at ≤ n) (moment_again old at) due.is_due;
-      is_first = due.is_first;
-      none_again = due.none_again;
-      does = due.does;
-    })
-passes_for server old new at out (inr (inr goes)) =
-    inr
-    (inr
-    record {
-      request = goes.request;
-      packets = goes.packets;
-      next = goes.next;
-      is_open = goes.is_open;
-      goes = goes.goes;
-      is_due = subst (λ (n : ℕ). out.at ≤ n) (moment_again old at) goes.is_due;
-      is_first = goes.is_first;
-      none_again = goes.none_again;
-      does = goes.does;
-    })
+passes_for server old new at out (inr (inl due)) = inr (inl (deadline_for server old new at out due))
+passes_for server old new at out (inr (inr goes)) = inr (inr (resend_for server old new at out goes))
+
+-- so is one of what is due
+pub happens_for : (server : Server) (old new : ProxyState) (at : ℕ) (out : StepOut) → IsDeadline server old (moment_of old at) out new ⊎ IsResend server old (moment_of old at) out new
+    → IsDeadline server old at out new ⊎ IsResend server old at out new
+happens_for server old new at out (inl due) = inl (deadline_for server old new at out due)
+happens_for server old new at out (inr goes) = inr (resend_for server old new at out goes)
+
+-- and of the same timer
+fired_for : (server : Server) (old new : ProxyState) (at : ℕ) (out : StepOut) (timers later : List Timer) (timer : Timer) → timers ≡ timer ∷ later → out.at ≡ timer.due
+    → (happens : IsDeadline server old (moment_of old at) out new ⊎ IsResend server old (moment_of old at) out new) → IsOfTimer timer happens → IsFiredFirst server timers old at out new
+fired_for server old new at out timers later timer stands due (inl d) its = record { timer = timer; later = later; stands = stands; at_due = due; happens = inl (deadline_for server old new at out d); is_its = its }
+fired_for server old new at out timers later timer stands due (inr g) its = record { timer = timer; later = later; stands = stands; at_due = due; happens = inr (resend_for server old new at out g); is_its = its }
+
+pub first_for : (server : Server) (old new : ProxyState) (at : ℕ) (out : StepOut) (timers : List Timer) → IsFiredFirst server timers old (moment_of old at) out new → IsFiredFirst server timers old at out new
+first_for server old new at out timers h = fired_for server old new at out timers h.later h.timer h.stands h.at_due h.happens h.is_its
 
 pub time_for : (server : Server) (old new : ProxyState) (at : ℕ) (out : StepOut) → IsTime server old (moment_of old at) out new → IsTime server old at out new
 time_for server old new at out h =

@@ -1,10 +1,11 @@
-ghost use Rattle.std.specs.Prelude.{◌≡◌, ◌≤◌, ◌<◌, ◌^◌, ℕ, [], max, None, Some, Err, MatchOption, IsOk, IfOk, IfErr, IfSome, OnErr};
+ghost use Rattle.std.specs.Prelude.{◌≡◌, ◌≤◌, ◌<◌, ◌^◌, ◌⊎◌, ℕ, [], max, None, Some, Err, MatchOption, IsOk, IfOk, IfErr, IfSome, OnErr};
 ghost use Rattle.sip_firing.specs.proxy.event.declared.event.Event.TheVariants.{Datagram, Fault};
 ghost use Rattle.sip_firing.specs.Faults.{failed_of};
 ghost use Rattle.sip_firing.specs.Next.{IsNext};
+ghost use Rattle.sip_firing.specs.Timers.{IsFiredFirst};
 ghost use Rattle.sip_firing.specs.proxy.fork.Due.{IsNothingDue};
 ghost use Rattle.sip_firing.specs.proxy.location.Binding.{live};
-ghost use Rattle.sip_firing.specs.proxy.model.Step.{Given, Passing, IsStep, IsTime, NoneAgainBefore, NoneAgainBy, NoneBefore, NoneBy, moment_of};
+ghost use Rattle.sip_firing.specs.proxy.model.Step.{Given, Passing, IsDeadline, IsResend, IsStep, IsTime, NoneAgainBefore, NoneAgainBy, NoneBefore, NoneBy, moment_of};
 ghost use Rattle.sip_firing.specs.proxy.state.State.{first_state};
 ghost use Rattle.sip_engine.specs.Engine.{IsReached};
 ghost use Rattle.sip_engine.specs.StepError.{refusal_at, refusal_of};
@@ -112,8 +113,9 @@ impl<T: Timers, R: Rules> Engine<T, R> {
         self.proxy.bindings(aor)
     }
 
-    /// Does the first that is due by a moment in milliseconds, in a step at its own moment; with nothing due the moment comes
-    /// alone, and no memory is asked for. A moment that goes back counts as the last one. Refused with `MomentTooLarge` from
+    /// Does the first that is due by a moment in milliseconds, in a step at its own moment: a deadline passes, or something
+    /// goes again; of what is due at one moment, what a timer was set for first. With nothing due the moment comes alone, and
+    /// no memory is asked for. A moment that goes back counts as the last one. Refused with `MomentTooLarge` from
     /// 2^62, and with `NoMemory`; nothing is changed then.
     pub fn fire(&mut self, at: u64) -> Result<StepOut, StepError>
         ensures refused { IfSome (refusal_at at) (λ e. result ≡ Err e) }
@@ -123,6 +125,8 @@ impl<T: Timers, R: Rules> Engine<T, R> {
         ensures server { self.new.server ≡ self.old.server }
         ensures step { IfOk result (λ out. IsStep self.old.server self.old.state (Passing at) out self.new.state) }
         ensures waited { NoneBy (moment_of self.old.state at) self.old.state.requests → NoneAgainBy (moment_of self.old.state at) self.old.state.requests → IfOk result (λ out. IsTime self.old.server self.old.state at out self.new.state) }
+        ensures happens { (due : ℕ) → IsNext self.old.state.requests due → due ≤ moment_of self.old.state at → IfOk result (λ out. IsDeadline self.old.server self.old.state at out self.new.state ⊎ IsResend self.old.server self.old.state at out self.new.state) }
+        ensures in_order { (due : ℕ) → IsNext self.old.state.requests due → due ≤ moment_of self.old.state at → IfOk result (λ out. IsFiredFirst self.old.server self.old.timers self.old.state at out self.new.state) }
         ensures at_first { (due : ℕ) → IsNext self.old.state.requests due → due ≤ moment_of self.old.state at → IfOk result (λ out. out.at ≡ due) }
         ensures at_moment { IfOk result (λ out. out.at ≡ self.new.state.moment) }
         ensures in_time { IfOk result (λ out. out.at ≤ moment_of self.old.state at) }

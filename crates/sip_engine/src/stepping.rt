@@ -1,8 +1,9 @@
-ghost use Rattle.std.specs.Prelude.{◌≡◌, ◌≤◌, ◌<◌, ◌^◌, ℕ, false, None, Err, IsOk, IfOk, IfErr, IfSome, OnErr};
+ghost use Rattle.std.specs.Prelude.{◌≡◌, ◌≤◌, ◌<◌, ◌^◌, ◌⊎◌, ℕ, false, None, Err, IsOk, IfOk, IfErr, IfSome, OnErr};
 ghost use Rattle.sip_firing.specs.proxy.event.declared.event.Event.TheVariants.{Datagram, Fault};
 ghost use Rattle.sip_firing.specs.Faults.{failed_of};
 ghost use Rattle.sip_firing.specs.Next.{IsNext};
-ghost use Rattle.sip_firing.specs.proxy.model.Step.{Given, Passing, IsStep, IsTime, NoneAgainBefore, NoneAgainBy, NoneBefore, NoneBy, moment_of};
+ghost use Rattle.sip_firing.specs.Timers.{IsFiredFirst};
+ghost use Rattle.sip_firing.specs.proxy.model.Step.{Given, Passing, IsDeadline, IsResend, IsStep, IsTime, NoneAgainBefore, NoneAgainBy, NoneBefore, NoneBy, moment_of};
 ghost use Rattle.sip_engine.specs.Engine.{IsReached};
 ghost use Rattle.sip_engine.specs.StepError.{is_too_large, refusal_at, refusal_of};
 ghost use Rattle.sip_engine.specs.declared.error.StepError.TheVariants.{NoMemory};
@@ -56,6 +57,8 @@ pub(crate) fn fire<T: Timers, R: Rules>(
     ensures timers { OnErr result (proxy.new.timers ≡ proxy.old.timers) }
     ensures step { IfOk result (λ out. IsStep judge.now proxy.old.state (Passing at) out proxy.new.state) }
     ensures waited { NoneBy (moment_of proxy.old.state at) proxy.old.state.requests → NoneAgainBy (moment_of proxy.old.state at) proxy.old.state.requests → IfOk result (λ out. IsTime judge.now proxy.old.state at out proxy.new.state) }
+    ensures happens { (due : ℕ) → IsNext proxy.old.state.requests due → due ≤ moment_of proxy.old.state at → IfOk result (λ out. IsDeadline judge.now proxy.old.state at out proxy.new.state ⊎ IsResend judge.now proxy.old.state at out proxy.new.state) }
+    ensures in_order { (due : ℕ) → IsNext proxy.old.state.requests due → due ≤ moment_of proxy.old.state at → IfOk result (λ out. IsFiredFirst judge.now proxy.old.timers proxy.old.state at out proxy.new.state) }
     ensures at_first { (due : ℕ) → IsNext proxy.old.state.requests due → due ≤ moment_of proxy.old.state at → IfOk result (λ out. out.at ≡ due) }
     ensures at_moment { IfOk result (λ out. out.at ≡ proxy.new.state.moment) }
     ensures in_time { IfOk result (λ out. out.at ≤ moment_of proxy.old.state at) }

@@ -4,6 +4,7 @@ use Rattle.std.specs.Option.{unwrap_or}
 use Rattle.std.specs.declared.alloc.AllocError.{AllocError}
 use Rattle.sip_proxy.specs.Drafts.{IsDrafted}
 use Rattle.sip_proxy.specs.declared.drafting.Draft.{Draft}
+use Rattle.sip_proxy.specs.fork.declared.due.Due.{Due}
 use Rattle.sip_proxy.specs.fork.keeping.Keeping.{IsKeptAs, IsOf}
 use Rattle.sip_proxy.specs.hops.declared.host_address.HostAddress.{HostAddress}
 use Rattle.sip_proxy.specs.inputs.declared.input.Input.{Input}
@@ -13,7 +14,7 @@ use Rattle.sip_proxy.specs.retransmission.Retransmission.{answer_due, branch_due
 use Rattle.sip_proxy.specs.state.declared.branch.Branch.{Branch}
 use Rattle.sip_proxy.specs.state.declared.open_request.OpenRequest.{OpenRequest}
 use Rattle.sip_proxy.specs.state.declared.server.Server.{Server}
-use Rattle.sip_firing.specs.Steps.{IsBranchDue, IsDueAs, IsFired}
+use Rattle.sip_firing.specs.Steps.{IsBranchDue, IsDueAs, IsFired, IsOfPart}
 use Rattle.sip_firing.proofs.Lists.{contained}
 
 -- ---- what is due, as an input
@@ -54,13 +55,13 @@ module _ (rows : List HostAddress) (server : Server) (now : ℕ) where
   abbrev pub IsDraftAt : List OpenRequest → ℕ → Input → Draft → Type 0
   IsDraftAt requests place input draft = (r : OpenRequest) → slice_get requests place ≡ Some r → IsDrafted rows server now r input draft
 
-  pub draft_fired : (requests : List OpenRequest) (place : ℕ) (x : OpenRequest) (input : Input) (result : Result Draft AllocError) → slice_get requests place ≡ Some x → IsDueAs x now input
-      → IfOk result (IsDraftAt requests place input) → IfOk result (λ draft. (r : OpenRequest) → slice_get requests place ≡ Some r → IsFired rows server now r draft)
-  draft_fired requests place x input (Ok draft) here due h = λ r at.
+  pub draft_fired : (what : Due) (requests : List OpenRequest) (place : ℕ) (x : OpenRequest) (input : Input) (result : Result Draft AllocError) → slice_get requests place ≡ Some x → IsDueAs x now input
+      → IsOfPart x what input → IfOk result (IsDraftAt requests place input) → IfOk result (λ draft. (r : OpenRequest) → slice_get requests place ≡ Some r → IsFired rows server now what r draft)
+  draft_fired what requests place x input (Ok draft) here due part h = λ r at.
       let drafted : IsDrafted rows server now x input draft = h x here in
-      let fired : IsFired rows server now x draft = record { input = input; is_due = due; drafted = drafted } in
-      subst (λ (v : OpenRequest). IsFired rows server now v draft) (read_twice requests place x r here at) fired
-  draft_fired requests place x input (Err e) here due h = tt
+      let fired : IsFired rows server now what x draft = record { input = input; is_due = due; is_part = part; drafted = drafted } in
+      subst (λ (v : OpenRequest). IsFired rows server now what v draft) (read_twice requests place x r here at) fired
+  draft_fired what requests place x input (Err e) here due part h = tt
 
   pub draft_kept : (requests : List OpenRequest) (place : ℕ) (input : Input) (result : Result Draft AllocError) → IfOk result (IsDraftAt requests place input)
       → IfOk result (λ draft. (r : OpenRequest) → slice_get requests place ≡ Some r → IsKeptAs now r draft.change)

@@ -4,7 +4,7 @@ use Rattle.std.specs.declared.alloc.AllocError.{AllocError}
 use Rattle.sip_event.specs.declared.event.StepOut.{StepOut}
 use Rattle.sip_event.specs.declared.packet.Packet.{Packet}
 use Rattle.sip_proxy.specs.declared.drafting.Draft.{Draft}
-use Rattle.sip_proxy.specs.fork.Due.{IsFirst}
+use Rattle.sip_proxy.specs.fork.Due.{IsFirst, IsOfFirst}
 use Rattle.sip_proxy.specs.fork.declared.due.First.{First}
 use Rattle.sip_proxy.specs.hops.declared.host_address.HostAddress.{HostAddress}
 use Rattle.sip_proxy.specs.learning.declared.lesson.Lesson.{Lesson}
@@ -13,9 +13,11 @@ use Rattle.sip_proxy.specs.model.Step.{IsDeadline, IsQuiet, IsResend, moment_of}
 use Rattle.sip_proxy.specs.state.declared.open_request.OpenRequest.{OpenRequest}
 use Rattle.sip_proxy.specs.state.declared.proxy_state.ProxyState.{ProxyState}
 use Rattle.sip_proxy.specs.state.declared.server.Server.{Server}
+use Rattle.sip_proxy.specs.timers.declared.timer.Timer.{Timer}
 use Rattle.sip_firing.specs.Steps.{IsFired, Leaves}
+use Rattle.sip_firing.specs.Timers.{IsFiredFirst}
 use Rattle.sip_firing.proofs.Lists.{at_place, contained}
-use Rattle.sip_firing.proofs.Steps.{fired_done}
+use Rattle.sip_firing.proofs.Steps.{IsDone, fired_done}
 
 -- a step at a moment is no earlier than what that moment is no earlier than
 pub no_earlier_than : (moment due : ℕ) (result : Result StepOut AllocError) → moment ≤ due → IfOk result (λ out. out.at ≡ due) → IfOk result (λ out. moment ≤ out.at)
@@ -43,20 +45,43 @@ module _ (now : ℕ) (packets : List Packet) (requests : List OpenRequest) (less
   left_next (Ok out) l = l.becomes.next_is
   left_next (Err e) l = tt
 
-module _ (server : Server) (old new : ProxyState) where
+module _ (server : Server) (old new : ProxyState) (timers : List Timer) where
+  -- what was done of what is due first is what its timer is set for
+  fires_first : (at : ℕ) (out : StepOut) (first : First) → IsOfFirst timers old.requests first → out.at ≡ first.due → (r : OpenRequest) → slice_get old.requests first.place ≡ Some r
+      → IsDone server old at out new r first.what → IsFiredFirst server timers old at out new
+  fires_first at out first of stands r there done = record {
+    timer = of.timer;
+    later = of.later;
+    stands = of.stands;
+    at_due = stands ∙ of.due;
+    happens = done.0;
+    is_its = done.1 of.timer (of.request r there) (of.part r there);
+  }
+
   pub first_done : (rows : List HostAddress) (first : First) (draft : Draft) (result : Result StepOut AllocError) → rows ≡ server.config.addresses → IsFirst old.requests first
-      → ((r : OpenRequest) → slice_get old.requests first.place ≡ Some r → IsFired rows server first.due r draft)
+      → IsOfFirst timers old.requests first → ((r : OpenRequest) → slice_get old.requests first.place ≡ Some r → IsFired rows server first.due first.what r draft)
       → IfLeft first.due draft.drafted.packets (replaced draft.change old.requests) draft.drafted.lessons old new result
-      → IfOk result (λ out. (now : ℕ) → first.due ≤ now → IsDeadline server old now out new ⊎ IsResend server old now out new)
-  first_done rows first draft (Ok out) known f fired l = λ now le.
+      → IfOk result (λ out. (now : ℕ) → first.due ≤ now → IsFiredFirst server timers old now out new)
+  first_done rows first draft (Ok out) known f of fired l = λ now le.
       let found : (r : OpenRequest) × (slice_get old.requests first.place ≡ Some r) = at_place old.requests first.place f.within in
       let by : first.due ≤ moment_of old now = omega (arith, le) in
-      fired_done server first.due now old out new rows found.0 draft known (fired found.0 found.1) l (contained old.requests first.place found.0 found.1) by f.none_before f.none_again
-  first_done rows first draft (Err e) known f fired l = tt
+      fires_first now out first of l.at_moment found.0 found.1
+      (fired_done server now old out new rows known first.what found.0 draft first.due (fired found.0 found.1) l (contained old.requests first.place found.0 found.1) by f.none_before f.none_again)
+  first_done rows first draft (Err e) known f of fired l = tt
 
   -- what is due by a moment is a step up to it
-  pub first_step : (due now : ℕ) (result : Result StepOut AllocError) → due ≤ now
-      → IfOk result (λ out. (at : ℕ) → due ≤ at → IsDeadline server old at out new ⊎ IsResend server old at out new)
+  pub first_step : (due now : ℕ) (result : Result StepOut AllocError) → due ≤ now → IfOk result (λ out. (at : ℕ) → due ≤ at → IsFiredFirst server timers old at out new)
       → IfOk result (λ out. IsQuiet server old now out new ⊎ (IsDeadline server old now out new ⊎ IsResend server old now out new))
-  first_step due now (Ok out) le done = inr (done now le)
+  first_step due now (Ok out) le done = inr (done now le).happens
   first_step due now (Err e) le done = tt
+
+  -- and is done
+  pub first_happens : (due now : ℕ) (result : Result StepOut AllocError) → due ≤ now → IfOk result (λ out. (at : ℕ) → due ≤ at → IsFiredFirst server timers old at out new)
+      → IfOk result (λ out. IsDeadline server old now out new ⊎ IsResend server old now out new)
+  first_happens due now (Ok out) le done = (done now le).happens
+  first_happens due now (Err e) le done = tt
+
+  pub first_in_order : (due now : ℕ) (result : Result StepOut AllocError) → due ≤ now → IfOk result (λ out. (at : ℕ) → due ≤ at → IsFiredFirst server timers old at out new)
+      → IfOk result (λ out. IsFiredFirst server timers old now out new)
+  first_in_order due now (Ok out) le done = done now le
+  first_in_order due now (Err e) le done = tt

@@ -12,6 +12,8 @@ use Rattle.sip_proxy.specs.declared.drafting.Draft.{Draft}
 use Rattle.sip_proxy.specs.dialog.Sameness.{SameDialogs}
 use Rattle.sip_proxy.specs.dialog.Dialogs.{after_invite}
 use Rattle.sip_proxy.specs.dialog.declared.dialog.Dialog.{Dialog}
+use Rattle.sip_proxy.specs.fork.Due.{IsOfOwner}
+use Rattle.sip_proxy.specs.fork.declared.due.Due.{Due}
 use Rattle.sip_proxy.specs.forwarding.Forwarding.{AreSent, Teach}
 use Rattle.sip_proxy.specs.hops.declared.host_address.HostAddress.{HostAddress}
 use Rattle.sip_proxy.specs.inputs.declared.input.Input.{Input}
@@ -35,7 +37,9 @@ use Rattle.sip_proxy.specs.state.declared.open_request.Side.TheVariants.{Answeri
 use Rattle.sip_proxy.specs.state.declared.proxy_state.ProxyState.{ProxyState}
 use Rattle.sip_proxy.specs.state.declared.resend.Resend.{Resend}
 use Rattle.sip_proxy.specs.state.declared.server.Server.{Server}
-use Rattle.sip_firing.specs.Steps.{IsDraftOf, IsDueAs, IsFired, Leaves}
+use Rattle.sip_proxy.specs.timers.declared.timer.Timer.{Timer}
+use Rattle.sip_firing.specs.Steps.{IsDraftOf, IsDueAs, IsFired, IsOfPart, Leaves}
+use Rattle.sip_firing.specs.Timers.{IsOfTimer}
 
 -- ---- what goes again stays open
 
@@ -207,63 +211,79 @@ module _ (server : Server) (due at : ℕ) (old : ProxyState) (out : StepOut) (ne
         does = subst (λ (n : ℕ). Does server old n (nothing (record old { moment = n })) out new) is (nothing_done server due old out new l);
       }
 
-  deadline_done : (r : OpenRequest) (change : Change) → out.at ≡ due → Contains old.requests r → IsOverdue server due r change → Does server old due (changed server due old change) out new
-      → due ≤ moment_of old at → NoneBefore due old.requests → NoneAgainBefore due old.requests → IsDeadline server old at out new
-  deadline_done r change stands there passes does by none again =
-      let is : due ≡ out.at = sym stands in
-      record {
-        request = r;
-        change = change;
-        is_open = there;
-        passes = subst (λ (n : ℕ). IsOverdue server n r change) is passes;
-        is_due = subst (λ (n : ℕ). n ≤ moment_of old at) is by;
-        is_first = subst (λ (n : ℕ). NoneBefore n old.requests) is none;
-        none_again = subst (λ (n : ℕ). NoneAgainBefore n old.requests) is again;
-        does = subst (λ (n : ℕ). Does server old n (changed server n old change) out new) is does;
-      }
+-- what happened of an open request as this of it was due, and that it is of each timer that names the request and the part
+abbrev pub IsDone : Server → ProxyState → ℕ → StepOut → ProxyState → OpenRequest → Due → Type 0
+IsDone server old at out new r what =
+    (happens : IsDeadline server old at out new ⊎ IsResend server old at out new) × ((timer : Timer) → r.number ≡ timer.name.request → IsOfOwner r timer.name.owner what → IsOfTimer timer happens)
 
-  resent_done : (r : OpenRequest) (packets : List Packet) (next : OpenRequest) → out.at ≡ due → Contains old.requests r → IsResent server due r packets next
-      → Does server old due (resent due old packets next) out new → due ≤ moment_of old at → NoneBefore due old.requests → NoneAgainBefore due old.requests → IsResend server old at out new
-  resent_done r packets next stands there goes does by none again =
-      let is : due ≡ out.at = sym stands in
-      record {
-        request = r;
-        packets = packets;
-        next = next;
-        is_open = there;
-        goes = subst (λ (n : ℕ). IsResent server n r packets next) is goes;
-        is_due = subst (λ (n : ℕ). n ≤ moment_of old at) is by;
-        is_first = subst (λ (n : ℕ). NoneBefore n old.requests) is none;
-        none_again = subst (λ (n : ℕ). NoneAgainBefore n old.requests) is again;
-        does = subst (λ (n : ℕ). Does server old n (resent n old packets next) out new) is does;
-      }
+module _ (server : Server) (at : ℕ) (old : ProxyState) (out : StepOut) (new : ProxyState) (rows : List HostAddress) (known : rows ≡ server.config.addresses) (what : Due) (r : OpenRequest) (draft : Draft) where
+  fired_then : IsFired rows server out.at what r draft → LeavesDraft server out.at old out new draft → Contains old.requests r → out.at ≤ moment_of old at → NoneBefore out.at old.requests
+      → NoneAgainBefore out.at old.requests → IsDone server old at out new r what
+  fired_then fired l there by none again = by_input fired.input fired.is_due fired.is_part fired.drafted where
+    by_input : (input : Input) → IsDueAs r out.at input → IsOfPart r what input → IsDrafted rows server out.at r input draft → IsDone server old at out new r what
+    by_input (Response branch status response) is part d = absurd is
+    by_input (BranchDeadline branch) is part d =
+        let passed : IsDeadline server old at out new = record {
+          request = r;
+          change = overdue server out.at r branch.now;
+          is_open = there;
+          passes = OfBranch branch.now is.there is.is;
+          is_due = by;
+          is_first = none;
+          none_again = again;
+          does = change_done server out.at old out new rows (overdue server out.at r branch.now) draft known (record { request = d.request; sent = d.drafted.sent; lessons = d.drafted.lessons }) l;
+        } in
+        (inl passed, λ timer number of. (number, part timer.name.owner of))
+    by_input SideDeadline is part d =
+        let passed : IsDeadline server old at out new = record {
+          request = r;
+          change = side_overdue server out.at r;
+          is_open = there;
+          passes = OfSide is;
+          is_due = by;
+          is_first = none;
+          none_again = again;
+          does = change_done server out.at old out new rows (side_overdue server out.at r) draft known (record { request = d.request; sent = d.drafted.sent; lessons = d.drafted.lessons }) l;
+        } in
+        (inl passed, λ timer number of. (number, part timer.name.owner of))
+    by_input (SendFault branch) is part d = absurd is
+    by_input Cancel is part d = absurd is
+    by_input Ack is part d = absurd is
+    by_input (BranchAgain branch) is part d =
+        let gone : IsResend server old at out new = record {
+          request = r;
+          packets = branch_packets server true r branch.now;
+          next = with_resend branch.now r;
+          is_open = there;
+          goes = OfRequest branch.now is.there is.is;
+          is_due = by;
+          is_first = none;
+          none_again = again;
+          does = resend_done server out.at old out new rows (branch_packets server true r branch.now) (with_resend branch.now r) draft known d.request d.drafted.sent d.drafted.lessons
+              (branch_stays r branch.now out.at is.there is.is) l;
+        } in
+        (inr gone, λ timer number of. (number, part timer.name.owner of))
+    by_input AnswerAgain is part d =
+        let gone : IsResend server old at out new = record {
+          request = r;
+          packets = answers_again r r.answer;
+          next = record r { again = answer_next r };
+          is_open = there;
+          goes = OfAnswer is;
+          is_due = by;
+          is_first = none;
+          none_again = again;
+          does = resend_done server out.at old out new rows (answers_again r r.answer) (record r { again = answer_next r }) draft known d.request d.drafted.sent d.drafted.lessons
+              (answer_stays r out.at is) l;
+        } in
+        (inr gone, λ timer number of. (number, part timer.name.owner of))
 
-  pub fired_done : (rows : List HostAddress) (r : OpenRequest) (draft : Draft) → rows ≡ server.config.addresses → IsFired rows server due r draft → LeavesDraft server due old out new draft
-      → Contains old.requests r → due ≤ moment_of old at → NoneBefore due old.requests → NoneAgainBefore due old.requests → IsDeadline server old at out new ⊎ IsResend server old at out new
-  fired_done rows r draft known fired l there by none again = by_input fired.input fired.is_due fired.drafted where
-    by_input : (input : Input) → IsDueAs r due input → IsDrafted rows server due r input draft → IsDeadline server old at out new ⊎ IsResend server old at out new
-    by_input (Response branch status response) is d = absurd is
-    by_input (BranchDeadline branch) is d =
-        inl
-        (deadline_done r (overdue server due r branch.now) l.at_moment there (OfBranch branch.now is.there is.is)
-        (change_done server due old out new rows (overdue server due r branch.now) draft known (record { request = d.request; sent = d.drafted.sent; lessons = d.drafted.lessons }) l) by none again)
-    by_input SideDeadline is d =
-        inl
-        (deadline_done r (side_overdue server due r) l.at_moment there (OfSide is)
-        (change_done server due old out new rows (side_overdue server due r) draft known (record { request = d.request; sent = d.drafted.sent; lessons = d.drafted.lessons }) l) by none again)
-    by_input (SendFault branch) is d = absurd is
-    by_input Cancel is d = absurd is
-    by_input Ack is d = absurd is
-    by_input (BranchAgain branch) is d =
-        inr
-        (resent_done r (branch_packets server true r branch.now) (with_resend branch.now r) l.at_moment there (OfRequest branch.now is.there is.is)
-        (resend_done server due old out new rows (branch_packets server true r branch.now) (with_resend branch.now r) draft known d.request d.drafted.sent d.drafted.lessons
-        (branch_stays r branch.now due is.there is.is) l) by none again)
-    by_input AnswerAgain is d =
-        inr
-        (resent_done r (answers_again r r.answer) (record r { again = answer_next r }) l.at_moment there (OfAnswer is)
-        (resend_done server due old out new rows (answers_again r r.answer) (record r { again = answer_next r }) draft known d.request d.drafted.sent d.drafted.lessons
-        (answer_stays r due is) l) by none again)
+  pub fired_done : (due : ℕ) → IsFired rows server due what r draft → LeavesDraft server due old out new draft → Contains old.requests r → due ≤ moment_of old at → NoneBefore due old.requests
+      → NoneAgainBefore due old.requests → IsDone server old at out new r what
+  fired_done due fired l =
+      subst
+      (λ (n : ℕ). IsFired rows server n what r draft → LeavesDraft server n old out new draft → Contains old.requests r → n ≤ moment_of old at → NoneBefore n old.requests → NoneAgainBefore n old.requests
+      → IsDone server old at out new r what) l.at_moment fired_then fired l
 
 -- time that passed up to a moment by which nothing is due
 pub time_done : (server : Server) (now : ℕ) (old : ProxyState) (out : StepOut) (new : ProxyState) → Leaves now [] old.requests [] old out new → old.moment ≤ now → NoneBy now old.requests

@@ -1,4 +1,5 @@
 pub mod Faults
 pub mod Next
 pub mod Steps
+pub mod Timers
 pub use Rattle.sip_proxy.specs as proxy

@@ -1,11 +1,13 @@
 -- What a step without a datagram is made of.
-use Rattle.std.specs.Prelude.{ℕ, ◌≡◌, List, [], Contains, Option, Some}
+use Rattle.std.specs.Prelude.{ℕ, ◌≡◌, true, List, [], Contains, Option, Some}
 use Rattle.sip_event.specs.declared.event.StepOut.{StepOut}
 use Rattle.sip_event.specs.declared.packet.Packet.{Packet}
 use Rattle.sip_proxy.specs.Drafts.{IsDrafted}
 use Rattle.sip_proxy.specs.Proxy.{Becomes}
 use Rattle.sip_proxy.specs.context.Branches.{Change}
 use Rattle.sip_proxy.specs.declared.drafting.Draft.{Draft}
+use Rattle.sip_proxy.specs.fork.Due.{IsOfOwner, is_of}
+use Rattle.sip_proxy.specs.fork.declared.due.Due.{Due}
 use Rattle.sip_proxy.specs.forwarding.Forwarding.{AreSent, Teach}
 use Rattle.sip_proxy.specs.hops.declared.host_address.HostAddress.{HostAddress}
 use Rattle.sip_proxy.specs.inputs.declared.input.Input.{Input}
@@ -18,6 +20,8 @@ use Rattle.sip_proxy.specs.state.declared.branch.Branch.{Branch}
 use Rattle.sip_proxy.specs.state.declared.open_request.OpenRequest.{OpenRequest}
 use Rattle.sip_proxy.specs.state.declared.proxy_state.ProxyState.{ProxyState}
 use Rattle.sip_proxy.specs.state.declared.server.Server.{Server}
+use Rattle.sip_proxy.specs.timers.declared.timer.Owner.{Owner}
+use Rattle.sip_proxy.specs.timers.declared.timer.Owner.TheVariants as Of
 
 -- At its moment a step put out these packets and no record; it left these open requests, of the dialogs what these lessons make of them, and all else as it was.
 pub record Leaves (now : ℕ) (packets : List Packet) (requests : List OpenRequest) (lessons : List Lesson) (old : ProxyState) (out : StepOut) (new : ProxyState) : Type 0 where
@@ -48,8 +52,24 @@ IsDueAs r due Ack = ⊥
 IsDueAs r due (BranchAgain branch) = IsBranchDue (branch_due r) r.branches branch.now due
 IsDueAs r due AnswerAgain = answer_due r ≡ Some due
 
+-- an input is of the part of an open request whose timers have this owner
+abbrev pub IsInputOf : Owner → Input → Type 0
+IsInputOf owner (Response branch status response) = ⊥
+IsInputOf owner (BranchDeadline branch) = is_of owner branch.now ≡ true
+IsInputOf owner SideDeadline = owner ≡ Of.Server
+IsInputOf owner (SendFault branch) = ⊥
+IsInputOf owner Cancel = ⊥
+IsInputOf owner Ack = ⊥
+IsInputOf owner (BranchAgain branch) = is_of owner branch.now ≡ true
+IsInputOf owner AnswerAgain = owner ≡ Of.Server
+
+-- an input is of the part of which this is due
+abbrev pub IsOfPart : OpenRequest → Due → Input → Type 0
+IsOfPart r what input = (owner : Owner) → IsOfOwner r owner what → IsInputOf owner input
+
 -- What was drafted of an open request is what it does by which is due of it.
-pub record IsFired (rows : List HostAddress) (server : Server) (due : ℕ) (r : OpenRequest) (draft : Draft) : Type 0 where
+pub record IsFired (rows : List HostAddress) (server : Server) (due : ℕ) (what : Due) (r : OpenRequest) (draft : Draft) : Type 0 where
   pub input : Input
   pub is_due : IsDueAs r due input
+  pub is_part : IsOfPart r what input
   pub drafted : IsDrafted rows server due r input draft

@@ -3,7 +3,7 @@ ghost use Rattle.sip_proxy.specs.fork.Due.{IsDue, IsFirst};
 ghost use Rattle.sip_proxy.specs.fork.keeping.Keeping.{IsKeptAs};
 ghost use Rattle.sip_proxy.specs.learning.Lessons.{beginnings};
 ghost use Rattle.sip_proxy.specs.state.declared.open_request.OpenRequest.{OpenRequest};
-ghost use Rattle.sip_firing.specs.Steps.{IsDueAs, IsFired};
+ghost use Rattle.sip_firing.specs.Steps.{IsDueAs, IsFired, IsOfPart};
 
 use sip_proxy::fork::{Due, First};
 use sip_proxy::hops::Hops;
@@ -24,7 +24,8 @@ pub(crate) fn branch_of(call: &OpenRequest, branch: usize) -> &Branch
 /// What is due of an open request, as an input to it.
 fn input_of<'a>(call: &'a OpenRequest, first: First) -> Input<'a>
     requires { IsDue call.now first.due first.what }
-    ensures { IsDueAs call.now first.due result }
+    ensures due { IsDueAs call.now first.due result }
+    ensures part { IsOfPart call.now first.what result }
 {
     match first.what {
         Due::AnswerAgain => Input::AnswerAgain,
@@ -49,7 +50,7 @@ pub(crate) fn draft_first<T: Timers>(
     requires first { IsFirst proxy.now.state.requests first }
     requires later { proxy.now.state.moment ≤ first.due }
     requires small { first.due < 2 ^ 62 }
-    ensures fired { IfOk result (λ draft. (r : OpenRequest) → slice_get proxy.now.state.requests first.place ≡ Some r → IsFired hops.now.addresses server.now first.due r draft) }
+    ensures fired { IfOk result (λ draft. (r : OpenRequest) → slice_get proxy.now.state.requests first.place ≡ Some r → IsFired hops.now.addresses server.now first.due first.what r draft) }
     ensures kept { IfOk result (λ draft. (r : OpenRequest) → slice_get proxy.now.state.requests first.place ≡ Some r → IsKeptAs first.due r draft.change) }
     ensures few { IfOk result (λ draft. beginnings draft.drafted.lessons ≤ 1) }
 {

@@ -1,7 +1,8 @@
 ghost use Rattle.std.specs.Prelude.{◌≡◌, ◌≤◌, ◌<◌, ◌^◌, ◌⊎◌, ℕ, IsOk, IfOk, OnErr};
-ghost use Rattle.sip_proxy.specs.fork.Due.{IsFirst};
+ghost use Rattle.sip_proxy.specs.fork.Due.{IsFirst, IsOfFirst};
 ghost use Rattle.sip_proxy.specs.model.Step.{IsDeadline, IsResend, IsStep, IsTime, NoneAgainBefore, NoneAgainBy, NoneBefore, NoneBy, Passing};
 ghost use Rattle.sip_firing.specs.Next.{IsNext};
+ghost use Rattle.sip_firing.specs.Timers.{IsFiredFirst};
 
 use crate::drafting::draft_first;
 use crate::next::due_by;
@@ -24,10 +25,11 @@ fn fire_first<T: Timers>(
     first: First,
 ) -> Result<StepOut, AllocError>
     requires first { IsFirst proxy.old.state.requests first }
+    requires in_order { IsOfFirst proxy.old.timers proxy.old.state.requests first }
     requires later { proxy.old.state.moment ≤ first.due }
     requires small { first.due < 2 ^ 62 }
     requires rows { hops.now.addresses ≡ server.now.config.addresses }
-    ensures step { IfOk result (λ out. (now : ℕ) → first.due ≤ now → IsDeadline server.now proxy.old.state now out proxy.new.state ⊎ IsResend server.now proxy.old.state now out proxy.new.state) }
+    ensures step { IfOk result (λ out. (now : ℕ) → first.due ≤ now → IsFiredFirst server.now proxy.old.timers proxy.old.state now out proxy.new.state) }
     ensures at_first { IfOk result (λ out. out.at ≡ first.due) }
     ensures at_moment { IfOk result (λ out. out.at ≡ proxy.new.state.moment) }
     ensures next_stays { IfOk result (λ out. proxy.new.state.next ≡ proxy.old.state.next) }
@@ -39,8 +41,9 @@ fn fire_first<T: Timers>(
 }
 
 /// What is due first by a moment in milliseconds happens, in a step at its own moment: a deadline of the answering side or
-/// of a branch passes, or the last answer, or what a branch sends, goes again (RFC 3261 17, 16.8). Where nothing is due by
-/// then, time passes up to that moment, and no memory is taken. `AllocError` is the only refusal; nothing is changed then.
+/// of a branch passes, or the last answer, or what a branch sends, goes again (RFC 3261 17, 16.8); of what is due at one
+/// moment, what a timer was set for first. Where nothing is due by then, time passes up to that moment, and no memory is
+/// taken. `AllocError` is the only refusal; nothing is changed then.
 pub fn fire<T: Timers>(
     alloc: Global,
     server: &Server,
@@ -56,6 +59,8 @@ pub fn fire<T: Timers>(
     ensures step { IfOk result (λ out. IsStep server.now proxy.old.state (Passing now) out proxy.new.state) }
     ensures waited { NoneBy now proxy.old.state.requests → NoneAgainBy now proxy.old.state.requests → IfOk result (λ out. IsTime server.now proxy.old.state now out proxy.new.state) }
     ensures never_refused { NoneBy now proxy.old.state.requests → NoneAgainBy now proxy.old.state.requests → IsOk result }
+    ensures happens { (due : ℕ) → IsNext proxy.old.state.requests due → due ≤ now → IfOk result (λ out. IsDeadline server.now proxy.old.state now out proxy.new.state ⊎ IsResend server.now proxy.old.state now out proxy.new.state) }
+    ensures in_order { (due : ℕ) → IsNext proxy.old.state.requests due → due ≤ now → IfOk result (λ out. IsFiredFirst server.now proxy.old.timers proxy.old.state now out proxy.new.state) }
     ensures fired { (due : ℕ) → IsNext proxy.old.state.requests due → due ≤ now → IfOk result (λ out. out.at ≡ due) }
     ensures at_moment { IfOk result (λ out. out.at ≡ proxy.new.state.moment) }
     ensures no_earlier { IfOk result (λ out. proxy.old.state.moment ≤ out.at) }

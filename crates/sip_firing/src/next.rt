@@ -1,5 +1,5 @@
 ghost use Rattle.std.specs.Prelude.{◌≤◌, MatchOption, IfSome, IfNone};
-ghost use Rattle.sip_proxy.specs.fork.Due.{IsFirst, IsNothingDue};
+ghost use Rattle.sip_proxy.specs.fork.Due.{IsFirst, IsNothingDue, IsOfFirst};
 ghost use Rattle.sip_proxy.specs.model.Step.{NoneBy, NoneAgainBy};
 ghost use Rattle.sip_firing.specs.Next.{IsNext};
 
@@ -21,6 +21,7 @@ pub fn next_due<T: Timers>(proxy: &Proxy<T>) -> Option<u64>
 /// What is due first, if it is due by a moment in milliseconds. Takes no memory.
 pub(crate) fn due_by<T: Timers>(proxy: &Proxy<T>, now: u64) -> Option<First>
     ensures first { IfSome result (IsFirst proxy.now.state.requests) }
+    ensures in_order { IfSome result (IsOfFirst proxy.now.timers proxy.now.state.requests) }
     ensures due { IfSome result (λ first. first.due ≤ now) }
     ensures none { IfNone result (NoneBy now proxy.now.state.requests) }
     ensures none_again { IfNone result (NoneAgainBy now proxy.now.state.requests) }

@@ -9,7 +9,7 @@ use Rattle.sip_model.specs.state.declared.branch.Branch.{Branch}
 use Rattle.sip_model.specs.state.declared.open_request.OpenRequest.{OpenRequest}
 use Rattle.sip_model.specs.state.State.{phase_deadline}
 use Rattle.sip_model.specs.retransmission.Retransmission.{branch_due}
-use Rattle.sip_fork.specs.Due.{IsBranchAt, is_at, is_branch_due, is_either, is_of}
+use Rattle.sip_fork.specs.Due.{IsBranchAt, IsBranchOf, is_at, is_branch_due, is_either, is_of}
 
 pub at_is : (moment : Option ℕ) (due : ℕ) → is_at moment due ≡ true → moment ≡ Some due
 at_is None due e = absurd (cc)
@@ -35,3 +35,14 @@ ends_then r owner due i x found here none =
       within = is.0;
       is = λ b at. subst (λ (y : Branch). phase_deadline y.phase ≡ Some due) (sym here ∙ get_or_from_slice_get r.branches i b x at) (at_is (phase_deadline x.phase) due ends);
     }
+
+the_first : (a b : Bool) → (a && b) ≡ true → a ≡ true
+the_first true b e = refl
+the_first false b e = absurd (cc)
+
+-- a branch that is found by its owner has timers of that
+pub found_of : (r : OpenRequest) (owner : Owner) (due i : ℕ) (x : Branch) → position (is_branch_due r owner due) r.branches ≡ Some i → get_or r.branches i x ≡ x → IsBranchOf owner r.branches i
+found_of r owner due i x found here =
+    let is = position-Some (is_branch_due r owner due) r.branches i x found in
+    let passes : is_branch_due r owner due x ≡ true = subst (λ (b : Branch). is_branch_due r owner due b ≡ true) here is.1 in
+    λ b at. subst (λ (y : Branch). is_of owner y ≡ true) (sym here ∙ get_or_from_slice_get r.branches i b x at) (the_first (is_of owner x) (is_either (branch_due r x) (phase_deadline x.phase) due) passes)

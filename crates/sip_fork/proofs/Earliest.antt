@@ -15,7 +15,8 @@ use Rattle.sip_model.specs.state.declared.open_request.OpenRequest.{OpenRequest}
 use Rattle.sip_keeping.specs.request.Named.{named_by}
 use Rattle.sip_keeping.specs.request.declared.request.Request.{Request}
 use Rattle.sip_fork.specs.Contexts.{AreTied}
-use Rattle.sip_fork.specs.Due.{IsDue, IsFirst, IsNotDue, IsNothingDue}
+use Rattle.sip_fork.specs.Due.{IsDue, IsFirst, IsNotDue, IsNothingDue, IsOfFirst, IsOfOwner}
+use Rattle.sip_fork.specs.declared.due.First.{First}
 use Rattle.sip_fork.specs.Queue.{IsQueue}
 use Rattle.sip_fork.specs.Timing.{Timing}
 use Rattle.sip_fork.specs.declared.due.Due.{Due}
@@ -103,6 +104,24 @@ module _ (timing : Timing) (pending : List Timer) (reached : ℕ) (rows : List R
       due = λ x there. subst (λ (y : OpenRequest). IsDue y due what) (some_same r.context x (sym (ap (option_map (λ (y : Request). y.context)) at) ∙ sym (slice_get-map (λ (y : Request). y.context) rows i) ∙ there)) is;
       none_before = none_before timing reached due rows tied.kept late;
       none_again = none_again_before timing reached due rows tied.kept late;
+    }
+
+-- it is of the timer at the head
+pub of_first : (pending : List Timer) (rows : List Request) (due : ℕ) (name : Name) → first_named pending ≡ Some (due, name) → (i : ℕ) (r : Request) (what : Due) → slice_get rows i ≡ Some r
+    → r.context.number ≡ name.request → IsOfOwner r.context name.owner what → IsOfFirst pending (contexts rows) (record { due = due; place = i; what = what })
+of_first [] rows due name e i r what at same is = absurd (cc)
+of_first (t ∷ ts) rows due name e i r what at same is =
+    let both : (t.due, t.name) ≡ (due, name) = some_same {X = ℕ × Name} (t.due, t.name) (due, name) e in
+    let named : name ≡ t.name = sym (ap (λ (x : ℕ × Name). x.1) both) in
+    let seen : (x : OpenRequest) → slice_get (contexts rows) i ≡ Some x → r.context ≡ x =
+    λ x there. some_same r.context x (sym (ap (option_map (λ (y : Request). y.context)) at) ∙ sym (slice_get-map (λ (y : Request). y.context) rows i) ∙ there) in
+    record {
+      timer = t;
+      later = ts;
+      stands = refl;
+      due = sym (ap (λ (x : ℕ × Name). x.0) both);
+      request = λ x there. subst (λ (y : OpenRequest). y.number ≡ t.name.request) (seen x there) (same ∙ ap (λ (n : Name). n.request) named);
+      part = λ x there. subst (λ (y : OpenRequest). IsOfOwner y t.name.owner what) (seen x there) (subst (λ (n : Name). IsOfOwner r.context n.owner what) named is);
     }
 
 -- ---- what calls answer

@@ -1,5 +1,6 @@
 -- What of an open request is due at a moment (RFC 3261 17).
-use Rattle.std.specs.Prelude.{ℕ, ◌≡◌, ◌<◌, ◌&&◌, ◌||◌, ◌==◌, not, Bool, false, List, length, position, slice_get, Option, Some, None}
+use Rattle.std.specs.Prelude.{ℕ, ◌≡◌, ◌<◌, ◌&&◌, ◌||◌, ◌==◌, not, Bool, true, false, List, ◌∷◌, length, position, slice_get, Option, Some, None}
+use Rattle.sip_timers.specs.declared.timer.Timer.{Timer}
 use Rattle.sip_timers.specs.declared.timer.Owner.{Owner}
 use Rattle.sip_timers.specs.declared.timer.Owner.TheVariants as Of
 use Rattle.sip_model.specs.state.declared.branch.Branch.{Branch}
@@ -30,6 +31,36 @@ pub record IsFirst (requests : List OpenRequest) (first : First) : Type 0 where
   pub none_before : NoneBefore first.due requests
   pub none_again : NoneAgainBefore first.due requests
 
+-- whether timers of this owner are those of a branch of a number, or of its CANCEL
+abbrev pub is_part : Owner → Bool → ℕ → Bool
+is_part Of.Server cancel number = false
+is_part (Of.Branch n) cancel number = not cancel && number == n
+is_part (Of.Cancel n) cancel number = cancel && number == n
+
+-- whether timers of this owner are those of a branch
+abbrev pub is_of : Owner → Branch → Bool
+is_of owner b = is_part owner b.is_cancel b.number
+
+-- the branch at a place has timers of this owner
+abbrev pub IsBranchOf : Owner → List Branch → ℕ → Type 0
+IsBranchOf owner branches place = (b : Branch) → slice_get branches place ≡ Some b → is_of owner b ≡ true
+
+-- what is due is of the part of an open request whose timers have this owner
+abbrev pub IsOfOwner : OpenRequest → Owner → Due → Type 0
+IsOfOwner r owner What.AnswerAgain = owner ≡ Of.Server
+IsOfOwner r owner What.AnswerEnds = owner ≡ Of.Server
+IsOfOwner r owner (What.BranchAgain place) = IsBranchOf owner r.branches place
+IsOfOwner r owner (What.BranchEnds place) = IsBranchOf owner r.branches place
+
+-- What is due first is what the first timer that stands is set for: of those due at one moment, the one that was set first.
+pub record IsOfFirst (pending : List Timer) (requests : List OpenRequest) (first : First) : Type 0 where
+  pub timer : Timer
+  pub later : List Timer
+  pub stands : pending ≡ timer ∷ later
+  pub due : first.due ≡ timer.due
+  pub request : (r : OpenRequest) → slice_get requests first.place ≡ Some r → r.number ≡ timer.name.request
+  pub part : (r : OpenRequest) → slice_get requests first.place ≡ Some r → IsOfOwner r timer.name.owner first.what
+
 -- Nothing is due before any moment: no deadline stands, and nothing is to go again.
 pub record IsNothingDue (requests : List OpenRequest) : Type 0 where
   pub none : (moment : ℕ) → NoneBefore moment requests
@@ -45,16 +76,6 @@ is_at (Some moment) due = moment == due
 -- whether what goes again, or a deadline, is at a moment
 abbrev pub is_either : Option ℕ → Option ℕ → ℕ → Bool
 is_either again deadline due = is_at again due || is_at deadline due
-
--- whether timers of this owner are those of a branch of a number, or of its CANCEL
-abbrev pub is_part : Owner → Bool → ℕ → Bool
-is_part Of.Server cancel number = false
-is_part (Of.Branch n) cancel number = not cancel && number == n
-is_part (Of.Cancel n) cancel number = cancel && number == n
-
--- whether timers of this owner are those of a branch
-abbrev pub is_of : Owner → Branch → Bool
-is_of owner b = is_part owner b.is_cancel b.number
 
 -- whether something of a branch of this owner is due at a moment
 abbrev pub is_branch_due : OpenRequest → Owner → ℕ → Branch → Bool

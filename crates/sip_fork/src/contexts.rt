@@ -1,4 +1,4 @@
-ghost use Rattle.std.specs.Prelude.{◌≡◌, ◌<◌, ◌≤◌, ◌==◌, [], ℕ, false, ◌+◌, ◌-◌, ◌^◌, max, length, position, find, nat_le, slice_get, option_map, None, Some, IfOk, IfErr, OnOk, MatchOption};
+ghost use Rattle.std.specs.Prelude.{◌≡◌, ◌<◌, ◌≤◌, ◌==◌, [], ℕ, false, ◌+◌, ◌-◌, ◌^◌, max, length, position, find, nat_le, slice_get, option_map, None, Some, IfOk, IfErr, IfSome, OnOk, MatchOption};
 ghost use Rattle.std.specs.List.{All, AllPairs};
 ghost use Rattle.std.specs.Option.{option_and_then};
 ghost use Rattle.sip_model.specs.key.Key.{same_key};
@@ -15,7 +15,7 @@ ghost use Rattle.sip_keeping.specs.moments.Near.{IsWithin};
 ghost use Rattle.sip_keeping.specs.request.Near.{most_timers};
 ghost use Rattle.sip_keeping.specs.inputs.Inputs.{outcome, outcome_of};
 ghost use Rattle.sip_fork.specs.Contexts.{IsFitting, IsSame};
-ghost use Rattle.sip_fork.specs.Due.{IsFirst, IsNothingDue};
+ghost use Rattle.sip_fork.specs.Due.{IsFirst, IsNothingDue, IsOfFirst};
 ghost use Rattle.sip_fork.specs.Places.{branch_at};
 
 use crate::change::{Change, Prepared};
@@ -271,9 +271,11 @@ impl<T: Timers> Contexts<T> {
     }
 
     /// What is due first of all open requests, if anything is: no deadline stands before it, and nothing is to go again before
-    /// it. None exactly where no deadline stands and nothing is to go again. Takes no memory.
+    /// it; of what is due at one moment, what a timer was set for first. None exactly where no deadline stands and nothing is to
+    /// go again. Takes no memory.
     pub fn first(&self) -> Option<First>
-        ensures { MatchOption result (IsNothingDue self.now.requests) (IsFirst self.now.requests) }
+        ensures first { MatchOption result (IsNothingDue self.now.requests) (IsFirst self.now.requests) }
+        ensures in_order { IfSome result (IsOfFirst self.now.pending self.now.requests) }
     {
         timers_stand_for_moments();
         let _open = self.table.len();

@@ -1,7 +1,8 @@
 ghost use Rattle.std.specs.Prelude.{◌≡◌, false, position, None, IfSome, IfNone};
 ghost use Rattle.sip_model.specs.state.State.{side_deadline, phase_deadline};
 ghost use Rattle.sip_model.specs.retransmission.Retransmission.{answer_due, branch_due};
-ghost use Rattle.sip_fork.specs.Due.{IsDue, IsNotDue, is_at, is_branch_due, is_either, is_of};
+ghost use Rattle.sip_fork.specs.Due.{IsDue, IsNotDue, IsOfOwner, is_at, is_branch_due, is_either, is_of};
+ghost use Rattle.sip_timers.specs.declared.timer.Owner.TheVariants.{Server};
 
 use sip_keeping::resend::{answer_due, branch_due};
 use sip_model::state::{Branch, OpenRequest, Phase, Side};
@@ -79,6 +80,7 @@ fn is_of(owner: Owner, branch: &Branch) -> bool
 #[tactic(auto, using(crate::proofs::Dues::at_is, crate::proofs::Dues::neither))]
 fn answer_what(call: &OpenRequest, due: u64) -> Option<Due>
     ensures some { IfSome result (IsDue call.now due) }
+    ensures side { IfSome result (IsOfOwner call.now Server) }
     ensures none { IfNone result (is_either (answer_due call.now) (side_deadline call.now.side) due ≡ false) }
 {
     if is_at(answer_due(call), due) {
@@ -116,6 +118,7 @@ fn place_of(call: &OpenRequest, owner: Owner, due: u64) -> Option<usize>
 /// What of a branch of this owner is due at a moment.
 fn branch_what(call: &OpenRequest, owner: Owner, due: u64) -> Option<Due>
     ensures some { IfSome result (IsDue call.now due) }
+    ensures part { IfSome result (IsOfOwner call.now owner) }
     ensures none { IfNone result (position (is_branch_due call.now owner due) call.now.branches ≡ None) }
 {
     let place = place_of(call, owner, due)?;
@@ -128,6 +131,7 @@ fn branch_what(call: &OpenRequest, owner: Owner, due: u64) -> Option<Due>
 /// What of a part of an open request is due at a moment, if something is.
 pub(crate) fn what_at(call: &OpenRequest, owner: Owner, due: u64) -> Option<Due>
     ensures some { IfSome result (IsDue call.now due) }
+    ensures part { IfSome result (IsOfOwner call.now owner) }
     ensures none { IfNone result (IsNotDue call.now due owner) }
 {
     match owner {

@@ -23,7 +23,7 @@ use Rattle.sip_model.proofs.Events.{wanting}
 -- ---- sums over branches
 
 -- how many deadlines of branches may still pass
-abbrev branches_left : List Branch → ℕ
+abbrev pub branches_left : List Branch → ℕ
 branches_left bs = sum_by (λ (b : Branch). phase_left b.phase) bs
 
 -- of one branch and the others
@@ -31,7 +31,7 @@ left_cons : (b : Branch) (bs : List Branch) → branches_left (b ∷ bs) ≡ pha
 left_cons b bs = sum_by-cons (λ (x : Branch). phase_left x.phase) b bs
 
 -- where no branch is left more, together they aren't
-map_left : (f : Branch → Branch) (bs : List Branch) → ((x : Branch) → phase_left (f x).phase ≤ phase_left x.phase) → branches_left (map f bs) ≤ branches_left bs
+pub map_left : (f : Branch → Branch) (bs : List Branch) → ((x : Branch) → phase_left (f x).phase ≤ phase_left x.phase) → branches_left (map f bs) ≤ branches_left bs
 map_left f [] less = omega arith
 map_left f (b ∷ bs) less = omega (arith, left_cons b bs, left_cons (f b) (map f bs), less b, map_left f bs less)
 
@@ -65,7 +65,7 @@ cancellable_left : (b : Branch) → is_cancellable b ≡ true → phase_left b.p
 cancellable_left b e = ready_left b.phase (last_true (not b.is_cancel) b.wants_cancel (is_ready b.phase) e)
 
 -- each CANCEL that is sent leaves one deadline fewer
-with_cancels_left : (now : ℕ) (bs : List Branch) → branches_left (flat_map (with_cancel now) bs) + count_by is_cancellable bs ≤ branches_left bs
+pub with_cancels_left : (now : ℕ) (bs : List Branch) → branches_left (flat_map (with_cancel now) bs) + count_by is_cancellable bs ≤ branches_left bs
 with_cancels_left now [] = omega arith
 with_cancels_left now (b ∷ bs) = by_test (is_cancellable b) refl (with_cancels_left now bs) where
   by_test : (t : Bool) → is_cancellable b ≡ t → branches_left (flat_map (with_cancel now) bs) + count_by is_cancellable bs ≤ branches_left bs
@@ -93,12 +93,12 @@ side_not_more true Closed due e x = absurd (cc)
 side_not_more false side due e x = omega arith
 
 -- what goes up leaves the side no more, and the branches as they are
-upward_left : (now : ℕ) (o : Option Upward) (r : OpenRequest) → (side_left (after_upward now o r).side ≤ side_left r.side) × ((after_upward now o r).branches ≡ r.branches)
+pub upward_left : (now : ℕ) (o : Option Upward) (r : OpenRequest) → (side_left (after_upward now o r).side ≤ side_left r.side) × ((after_upward now o r).branches ≡ r.branches)
 upward_left now None r = (omega arith, refl)
 upward_left now (Some u) r = (side_not_more (is_answering r.side) r.side (now + 32000) refl (not (is_provisional u.status)), refl)
 
 -- settling a request to which nothing goes at once
-settled_left : (server : Server) (now : ℕ) (r : OpenRequest) → deadlines_left (settled server now [] None r).request + count_by is_cancellable r.branches ≤ deadlines_left r
+pub settled_left : (server : Server) (now : ℕ) (r : OpenRequest) → deadlines_left (settled server now [] None r).request + count_by is_cancellable r.branches ≤ deadlines_left r
 settled_left server now r =
     let best : Option Upward = best_upward server r in
     let after : OpenRequest = after_upward now best r in
@@ -119,11 +119,11 @@ due_left (Done at f) due e = omega arith
 due_left Ended due e = absurd (cc)
 
 -- a branch that ends
-abbrev ended : Branch → Branch → Branch
+abbrev pub ended : Branch → Branch → Branch
 ended b x = cond (is_same_branch x b) (turned b Ended x) x
 
 -- it has no more left
-ended_not_more : (b x : Branch) (t : Bool) → phase_left (cond t (turned b Ended x) x).phase ≤ phase_left x.phase
+pub ended_not_more : (b x : Branch) (t : Bool) → phase_left (cond t (turned b Ended x) x).phase ≤ phase_left x.phase
 ended_not_more b x true = omega arith
 ended_not_more b x false = omega arith
 
@@ -137,7 +137,7 @@ pub same_branch : (b : Branch) → is_same_branch b b ≡ true
 same_branch b = let number : (b.number == b.number) ≡ true = grind (arith, nat_tests) in ap (λ (t : Bool). t && cond b.is_cancel b.is_cancel (not b.is_cancel)) number ∙ both_same b.is_cancel
 
 -- where a branch with a deadline ends, fewer are left
-ended_left : (b : Branch) (bs : List Branch) (due : ℕ) → IsIn b bs → phase_deadline b.phase ≡ Some due → branches_left (map (ended b) bs) + 1 ≤ branches_left bs
+pub ended_left : (b : Branch) (bs : List Branch) (due : ℕ) → IsIn b bs → phase_deadline b.phase ≡ Some due → branches_left (map (ended b) bs) + 1 ≤ branches_left bs
 ended_left b bs due there e =
     map_left_less (ended b) bs b there
     (subst (λ (t : Bool). phase_left (cond t (turned b Ended b) b).phase + 1 ≤ phase_left b.phase) (sym (same_branch b)) (let one = due_left b.phase due e in omega arith))
@@ -150,7 +150,7 @@ ends_left server now due r between b there e side branches =
     omega (arith, settled_left server now between, ended_left b r.branches due there e, ap side_left side, ap branches_left branches)
 
 -- that a branch is to be cancelled leaves no more
-wanted_left : (b : Branch) (bs : List Branch) → branches_left (map (λ (x : Branch). cond (is_same_branch x b) (record x { wants_cancel = true }) x) bs) ≤ branches_left bs
+pub wanted_left : (b : Branch) (bs : List Branch) → branches_left (map (λ (x : Branch). cond (is_same_branch x b) (record x { wants_cancel = true }) x) bs) ≤ branches_left bs
 wanted_left b bs = map_left (λ (x : Branch). cond (is_same_branch x b) (record x { wants_cancel = true }) x) bs (λ x. not_more x (is_same_branch x b)) where
   not_more : (x : Branch) (t : Bool) → phase_left (cond t (record x { wants_cancel = true }) x).phase ≤ phase_left x.phase
   not_more x true = omega arith
@@ -191,7 +191,7 @@ branch_passed server now due r b true is there e = ends_left server now due r (w
 branch_passed server now due r b false is there e = target_left server now due r b b.phase refl is there e
 
 -- a side with a deadline has one left
-side_passed_left : (side : Side) (due : ℕ) → side_deadline side ≡ Some due → side_left side ≡ 1
+pub side_passed_left : (side : Side) (due : ℕ) → side_deadline side ≡ Some due → side_left side ≡ 1
 side_passed_left Answering due e = absurd (cc)
 side_passed_left (Closing at) due e = refl
 side_passed_left (Acknowledged at) due e = refl

@@ -49,3 +49,4 @@ pub mod Challenged
 pub mod Listing
 pub mod Went
 pub mod StepsAlike
+pub mod StepsLeft

@@ -1,4 +1,5 @@
 pub mod Effect
+pub mod Ends
 pub mod Step
 pub mod Run
 pub mod Bindings

@@ -59,6 +59,11 @@ pub fn steps_same()
         → IsStep server left act out new → IsStep server right act out new }
 {}
 
+/// A step leaves the moment at which it stands.
+pub fn steps_stand_at_their_moments()
+    ensures { (server : Server) (old new : ProxyState) (act : Act) (out : StepOut) → IsStep server old act out new → new.moment ≡ out.at }
+{}
+
 /// No step of a history goes back behind the moment of the state that it begins in.
 pub fn moment_rises()
     ensures { (server : Server) (first : ℕ) (link : Link) (history : List Link) (last : ProxyState)

@@ -26,7 +26,7 @@ ghost use Rattle.sip_verdict.specs.auth.Proof.{is_stale};
 ghost use Rattle.sip_verdict.specs.auth.Offer.{HasMd5Alone};
 ghost use Rattle.sip_verdict.specs.reply.Challenges.{challenge};
 ghost use Rattle.sip_model.specs.Effect.{challenge_name, challenges_to};
-ghost use Rattle.sip_model.specs.Run.{Link, IsRun};
+ghost use Rattle.sip_model.specs.Run.{Link, IsChain, IsRun};
 ghost use Rattle.sip_model.specs.Bindings.{Arrived, allowed_in};
 ghost use Rattle.sip_model.specs.Access.{IsAllowedRegister, decision_on, targets_on, Access};
 
@@ -45,6 +45,11 @@ pub fn allowed_registers_are_allowed()
 pub fn every_run_has_access()
     ensures { (server : Server) (first : ℕ) (events : List Event) (until : Option ℕ) (steps : List StepOut) (history : List Link) (last : ProxyState)
         → IsRun server (first_state first) events until steps history last → Access server history }
+{}
+
+/// So is each step of every history from a first state.
+pub fn every_history_has_access()
+    ensures { (server : Server) (first : ℕ) (history : List Link) (last : ProxyState) → IsChain server (first_state first) history last → Access server history }
 {}
 
 /// The targets of a request outside a dialog, in the words of the headline: where the first rule that matches

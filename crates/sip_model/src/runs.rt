@@ -1,9 +1,12 @@
-ghost use Rattle.std.specs.Prelude.{ℕ, List, ◌++◌, Option};
+ghost use Rattle.std.specs.Prelude.{ℕ, ◌<◌, ◌≤◌, ◌+◌, ◌⊎◌, List, ◌++◌, length, Option};
 ghost use Rattle.sip_verdict.specs.event.declared.event.Event.{Event};
 ghost use Rattle.sip_verdict.specs.event.declared.event.StepOut.{StepOut};
+ghost use Rattle.sip_verdict.specs.event.declared.packet.Ticket.{Ticket};
 ghost use Rattle.sip_verdict.specs.state.declared.server.Server.{Server};
 ghost use Rattle.sip_verdict.specs.state.declared.proxy_state.ProxyState.{ProxyState};
 ghost use Rattle.sip_verdict.specs.state.State.{first_state};
+ghost use Rattle.sip_model.specs.Ends.{sends_left, steps_left};
+ghost use Rattle.sip_model.specs.Step.{IsDeadline, IsFault, IsResend};
 ghost use Rattle.sip_model.specs.Run.{Link, IsChain, IsRun, HasRun, first_moment};
 
 /// Two runs, one behind the other, are one: the first stops where the second goes on, and what had passed
@@ -21,4 +24,17 @@ pub fn every_list_has_a_run()
     ensures whole { (server : Server) (first : ℕ) (events : List Event) (until : Option ℕ) → HasRun server (first_state first) events until }
     ensures further { (server : Server) (first : ℕ) (history : List Link) (state : ProxyState) (events : List Event) (until : Option ℕ)
         → IsChain server (first_state first) history state → HasRun server state events until }
+{}
+
+/// What is due by a moment ends: each step in which a deadline passes or something goes again by then leaves fewer such
+/// steps, by the argument of `every_list_has_a_run`.
+pub fn what_is_due_ends()
+    ensures { (server : Server) (first : ℕ) (history : List Link) (old new : ProxyState) (at : ℕ) (out : StepOut) → IsChain server (first_state first) history old
+        → IsDeadline server old at out new ⊎ IsResend server old at out new → steps_left at new < steps_left at old }
+{}
+
+/// Sends that fail end: each packet that the fault of one hands out leaves one fewer that faults can hand out.
+pub fn failed_sends_end()
+    ensures { (server : Server) (first : ℕ) (history : List Link) (old new : ProxyState) (at : ℕ) (ticket : Ticket) (out : StepOut) → IsChain server (first_state first) history old
+        → IsFault server old at ticket out new → length out.packets + sends_left new ≤ sends_left old }
 {}

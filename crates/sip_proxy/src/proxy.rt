@@ -1,7 +1,7 @@
-ghost use Rattle.std.specs.Prelude.{◌≡◌, ◌<◌, ◌≤◌, ◌==◌, ◌+◌, ◌^◌, ℕ, [], false, length, position, slice_get, nat_le, find, option_map, MatchOption, Some, IfOk};
+ghost use Rattle.std.specs.Prelude.{◌≡◌, ◌<◌, ◌≤◌, ◌==◌, ◌+◌, ◌^◌, ℕ, [], false, length, position, slice_get, nat_le, find, option_map, MatchOption, Some, IfOk, IfSome};
 ghost use Rattle.std.specs.List.{AllPairs};
 ghost use Rattle.std.specs.Option.{option_and_then};
-ghost use Rattle.sip_fork.specs.Due.{IsFirst, IsNothingDue};
+ghost use Rattle.sip_fork.specs.Due.{IsFirst, IsNothingDue, IsOfFirst};
 ghost use Rattle.sip_fork.specs.Places.{branch_at};
 ghost use Rattle.sip_forwarding.specs.context.FoundBranch.{found_branch};
 ghost use Rattle.sip_forwarding.specs.key.Key.{same_key};
@@ -176,10 +176,12 @@ impl<T: Timers> Proxy<T> {
         self.contexts.find_branch(server, text, method)
     }
 
-    /// What is due first of all open requests: no deadline stands before it, and nothing is to go again before it. None
-    /// exactly where no deadline stands and nothing is to go again. Takes no memory.
+    /// What is due first of all open requests: no deadline stands before it, and nothing is to go again before it; of what is
+    /// due at one moment, what a timer was set for first. None exactly where no deadline stands and nothing is to go again.
+    /// Takes no memory.
     pub fn first(&self) -> Option<First>
-        ensures { MatchOption result (IsNothingDue self.now.state.requests) (IsFirst self.now.state.requests) }
+        ensures first { MatchOption result (IsNothingDue self.now.state.requests) (IsFirst self.now.state.requests) }
+        ensures in_order { IfSome result (IsOfFirst self.now.timers self.now.state.requests) }
     {
         self.contexts.first()
     }

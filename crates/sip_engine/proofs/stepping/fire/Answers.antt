@@ -1,7 +1,8 @@
-use Rattle.std.proofs.Common.{◌≤◌, ℕ, subst, sym}
-use Rattle.sip_firing.specs.proxy.model.Step.{Passing, IsStep, moment_of}
+use Rattle.std.proofs.Common.{◌≤◌, ◌⊎◌, ℕ, subst, sym}
+use Rattle.sip_firing.specs.proxy.model.Step.{Passing, IsDeadline, IsResend, IsStep, moment_of}
 use Rattle.sip_firing.specs.proxy.state.declared.server.Server.{Server}
-use Rattle.sip_engine.proofs.Leading.{passes_for}
+use Rattle.sip_engine.proofs.Leading.{first_for, happens_for, passes_for}
+use Rattle.sip_firing.specs.Timers.{IsFiredFirst}
 use Rattle.sip_engine.proofs.stepping.fire.Goals as goal
 
 pub fire-requires-clause-none_before : goal.fire-requires-clause-none_before
@@ -19,3 +20,19 @@ returns-clause-step g c =
 
 pub returns-clause-at_first : goal.returns-clause-at_first
 returns-clause-at_first g c = λ due next le. c.in_ok-out.ensures.fired due next (subst (λ (n : ℕ). due ≤ n) (sym c.moment_of-now.ensures.value) le)
+
+pub returns-clause-happens : goal.returns-clause-happens
+returns-clause-happens g c = λ due next le.
+    let old = c.args.proxy.now.state in
+    happens_for c.args.judge.now old c.fire.new.proxy.state c.args.at c.in_ok-out.out
+    (subst (λ (s : Server). IsDeadline s old (moment_of old c.args.at) c.in_ok-out.out c.fire.new.proxy.state ⊎ IsResend s old (moment_of old c.args.at) c.in_ok-out.out c.fire.new.proxy.state) c.server.ensures
+    (subst (λ (n : ℕ). IsDeadline c.server.result.now old n c.in_ok-out.out c.fire.new.proxy.state ⊎ IsResend c.server.result.now old n c.in_ok-out.out c.fire.new.proxy.state) c.moment_of-now.ensures.value
+    (c.in_ok-out.ensures.happens due next (subst (λ (n : ℕ). due ≤ n) (sym c.moment_of-now.ensures.value) le))))
+
+pub returns-clause-in_order : goal.returns-clause-in_order
+returns-clause-in_order g c = λ due next le.
+    let old = c.args.proxy.now.state in
+    first_for c.args.judge.now old c.fire.new.proxy.state c.args.at c.in_ok-out.out c.args.proxy.now.timers
+    (subst (λ (s : Server). IsFiredFirst s c.args.proxy.now.timers old (moment_of old c.args.at) c.in_ok-out.out c.fire.new.proxy.state) c.server.ensures
+    (subst (λ (n : ℕ). IsFiredFirst c.server.result.now c.args.proxy.now.timers old n c.in_ok-out.out c.fire.new.proxy.state) c.moment_of-now.ensures.value
+    (c.in_ok-out.ensures.in_order due next (subst (λ (n : ℕ). due ≤ n) (sym c.moment_of-now.ensures.value) le))))

@@ -2,7 +2,7 @@ use Rattle.std.proofs.Common.{◌≡◌, ◌≤◌, ℕ, inl, IfOk, subst, arith
 use Rattle.sip_event.specs.declared.event.StepOut.{StepOut}
 use Rattle.sip_proxy.specs.model.Step.{moment_of}
 use Rattle.sip_firing.proofs.Moments.{first_is_next, from_then, no_earlier, none_again_before, none_before, one_next}
-use Rattle.sip_firing.proofs.Results.{first_step, no_earlier_than}
+use Rattle.sip_firing.proofs.Results.{first_happens, first_in_order, first_step, no_earlier_than}
 use Rattle.sip_firing.proofs.Steps.{quiet_done, time_done}
 use Rattle.sip_firing.proofs.firing.fire.Goals as goal
 
@@ -13,7 +13,7 @@ fire_first-requires-clause-later g c =
 
 pub returns-in-Some-clause-step : goal.returns-in-Some-clause-step
 returns-in-Some-clause-step g c =
-    first_step c.args.server.now c.args.proxy.now.state c.fire_first.new.proxy.state c.in-Some.first.due c.args.now c.fire_first.result c.in-Some.ensures.due c.fire_first.ensures.step
+    first_step c.args.server.now c.args.proxy.now.state c.fire_first.new.proxy.state c.args.proxy.now.timers c.in-Some.first.due c.args.now c.fire_first.result c.in-Some.ensures.due c.fire_first.ensures.step
 
 pub returns-in-Some-clause-waited : goal.returns-in-Some-clause-waited
 returns-in-Some-clause-waited g c = λ none again.
@@ -24,6 +24,16 @@ pub returns-in-Some-clause-never_refused : goal.returns-in-Some-clause-never_ref
 returns-in-Some-clause-never_refused g c = λ none again.
     absurd
     (from_then c.args.proxy.now.state.requests c.in-Some.first.due c.args.now (first_is_next c.args.proxy.now.state.requests c.in-Some.first c.in-Some.ensures.first) c.in-Some.ensures.due none again)
+
+pub returns-in-Some-clause-happens : goal.returns-in-Some-clause-happens
+returns-in-Some-clause-happens g c = λ due next le.
+    first_happens c.args.server.now c.args.proxy.now.state c.fire_first.new.proxy.state c.args.proxy.now.timers c.in-Some.first.due c.args.now c.fire_first.result c.in-Some.ensures.due
+    c.fire_first.ensures.step
+
+pub returns-in-Some-clause-in_order : goal.returns-in-Some-clause-in_order
+returns-in-Some-clause-in_order g c = λ due next le.
+    first_in_order c.args.server.now c.args.proxy.now.state c.fire_first.new.proxy.state c.args.proxy.now.timers c.in-Some.first.due c.args.now c.fire_first.result c.in-Some.ensures.due
+    c.fire_first.ensures.step
 
 pub returns-in-Some-clause-fired : goal.returns-in-Some-clause-fired
 returns-in-Some-clause-fired g c = λ due next le.
@@ -59,3 +69,9 @@ returns-clause-waited g c = λ none again.
 
 pub returns-clause-fired : goal.returns-clause-fired
 returns-clause-fired g c = λ due next le. absurd (from_then c.args.proxy.now.state.requests due c.args.now next le c.in_default.ensures.none c.in_default.ensures.none_again)
+
+pub returns-clause-happens : goal.returns-clause-happens
+returns-clause-happens g c = λ due next le. absurd (from_then c.args.proxy.now.state.requests due c.args.now next le c.in_default.ensures.none c.in_default.ensures.none_again)
+
+pub returns-clause-in_order : goal.returns-clause-in_order
+returns-clause-in_order g c = λ due next le. absurd (from_then c.args.proxy.now.state.requests due c.args.now next le c.in_default.ensures.none c.in_default.ensures.none_again)

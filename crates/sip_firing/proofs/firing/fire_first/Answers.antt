@@ -4,8 +4,8 @@ use Rattle.sip_firing.proofs.firing.fire_first.Goals as goal
 
 pub returns-clause-step : goal.returns-clause-step
 returns-clause-step g c =
-    first_done c.args.server.now c.args.proxy.now.state c.change.new.proxy.state c.args.hops.now.addresses c.args.first c.in_ok-draft.draft c.change.result c.requires.rows c.requires.first
-    c.in_ok-draft.ensures.fired c.change.ensures.leaves
+    first_done c.args.server.now c.args.proxy.now.state c.change.new.proxy.state c.args.proxy.now.timers c.args.hops.now.addresses c.args.first c.in_ok-draft.draft c.change.result c.requires.rows c.requires.first
+    c.requires.in_order c.in_ok-draft.ensures.fired c.change.ensures.leaves
 
 pub returns-clause-at_first : goal.returns-clause-at_first
 returns-clause-at_first g c =
