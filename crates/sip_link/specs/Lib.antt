@@ -1,0 +1,4 @@
+pub mod Told
+pub mod MemoryLink
+pub mod MemoryClock
+pub mod UdpLink

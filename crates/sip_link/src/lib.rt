@@ -1,0 +1,20 @@
+//! What hears and sends datagrams, and what tells the moment: two traits, a link and a clock over memory, and those of
+//! the system, over a UDP socket and over the runtime's clock.
+#![tactic(auto)]
+
+mod clock;
+mod datagram;
+mod link;
+mod memory_clock;
+mod memory_link;
+mod posted;
+mod steady_clock;
+mod udp_link;
+
+pub use clock::Clock;
+pub use datagram::{Given, Heard, LinkFault, Sending};
+pub use link::Link;
+pub use memory_clock::MemoryClock;
+pub use memory_link::MemoryLink;
+pub use steady_clock::SteadyClock;
+pub use udp_link::UdpLink;
