@@ -1,4 +1,5 @@
 pub mod Told
+pub mod Examples
 pub mod MemoryLink
 pub mod MemoryClock
 pub mod UdpLink

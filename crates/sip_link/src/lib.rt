@@ -4,6 +4,7 @@
 
 mod clock;
 mod datagram;
+pub mod examples;
 mod link;
 mod memory_clock;
 mod memory_link;
