@@ -144,7 +144,7 @@ ended_left b bs due there e =
     (λ x. ended_not_more b x (is_same_branch x b))
 
 -- a branch that ends leaves a deadline fewer
-ends_left : (server : Server) (now due : ℕ) (r between : OpenRequest) (b : Branch) → IsIn b r.branches → phase_deadline b.phase ≡ Some due → between.side ≡ r.side → between.branches ≡ map (ended b) r.branches
+pub ends_left : (server : Server) (now due : ℕ) (r between : OpenRequest) (b : Branch) → IsIn b r.branches → phase_deadline b.phase ≡ Some due → between.side ≡ r.side → between.branches ≡ map (ended b) r.branches
     → deadlines_left (settled server now [] None between).request + 1 ≤ deadlines_left r
 ends_left server now due r between b there e side branches =
     omega (arith, settled_left server now between, ended_left b r.branches due there e, ap side_left side, ap branches_left branches)

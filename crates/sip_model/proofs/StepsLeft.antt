@@ -1,5 +1,5 @@
 -- Each step of what is due leaves fewer of them, and each packet that the fault of another hands out leaves one deadline fewer.
-use Rattle.std.proofs.Common.{◌≡◌, ◌⊎◌, inl, inr, ℕ, suc, ◌+◌, ◌-◌, ◌*◌, ◌≤◌, ◌<◌, Bool, true, false, not, cond, ◌==◌, List, [], ◌∷◌, ◌++◌, map, length, length-append, Option, Some, None, refl, sym, ap, subst, ◌∙◌, arith, sum_by, count_by, flat_map, filter}
+use Rattle.std.proofs.Common.{max, ◌≡◌, ◌⊎◌, inl, inr, ℕ, suc, ◌+◌, ◌-◌, ◌*◌, ◌≤◌, ◌<◌, Bool, true, false, not, cond, ◌==◌, List, [], ◌∷◌, ◌++◌, map, length, length-append, Option, Some, None, refl, sym, ap, subst, ◌∙◌, arith, sum_by, count_by, flat_map, filter}
 use Rattle.std.specs.Prelude.{find, nat_le, nat_lt, ◌&&◌}
 use Rattle.std.proofs.lemmas.Bool.Decides.{nat_tests}
 use Rattle.std.proofs.lemmas.Nat.{mul-le}
@@ -9,6 +9,7 @@ use Rattle.sip_verdict.specs.form.Text.{text_of}
 use Rattle.std.proofs.lemmas.List.{length-map}
 use Rattle.std.proofs.lemmas.List.Filters.{length-filter_both}
 use Rattle.std.proofs.lemmas.List.Sums.{length-filter, sum_by-cons}
+use Rattle.sip_verdict.specs.event.declared.event.Event.TheVariants.{Fault}
 use Rattle.sip_verdict.specs.event.declared.event.StepOut.{StepOut}
 use Rattle.sip_verdict.specs.event.declared.packet.Packet.{Packet}
 use Rattle.sip_verdict.specs.event.declared.packet.Ticket.{Ticket}
@@ -26,12 +27,12 @@ use Rattle.sip_verdict.specs.context.Branches.{Change, after_upward, best_upward
 use Rattle.sip_verdict.specs.context.Sending.{branch_packets, sent_of, ticket_branch}
 use Rattle.sip_retransmission.specs.Retransmission.{IsResent, OfAnswer, OfRequest, branch_next, resent_branch}
 use Rattle.sip_model.specs.Effect.{Effect, change_packets, replaced, upward_packets}
-use Rattle.sip_model.specs.Step.{Passing, IsDeadline, IsFault, IsOverdue, IsResend, OfBranch, OfSide, failed_branch, failed_request, fault_effect, is_failed, moment_of, originals, retransmissions}
+use Rattle.sip_model.specs.Step.{Given, Passing, IsDeadline, IsFault, IsOverdue, IsResend, OfBranch, OfSide, failed_branch, failed_request, fault_effect, is_failed, moment_of, originals, retransmissions}
 use Rattle.sip_model.specs.Run.{Link, IsChain}
 use Rattle.sip_model.specs.Order.{ByDeadline, ByFault, deadlines_left, is_numbered, side_left}
 use Rattle.sip_model.specs.Ends.{again_by, parts_left, sends_left, steps_left, time_left}
 use Rattle.sip_model.proofs.Again.{chain_again}
-use Rattle.sip_model.proofs.DeadlinesLeft.{branches_left, ended, ended_left, ended_not_more, map_left, passed_left, resent_left, settled_left, upward_left, wanted_left}
+use Rattle.sip_model.proofs.DeadlinesLeft.{branches_left, ended, ended_left, ended_not_more, ends_left, map_left, passed_left, resent_left, settled_left, upward_left, wanted_left}
 use Rattle.sip_model.proofs.Events.{change_event, resent_number}
 use Rattle.sip_model.proofs.FirstDue.{fewer_due}
 use Rattle.sip_model.proofs.Moments.{moment_of_chain_rises}
@@ -39,6 +40,7 @@ use Rattle.sip_model.proofs.Orders.{chain_named}
 use Rattle.sip_model.proofs.Places.{IsIn, all_in, contains_from_in, found_in, in_from_contains, count_cons, sum_replaced}
 use Rattle.sip_model.proofs.Resending.{IsAgain}
 use Rattle.sip_model.proofs.Settling.{event_number}
+use Rattle.sip_model.proofs.Steps.{step_taken}
 
 -- ---- parts
 
@@ -327,6 +329,34 @@ module _ (server : Server) (state : ProxyState) (now : ℕ) (ticket : Ticket) (n
   fault_fewer : IsFewer (fault_effect server now ticket (record state { moment = now }))
   fault_fewer = request_fewer (find (λ (r : OpenRequest). r.number == ticket.datagram) state.requests) (λ r e. (found_in (λ (x : OpenRequest). x.number == ticket.datagram) state.requests r e).0)
 
+  -- an effect that changes no request, or leaves fewer deadlines and no more parts
+  abbrev IsNoMore : Effect → Type 0
+  IsNoMore effect =
+      (effect.state.requests ≡ state.requests)
+      ⊎ ((sum_by deadlines_left effect.state.requests + 1 ≤ sum_by deadlines_left state.requests) × (sum_by parts_left effect.state.requests ≤ sum_by parts_left state.requests))
+
+  branch_no_more : (r : OpenRequest) (o : Option Branch) → IsIn r state.requests → ((b : Branch) → o ≡ Some b → IsIn b r.branches × (is_failed ticket.branch b ≡ true))
+      → IsNoMore (failed_branch server now (record state { moment = now }) r o)
+  branch_no_more r None there found = inl refl
+  branch_no_more r (Some b) there found =
+      let is = found b refl in
+      let due = unheard_due b.phase (last_true (not b.is_cancel) (b.number == ticket.branch) (is_unheard b.phase) is.1) in
+      let change : Change = send_failed server now r b in
+      let number = event_number server now r change (change_event server now r change (ByFault b ticket.branch (contains_from_in r.branches b is.0) is.1)) in
+      let fewer : sum_by deadlines_left (replaced change.request state.requests) + 1 ≤ sum_by deadlines_left state.requests =
+      sum_replaced deadlines_left 1 change.request r state.requests there number (numbered r.number) (ends_left server now due.0 r (given_up b 503 r) b is.0 due.1 refl refl) in
+      let one = settles server now r (given_up b 503 r) (ended_between r (given_up b 503 r) b refl refl) in
+      let parts : sum_by parts_left (replaced change.request state.requests) + 0 ≤ sum_by parts_left state.requests =
+      sum_replaced parts_left 0 change.request r state.requests there number (numbered r.number) (omega (arith, one)) in
+      inr (fewer, omega (arith, parts))
+
+  request_no_more : (o : Option OpenRequest) → ((r : OpenRequest) → o ≡ Some r → IsIn r state.requests) → IsNoMore (failed_request server now ticket (record state { moment = now }) o)
+  request_no_more None there = inl refl
+  request_no_more (Some r) there = branch_no_more r (find (is_failed ticket.branch) r.branches) (there r refl) (λ b e. found_in (is_failed ticket.branch) r.branches b e)
+
+  fault_no_more : IsNoMore (fault_effect server now ticket (record state { moment = now }))
+  fault_no_more = request_no_more (find (λ (r : OpenRequest). r.number == ticket.datagram) state.requests) (λ r e. (found_in (λ (x : OpenRequest). x.number == ticket.datagram) state.requests r e).0)
+
 -- sends that fail end
 pub fault_ends : (server : Server) (first : ℕ) (history : List Link) (old new : ProxyState) (at : ℕ) (ticket : Ticket) (out : StepOut) → IsChain server (first_state first) history old
     → IsFault server old at ticket out new → length out.packets + sends_left new ≤ sends_left old
@@ -339,3 +369,24 @@ fault_ends server first history old new at ticket out chain h =
     let sent_again : length (retransmissions out.packets) ≡ 0 = ap length (h.does.repeats ∙ fewer.1) in
     let left : sends_left new ≡ sum_by deadlines_left effect.state.requests = ap (sum_by deadlines_left) h.does.leaves.requests in
     omega (arith, fewer.0, all_packets out.packets, first_sent, sent_again, left)
+
+-- and leave no more of what is due
+pub fault_leaves : (server : Server) (first : ℕ) (history : List Link) (old new : ProxyState) (ticket : Ticket) (out : StepOut) (at : ℕ) → IsChain server (first_state first) history old
+    → IsFault server old old.moment ticket out new → steps_left at new ≤ steps_left at old
+fault_leaves server first history old new ticket out at chain h = by_effect (fault_no_more server old (moment_of old old.moment) ticket (chain_named server first history old chain).numbers.differ) where
+  stands : new.moment ≡ old.moment
+  stands = let is = (step_taken server old (Given (Fault old.moment ticket)) out new h).is_at in omega (arith, is)
+
+  by_effect : IsNoMore server old (moment_of old old.moment) ticket (chain_named server first history old chain).numbers.differ (fault_effect server (moment_of old old.moment) ticket (record old { moment = moment_of old old.moment }))
+      → steps_left at new ≤ steps_left at old
+  by_effect (inl same) =
+      let requests : new.requests ≡ old.requests = h.does.leaves.requests ∙ same in
+      let e : steps_left at new ≡ steps_left at old =
+      ap (λ (rs : List OpenRequest). (sum_by parts_left rs + 1) * (sum_by deadlines_left rs * (moment_of new at + 2) + (moment_of new at + 1 - new.moment)) + sum_by (again_by new.moment) rs) requests
+      ∙ ap (λ (m : ℕ). (sum_by parts_left old.requests + 1) * (sum_by deadlines_left old.requests * (max m at + 2) + (max m at + 1 - m)) + sum_by (again_by m) old.requests) stands in
+      omega (arith, e)
+  by_effect (inr less) =
+      let left : sends_left new + 1 ≤ sends_left old = subst (λ (rs : List OpenRequest). sum_by deadlines_left rs + 1 ≤ sum_by deadlines_left old.requests) (sym h.does.leaves.requests) less.0 in
+      let parts : sum_by parts_left new.requests ≤ sum_by parts_left old.requests = subst (λ (rs : List OpenRequest). sum_by parts_left rs ≤ sum_by parts_left old.requests) (sym h.does.leaves.requests) less.1 in
+      let falls = by_deadline at old new (record { most = omega (arith, stands); rises = omega (arith, stands); by = omega (arith, stands); parts = parts; left = omega (arith, left) }) left in
+      omega (arith, falls)

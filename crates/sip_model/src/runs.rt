@@ -33,8 +33,11 @@ pub fn what_is_due_ends()
         → IsDeadline server old at out new ⊎ IsResend server old at out new → steps_left at new < steps_left at old }
 {}
 
-/// Sends that fail end: each packet that the fault of one hands out leaves one fewer that faults can hand out.
+/// Sends that fail end: each packet that the fault of one hands out leaves one fewer that faults can hand out. And a fault
+/// at the state's moment leaves no more steps of what is due.
 pub fn failed_sends_end()
-    ensures { (server : Server) (first : ℕ) (history : List Link) (old new : ProxyState) (at : ℕ) (ticket : Ticket) (out : StepOut) → IsChain server (first_state first) history old
+    ensures packets { (server : Server) (first : ℕ) (history : List Link) (old new : ProxyState) (at : ℕ) (ticket : Ticket) (out : StepOut) → IsChain server (first_state first) history old
         → IsFault server old at ticket out new → length out.packets + sends_left new ≤ sends_left old }
+    ensures steps { (server : Server) (first : ℕ) (history : List Link) (old new : ProxyState) (ticket : Ticket) (out : StepOut) (at : ℕ) → IsChain server (first_state first) history old
+        → IsFault server old old.moment ticket out new → steps_left at new ≤ steps_left at old }
 {}
