@@ -1,7 +1,7 @@
 ghost use Rattle.std.specs.Prelude.{◌≡◌, false};
 ghost use Rattle.sip_model.specs.Run.{event_moment};
 ghost use Rattle.sip_model.specs.Step.{moment_of};
-ghost use Rattle.sip_loop.specs.Replays.{NothingDueBy};
+ghost use Rattle.sip_run.specs.Due.{NothingDueBy};
 
 use sip_event::Event;
 use sip_loop::engine::Engine;

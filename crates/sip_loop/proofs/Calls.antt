@@ -6,7 +6,7 @@ use Rattle.sip_loop.specs.Errors.{IsAsked, IsFaulted}
 use Rattle.sip_loop.specs.declared.error.ReplayError.{ReplayError}
 use Rattle.sip_loop.specs.declared.error.ReplayError.TheVariants as errors
 
-pub some_is : {m n : ℕ} → Some m ≡ Some n → m ≡ n
+some_is : {m n : ℕ} → Some m ≡ Some n → m ≡ n
 some_is h = cc
 
 -- what was counted, from how many asks are left

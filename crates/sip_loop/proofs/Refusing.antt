@@ -1,5 +1,5 @@
 -- What holds where a replay is refused.
-use Rattle.std.proofs.Common.{◌≡◌, ℕ, ◌+◌, ◌-◌, inl, inr, List, [], ◌∷◌, ◌++◌, length, length-append, Option, None, Some, IfSome, Result, Ok, Err, OnOk, IfErr, refl, sym, ◌∙◌, ap, subst, arith, append-nil, append_assoc}
+use Rattle.std.proofs.Common.{◌≡◌, ℕ, ◌+◌, inl, inr, List, [], ◌∷◌, ◌++◌, Option, None, Some, IfSome, Result, Ok, Err, OnOk, IfErr, refl, sym, ◌∙◌, ap, subst, arith, append-nil, append_assoc}
 use Rattle.std.specs.Prelude.{count_by, cond}
 use Rattle.std.specs.Io.KnownBytes.{Appends, Consumes, Keeps, prepend_known}
 use Rattle.std.proofs.KnownBytes.{Appends-nil, Appends-trans}
@@ -10,7 +10,8 @@ use Rattle.sip_model.specs.settings.declared.config.Config.{Config}
 use Rattle.sip_model.specs.state.declared.server.Server.{Server}
 use Rattle.sip_model.specs.state.declared.proxy_state.ProxyState.{ProxyState}
 use Rattle.sip_model.specs.state.State.{first_state}
-use Rattle.sip_model.specs.Run.{first_moment}
+use Rattle.sip_model.specs.Access.{Access}
+use Rattle.sip_model.specs.Run.{Link, IsRun, first_moment}
 use Rattle.sip_script.specs.Print.{step_text, printed}
 use Rattle.sip_loop.specs.Errors.{error_at}
 use Rattle.sip_script.specs.Devices.{WritesFront}
@@ -18,7 +19,7 @@ use Rattle.sip_loop.specs.Errors.{IsFaulted}
 use Rattle.sip_script.specs.Lines.{Reading, is_end, pending}
 use Rattle.sip_script.specs.Events.{GivesEvent, IsNoEvent, EventStops}
 use Rattle.sip_loop.specs.Replays.{SaysEvents, server_with, IsReplay}
-use Rattle.sip_loop.specs.Refusals.{BeginsWith, NoEventBehind, ComesTo, CantGoOn, StopsWithin, Refuses, IsRefused, PlaysSome, TakingStops, moment_ahead}
+use Rattle.sip_loop.specs.Refusals.{BeginsWith, NoEventBehind, ComesTo, CantGoOn, StopsWithin, Refuses, IsRefused, PlaysSome, TakingStops, history_before, moment_ahead}
 use Rattle.sip_loop.specs.declared.error.ReplayError.{ReplayError}
 use Rattle.sip_loop.specs.declared.error.ReplayError.TheVariants as errors
 use Rattle.sip_script.specs.declared.stop.Stop.{Stop}
@@ -185,11 +186,9 @@ none_behind_both None b text more h none = tt
 none_behind_both (Some xs) None text more h none = absurd h
 none_behind_both (Some xs) (Some ys) text more h none = (none.0, h ∙ ap (λ l. text ++ l) none.1 ∙ sym (append_assoc text more none.0), none.2)
 
-cant_on : (a b : Option (List ℕ)) (text more : List ℕ) (last : ProxyState) (steps further : List StepOut) (ahead : Option Event) → Consumes a b text → CantGoOn b more last further ahead
-    → CantGoOn a (text ++ more) last (steps ++ further) ahead
-cant_on a b text more last steps further None h why = none_behind_both a b text more h why
-cant_on a b text more last steps further (Some event) h (inl refused) = inl refused
-cant_on a b text more last steps further (Some event) h (inr many) = let sum : length (steps ++ further) ≡ length steps + length further = length-append steps further in inr (omega (arith, sum, many))
+cant_on : (a b : Option (List ℕ)) (text more : List ℕ) (last : ProxyState) (ahead : Option Event) → Consumes a b text → CantGoOn b more last ahead → CantGoOn a (text ++ more) last ahead
+cant_on a b text more last None h why = none_behind_both a b text more h why
+cant_on a b text more last (Some event) h why = why
 
 writes_on : (a b c : Option (List ℕ)) (steps more : List StepOut) → Appends a b (printed steps) → Appends b c (printed more) → Appends a c (printed (steps ++ more))
 writes_on a b c steps more h next = subst (λ l. Appends a c l) (sym (flat_map-append step_text steps more)) (Appends-trans a b c (printed steps) (printed more) h next)
@@ -215,7 +214,7 @@ refuses_on join server first mid old part before middle start half written error
 refuses_on join server first mid old part before middle start half written (errors.Script line) h r = record {
   steps = h.plays.steps ++ r.steps;
   comes = comes_on join server first mid old part before middle start half r.steps h r.comes;
-  why = cant_on (pending old before) (pending part middle) h.text r.comes.text r.comes.last h.plays.steps r.steps r.comes.ahead h.consumes r.why;
+  why = cant_on (pending old before) (pending part middle) h.text r.comes.text r.comes.last r.comes.ahead h.consumes r.why;
   line_is = line_on line old.number part.number h.text r.comes.text h.number r.line_is;
   written = writes_on start half written h.plays.steps r.steps h.plays.written r.written;
 }
@@ -235,7 +234,7 @@ pending_none unread (Some xs) none = ap (λ l. Some (l ++ xs)) none
 
 pub play_refused : RunsJoin → (config : Config) (then_server : Server) (state : ProxyState) (old part : Reading) (before middle start half written : Option (List ℕ)) (e : ReplayError) → then_server ≡ server_with config
     → old ≡ record { unread = []; asks = 4294967295; number = 0 } → Replays (server_with config) (first_state 1) state old part before middle start half
-    → Refuses then_server state part.number (pending part middle) half written e → IsRefused config before start written e
+    → Refuses then_server state part.number (pending part middle) half written e → Refuses (server_with config) (first_state 1) 0 before start written e
 play_refused join config then_server state old part before middle start half written e same is h r =
     let on : Refuses (server_with config) (first_state 1) old.number (pending old before) start written e =
     refuses_on join (server_with config) (first_state 1) state old part before middle start half written e h (subst (λ s. Refuses s state part.number (pending part middle) half written e) same r) in
@@ -246,7 +245,7 @@ play_refused join config then_server state old part before middle start half wri
 within_kept : (server : Server) (first : ProxyState) (script a b c : Option (List ℕ)) → StopsWithin server first script a b → Keeps b c → StopsWithin server first script a c
 within_kept server first script a b c h k = record { steps = h.steps; comes = h.comes; writes = front_still a b c (printed h.steps) h.writes k }
 
-pub refused_kept : (config : Config) (script a b c : Option (List ℕ)) (e : ReplayError) → IsRefused config script a b e → Keeps b c → IsRefused config script a c e
+refused_kept : (config : Config) (script a b c : Option (List ℕ)) (e : ReplayError) → Refuses (server_with config) (first_state 1) 0 script a b e → Keeps b c → Refuses (server_with config) (first_state 1) 0 script a c e
 refused_kept config script a b c errors.NoMemory h k = within_kept (server_with config) (first_state 1) script a b c h k
 refused_kept config script a b c (errors.Script line) h k = record { steps = h.steps; comes = h.comes; why = h.why; line_is = h.line_is; written = appends_kept a b c (printed h.steps) h.written k }
 refused_kept config script a b c errors.Read h k = record { steps = h.steps; comes = h.comes; none_ahead = h.none_ahead; written = appends_kept a b c (printed h.steps) h.written k }
@@ -263,7 +262,7 @@ begins_whole : (script : Option (List ℕ)) (text : List ℕ) → IfSome script 
 begins_whole None text h = tt
 begins_whole (Some xs) text h = ([], h ∙ sym (append-nil (text ++ []) ∙ append-nil text))
 
-within_refused : (config : Config) (script a b : Option (List ℕ)) (e : ReplayError) → IsRefused config script a b e → StopsWithin (server_with config) (first_state 1) script a b
+within_refused : (config : Config) (script a b : Option (List ℕ)) (e : ReplayError) → Refuses (server_with config) (first_state 1) 0 script a b e → StopsWithin (server_with config) (first_state 1) script a b
 within_refused config script a b errors.NoMemory h = h
 within_refused config script a b (errors.Script line) h = record { steps = h.steps; comes = h.comes; writes = front_all a b (printed h.steps) h.written }
 within_refused config script a b errors.Read h = record { steps = h.steps; comes = h.comes; writes = front_all a b (printed h.steps) h.written }
@@ -287,6 +286,35 @@ within_whole config script a b h = record {
   writes = front_all a b (printed h.steps) h.written;
 }
 
-pub unflushed : {T : Type 0} (r : Result T ReplayError) (config : Config) (script a b c : Option (List ℕ)) → OnOk r (IsReplay config script a b) → IfErr r (IsRefused config script a b) → Keeps b c → IsRefused config script a c errors.Write
+unflushed : {T : Type 0} (r : Result T ReplayError) (config : Config) (script a b c : Option (List ℕ)) → OnOk r (IsReplay config script a b) → IfErr r (λ e. Refuses (server_with config) (first_state 1) 0 script a b e) → Keeps b c
+    → Refuses (server_with config) (first_state 1) 0 script a c errors.Write
 unflushed (Ok x) config script a b c whole refused k = within_kept (server_with config) (first_state 1) script a b c (within_whole config script a b whole) k
 unflushed (Err e) config script a b c whole refused k = within_kept (server_with config) (first_state 1) script a b c (within_refused config script a b e refused) k
+
+-- ---- what was done is lawful
+
+abbrev pub AllHaveAccess : Type 0
+AllHaveAccess =
+    (server : Server) (first : ℕ) (events : List Event) (until : Option ℕ) (steps : List StepOut) (history : List Link) (last : ProxyState)
+    → IsRun server (first_state first) events until steps history last → Access server history
+
+comes_lawfully : AllHaveAccess → (server : Server) (script : Option (List ℕ)) (steps : List StepOut) (comes : ComesTo server (first_state 1) script steps) → Access server comes.history
+comes_lawfully law server script steps comes = law server 1 comes.events (moment_ahead comes.ahead) steps comes.history comes.last comes.is_run
+
+refused_lawfully : AllHaveAccess → (server : Server) (script a b : Option (List ℕ)) (e : ReplayError) (refusal : Refuses server (first_state 1) 0 script a b e) → Access server (history_before server (first_state 1) 0 script a b e refusal)
+refused_lawfully law server script a b errors.NoMemory refusal = comes_lawfully law server script refusal.steps refusal.comes
+refused_lawfully law server script a b (errors.Script line) refusal = comes_lawfully law server script refusal.steps refusal.comes
+refused_lawfully law server script a b errors.Read refusal = comes_lawfully law server script refusal.steps refusal.comes
+refused_lawfully law server script a b errors.Write refusal = comes_lawfully law server script refusal.steps refusal.comes
+
+is_refused : AllHaveAccess → (config : Config) (script a b : Option (List ℕ)) (e : ReplayError) → Refuses (server_with config) (first_state 1) 0 script a b e → IsRefused config script a b e
+is_refused law config script a b e refusal = record { refusal = refusal; access = refused_lawfully law (server_with config) script a b e refusal }
+
+-- behind a flush
+pub refused_flushed : AllHaveAccess → (config : Config) (script a b c : Option (List ℕ)) (e : ReplayError) → Refuses (server_with config) (first_state 1) 0 script a b e → Keeps b c → IsRefused config script a c e
+refused_flushed law config script a b c e h k = is_refused law config script a c e (refused_kept config script a b c e h k)
+
+-- and where that fails
+pub refused_unflushed : AllHaveAccess → {T : Type 0} (r : Result T ReplayError) (config : Config) (script a b c : Option (List ℕ)) → OnOk r (IsReplay config script a b)
+    → IfErr r (λ e. Refuses (server_with config) (first_state 1) 0 script a b e) → Keeps b c → IsRefused config script a c errors.Write
+refused_unflushed law r config script a b c whole refused k = is_refused law config script a c errors.Write (unflushed r config script a b c whole refused k)

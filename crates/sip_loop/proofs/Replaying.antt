@@ -1,6 +1,5 @@
 -- A replay so far, event by event.
-use Rattle.std.proofs.Common.{◌≡◌, ℕ, ◌+◌, ◌<◌, ◌≤◌, List, [], ◌∷◌, ◌++◌, Option, None, Some, IfSome, false, refl, sym, ◌∙◌, ap, subst, arith, append-nil, append_assoc}
-use Rattle.std.specs.List.{AllByRecursion}
+use Rattle.std.proofs.Common.{◌≡◌, ℕ, ◌+◌, List, [], ◌∷◌, ◌++◌, Option, None, Some, IfSome, refl, sym, ◌∙◌, ap, subst, arith, append-nil, append_assoc}
 use Rattle.std.specs.Io.KnownBytes.{Consumes, Keeps, IsAtEnd, prepend_known}
 use Rattle.std.proofs.KnownBytes.{Consumes-nil, Consumes-trans}
 use Rattle.sip_event.specs.declared.event.Event.{Event}
@@ -17,9 +16,6 @@ use Rattle.sip_script.specs.Lines.{Reading, is_end, pending, IsOver}
 use Rattle.std.proofs.lemmas.List.Sums.{sum_by-append}
 use Rattle.sip_script.specs.Events.{SaysEvent}
 use Rattle.sip_loop.specs.Replays.{SaysEvents, server_with, Plays, PlaysNext, IsReplay, IsLawfulReplay}
-use Rattle.std.specs.Prelude.{nat_le}
-use Rattle.std.proofs.lemmas.Bool.Decides.{nat_tests}
-use Rattle.sip_loop.proofs.Calls.{some_is}
 use Rattle.sip_loop.proofs.Fronts.{appends_kept}
 use Rattle.sip_loop.proofs.Running.{RunsJoin, plays_nothing, plays_both}
 
@@ -118,21 +114,3 @@ pub lawful : ((server : Server) (first : ℕ) (events : List Event) (until : Opt
     → (config : Config) (script a b c : Option (List ℕ)) → IsReplay config script a b → Keeps b c → IsLawfulReplay config script a c
 unfolding replay_kept
 lawful law config script a b c h k = record { replay = replay_kept config script a b c h k; access = law (server_with config) 1 h.events None h.steps h.history h.last h.is_run }
-
--- ---- deadlines
-
--- what is after a moment is at it or after it
-pub none_before : (m : ℕ) (moments : List ℕ) → AllByRecursion (λ due. m < due) moments → AllByRecursion (λ due. m ≤ due) moments
-none_before m [] h = tt
-none_before m (due ∷ rest) h = let lt : m < due = h.0 in (omega (arith, lt), none_before m rest h.1)
-
--- nothing is due at all
-pub none_some : (o : Option ℕ) (due m : ℕ) → o ≡ None → o ≡ Some due → m < due
-none_some o due m is e = absurd (cc)
-
--- what is due is not due yet
-pub not_yet : (o : Option ℕ) (due other most m : ℕ) → o ≡ Some due → o ≡ Some other → nat_le due most ≡ false → most ≡ m → m < other
-not_yet o due other most m is e late same =
-    let one : due ≡ other = some_is (sym is ∙ e) in
-    let after : most < due = grind (arith, nat_tests, late) in
-    omega (arith, one, after, same)

@@ -1,5 +1,5 @@
 -- A run of the server, step by step, and what is printed of it.
-use Rattle.std.proofs.Common.{◌≡◌, ℕ, ◌+◌, length, length-append, List, [], ◌∷◌, ◌++◌, Option, None, Some, refl, sym, ◌∙◌, ap, subst, append-nil}
+use Rattle.std.proofs.Common.{◌≡◌, inr, ℕ, List, [], ◌∷◌, ◌++◌, Option, None, Some, refl, sym, ◌∙◌, ap, subst, append-nil}
 use Rattle.std.proofs.lemmas.Grind.{flat_map-append}
 use Rattle.std.proofs.lemmas.List.{reverse-append}
 use Rattle.std.specs.Io.KnownBytes.{Appends}
@@ -11,6 +11,7 @@ use Rattle.sip_model.specs.state.declared.proxy_state.ProxyState.{ProxyState}
 use Rattle.sip_model.specs.Step.{Act, Given, Passing, IsStep}
 use Rattle.sip_model.specs.Run.{Link, IsRun, IsPaced, IsUpTo, event_moment, events_of, steps_of, next_moment, first_moment}
 use Rattle.sip_script.specs.Print.{step_text, printed}
+use Rattle.sip_run.specs.Due.{Fires}
 use Rattle.sip_loop.specs.Replays.{Plays}
 
 -- no step yet
@@ -27,7 +28,7 @@ pub printed_more : (steps : List StepOut) (out : StepOut) → printed (steps ++ 
 printed_more steps out = flat_map-append step_text steps (out ∷ []) ∙ ap (λ l. printed steps ++ l) (append-nil (step_text out))
 
 -- time passes
-pub passing_step : (server : Server) (old mid new : ProxyState) (at : ℕ) (out : StepOut) (a b c : Option (List ℕ)) → Plays server old mid [] (Some at) a b → IsStep server mid (Passing at) out new
+passing_step : (server : Server) (old mid new : ProxyState) (at : ℕ) (out : StepOut) (a b c : Option (List ℕ)) → Plays server old mid [] (Some at) a b → IsStep server mid (Passing at) out new
     → Appends b c (step_text out) → Plays server old new [] (Some at) a c
 passing_step server old mid new at out a b c h step written = record {
   steps = h.steps ++ out ∷ [];
@@ -41,26 +42,11 @@ passing_step server old mid new at out a b c h step written = record {
   written = subst (λ l. Appends a c l) (sym (printed_more h.steps out)) (Appends-trans a b c (printed h.steps) (step_text out) h.written written);
 }
 
--- time passes, in so many steps
-pub record Fires (server : Server) (old new : ProxyState) (at : ℕ) (before after : Option (List ℕ)) (times : ℕ) : Type 0 where
-  pub plays : Plays server old new [] (Some at) before after
-  pub count : length plays.steps ≡ times
-
-pub fires_nothing : (server : Server) (state : ProxyState) (at : ℕ) (before : Option (List ℕ)) → Fires server state state at before before 0
-unfolding plays_nothing
-fires_nothing server state at before = record { plays = plays_nothing server state (Some at) before; count = refl }
-
-fires_more : (server : Server) (old mid new : ProxyState) (at : ℕ) (out : StepOut) (a b c : Option (List ℕ)) (times : ℕ) → Fires server old mid at a b times → IsStep server mid (Passing at) out new
-    → Appends b c (step_text out) → Fires server old new at a c (times + 1)
-unfolding passing_step
-fires_more server old mid new at out a b c times h step written = record {
-  plays = passing_step server old mid new at out a b c h.plays step written;
-  count = length-append h.plays.steps (out ∷ []) ∙ ap (λ n. n + 1) h.count;
-}
-
-pub fires_passing : (server then_server : Server) (old mid new : ProxyState) (at : ℕ) (out : StepOut) (a b c : Option (List ℕ)) (times : ℕ) → then_server ≡ server → Fires server old mid at a b times
-    → IsStep then_server mid (Passing at) out new → Appends b c (step_text out) → Fires server old new at a c (times + 1)
-fires_passing server then_server old mid new at out a b c times same h step written = fires_more server old mid new at out a b c times h (subst (λ s. IsStep s mid (Passing at) out new) same step) written
+-- what is due happens, of the server as it is then
+pub plays_firing : (server then_server : Server) (old mid new : ProxyState) (at : ℕ) (out : StepOut) (a b c : Option (List ℕ)) → then_server ≡ server → Plays server old mid [] (Some at) a b
+    → Fires then_server mid at out new → Appends b c (step_text out) → Plays server old new [] (Some at) a c
+plays_firing server then_server old mid new at out a b c same h fires written =
+    passing_step server old mid new at out a b c h (subst (λ s. IsStep s mid (Passing at) out new) same (inr fires.happens)) written
 
 -- the event's own step comes
 event_step : (server : Server) (old mid new : ProxyState) (event : Event) (out : StepOut) (a b c : Option (List ℕ)) → Plays server old mid [] (Some (event_moment event)) a b → IsStep server mid (Given event) out new

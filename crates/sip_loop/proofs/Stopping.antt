@@ -1,5 +1,5 @@
 -- How a replay stops.
-use Rattle.std.proofs.Common.{◌≡◌, ℕ, ◌+◌, ◌-◌, ◌^◌, ◌≤◌, ◌⊎◌, inl, inr, List, [], ◌∷◌, ◌++◌, length, Bool, true, false, Option, None, Some, refl, sym, ◌∙◌, ap, subst, arith}
+use Rattle.std.proofs.Common.{◌≡◌, ℕ, inl, inr, List, [], ◌∷◌, ◌++◌, Bool, true, false, Option, None, Some, refl, sym, ◌∙◌, ap, subst}
 use Rattle.std.specs.Prelude.{IsSome, if◌then◌else◌}
 use Rattle.std.specs.Io.KnownBytes.{Appends}
 use Rattle.std.proofs.lemmas.List.{reverse-append}
@@ -16,23 +16,25 @@ use Rattle.sip_engine.specs.StepError.{refusal_at, is_too_large}
 use Rattle.sip_script.specs.Print.{step_text, printed}
 use Rattle.sip_loop.specs.Errors.{stop_of_step}
 use Rattle.sip_script.specs.Devices.{WritesFront, PrintStops}
-use Rattle.sip_loop.specs.Refusals.{refusal_of_event, StepStops, PlaysPart, PlaysUpTo, FiringStops, TakingStops}
+use Rattle.sip_run.specs.Due.{Fires}
+use Rattle.sip_run.specs.Refusals.{RefusesStep, refusal_of_event}
+use Rattle.sip_loop.specs.Refusals.{StepStops, PlaysPart, FiringStops, TakingStops}
 use Rattle.sip_loop.specs.Replays.{Plays}
 use Rattle.sip_script.specs.declared.stop.Stop.{Stop}
 use Rattle.sip_script.specs.declared.stop.Stop.TheVariants as stops
 use Rattle.sip_loop.proofs.Fronts.{front_all, front_second}
-use Rattle.sip_loop.proofs.Running.{Fires, printed_more}
+use Rattle.sip_loop.proofs.Running.{printed_more}
 
 -- ---- a step that is refused
 
-is_some : {X : Type 0} (o : Option X) → (o ≡ None → ⊥) → IsSome o
-is_some None h = absurd (h refl)
-is_some (Some x) h = refl
+some_stops : (refusal e : StepError) → StepStops (Some refusal) (stop_of_step e)
+some_stops refusal step_errors.NoMemory = tt
+some_stops refusal step_errors.MomentTooLarge = refl
+some_stops refusal step_errors.Worn = refl
 
-pub step_stops : (refusal : Option StepError) (e : StepError) → (refusal ≡ None → e ≡ step_errors.NoMemory) → StepStops refusal (stop_of_step e)
-step_stops refusal step_errors.NoMemory h = tt
-step_stops refusal step_errors.MomentTooLarge h = is_some refusal (λ none. let e = h none in cc)
-step_stops refusal step_errors.Worn h = is_some refusal (λ none. let e = h none in cc)
+pub step_stops : (refusal : Option StepError) (e : StepError) → RefusesStep refusal e → StepStops refusal (stop_of_step e)
+step_stops None e h = subst (λ x. StepStops None (stop_of_step x)) (sym h) tt
+step_stops (Some refusal) e h = some_stops refusal e
 
 -- ---- time that passes
 
@@ -59,11 +61,12 @@ part_passing server old mid new at out a b c h step front = record {
   writes = front_more a b c h.steps out h.written front;
 }
 
-pub firing_refused : (server : Server) (old mid : ProxyState) (at : ℕ) (a b : Option (List ℕ)) (G : Type 0) (e : StepError) → Plays server old mid [] (Some at) a b → (refusal_at at ≡ None → e ≡ step_errors.NoMemory)
-    → FiringStops server old at a b G (stop_of_step e)
-firing_refused server old mid at a b G step_errors.NoMemory h refused = part_of server old mid [] (Some at) a b h
-firing_refused server old mid at a b G step_errors.MomentTooLarge h refused = record { last = mid; plays = h; why = inl (is_some (refusal_at at) (λ none. let e = refused none in cc)) }
-firing_refused server old mid at a b G step_errors.Worn h refused = record { last = mid; plays = h; why = inl (is_some (refusal_at at) (λ none. let e = refused none in cc)) }
+-- what is due next is refused
+pub firing_refused : (server : Server) (old mid : ProxyState) (at : ℕ) (a b : Option (List ℕ)) (G : Type 0) (stop : Stop) → Plays server old mid [] (Some at) a b → StepStops (refusal_at at) stop → FiringStops server old at a b G stop
+firing_refused server old mid at a b G stops.NoMemory h s = part_of server old mid [] (Some at) a b h
+firing_refused server old mid at a b G stops.Script h s = record { last = mid; plays = h; why = s }
+firing_refused server old mid at a b G stops.Read h s = s
+firing_refused server old mid at a b G stops.Write h s = absurd s
 
 part_stops_firing : (server : Server) (old : ProxyState) (at : ℕ) (a c : Option (List ℕ)) (G : Type 0) (stop : Stop) → PlaysPart server old [] (Some at) a c → PrintStops G stop → FiringStops server old at a c G stop
 part_stops_firing server old at a c G stops.NoMemory h s = h
@@ -71,13 +74,11 @@ part_stops_firing server old at a c G stops.Script h s = absurd s
 part_stops_firing server old at a c G stops.Read h s = s
 part_stops_firing server old at a c G stops.Write h s = (h, s)
 
+-- what happened isn't printed whole
 pub firing_unprinted : (server then_server : Server) (old mid new : ProxyState) (at : ℕ) (out : StepOut) (a b c : Option (List ℕ)) (G : Type 0) (stop : Stop) → then_server ≡ server → Plays server old mid [] (Some at) a b
-    → IsStep then_server mid (Passing at) out new → WritesFront b c (step_text out) → PrintStops G stop → FiringStops server old at a c G stop
-firing_unprinted server then_server old mid new at out a b c G stop same h step front s =
-    part_stops_firing server old at a c G stop (part_passing server old mid new at out a b c h (subst (λ x. IsStep x mid (Passing at) out new) same step) front) s
-
-pub fired_out : (server : Server) (old mid : ProxyState) (at : ℕ) (a b : Option (List ℕ)) (times : ℕ) → Fires server old mid at a b times → 2 ^ 64 - 1 ≤ times → PlaysUpTo server old at a b (λ last. refusal_at at)
-fired_out server old mid at a b times h most = record { last = mid; plays = h.plays; why = inr (omega (arith, h.count, most)) }
+    → Fires then_server mid at out new → WritesFront b c (step_text out) → PrintStops G stop → FiringStops server old at a c G stop
+firing_unprinted server then_server old mid new at out a b c G stop same h fires front s =
+    part_stops_firing server old at a c G stop (part_passing server old mid new at out a b c h (subst (λ x. IsStep x mid (Passing at) out new) same (inr fires.happens)) front) s
 
 -- ---- an event that was read
 
@@ -106,13 +107,9 @@ too_late state (Datagram at word from bytes) h = some_else (is_too_large at) ste
 too_late state (Time at) h = h
 too_late state (Fault at ticket) h = h
 
-why_event : (state : ProxyState) (event : Event) {P : Type 0} → IsSome (refusal_at (event_moment event)) ⊎ P → IsSome (refusal_of_event state event) ⊎ P
-why_event state event (inl h) = inl (too_late state event h)
-why_event state event (inr h) = inr h
-
 firing_taking : (server : Server) (old : ProxyState) (event : Event) (a b : Option (List ℕ)) (G : Type 0) (stop : Stop) → FiringStops server old (event_moment event) a b G stop → TakingStops server old event a b G stop
 firing_taking server old event a b G stops.NoMemory h = inl h
-firing_taking server old event a b G stops.Script h = record { last = h.last; plays = h.plays; why = why_event h.last event {P = 2 ^ 64 - 1 ≤ length h.plays.steps} h.why }
+firing_taking server old event a b G stops.Script h = record { last = h.last; plays = h.plays; why = too_late h.last event h.why }
 firing_taking server old event a b G stops.Read h = h
 firing_taking server old event a b G stops.Write h = (inl h.0, h.1)
 
@@ -122,7 +119,7 @@ taking_unfired server old at event a b G stop is h = firing_taking server old ev
 
 own_stops : (server : Server) (old mid : ProxyState) (event : Event) (a b : Option (List ℕ)) (G : Type 0) (stop : Stop) → Plays server old mid [] (Some (event_moment event)) a b → StepStops (refusal_of_event mid event) stop → TakingStops server old event a b G stop
 own_stops server old mid event a b G stops.NoMemory h s = inl (part_of server old mid [] (Some (event_moment event)) a b h)
-own_stops server old mid event a b G stops.Script h s = record { last = mid; plays = h; why = inl s }
+own_stops server old mid event a b G stops.Script h s = record { last = mid; plays = h; why = s }
 own_stops server old mid event a b G stops.Read h s = s
 own_stops server old mid event a b G stops.Write h s = absurd s
 

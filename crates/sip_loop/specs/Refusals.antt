@@ -1,16 +1,17 @@
 -- How far a replay came that was refused, and what was written then.
-use Rattle.std.specs.Prelude.{◌≡◌, ◌+◌, ◌-◌, ◌^◌, ◌≤◌, ◌⊎◌, ⊤, ℕ, List, [], ◌∷◌, ◌++◌, length, count_by, Option, None, Some, option_map, IfSome, IsSome}
+use Rattle.std.specs.Prelude.{◌≡◌, ◌+◌, ◌⊎◌, ⊤, ℕ, List, [], ◌∷◌, ◌++◌, count_by, Option, None, Some, option_map, IfSome, IsSome}
 use Rattle.std.specs.Io.KnownBytes.{Appends}
 use Rattle.sip_event.specs.declared.event.Event.{Event}
-use Rattle.sip_event.specs.declared.event.Event.TheVariants.{Datagram, Time, Fault}
 use Rattle.sip_event.specs.declared.event.StepOut.{StepOut}
 use Rattle.sip_model.specs.settings.declared.config.Config.{Config}
 use Rattle.sip_model.specs.state.declared.server.Server.{Server}
 use Rattle.sip_model.specs.state.declared.proxy_state.ProxyState.{ProxyState}
 use Rattle.sip_model.specs.state.State.{first_state}
 use Rattle.sip_model.specs.Run.{Link, IsRun, event_moment}
+use Rattle.sip_model.specs.Access.{Access}
 use Rattle.sip_engine.specs.declared.error.StepError.{StepError}
-use Rattle.sip_engine.specs.StepError.{refusal_at, refusal_of}
+use Rattle.sip_engine.specs.StepError.{refusal_at}
+use Rattle.sip_run.specs.Refusals.{refusal_of_event}
 use Rattle.sip_script.specs.Print.{printed}
 use Rattle.sip_script.specs.Devices.{WritesFront}
 use Rattle.sip_script.specs.Lines.{is_end}
@@ -52,22 +53,16 @@ pub record ComesTo (server : Server) (first : ProxyState) (script : Option (List
   pub begins : IfSome script (BeginsWith (text ++ further))
   pub is_run : IsRun server first events (moment_ahead ahead) steps history last
 
--- what the server refuses a step for, before any memory is asked for
-abbrev pub refusal_of_event : ProxyState → Event → Option StepError
-refusal_of_event state (Datagram at word from bytes) = refusal_of state at
-refusal_of_event state (Time at) = refusal_at at
-refusal_of_event state (Fault at ticket) = refusal_at at
-
--- no event was read behind a text, since none stands there; or one was, and the server refuses its step, or 2^64 - 1 steps or more were taken
-abbrev pub CantGoOn : Option (List ℕ) → List ℕ → ProxyState → List StepOut → Option Event → Type 0
-CantGoOn script text last steps None = IfSome script (NoEventBehind text)
-CantGoOn script text last steps (Some event) = IsSome (refusal_of_event last event) ⊎ (2 ^ 64 - 1 ≤ length steps)
+-- no event was read behind a text, since none stands there; or one was, and the server refuses its step
+abbrev pub CantGoOn : Option (List ℕ) → List ℕ → ProxyState → Option Event → Type 0
+CantGoOn script text last None = IfSome script (NoEventBehind text)
+CantGoOn script text last (Some event) = IsSome (refusal_of_event last event)
 
 -- Script: that line begins the event that can't be taken, behind the lines of those that were; exactly what is printed of the steps before it was written.
 pub record StopsAtLine (server : Server) (first : ProxyState) (lines : ℕ) (script old new : Option (List ℕ)) (line : ℕ) : Type 0 where
   pub steps : List StepOut
   pub comes : ComesTo server first script steps
-  pub why : CantGoOn script comes.text comes.last steps comes.ahead
+  pub why : CantGoOn script comes.text comes.last comes.ahead
   pub line_is : line ≡ lines + count_by is_end comes.text + 1
   pub written : Appends old new (printed steps)
 
@@ -91,9 +86,17 @@ Refuses server first lines script old new (Script line) = StopsAtLine server fir
 Refuses server first lines script old new Read = StopsBetween server first script old new
 Refuses server first lines script old new Write = StopsWithin server first script old new
 
--- What holds at each refusal of a replay.
-abbrev pub IsRefused : Config → Option (List ℕ) → Option (List ℕ) → Option (List ℕ) → ReplayError → Type 0
-IsRefused config script old new e = Refuses (server_with config) (first_state 1) 0 script old new e
+-- the history of the steps that were taken before a refusal
+abbrev pub history_before : (server : Server) (first : ProxyState) (lines : ℕ) (script old new : Option (List ℕ)) (e : ReplayError) → Refuses server first lines script old new e → List Link
+history_before server first lines script old new NoMemory refusal = refusal.comes.history
+history_before server first lines script old new (Script line) refusal = refusal.comes.history
+history_before server first lines script old new Read refusal = refusal.comes.history
+history_before server first lines script old new Write refusal = refusal.comes.history
+
+-- What holds at each refusal of a replay; and each step that was taken before it is lawful by its history, as `Access` says.
+pub record IsRefused (config : Config) (script old new : Option (List ℕ)) (e : ReplayError) : Type 0 where
+  pub refusal : Refuses (server_with config) (first_state 1) 0 script old new e
+  pub access : Access (server_with config) (history_before (server_with config) (first_state 1) 0 script old new e refusal)
 
 -- ---- inside
 
@@ -116,7 +119,7 @@ pub record PlaysPart (server : Server) (old : ProxyState) (events : List Event) 
 pub record PlaysUpTo (server : Server) (old : ProxyState) (at : ℕ) (before after : Option (List ℕ)) (refusal : ProxyState → Option StepError) : Type 0 where
   pub last : ProxyState
   pub plays : Plays server old last [] (Some at) before after
-  pub why : IsSome (refusal last) ⊎ (2 ^ 64 - 1 ≤ length plays.steps)
+  pub why : IsSome (refusal last)
 
 -- why what is due by a moment wasn't all fired
 abbrev pub FiringStops : Server → ProxyState → ℕ → Option (List ℕ) → Option (List ℕ) → Type 0 → Stop → Type 0

@@ -7,7 +7,6 @@ use Rattle.sip_model.specs.settings.declared.config.Config.{Config}
 use Rattle.sip_model.specs.state.declared.server.Server.{Server}
 use Rattle.sip_model.specs.state.declared.proxy_state.ProxyState.{ProxyState}
 use Rattle.sip_model.specs.state.State.{first_state}
-use Rattle.sip_model.specs.Step.{NoneBy, NoneAgainBy}
 use Rattle.sip_model.specs.Run.{Link, IsRun}
 use Rattle.sip_model.specs.Access.{Access}
 use Rattle.sip_script.specs.Print.{printed}
@@ -49,11 +48,6 @@ pub record IsLawfulReplay (config : Config) (script old new : Option (List ℕ))
   pub access : Access (server_with config) replay.history
 
 -- ---- inside
-
--- nothing is due by a moment
-pub record NothingDueBy (moment : ℕ) (state : ProxyState) : Type 0 where
-  pub none : NoneBy moment state.requests
-  pub none_again : NoneAgainBy moment state.requests
 
 -- these events have a run from one state to another, and what is printed of its steps was written
 pub record Plays (server : Server) (old new : ProxyState) (events : List Event) (until : Option ℕ) (before after : Option (List ℕ)) : Type 0 where

@@ -1,11 +1,14 @@
 ghost use Rattle.std.specs.Prelude.{◌≡◌, ◌≤◌, ◌⊎◌, [], ◌∷◌, true, false, None, Err, IfOk, IfErr, OnOk};
 ghost use Rattle.sip_model.specs.Run.{event_moment};
 ghost use Rattle.sip_model.specs.Step.{Given, IsStep, moment_of};
+ghost use Rattle.sip_model.specs.state.State.{first_state};
+ghost use Rattle.sip_run.specs.Due.{NothingDueBy};
+ghost use Rattle.sip_run.specs.Refusals.{refusal_of_event};
 ghost use Rattle.sip_script.specs.Devices.{later, GaveUp};
-ghost use Rattle.sip_loop.specs.Errors.{IsAsked, IsFaulted};
 ghost use Rattle.sip_script.specs.Lines.{pending, IsOver, IsSpent};
-ghost use Rattle.sip_loop.specs.Refusals.{refusal_of_event, IsRefused, Refuses, StepStops, TakingStops};
-ghost use Rattle.sip_loop.specs.Replays.{IsLawfulReplay, IsReplay, NothingDueBy, Plays, PlaysNext};
+ghost use Rattle.sip_loop.specs.Errors.{IsAsked, IsFaulted};
+ghost use Rattle.sip_loop.specs.Refusals.{IsRefused, Refuses, StepStops, TakingStops};
+ghost use Rattle.sip_loop.specs.Replays.{server_with, IsLawfulReplay, IsReplay, Plays, PlaysNext};
 
 use crate::due::fire_due;
 use crate::error::{ReplayError, stop_of};
@@ -14,6 +17,7 @@ use sip_event::{Boot, Event, StepOut};
 use sip_model::laws::every_run_has_access;
 use sip_model::policy::Rules;
 use sip_model::runs::runs_join;
+use sip_run::event_moment;
 use sip_script::{Lines, Stop, TellingReader, TellingWriter, hand_on, next_event, print_step};
 use sip_state::settings::Config;
 use sip_timers::Timers;
@@ -64,7 +68,7 @@ fn play<T: Timers, R: Rules, I: TellingReader, W: TellingWriter>(
     writer: &mut W,
 ) -> Result<(), ReplayError>
     ensures replayed { OnOk result (IsReplay config (I.remaining reader.old) (W.contents writer.old) (W.contents writer.new)) }
-    ensures refused { IfErr result (IsRefused config (I.remaining reader.old) (W.contents writer.old) (W.contents writer.new)) }
+    ensures refused { IfErr result (Refuses (server_with config) (first_state 1) 0 (I.remaining reader.old) (W.contents writer.old) (W.contents writer.new)) }
     ensures faulted { IfErr result (IsFaulted (I.has_failed reader.new ⊎ (I.asked reader.new ≡ later 4294967295 (I.asked reader.old))) (GaveUp (W.has_failed writer.new) (W.called writer.new))) }
     ensures asked { IsAsked 4294967295 (I.asked reader.old) (I.asked reader.new) }
 {
@@ -112,17 +116,6 @@ fn take_next<T: Timers, R: Rules, I: TellingReader, W: TellingWriter>(
     }
 }
 
-/// The moment of an event.
-fn at_of(event: &Event) -> u64
-    ensures { result ≡ event_moment event.now }
-{
-    match event {
-        Event::Datagram { at, .. } => *at,
-        Event::Time { at } => *at,
-        Event::Fault { at, .. } => *at,
-    }
-}
-
 /// Fires what is due, takes the event, and prints all these steps.
 fn take_event<T: Timers, R: Rules, W: TellingWriter>(
     alloc: Global,
@@ -134,31 +127,21 @@ fn take_event<T: Timers, R: Rules, W: TellingWriter>(
     ensures taken { OnOk result (Plays engine.old.server engine.old.state engine.new.state (event ∷ []) None (W.contents writer.old) (W.contents writer.new)) }
     ensures stopped { IfErr result (TakingStops engine.old.server engine.old.state event (W.contents writer.old) (W.contents writer.new) (GaveUp (W.has_failed writer.new) (W.called writer.new))) }
 {
-    fire_due(alloc, engine, at_of(&event), writer)?;
-    let out = own_step(engine, event)?;
+    fire_due(alloc, engine, event_moment(&event), writer)?;
+    let out = own_step(engine, &event)?;
     print_step(alloc, writer, &out)?;
     Ok(())
 }
 
 /// The event's own step.
 #[tactic(auto, using(crate::proofs::Stopping::step_stops))]
-fn own_step<T: Timers, R: Rules>(engine: &mut Engine<T, R>, event: Event) -> Result<StepOut, Stop>
-    requires { NothingDueBy (moment_of engine.old.state (event_moment event)) engine.old.state }
+fn own_step<T: Timers, R: Rules>(engine: &mut Engine<T, R>, event: &Event) -> Result<StepOut, Stop>
+    requires { NothingDueBy (moment_of engine.old.state (event_moment event.now)) engine.old.state }
     ensures server { engine.new.server ≡ engine.old.server }
-    ensures step { IfOk result (λ out. IsStep engine.old.server engine.old.state (Given event) out engine.new.state) }
-    ensures stopped { IfErr result (StepStops (refusal_of_event engine.old.state event)) }
+    ensures step { IfOk result (λ out. IsStep engine.old.server engine.old.state (Given event.now) out engine.new.state) }
+    ensures stopped { IfErr result (StepStops (refusal_of_event engine.old.state event.now)) }
 {
-    let taken = match event {
-        Event::Datagram {
-            at,
-            word,
-            from,
-            bytes,
-        } => engine.deliver(at, word, from, bytes.as_slice()),
-        Event::Time { at } => engine.fire(at),
-        Event::Fault { at, ticket } => engine.fault(at, ticket),
-    };
-    match taken {
+    match sip_run::take_event(engine, event) {
         Ok(out) => Ok(out),
         Err(e) => Err(stop_of(e)),
     }

@@ -1,0 +1,113 @@
+-- A run of the server, step by step, and the list of its steps.
+use Rattle.std.proofs.Common.{◌≡◌, ◌<◌, ◌+◌, ◌⊎◌, inr, ℕ, List, [], ◌∷◌, ◌++◌, length, get_or, take, Option, None, Some, refl, sym, ◌∙◌, ap, subst, append-nil, append_assoc}
+use Rattle.std.specs.List.{AllByRecursion}
+use Rattle.std.proofs.lemmas.List.{reverse-append, take_more}
+use Rattle.sip_event.specs.declared.event.Event.{Event}
+use Rattle.sip_event.specs.declared.event.StepOut.{StepOut}
+use Rattle.sip_model.specs.state.declared.server.Server.{Server}
+use Rattle.sip_model.specs.state.declared.proxy_state.ProxyState.{ProxyState}
+use Rattle.sip_model.specs.Step.{Act, Given, Passing, IsStep, IsDeadline, IsResend}
+use Rattle.sip_model.specs.Run.{Link, IsRun, IsPaced, IsUpTo, event_moment, events_of, steps_of, next_moment, first_moment}
+use Rattle.sip_run.specs.Due.{Fires}
+use Rattle.sip_run.specs.Runs.{IsInTurn, IsTurn, Goes}
+
+-- no step yet
+pub goes_nothing : (server : Server) (state : ProxyState) (until : Option ℕ) (list : List StepOut) → Goes server state state [] until list list
+goes_nothing server state until list = record {
+  steps = [];
+  history = [];
+  is_run = record { chain = refl; paced = tt; of_events = refl; of_steps = refl };
+  turns = tt;
+  listed = sym (append-nil list);
+}
+
+happens_next : (server : Server) (old mid new : ProxyState) (at : ℕ) (out : StepOut) (a b c : List StepOut) → Goes server old mid [] (Some at) a b → IsDeadline server mid at out new ⊎ IsResend server mid at out new
+    → c ≡ b ++ out ∷ [] → Goes server old new [] (Some at) a c
+happens_next server old mid new at out a b c h happens more = record {
+  steps = h.steps ++ out ∷ [];
+  history = record { before = mid; act = Passing at; out = out; after = new } ∷ h.history;
+  is_run = record {
+    chain = (refl, inr happens, h.is_run.chain);
+    paced = (refl, h.is_run.paced);
+    of_events = h.is_run.of_events;
+    of_steps = reverse-append (out ∷ []) (steps_of h.history) ∙ ap (λ l. l ++ out ∷ []) h.is_run.of_steps;
+  };
+  turns = (happens, h.turns);
+  listed = more ∙ ap (λ l. l ++ out ∷ []) h.listed ∙ append_assoc a h.steps (out ∷ []);
+}
+
+-- what is due happens, of the server as it is then
+pub goes_firing : (server then_server : Server) (old mid new : ProxyState) (at : ℕ) (out : StepOut) (a b c : List StepOut) → then_server ≡ server → Goes server old mid [] (Some at) a b
+    → Fires then_server mid at out new → c ≡ b ++ out ∷ [] → Goes server old new [] (Some at) a c
+goes_firing server then_server old mid new at out a b c same h fires more =
+    happens_next server old mid new at out a b c h (subst (λ s. IsDeadline s mid at out new ⊎ IsResend s mid at out new) same fires.happens) more
+
+event_next : (server : Server) (old mid new : ProxyState) (event : Event) (out : StepOut) (a b c : List StepOut) → Goes server old mid [] (Some (event_moment event)) a b → IsInTurn mid event
+    → IsStep server mid (Given event) out new → c ≡ b ++ out ∷ [] → Goes server old new (event ∷ []) None a c
+event_next server old mid new event out a b c h turn step more = record {
+  steps = h.steps ++ out ∷ [];
+  history = record { before = mid; act = Given event; out = out; after = new } ∷ h.history;
+  is_run = record {
+    chain = (refl, step, h.is_run.chain);
+    paced = (tt, h.is_run.paced);
+    of_events = reverse-append (event ∷ []) (events_of h.history) ∙ ap (λ l. l ++ event ∷ []) h.is_run.of_events;
+    of_steps = reverse-append (out ∷ []) (steps_of h.history) ∙ ap (λ l. l ++ out ∷ []) h.is_run.of_steps;
+  };
+  turns = (turn, h.turns);
+  listed = more ∙ ap (λ l. l ++ out ∷ []) h.listed ∙ append_assoc a h.steps (out ∷ []);
+}
+
+-- the event's own step comes, of the server as it is then
+pub goes_taking : (server then_server : Server) (old mid new : ProxyState) (at : ℕ) (event : Event) (out : StepOut) (a b c : List StepOut) → then_server ≡ server → at ≡ event_moment event
+    → Goes server old mid [] (Some at) a b → IsInTurn mid event → IsStep then_server mid (Given event) out new → c ≡ b ++ out ∷ [] → Goes server old new (event ∷ []) None a c
+goes_taking server then_server old mid new at event out a b c same is h turn step more =
+    event_next server old mid new event out a b c (subst (λ (m : ℕ). Goes server old mid [] (Some m) a b) is h) turn (subst (λ s. IsStep s mid (Given event) out new) same step) more
+
+-- ---- one run behind another
+
+all_append : {X : Type 0} (P : X → Type 0) (xs ys : List X) → AllByRecursion P xs → AllByRecursion P ys → AllByRecursion P (xs ++ ys)
+all_append P [] ys h k = k
+all_append P (x ∷ xs) ys h k = (h.0, all_append P xs ys h.1 k)
+
+-- a run up to its last event is one up to any moment behind it
+paced_act : (until : Option ℕ) (act : Act) (history : List Link) → (IsUpTo None act × IsPaced (next_moment None act) history) → (IsUpTo until act × IsPaced (next_moment until act) history)
+paced_act until (Given event) history h = h
+paced_act until (Passing at) history h = absurd h.0
+
+paced_on : (until : Option ℕ) (history : List Link) → IsPaced None history → IsPaced until history
+paced_on until [] h = tt
+paced_on until (link ∷ history) h = paced_act until link.act history h
+
+run_on : (server : Server) (old new : ProxyState) (events : List Event) (until : Option ℕ) (steps : List StepOut) (history : List Link) → IsRun server old events None steps history new
+    → IsRun server old events until steps history new
+run_on server old new events until steps history h = record { chain = h.chain; paced = paced_on until history h.paced; of_events = h.of_events; of_steps = h.of_steps }
+
+abbrev pub RunsJoin : Type 0
+RunsJoin =
+    (server : Server) (first middle last : ProxyState) (events more : List Event) (until : Option ℕ) (steps further : List StepOut) (history later : List Link)
+    → IsRun server first events (first_moment more until) steps history middle → IsRun server middle more until further later last
+    → IsRun server first (events ++ more) until (steps ++ further) (later ++ history) last
+
+goes_both : RunsJoin → (server : Server) (old mid new : ProxyState) (events more : List Event) (until : Option ℕ) (a b c : List StepOut) → Goes server old mid events None a b → Goes server mid new more until b c
+    → Goes server old new (events ++ more) until a c
+goes_both join server old mid new events more until a b c h next = record {
+  steps = h.steps ++ next.steps;
+  history = next.history ++ h.history;
+  is_run = join server old mid new events more until h.steps next.steps h.history next.history
+      (run_on server old mid events (first_moment more until) h.steps h.history h.is_run) next.is_run;
+  turns = all_append (λ (link : Link). IsTurn server link.before link.act link.out link.after) next.history h.history next.turns h.turns;
+  listed = next.listed ∙ ap (λ l. l ++ next.steps) h.listed ∙ append_assoc a h.steps next.steps;
+}
+
+-- the same of the server as it is then
+pub goes_on : RunsJoin → (server then_server : Server) (old mid new : ProxyState) (events more : List Event) (until : Option ℕ) (a b c : List StepOut) → then_server ≡ server → Goes server old mid events None a b
+    → Goes then_server mid new more until b c → Goes server old new (events ++ more) until a c
+goes_on join server then_server old mid new events more until a b c same h next =
+    goes_both join server old mid new events more until a b c h (subst (λ s. Goes s mid new more until b c) same next)
+
+-- an event more of a list
+pub goes_more : RunsJoin → (server then_server : Server) (old mid new : ProxyState) (events : List Event) (i : ℕ) (event : Event) (a b c : List StepOut) → i < length events → event ≡ get_or events i event → then_server ≡ server
+    → Goes server old mid (take i events) None a b → Goes then_server mid new (event ∷ []) None b c → Goes server old new (take (i + 1) events) None a c
+goes_more join server then_server old mid new events i event a b c lt is same h next =
+    let one_more : take (i + 1) events ≡ take i events ++ event ∷ [] = take_more events i event lt ∙ ap (λ (e : Event). take i events ++ e ∷ []) (sym is) in
+    subst (λ (es : List Event). Goes server old new es None a c) (sym one_more) (goes_on join server then_server old mid new (take i events) (event ∷ []) None a b c same h next)

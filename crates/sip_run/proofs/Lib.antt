@@ -1,0 +1,4 @@
+pub mod Going
+pub mod Refusing
+pub mod Stopping
+pub mod Waiting

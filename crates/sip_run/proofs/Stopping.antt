@@ -1,0 +1,136 @@
+-- Where a run stops, and the whole of it.
+use Rattle.std.proofs.Common.{◌≡◌, ◌<◌, ◌+◌, inl, inr, ℕ, List, [], ◌∷◌, ◌++◌, length, get_or, take, drop, Option, None, Some, refl, sym, ◌∙◌, ap, subst, append-nil}
+use Rattle.std.proofs.lemmas.List.{drop_more, take-append-drop}
+use Rattle.sip_event.specs.declared.event.Event.{Event}
+use Rattle.sip_event.specs.declared.event.StepOut.{StepOut}
+use Rattle.sip_model.specs.state.declared.server.Server.{Server}
+use Rattle.sip_model.specs.state.declared.proxy_state.ProxyState.{ProxyState}
+use Rattle.sip_model.specs.state.State.{first_state}
+use Rattle.sip_model.specs.Step.{moment_of}
+use Rattle.sip_model.specs.Run.{Link, IsRun, event_moment, first_moment}
+use Rattle.sip_model.specs.Access.{Access}
+use Rattle.sip_engine.specs.declared.error.StepError.{StepError}
+use Rattle.sip_engine.specs.declared.error.StepError.TheVariants.{NoMemory}
+use Rattle.sip_engine.specs.StepError.{refusal_at}
+use Rattle.sip_run.specs.Due.{Fires, IsDueBy, NothingDueBy}
+use Rattle.sip_run.specs.Refusals.{RefusesStep, refusal_of_event}
+use Rattle.sip_run.specs.Runs.{IsRunOver, Goes, FiringHalts, Halts, Stops}
+use Rattle.sip_run.proofs.Going.{RunsJoin, goes_on}
+
+-- ---- before an event
+
+-- want of memory, where the server refuses nothing
+no_memory : (refusal : Option StepError) (e : StepError) → refusal ≡ None → e ≡ NoMemory → RefusesStep refusal e
+no_memory refusal e none is = subst (λ r. RefusesStep r e) (sym none) is
+
+-- what happened can't be listed
+pub firing_unlisted : (server then_server : Server) (old mid new : ProxyState) (at : ℕ) (out : StepOut) (a b : List StepOut) (e : StepError) → Goes server old mid [] (Some at) a b
+    → Fires then_server mid at out new → e ≡ NoMemory → FiringHalts server old at a b e
+firing_unlisted server then_server old mid new at out a b e h fires is = record { last = mid; goes = h; is_due = fires.is_due; refused = no_memory (refusal_at at) e fires.not_refused is }
+
+-- what is due is refused
+pub halts_firing : (server : Server) (old : ProxyState) (at : ℕ) (event : Event) (a b : List StepOut) (e : StepError) → at ≡ event_moment event → FiringHalts server old at a b e → Halts server old event a b e
+halts_firing server old at event a b e is h = record {
+  last = h.last;
+  goes = subst (λ (m : ℕ). Goes server old h.last [] (Some m) a b) is h.goes;
+  refused = inl (subst (λ (m : ℕ). IsDueBy (moment_of h.last m) h.last) is h.is_due, subst (λ (m : ℕ). RefusesStep (refusal_at m) e) is h.refused);
+}
+
+-- the event's own step is refused
+pub halts_taking : (server : Server) (old mid : ProxyState) (at : ℕ) (event : Event) (a b : List StepOut) (e : StepError) → at ≡ event_moment event → Goes server old mid [] (Some at) a b
+    → NothingDueBy (moment_of mid (event_moment event)) mid → RefusesStep (refusal_of_event mid event) e → Halts server old event a b e
+halts_taking server old mid at event a b e is h none refused = record {
+  last = mid;
+  goes = subst (λ (m : ℕ). Goes server old mid [] (Some m) a b) is h;
+  refused = inr (none, refused);
+}
+
+-- that can't be listed
+pub halts_unlisted : (server : Server) (old mid : ProxyState) (at : ℕ) (event : Event) (a b : List StepOut) (e : StepError) → at ≡ event_moment event → Goes server old mid [] (Some at) a b
+    → NothingDueBy (moment_of mid (event_moment event)) mid → refusal_of_event mid event ≡ None → e ≡ NoMemory → Halts server old event a b e
+unfolding halts_taking
+halts_unlisted server old mid at event a b e is h none not_refused wants = halts_taking server old mid at event a b e is h none (no_memory (refusal_of_event mid event) e not_refused wants)
+
+-- ---- behind events that were taken
+
+pub stops_at : RunsJoin → (server then_server : Server) (old mid : ProxyState) (events : List Event) (i : ℕ) (event : Event) (a b c : List StepOut) (e : StepError) → i < length events → event ≡ get_or events i event
+    → then_server ≡ server → Goes server old mid (take i events) None a b → Halts then_server mid event b c e → Stops server old events a c e
+stops_at join server then_server old mid events i event a b c e lt is same h halts = record {
+  taken = take i events;
+  event = event;
+  left = drop (i + 1) events;
+  last = halts.last;
+  cut = sym (take-append-drop i events)
+      ∙ ap (λ (es : List Event). take i events ++ es) (drop_more events i event lt ∙ ap (λ (x : Event). x ∷ drop (i + 1) events) (sym is));
+  goes = subst (λ (es : List Event). Goes server old halts.last es (Some (event_moment event)) a c) (append-nil (take i events))
+      (goes_on join server then_server old mid halts.last (take i events) [] (Some (event_moment event)) a b c same h halts.goes);
+  refused = halts.refused;
+}
+
+-- ---- the whole
+
+abbrev pub AllHaveAccess : Type 0
+AllHaveAccess =
+    (server : Server) (first : ℕ) (events : List Event) (until : Option ℕ) (steps : List StepOut) (history : List Link) (last : ProxyState)
+    → IsRun server (first_state first) events until steps history last → Access server history
+
+run_over : AllHaveAccess → (server : Server) (first : ℕ) (last : ProxyState) (events : List Event) (list : List StepOut) → Goes server (first_state first) last events None [] list → IsRunOver server first events list None
+run_over law server first last events list h = record {
+  taken = events;
+  left = [];
+  history = h.history;
+  last = last;
+  cut = sym (append-nil events);
+  is_run = subst (λ (l : List StepOut). IsRun server (first_state first) events None l h.history last) (sym h.listed) h.is_run;
+  turns = h.turns;
+  access = law server first events None h.steps h.history last h.is_run;
+  ended = inl tt;
+}
+
+run_stopped : AllHaveAccess → (server : Server) (first : ℕ) (events : List Event) (list : List StepOut) (e : StepError) → Stops server (first_state first) events [] list e → IsRunOver server first events list (Some e)
+run_stopped law server first events list e h = record {
+  taken = h.taken;
+  left = h.event ∷ h.left;
+  history = h.goes.history;
+  last = h.last;
+  cut = h.cut;
+  is_run = subst (λ (l : List StepOut). IsRun server (first_state first) h.taken (Some (event_moment h.event)) l h.goes.history h.last) (sym h.goes.listed) h.goes.is_run;
+  turns = h.goes.turns;
+  access = law server first h.taken (Some (event_moment h.event)) h.goes.steps h.goes.history h.last h.goes.is_run;
+  ended = inl h.refused;
+}
+
+-- all events were taken by a server that was opened
+pub whole : AllHaveAccess → (server then_server : Server) (first : ℕ) (state last : ProxyState) (events : List Event) (start list : List StepOut) → then_server ≡ server → state ≡ first_state first → start ≡ []
+    → Goes then_server state last events None start list → IsRunOver server first events list None
+whole law server then_server first state last events start list same at_first none h =
+    run_over law server first last events list
+    (subst (λ (l : List StepOut). Goes server (first_state first) last events None l list) none
+    (subst (λ (x : ProxyState). Goes server x last events None start list) at_first (subst (λ s. Goes s state last events None start list) same h)))
+
+-- up to a refusal
+pub stopped : AllHaveAccess → (server then_server : Server) (first : ℕ) (state : ProxyState) (events : List Event) (start list : List StepOut) (e : StepError) → then_server ≡ server → state ≡ first_state first
+    → start ≡ [] → Stops then_server state events start list e → IsRunOver server first events list (Some e)
+stopped law server then_server first state events start list e same at_first none h =
+    run_stopped law server first events list e
+    (subst (λ (l : List StepOut). Stops server (first_state first) events l list e) none
+    (subst (λ (x : ProxyState). Stops server x events start list e) at_first (subst (λ s. Stops s state events start list e) same h)))
+
+-- there was no server
+nothing_run : AllHaveAccess → (server : Server) (first : ℕ) (events : List Event) → IsRunOver server first events [] (Some NoMemory)
+nothing_run law server first events =
+    let nothing : IsRun server (first_state first) [] (first_moment events None) [] [] (first_state first) = record { chain = refl; paced = tt; of_events = refl; of_steps = refl } in
+    record {
+      taken = [];
+      left = events;
+      history = [];
+      last = first_state first;
+      cut = refl;
+      is_run = nothing;
+      turns = tt;
+      access = law server first [] (first_moment events None) [] [] (first_state first) nothing;
+      ended = inr (record { nothing = refl; no_memory = refl });
+    }
+
+pub unopened : AllHaveAccess → (server : Server) (first : ℕ) (events : List Event) (list : List StepOut) → list ≡ [] → IsRunOver server first events list (Some NoMemory)
+unopened law server first events list none = subst (λ (l : List StepOut). IsRunOver server first events l (Some NoMemory)) (sym none) (nothing_run law server first events)

@@ -1,0 +1,3 @@
+pub mod Due
+pub mod Refusals
+pub mod Runs

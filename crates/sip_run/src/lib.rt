@@ -1,0 +1,12 @@
+//! The server over a list of events: each is handed in at its moment, behind all that was due by then, and the steps are listed.
+#![tactic(auto)]
+
+mod due;
+mod outcome;
+mod running;
+mod taking;
+
+pub use due::fire_next;
+pub use outcome::Run;
+pub use running::run;
+pub use taking::{event_moment, take_event};
