@@ -4,7 +4,7 @@
 
 Counts are marginal: what twice as many calls cost more, for each call that is made more, so that starting the program
 and reading standard input aren't in them. Instructions are callgrind's, allocations those of a preloaded counter, and
-the program is that of `crates/part_costs`, as `rt run` builds it.
+the program is that of `crates/server_trials`, as `rt run` builds it.
 """
 
 import os
@@ -14,7 +14,7 @@ import sys
 import tempfile
 
 HERE = os.path.dirname(os.path.abspath(__file__))
-PROGRAM = sys.argv[1] if len(sys.argv) > 1 else os.path.join(HERE, "..", "crates", "part_costs", "out", "part_costs")
+PROGRAM = sys.argv[1] if len(sys.argv) > 1 else os.path.join(HERE, "..", "crates", "server_trials", "out", "server_trials")
 
 # how many of each a configuration may have at most
 LIMITS = {"users": 4096, "rules": 1024, "addresses": 1024, "hops": 256, "domains": 16}
@@ -54,7 +54,7 @@ def run(words, case, targets, times, text, **variables):
     with tempfile.TemporaryFile() as file:
         file.write(text.encode())
         file.seek(0)
-        words = [*words, PROGRAM, case, str(targets), str(times)]
+        words = [*words, PROGRAM, "parts", case, str(targets), str(times)]
         done = subprocess.run(words, stdin=file, capture_output=True, text=True, env={**os.environ, **variables})
     said = re.fullmatch(rf"{case} (\d+)\n", done.stdout)
     if done.returncode != 0 or not said:

@@ -2,7 +2,7 @@
 """Counts instructions of calls on the tables that decide about a request: `bench/measure_tables.py [PROGRAM]`, at the top.
 
 Counts are marginal: what twice as many calls cost more, for each call that is made more, so that making the table isn't in
-them. They are callgrind's, and the program is that of `crates/table_costs`, as `rt run` builds it.
+them. They are callgrind's, and the program is that of `crates/server_trials`, as `rt run` builds it.
 """
 
 import os
@@ -11,7 +11,7 @@ import subprocess
 import sys
 
 HERE = os.path.dirname(os.path.abspath(__file__))
-PROGRAM = sys.argv[1] if len(sys.argv) > 1 else os.path.join(HERE, "..", "crates", "table_costs", "out", "table_costs")
+PROGRAM = sys.argv[1] if len(sys.argv) > 1 else os.path.join(HERE, "..", "crates", "server_trials", "out", "server_trials")
 
 # what is called, how large the table is, and how many calls are counted
 CASES = [
@@ -26,7 +26,7 @@ CASES = [
 
 
 def instructions(case, size, times):
-    words = ["valgrind", "--tool=callgrind", "--callgrind-out-file=/dev/null", PROGRAM, case, str(size), str(times)]
+    words = ["valgrind", "--tool=callgrind", "--callgrind-out-file=/dev/null", PROGRAM, "tables", case, str(size), str(times)]
     done = subprocess.run(words, capture_output=True, text=True)
     if done.returncode != 0 or done.stdout != f"{case} {times} of {times}\n":
         sys.exit(f"status {done.returncode}: {done.stdout}{done.stderr[-300:]}")

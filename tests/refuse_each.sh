@@ -2,7 +2,7 @@
 # Refuses each allocation of the steps of six stored runs in turn, one in each run, until none is left. The step that meets
 # the refusal must answer NoMemory and leave the moment, what is due and the bindings as they were, and the same step given
 # again must answer as it does with ample memory, so that what is printed in the end is the stored output.
-# `tests/refuse_each.sh [PROGRAM [NAME..]]`, after `rt run` in crates/refused_steps; takes a minute or two.
+# `tests/refuse_each.sh [PROGRAM [NAME..]]`, after `rt run` in crates/server_trials; takes a minute or two.
 cd "$(dirname "$0")/.." || exit 2
 exec python3 - "$@" <<'PY'
 import os
@@ -10,9 +10,9 @@ import subprocess
 import sys
 import tempfile
 
-PROGRAM = os.path.abspath(sys.argv[1] if len(sys.argv) > 1 else "crates/refused_steps/out/refused_steps")
+PROGRAM = os.path.abspath(sys.argv[1] if len(sys.argv) > 1 else "crates/server_trials/out/server_trials")
 RUNS = sys.argv[2:] or ["registered", "star_and_old_cseq", "call_to_help", "two_answers", "dialog_targets", "cancel"]
-DATA = "crates/stored_runs/data"
+DATA = "crates/server_trials/data"
 
 
 def stored(name, kind):
@@ -25,7 +25,7 @@ def played(library, folder, name, number):
     told = os.path.join(folder, "told")
     variables = {**os.environ, "LD_PRELOAD": library, "REFUSE": str(number), "REFUSE_FILE": told}
     with open(f"{DATA}/{name}.script", "rb") as script:
-        done = subprocess.run([PROGRAM], stdin=script, capture_output=True, env=variables, timeout=60)
+        done = subprocess.run([PROGRAM, "refusals"], stdin=script, capture_output=True, env=variables, timeout=60)
     with open(told, encoding="ascii") as file:
         counted, refused = map(int, file.read().split())
     return done, counted, refused

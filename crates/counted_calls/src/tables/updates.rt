@@ -1,0 +1,65 @@
+use crate::tables::names::name_of;
+use sip_header::{Expires, contact_of};
+use sip_location::{Locations, Registration};
+use sip_text::{Bytes, Items, Text};
+use sip_uri::Aor;
+use std::alloc::{AllocError, Global};
+
+/// The address of record of a number.
+fn aor(alloc: Global, number: u32) -> Result<Aor, AllocError> {
+    let user = name_of(alloc, number)?;
+    let host = Bytes::copy(alloc, b"host.com")?;
+    Ok(Aor { user, host })
+}
+
+/// A REGISTER of one contact for the address of a number.
+fn registration(alloc: Global, number: u32) -> Result<Registration<'static>, AllocError> {
+    let mut contacts = Items::new(alloc);
+    if let Some(item) = contact_of(alloc, b"<sip:phone@127.0.0.1:5082>")? {
+        contacts.push(item)?;
+    }
+    Ok(Registration {
+        aor: aor(alloc, number)?,
+        contacts,
+        expires: Expires::Absent,
+        call_id: Text::new(b"c1"),
+        cseq: 1,
+    })
+}
+
+fn registrations(alloc: Global, addresses: u32) -> Option<Vec<Registration<'static>>> {
+    let mut requests = Vec::new(alloc);
+    for number in 0..addresses {
+        requests.push(registration(alloc, number).ok()?).ok()?;
+    }
+    Some(requests)
+}
+
+/// Gives each address its binding.
+fn bind_all(locations: &mut Locations, requests: &[Registration<'_>]) -> Option<()> {
+    for request in requests {
+        locations.update(request, 1_000).ok()?;
+    }
+    Some(())
+}
+
+/// Refreshes the binding of an address, the same one after each turn of all.
+fn refresh(locations: &mut Locations, requests: &mut [Registration<'_>], turn: u32) -> Option<()> {
+    let place = (turn as usize).checked_rem(requests.len())?;
+    let request = requests.get_mut(place)?;
+    request.cseq = turn.saturating_add(2);
+    locations.update(request, 2_000).ok()
+}
+
+/// Refreshes bindings, so many times, where so many addresses have one each.
+pub fn updates(alloc: Global, addresses: u32, times: u32) -> Option<u32> {
+    let mut requests = registrations(alloc, addresses)?;
+    let mut locations = Locations::new(alloc).ok()?;
+    bind_all(&mut locations, requests.as_slice())?;
+    let mut done = 0u32;
+    for turn in 0..times {
+        refresh(&mut locations, requests.as_mut_slice(), turn)?;
+        done = done.saturating_add(1);
+    }
+    Some(done)
+}
