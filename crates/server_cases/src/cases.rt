@@ -25,7 +25,7 @@ fn tell<R: Print>(rt: &R, name: &str, holds: bool) -> io::Result<()> {
     }
 }
 
-/// Each case: its name, and whether it held.
+/// Each case: its name, and whether it held. A new one is a line here.
 pub fn tell_all<R: Print + AllocGlobal>(rt: &R) -> io::Result<()> {
     let alloc = rt.alloc();
     tell(rt, "binding_of_a_register", binding_of_a_register(alloc))?;

@@ -47,14 +47,13 @@ fn number(word: &str) -> u32 {
 }
 
 /// All that the gate compares.
-fn try_all(rt: &HostRuntime) -> io::Result<u8> {
+fn try_all(rt: &HostRuntime) -> io::Result<()> {
     let text = io::read_to_string(rt.alloc(), rt.reader())?;
     runs::tell_all(rt)?;
     cases::tell_all(rt)?;
     runs::tell_steps(rt, "registered")?;
     tables::tell_all(rt)?;
-    parts::tell_all(rt, text.as_str())?;
-    Ok(DONE)
+    parts::tell_all(rt, text.as_str())
 }
 
 /// The steps of the script of standard input, each taken once more where it is refused for want of memory.
@@ -97,7 +96,10 @@ fn count(rt: &HostRuntime, trial: &str, case: &str, size: u32, times: u32) -> io
 fn run(rt: &HostRuntime) -> Result<u8, Fault> {
     let words = words(rt)?;
     match words.as_slice() {
-        [_] => Ok(try_all(rt)?),
+        [_] => {
+            try_all(rt)?;
+            Ok(DONE)
+        }
         [_, trial] => try_one(rt, trial.as_str()),
         [_, trial, case, size, times] => {
             let (size, times) = (number(size.as_str()), number(times.as_str()));
