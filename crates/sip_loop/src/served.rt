@@ -1,0 +1,88 @@
+ghost use Rattle.std.specs.Prelude.{◌≡◌};
+ghost use Rattle.sip_loop.specs.ServeErrors.{number_of_refusal, refusal_of_step};
+ghost use Rattle.sip_loop.specs.declared.served.ServeError.TheVariants.{NoMemory, Link};
+
+use sip_engine::StepError;
+use sip_event::audit::Record;
+use sip_link::LinkFault;
+use sip_model::text::Items;
+use std::alloc::{AllocError, AllocFailed};
+use std::error::Error;
+use std::fmt;
+
+/// What came of serving: the records of the steps that were taken, in their order.
+#[derive(Drop)]
+pub struct Served {
+    pub records: Items<Record>,
+}
+
+/// Why serving ended before its last turn. There are no records then; what was sent stays sent.
+#[derive(Clone, Copy, Debug, PartialEq, Eq)]
+pub enum ServeError {
+    /// Memory ran out.
+    NoMemory = 1,
+    /// The link failed as it was asked for a datagram.
+    Link = 5,
+    /// A moment was 2^62 ms or more, or a datagram's number would have been.
+    Step = 6,
+}
+
+impl ServeError {
+    /// The number of this refusal.
+    pub fn number(&self) -> u8
+        ensures { result ≡ number_of_refusal self.now }
+    {
+        match self {
+            ServeError::NoMemory => 1,
+            ServeError::Link => 5,
+            ServeError::Step => 6,
+        }
+    }
+}
+
+impl fmt::Display for ServeError {
+    fn fmt<W: fmt::Write>(&self, f: &mut fmt::Formatter<W>) -> fmt::Result {
+        match self {
+            ServeError::NoMemory => write!(f, "out of memory"),
+            ServeError::Link => write!(f, "the link failed"),
+            ServeError::Step => write!(f, "moments or numbers are worn out"),
+        }
+    }
+}
+
+impl Error for ServeError {}
+
+impl From<AllocError> for ServeError {
+    ghost from_gives = { λ _ e. e ≡ NoMemory };
+
+    fn from(_e: AllocError) -> ServeError {
+        ServeError::NoMemory
+    }
+}
+
+impl<T: Drop> From<AllocFailed<T>> for ServeError {
+    ghost from_gives = { λ _ e. e ≡ NoMemory };
+
+    fn from(_e: AllocFailed<T>) -> ServeError {
+        ServeError::NoMemory
+    }
+}
+
+impl From<LinkFault> for ServeError {
+    ghost from_gives = { λ _ e. e ≡ Link };
+
+    fn from(_e: LinkFault) -> ServeError {
+        ServeError::Link
+    }
+}
+
+impl From<StepError> for ServeError {
+    ghost from_gives = { λ refusal e. e ≡ refusal_of_step refusal };
+
+    fn from(e: StepError) -> ServeError {
+        match e {
+            StepError::NoMemory => ServeError::NoMemory,
+            StepError::MomentTooLarge | StepError::Worn => ServeError::Step,
+        }
+    }
+}

@@ -1,0 +1,183 @@
+ghost use Rattle.std.specs.Prelude.{◌≡◌, ◌≤◌, ◌+◌, [], None, Some, Err, IfOk, IfErr, IfSome, IfNone, OnOk, OnErr};
+ghost use Rattle.sip_link.specs.Told.{counted};
+ghost use Rattle.sip_loop.specs.Counts.{counted_times, IsAskedWithin};
+ghost use Rattle.sip_model.specs.Ends.{steps_left};
+ghost use Rattle.sip_model.specs.Step.{moment_of};
+ghost use Rattle.sip_run.specs.Due.{NothingDueBy};
+ghost use Rattle.sip_loop.specs.Courses.{Breaks, BreaksFiring, BreaksOff, BreaksTurn, Course, Goes, GoesOn, TakesDue, TakesTurn};
+ghost use Rattle.sip_loop.specs.Serving.{IsServed, IsUnserved, IsWhy, Read, behind_word, told_more, word_from};
+ghost use Rattle.sip_loop.specs.declared.served.ServeError.TheVariants as Refusal;
+
+use crate::handing::hand_out;
+use crate::records::add_records;
+use crate::served::{ServeError, Served};
+use rand_core::Rng;
+use sip_engine::Engine;
+use sip_event::StepOut;
+use sip_event::audit::Record;
+use sip_link::{Clock, Link};
+use sip_model::histories::{moment_rises, steps_stand_at_their_moments};
+use sip_model::laws::every_history_has_access;
+use sip_model::policy::Rules;
+use sip_model::text::Items;
+use sip_run::fire_next;
+use sip_timers::Timers;
+use std::alloc::Global;
+
+/// 2^64: what the high half of a word counts for.
+const HALF: u128 = 1 << 64;
+
+/// The next two numbers of a source as one word, the high half first.
+fn next_word<W: Rng>(words: &mut W) -> u128
+    ensures word { result ≡ word_from (W.stream words.old) }
+    ensures left { W.stream words.new ≡ behind_word (W.stream words.old) }
+{
+    let high = words.next_u64();
+    let low = words.next_u64();
+    u128::from(high) * HALF + u128::from(low)
+}
+
+/// What is due first by a moment happens, if something is.
+fn fire_one<T: Timers, R: Rules>(
+    engine: &mut Engine<T, R>,
+    at: u64,
+) -> Result<Option<StepOut>, ServeError>
+    ensures server { engine.new.server ≡ engine.old.server }
+    ensures fired { IfOk result (λ fired. IfSome fired (λ out. TakesDue engine.old.server engine.old.state at out engine.new.state)) }
+    ensures fewer { IfOk result (λ fired. IfSome fired (λ out. steps_left at engine.new.state + 1 ≤ steps_left at engine.old.state)) }
+    ensures none { IfOk result (λ fired. IfNone fired (NothingDueBy (moment_of engine.old.state at) engine.old.state)) }
+    ensures waits { IfOk result (λ fired. IfNone fired (engine.new ≡ engine.old)) }
+    ensures refused { IfErr result (λ e. IsWhy e (Read at) None [] engine.old.state) }
+    ensures not_link { IfErr result (λ e. ¬ (e ≡ Refusal.Link)) }
+    ensures unchanged { OnErr result (engine.new ≡ engine.old) }
+{
+    moment_rises();
+    steps_stand_at_their_moments();
+    engine.is_reached();
+    let fired = fire_next(engine, at)?;
+    Ok(fired)
+}
+
+/// All that is due by a moment happens, each in a step at its own moment, and its packets are given to the link.
+fn fire_due<T: Timers, R: Rules, L: Link>(
+    engine: &mut Engine<T, R>,
+    link: &mut L,
+    at: u64,
+) -> Result<(), ServeError>
+    ensures server { engine.new.server ≡ engine.old.server }
+    ensures receives { L.receives link.new ≡ L.receives link.old }
+    ensures failures { L.failures link.new ≡ L.failures link.old }
+    ensures heard { L.heard link.new ≡ L.heard link.old }
+    ensures fired { OnOk result (Course engine.old.server engine.old.state engine.new.state (Some at) (Some at) [] [] None [] (L.given link.old) (L.given link.new)) }
+    ensures none_due { OnOk result (NothingDueBy (moment_of engine.new.state at) engine.new.state) }
+    ensures broken { IfErr result (BreaksFiring engine.old.server engine.old.state engine.new.state at (L.given link.old) (L.given link.new)) }
+    ensures not_link { IfErr result (λ e. ¬ (e ≡ Refusal.Link)) }
+{
+    while let Some(out) = fire_one(engine, at)? {
+        hand_out(engine, link, out)?;
+    }
+    Ok(())
+}
+
+/// Asks the link once, and takes the datagram that it heard at a moment, with the next word, or that moment alone.
+fn take_event<T: Timers, R: Rules, L: Link, W: Rng>(
+    engine: &mut Engine<T, R>,
+    link: &mut L,
+    words: &mut W,
+    at: u64,
+) -> Result<StepOut, ServeError>
+    requires { NothingDueBy (moment_of engine.old.state at) engine.old.state }
+    ensures server { engine.new.server ≡ engine.old.server }
+    ensures asked { L.receives link.new ≡ counted (L.receives link.old) }
+    ensures link_failed { result ≡ Err Refusal.Link → L.failures link.new ≡ counted (L.failures link.old) }
+    ensures link_held { ¬ (result ≡ Err Refusal.Link) → L.failures link.new ≡ L.failures link.old }
+    ensures given { L.given link.new ≡ L.given link.old }
+    ensures taken { IfOk result (λ out. TakesTurn engine.old.server engine.old.state at (L.heard link.old) (L.heard link.new) (W.stream words.old) (W.stream words.new) out engine.new.state) }
+    ensures broken { IfErr result (BreaksTurn engine.old.state at (L.heard link.old) (L.heard link.new) (W.stream words.old) (W.stream words.new)) }
+    ensures unchanged { OnErr result (engine.new ≡ engine.old) }
+{
+    match link.receive()? {
+        Some(from) => {
+            let word = next_word(words);
+            Ok(engine.deliver(at, word, from, link.bytes())?)
+        }
+        None => Ok(engine.fire(at)?),
+    }
+}
+
+/// The rest of a turn, once all that was due by its reading has happened: its event is taken, what that records is listed, and its
+/// packets are given to the link.
+fn take_turn<T: Timers, R: Rules, L: Link, W: Rng>(
+    engine: &mut Engine<T, R>,
+    link: &mut L,
+    words: &mut W,
+    at: u64,
+    records: &mut Items<Record>,
+) -> Result<(), ServeError>
+    requires { NothingDueBy (moment_of engine.old.state at) engine.old.state }
+    ensures server { engine.new.server ≡ engine.old.server }
+    ensures asked { L.receives link.new ≡ counted (L.receives link.old) }
+    ensures link_failed { result ≡ Err Refusal.Link → L.failures link.new ≡ counted (L.failures link.old) }
+    ensures link_held { ¬ (result ≡ Err Refusal.Link) → L.failures link.new ≡ L.failures link.old }
+    ensures goes { OnOk result (GoesOn engine.old.server engine.old.state engine.new.state at (L.heard link.old) (L.heard link.new) (L.given link.old) (L.given link.new) (W.stream words.old) (W.stream words.new) records.old records.new) }
+    ensures broken { IfErr result (BreaksOff engine.old.server engine.old.state engine.new.state at (L.heard link.old) (L.heard link.new) (L.given link.old) (L.given link.new) (W.stream words.old) (W.stream words.new)) }
+{
+    steps_stand_at_their_moments();
+    let out = take_event(engine, link, words, at)?;
+    add_records(records, out.records.as_slice())?;
+    hand_out(engine, link, out)
+}
+
+/// One turn: the clock is read once, all that is due by then happens, and the link is asked once.
+fn turn<T: Timers, R: Rules, L: Link, C: Clock, W: Rng>(
+    engine: &mut Engine<T, R>,
+    link: &mut L,
+    clock: &mut C,
+    words: &mut W,
+    records: &mut Items<Record>,
+) -> Result<(), ServeError>
+    ensures server { engine.new.server ≡ engine.old.server }
+    ensures asked_all { OnOk result (L.receives link.new ≡ counted (L.receives link.old)) }
+    ensures asked { IsAskedWithin 1 (L.receives link.old) (L.receives link.new) }
+    ensures link_failed { result ≡ Err Refusal.Link → L.failures link.new ≡ counted (L.failures link.old) }
+    ensures link_held { ¬ (result ≡ Err Refusal.Link) → L.failures link.new ≡ L.failures link.old }
+    ensures goes { OnOk result (Goes engine.old.server engine.old.state engine.new.state (record { heard = L.heard link.old; given = L.given link.old; readings = C.readings clock.old; words = W.stream words.old }) (record { heard = L.heard link.new; given = L.given link.new; readings = C.readings clock.new; words = W.stream words.new }) 1 records.old records.new) }
+    ensures broken { IfErr result (Breaks engine.old.server engine.old.state engine.new.state (record { heard = L.heard link.old; given = L.given link.old; readings = C.readings clock.old; words = W.stream words.old }) (record { heard = L.heard link.new; given = L.given link.new; readings = C.readings clock.new; words = W.stream words.new }) 1) }
+{
+    let at = clock.now();
+    fire_due(engine, link, at)?;
+    take_turn(engine, link, words, at, records)
+}
+
+/// Serves for some turns. In each the clock is read once, in milliseconds; all that is due by then happens, each at its own moment;
+/// and the link is asked once: the datagram that it heard, with the next two numbers of `words` as its word, or the moment alone,
+/// is taken at that reading. What each step hands out is given to the link at once, in its order; where a packet fails, its fault is
+/// taken before any other packet is given, and the packets of that go behind those that still wait. Each valid new request outside a
+/// dialog is sent to exactly the unexpired bindings or the configured hop that the first matching rule gives its proven user;
+/// bindings change or are listed exactly as an allowed REGISTER says; every policy denial is a 403 whose Warning names that rule; all
+/// else sent belongs to an open request or a known dialog (`access` in `Serves`). Refusals, behind which what was sent stays sent and
+/// the engine goes on from where it is: `NoMemory`; `Link`, where `receive` failed; `Step`, where a moment is 2^62 ms or more, or a
+/// datagram's number would be.
+pub fn serve<T: Timers, R: Rules, L: Link, C: Clock, W: Rng>(
+    alloc: Global,
+    engine: &mut Engine<T, R>,
+    link: &mut L,
+    clock: &mut C,
+    words: &mut W,
+    turns: u32,
+) -> Result<Served, ServeError>
+    ensures server { engine.new.server ≡ engine.old.server }
+    ensures served { IfOk result (λ served. IsServed turns engine.old.server engine.old.state engine.new.state (record { heard = L.heard link.old; given = L.given link.old; readings = C.readings clock.old; words = W.stream words.old }) (record { heard = L.heard link.new; given = L.given link.new; readings = C.readings clock.new; words = W.stream words.new }) served.records) }
+    ensures refused { IfErr result (IsUnserved turns engine.old.server engine.old.state engine.new.state (record { heard = L.heard link.old; given = L.given link.old; readings = C.readings clock.old; words = W.stream words.old }) (record { heard = L.heard link.new; given = L.given link.new; readings = C.readings clock.new; words = W.stream words.new })) }
+    ensures asked_all { OnOk result (L.receives link.new ≡ counted_times turns (L.receives link.old)) }
+    ensures asked { IsAskedWithin turns (L.receives link.old) (L.receives link.new) }
+    ensures link_failed { result ≡ Err Refusal.Link → L.failures link.new ≡ counted (L.failures link.old) }
+    ensures link_held { ¬ (result ≡ Err Refusal.Link) → L.failures link.new ≡ L.failures link.old }
+{
+    every_history_has_access();
+    let mut records = Items::new(alloc);
+    for _ in 0..turns {
+        turn(engine, link, clock, words, &mut records)?;
+    }
+    Ok(Served { records })
+}
