@@ -51,6 +51,7 @@ fn try_all(rt: &HostRuntime) -> io::Result<()> {
     let text = io::read_to_string(rt.alloc(), rt.reader())?;
     runs::tell_all(rt)?;
     cases::tell_all(rt)?;
+    serving_cases::tell_all(rt)?;
     runs::tell_steps(rt, "registered")?;
     tables::tell_all(rt)?;
     parts::tell_all(rt, text.as_str())
@@ -72,7 +73,10 @@ fn try_steps(rt: &HostRuntime) -> Result<(), Fault> {
 fn try_one(rt: &HostRuntime, trial: &str) -> Result<u8, Fault> {
     match trial {
         "runs" => runs::tell_all(rt)?,
-        "cases" => cases::tell_all(rt)?,
+        "cases" => {
+            cases::tell_all(rt)?;
+            serving_cases::tell_all(rt)?;
+        }
         "refusals" => try_steps(rt)?,
         _ => return Ok(OTHER_WORDS),
     }

@@ -1,10 +1,11 @@
-use crate::cases::driving::opened;
-use crate::cases::serving::counting::Counting;
-use crate::cases::serving::datagrams::Datagram;
+use crate::counting::Counting;
+use crate::datagrams::Datagram;
+use sip_event::Boot;
 use sip_link::{Given, Link, MemoryClock, MemoryLink, Sending};
 use sip_loop::engine::Engine;
 use sip_loop::{ServeError, Served, serve};
 use sip_policy::ListRules;
+use sip_settings::sample;
 use sip_timers::ListTimers;
 use std::alloc::{AllocError, Global};
 
@@ -69,6 +70,16 @@ impl Trial<MemoryLink> {
             None => false,
         }
     }
+}
+
+/// An engine with the sample configuration, whose first datagram has this number.
+fn opened(alloc: Global, first: u64) -> Result<Engine<ListTimers, ListRules>, AllocError> {
+    let boot = Boot {
+        word: 0,
+        first,
+        keys: 0,
+    };
+    Engine::open(alloc, sample(alloc)?, boot)
 }
 
 /// Whether this is the datagram that was given.

@@ -1,10 +1,10 @@
 //! Devices that fail. The first three packets go to `help`, who registers two addresses; then it is called.
 
-use crate::cases::datagrams::REGISTER;
-use crate::cases::serving::datagrams::{
-    ASKS, BINDS, BINDS_AGAIN, BOUND, CALLS, CHALLENGE, Datagram, FAILED, INVITE_1, INVITE_2, TRYING,
+use crate::datagrams::{
+    ASKS, BINDS, BINDS_AGAIN, BOUND, CALLS, CHALLENGE, Datagram, FAILED, INVITE_1, INVITE_2,
+    REGISTERS, TRYING,
 };
-use crate::cases::serving::trial::{Trial, over_memory};
+use crate::trial::{Trial, over_memory};
 use sip_link::Sending::{Failed, Went};
 use sip_link::{MemoryLink, Sending};
 use sip_loop::{ServeError, Served};
@@ -95,11 +95,7 @@ pub fn receive_fails(alloc: Global) -> bool {
 
 /// An engine hears a datagram that has no number any more.
 pub fn numbers_worn(alloc: Global) -> bool {
-    let heard = [Datagram {
-        port: 5062,
-        bytes: REGISTER,
-    }];
-    match over_memory(alloc, WORN, &heard, &[], &[], &[1_000]) {
+    match over_memory(alloc, WORN, &[REGISTERS], &[], &[], &[1_000]) {
         Ok(mut trial) => is_refused(&trial.serve(1), ServeError::Step, 6) && trial.gave(0, &[]),
         Err(_) => false,
     }

@@ -1,19 +1,13 @@
 //! Clocks that don't run straight, while `help`, who has two addresses, is called at 62,000 ms and nobody answers.
 
-use crate::cases::datagrams::REGISTER;
-use crate::cases::serving::datagrams::{
-    ASKS, BINDS, BINDS_AGAIN, CALLS, CHALLENGE_5, Datagram, INVITE_1, INVITE_2, TIMED_OUT, TRYING,
+use crate::datagrams::{
+    ASKS, BINDS, BINDS_AGAIN, CALLS, CHALLENGE_5, Datagram, INVITE_1, INVITE_2, REGISTERS,
+    TIMED_OUT, TRYING,
 };
-use crate::cases::serving::trial::{Trial, is, over_memory};
+use crate::trial::{Trial, is, over_memory};
 use sip_link::Sending::Went;
 use sip_link::{Given, MemoryLink, Sending};
 use std::alloc::Global;
-
-/// Mufasa registers without credentials.
-const REGISTERS: Datagram = Datagram {
-    port: 5062,
-    bytes: REGISTER,
-};
 
 /// Whether a turn is served, and what its one record says of the moment and of the datagram's number is this.
 fn is_recorded(trial: &mut Trial<MemoryLink>, at: u64, number: u64) -> bool {

@@ -120,23 +120,6 @@ Content-Length: 0\r\n\
 ",
 };
 
-/// Both are bound, a second later.
-pub const BOUND_AGAIN: Datagram = Datagram {
-    port: 5082,
-    bytes: b"\
-SIP/2.0 200 OK\r\n\
-Via: SIP/2.0/UDP 127.0.0.1:5082;branch=z9hG4bKh3\r\n\
-From: <sip:help@host.com>;tag=a1\r\n\
-To: <sip:help@host.com>;tag=0000000000000000.3\r\n\
-Call-ID: h1\r\n\
-CSeq: 3 REGISTER\r\n\
-Contact: <sip:help@127.0.0.1:5082>;expires=3599\r\n\
-Contact: <sip:help@127.0.0.1:5083>;expires=3600\r\n\
-Content-Length: 0\r\n\
-\r\n\
-",
-};
-
 /// The first answer to the call.
 pub const TRYING: Datagram = Datagram {
     port: 5070,
@@ -215,6 +198,23 @@ From: <sip:x@away.net>;tag=f1\r\n\
 To: <sip:help@host.com>;tag=0000000000000000.4\r\n\
 Call-ID: k1\r\n\
 CSeq: 7 INVITE\r\n\
+Content-Length: 0\r\n\
+\r\n\
+",
+};
+
+/// Mufasa registers without credentials.
+pub const REGISTERS: Datagram = Datagram {
+    port: 5062,
+    bytes: b"\
+REGISTER sip:host.com SIP/2.0\r\n\
+Via: SIP/2.0/UDP 127.0.0.1:5062;branch=z9hG4bKreg1\r\n\
+Max-Forwards: 70\r\n\
+From: <sip:Mufasa@host.com>;tag=a1\r\n\
+To: <sip:Mufasa@host.com>\r\n\
+Call-ID: c1@127.0.0.1\r\n\
+CSeq: 1 REGISTER\r\n\
+Contact: <sip:Mufasa@127.0.0.1:5062>\r\n\
 Content-Length: 0\r\n\
 \r\n\
 ",

@@ -1,8 +1,8 @@
 //! Phones on loopback, and a server on a port that the system chooses. Its clock stands still, so nothing goes again.
 
-use crate::cases::serving::datagrams::ASKS_BY_PORT;
-use crate::cases::serving::phone::{Phone, accepting, between};
-use crate::cases::serving::trial::Trial;
+use crate::datagrams::ASKS_BY_PORT;
+use crate::phone::{Phone, accepting, between};
+use crate::trial::Trial;
 use sip_digest::{Protection, answer};
 use sip_host::Addr;
 use sip_link::UdpLink;

@@ -1,0 +1,39 @@
+//! What `serve` does, as calls, each a case with a name: over memory with devices that fail and clocks that don't run straight,
+//! and with phones on loopback. A case asks predicates, and answers whether it held.
+#![tactic(auto)]
+
+mod clocks;
+mod counting;
+mod datagrams;
+mod failing;
+mod on_loopback;
+mod phone;
+mod trial;
+
+use clocks::{clock_goes_back, clock_jumps};
+use failing::{both_sends_fail, final_send_fails, numbers_worn, receive_fails, trying_send_fails};
+use on_loopback::{call_on_loopback, loopback};
+use std::io;
+use std::net::Net;
+
+fn tell<R: Print>(rt: &R, name: &str, holds: bool) -> io::Result<()> {
+    if holds {
+        println!(rt; "{name} holds")
+    } else {
+        println!(rt; "{name} FAILS")
+    }
+}
+
+/// Each case: its name, and whether it held. A new one is a line here.
+pub fn tell_all<R: Print + AllocGlobal + Net>(rt: &R) -> io::Result<()> {
+    let alloc = rt.alloc();
+    tell(rt, "both_sends_fail", both_sends_fail(alloc))?;
+    tell(rt, "trying_send_fails", trying_send_fails(alloc))?;
+    tell(rt, "final_send_fails", final_send_fails(alloc))?;
+    tell(rt, "receive_fails", receive_fails(alloc))?;
+    tell(rt, "numbers_worn", numbers_worn(alloc))?;
+    tell(rt, "clock_goes_back", clock_goes_back(alloc))?;
+    tell(rt, "clock_jumps", clock_jumps(alloc))?;
+    tell(rt, "loopback", loopback(rt, alloc))?;
+    tell(rt, "call_on_loopback", call_on_loopback(rt, alloc))
+}
