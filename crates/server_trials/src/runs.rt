@@ -17,10 +17,15 @@ mod run;
 use names::names_in;
 use run::{agrees, steps_agree};
 use std::io;
-use std::rt::Files;
+use std::net::Net;
+use std::random::RandomSource;
+use std::rt::{Clock, Files};
 
 /// Whether a run agrees; the name of one that doesn't is printed.
-fn is_told<R: Files + Print + AllocGlobal>(rt: &R, name: &str) -> io::Result<bool> {
+fn is_told<R: Files + Net + Clock + RandomSource + Print + AllocGlobal>(
+    rt: &R,
+    name: &str,
+) -> io::Result<bool> {
     if agrees(rt, name) {
         return Ok(true);
     }
@@ -29,7 +34,9 @@ fn is_told<R: Files + Print + AllocGlobal>(rt: &R, name: &str) -> io::Result<boo
 }
 
 /// Does every run, and prints how many agree.
-pub fn tell_all<R: Files + Print + AllocGlobal + Clone + Drop>(rt: &R) -> io::Result<()> {
+pub fn tell_all<R: Files + Net + Clock + RandomSource + Print + AllocGlobal + Clone + Drop>(
+    rt: &R,
+) -> io::Result<()> {
     let names = names_in(rt, ".")?;
     let runs = names.len();
     let mut agreed = 0usize;

@@ -1,6 +1,6 @@
 use crate::exit::Exit;
 use clap::error::ErrorKind;
-use clap::{Arg, ArgAction, ArgMatches, Command};
+use clap::{Arg, ArgAction, ArgMatches, Command, value_parser};
 use std::alloc::{AllocError, Global};
 
 /// What is to be done.
@@ -10,6 +10,8 @@ pub enum Call {
     Check(String),
     /// Replay the script on standard input, with the configuration of this file, or the sample.
     Replay(Option<String>),
+    /// Serve with the configuration of this file, for so many turns, or until it is ended.
+    Serve(String, Option<u32>),
 }
 
 /// What a command line says.
@@ -44,6 +46,23 @@ fn replay_command<'a>(alloc: Global) -> Result<Command<'a>, AllocError> {
         .arg(config_argument(alloc, false))
 }
 
+/// `--turns N`.
+fn turns_argument<'a>(alloc: Global) -> Arg<'a> {
+    Arg::new(alloc, "turns")
+        .long("turns")
+        .value_name("N")
+        .help("How many turns to serve; until it is ended, if not given")
+        .action(ArgAction::Set)
+        .value_parser(value_parser!(u32))
+}
+
+fn serve_command<'a>(alloc: Global) -> Result<Command<'a>, AllocError> {
+    Command::new(alloc, "serve")
+        .about("Serves at the address of a configuration")
+        .arg(config_argument(alloc, true))?
+        .arg(turns_argument(alloc))
+}
+
 /// The commands that the program knows.
 fn commands<'a>(alloc: Global) -> Result<Command<'a>, AllocError> {
     Command::new(alloc, "sipd")
@@ -51,7 +70,8 @@ fn commands<'a>(alloc: Global) -> Result<Command<'a>, AllocError> {
         .about("A SIP registrar and proxy")
         .subcommand_required(true)
         .subcommand(check_command(alloc)?)?
-        .subcommand(replay_command(alloc)?)
+        .subcommand(replay_command(alloc)?)?
+        .subcommand(serve_command(alloc)?)
 }
 
 /// The file that `--config` names.
@@ -62,15 +82,21 @@ fn config_of(alloc: Global, matches: &ArgMatches<'_>) -> Result<Option<String>, 
     }
 }
 
+/// The number that `--turns` names.
+fn turns_of(matches: &ArgMatches<'_>) -> Option<u32> {
+    matches.get_one::<u32>("turns")
+}
+
 /// What a command asks for.
 fn call_of(alloc: Global, matches: &ArgMatches<'_>) -> Result<Call, AllocError> {
     let Some((name, inner)) = matches.subcommand() else {
         // A command is required.
         return Ok(Call::Replay(None));
     };
-    match (name == "check", config_of(alloc, inner)?) {
-        // A check requires its file.
-        (true, Some(path)) => Ok(Call::Check(path)),
+    match (name, config_of(alloc, inner)?) {
+        // These two require their file.
+        ("check", Some(path)) => Ok(Call::Check(path)),
+        ("serve", Some(path)) => Ok(Call::Serve(path, turns_of(inner))),
         (_, path) => Ok(Call::Replay(path)),
     }
 }

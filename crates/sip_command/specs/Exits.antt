@@ -1,4 +1,6 @@
--- How the program ends where a replay is refused.
+-- How the program ends where a replay is refused, or a server can't go on.
+use Rattle.sip_loop.specs.declared.served.ServeError.{ServeError}
+use Rattle.sip_loop.specs.declared.served.ServeError.TheVariants as serving
 use Rattle.sip_loop.specs.declared.error.ReplayError.{ReplayError}
 use Rattle.sip_loop.specs.declared.error.ReplayError.TheVariants as replays
 use Rattle.sip_arguments.specs.declared.exit.Exit.{Exit}
@@ -10,3 +12,9 @@ exit_of_replay replays.NoMemory = Memory
 exit_of_replay (replays.Script line) = Script line
 exit_of_replay replays.Read = Device
 exit_of_replay replays.Write = Device
+
+-- what a server that can't go on is to the program
+abbrev pub exit_of_serve : ServeError → Exit
+exit_of_serve serving.NoMemory = Memory
+exit_of_serve serving.Link = Device
+exit_of_serve serving.Step = Device

@@ -1,7 +1,9 @@
-//! The program's command line carried out: a configuration checked, or a script replayed with one.
+//! The program's command line carried out: a configuration checked, a script replayed with one, or phones served.
 #![tactic(auto)]
 
+mod printing;
 mod program;
+mod service;
 
 pub use program::command;
 pub use sip_arguments::{Call, Exit, Parsed, parse, summary_of};

@@ -1,19 +1,17 @@
 ghost use Rattle.std.specs.Prelude.{◌≡◌, ◌≤◌};
 ghost use Rattle.sip_command.specs.Exits;
 
+use crate::printing::print;
+use crate::service::serve_turns;
 use sip_arguments::{Call, Exit, Parsed, config_of, parse, summary_of};
 use sip_loop::{ReplayError, replay};
 use sip_policy::ListRules;
 use sip_text::Bytes;
 use sip_timers::ListTimers;
 use std::io::{Read, Write};
-use std::rt::Files;
-
-/// Writes a text whole.
-fn print<W: Write>(text: &[u8], output: &mut W) -> Result<(), Exit> {
-    output.write_all(text)?;
-    Ok(output.flush()?)
-}
+use std::net::Net;
+use std::random::RandomSource;
+use std::rt::{Clock, Files};
 
 /// What is printed of the configuration of a file.
 fn summary_in<R: Files + AllocGlobal>(rt: &R, path: &str) -> Result<Bytes, Exit> {
@@ -56,7 +54,18 @@ fn replay_script<R: Files + AllocGlobal, I: Read, W: Write>(
     }
 }
 
-fn carry_out<R: Files + AllocGlobal, I: Read, W: Write>(
+/// Serves with the configuration of a file.
+fn serve_file<R: Files + Net + Clock + RandomSource + AllocGlobal, W: Write>(
+    rt: &R,
+    path: &str,
+    turns: Option<u32>,
+    output: &mut W,
+) -> Result<(), Exit> {
+    let config = config_of(rt, Some(path))?;
+    serve_turns(rt, config, turns, output)
+}
+
+fn carry_out<R: Files + Net + Clock + RandomSource + AllocGlobal, I: Read, W: Write>(
     rt: &R,
     call: &Call,
     input: &mut I,
@@ -66,10 +75,11 @@ fn carry_out<R: Files + AllocGlobal, I: Read, W: Write>(
         Call::Check(path) => check_file(rt, path.as_str(), output),
         Call::Replay(Some(path)) => replay_script(rt, Some(path.as_str()), input, output),
         Call::Replay(None) => replay_script(rt, None, input, output),
+        Call::Serve(path, turns) => serve_file(rt, path.as_str(), *turns, output),
     }
 }
 
-fn run<R: Files + AllocGlobal, I: Read, W: Write>(
+fn run<R: Files + Net + Clock + RandomSource + AllocGlobal, I: Read, W: Write>(
     rt: &R,
     words: &[String],
     input: &mut I,
@@ -84,7 +94,7 @@ fn run<R: Files + AllocGlobal, I: Read, W: Write>(
 /// Does what the words of a command line say, the program's own name first, and gives the exit status: 0 done, 1
 /// usage, 2 configuration, 3 script, 4 device, 5 memory. What it complains about is one line, but for the text on
 /// usage.
-pub fn command<R: Files + AllocGlobal, I: Read, W: Write, C: Write>(
+pub fn command<R: Files + Net + Clock + RandomSource + AllocGlobal, I: Read, W: Write, C: Write>(
     rt: &R,
     words: &[String],
     input: &mut I,

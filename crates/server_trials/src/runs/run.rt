@@ -7,7 +7,9 @@ use server_cases::refusals::prints;
 use sip_command::command;
 use std::alloc::{AllocError, Global};
 use std::fs;
-use std::rt::Files;
+use std::net::Net;
+use std::random::RandomSource;
+use std::rt::{Clock, Files};
 
 /// The bytes of a run's file, where it can be read.
 fn file_of<R: Files + AllocGlobal>(rt: &R, name: &str, kind: &str) -> Option<Vec<u8>> {
@@ -76,7 +78,12 @@ fn is_status<R: Files + AllocGlobal>(rt: &R, name: &str, status: u8) -> bool
 }
 
 /// Whether these words and this input give the output, the complaint and the status that a run's files say.
-fn gives<R: Files + AllocGlobal>(rt: &R, name: &str, words: &[String], script: &[u8]) -> bool {
+fn gives<R: Files + Net + Clock + RandomSource + AllocGlobal>(
+    rt: &R,
+    name: &str,
+    words: &[String],
+    script: &[u8],
+) -> bool {
     let mut input = script;
     let mut output = Vec::new(rt.alloc());
     let mut complaints = Vec::new(rt.alloc());
@@ -96,7 +103,7 @@ fn script_of<R: Files + AllocGlobal>(rt: &R, name: &str) -> Option<Vec<u8>> {
 }
 
 /// Whether a run agrees with its files.
-pub fn agrees<R: Files + AllocGlobal>(rt: &R, name: &str) -> bool {
+pub fn agrees<R: Files + Net + Clock + RandomSource + AllocGlobal>(rt: &R, name: &str) -> bool {
     let Some(words) = words_of(rt, name) else {
         return false;
     };
