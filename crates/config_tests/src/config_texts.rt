@@ -104,9 +104,10 @@ domains = [\"office.local\", \"127.0.0.1\"]
 name = \"alice\"
 # MD5 of name:realm:password, in lower case: printf '%s' 'alice:office:wonderland' | md5sum
 a1 = \"f315b3aa262bab81c2bbaf33f0aab9f1\"
-# SHA-256 of the same, for phones that can do it; it needn't be there.
-# printf '%s' 'alice:office:wonderland' | sha256sum
-a1_sha256 = \"7128eacb9832ba27022d2c1a56d078076a711136ae04d7f53809e1ab9bed68c5\"
+# SHA-256 of the same, for phones that can do it: printf '%s' 'alice:office:wonderland' | sha256sum
+# All users have it, or none: as soon as one has it, every phone is offered both, and those that can do it
+# answer by it. Some that know MD5 alone give up at that offer, so it is left out here.
+# a1_sha256 = \"7128eacb9832ba27022d2c1a56d078076a711136ae04d7f53809e1ab9bed68c5\"
 # Groups that rules may name; they needn't be there.
 groups = [\"staff\"]
 
