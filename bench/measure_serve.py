@@ -13,6 +13,7 @@ import re
 import signal
 import sys
 import tempfile
+import threading
 import time
 from concurrent.futures import ThreadPoolExecutor
 
@@ -120,6 +121,8 @@ def idle(folder):
 def bindings(folder):
     users = [f"user{place}" for place in range(BINDINGS)]
     server, port = started(PROGRAM, configured(folder, ["help", *users]))
+    # Its records are read on: they are more than a pipe holds, and a server whose output nobody reads waits.
+    threading.Thread(target=server.stdout.read, daemon=True).start()
     time.sleep(1)
     before = resident(server)
     for place, user in enumerate(users, 1):
