@@ -1,0 +1,5 @@
+pub mod Threads
+pub mod Dues
+pub mod Holding
+pub mod Whole
+pub mod Looking
