@@ -1,0 +1,4 @@
+pub mod Places
+pub mod Order
+pub mod Wheel
+pub mod Marks
