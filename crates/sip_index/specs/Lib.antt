@@ -1,0 +1,4 @@
+pub mod Code
+pub mod Places
+pub mod Asked
+pub mod Index
