@@ -4,6 +4,7 @@
 
 pub mod cases;
 mod fault;
+mod kinds;
 pub mod refusals;
 
 pub use fault::Fault;

@@ -1,18 +1,21 @@
 use crate::counting::Counting;
 use crate::datagrams::Datagram;
 use sip_event::Boot;
+use sip_index::IndexedRules;
 use sip_link::{Given, Link, MemoryClock, MemoryLink, Sending};
 use sip_loop::engine::Engine;
 use sip_loop::{ServeError, Served, serve};
-use sip_policy::ListRules;
 use sip_settings::sample;
-use sip_timers::ListTimers;
+use sip_wheel::WheelTimers;
 use std::alloc::{AllocError, Global};
+
+/// The engine of the program.
+type Server = Engine<WheelTimers, IndexedRules>;
 
 /// An engine with the sample configuration, and what it is served with.
 pub struct Trial<L: Link> {
     alloc: Global,
-    engine: Engine<ListTimers, ListRules>,
+    engine: Server,
     pub link: L,
     clock: MemoryClock,
     words: Counting,
@@ -73,13 +76,13 @@ impl Trial<MemoryLink> {
 }
 
 /// An engine with the sample configuration, whose first datagram has this number.
-fn opened(alloc: Global, first: u64) -> Result<Engine<ListTimers, ListRules>, AllocError> {
+fn opened(alloc: Global, first: u64) -> Result<Server, AllocError> {
     let boot = Boot {
         word: 0,
         first,
         keys: 0,
     };
-    Engine::open(alloc, sample(alloc)?, boot)
+    Server::open(alloc, sample(alloc)?, boot)
 }
 
 /// Whether this is the datagram that was given.

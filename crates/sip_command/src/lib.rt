@@ -5,5 +5,5 @@ mod printing;
 mod program;
 mod service;
 
-pub use program::command;
+pub use program::{command, replay_script};
 pub use sip_arguments::{Call, Exit, Parsed, parse, summary_of};

@@ -4,10 +4,12 @@ ghost use Rattle.sip_command.specs.Exits;
 use crate::printing::print;
 use crate::service::serve_turns;
 use sip_arguments::{Call, Exit, Parsed, config_of, parse, summary_of};
+use sip_index::IndexedRules;
 use sip_loop::{ReplayError, replay};
-use sip_policy::ListRules;
+use sip_policy::Rules;
 use sip_text::Bytes;
-use sip_timers::ListTimers;
+use sip_timers::Timers;
+use sip_wheel::WheelTimers;
 use std::io::{Read, Write};
 use std::net::Net;
 use std::random::RandomSource;
@@ -40,15 +42,15 @@ fn exit_of_replay(e: ReplayError) -> Exit
     }
 }
 
-/// Replays the script of the input with the configuration of a file, or the sample.
-fn replay_script<R: Files + AllocGlobal, I: Read, W: Write>(
+/// Replays the script of the input with the configuration of a file, or the sample, on these kinds of timers and rules.
+pub fn replay_script<T: Timers, P: Rules, R: Files + AllocGlobal, I: Read, W: Write>(
     rt: &R,
     path: Option<&str>,
     input: &mut I,
     output: &mut W,
 ) -> Result<(), Exit> {
     let config = config_of(rt, path)?;
-    match replay::<ListTimers, ListRules, I, W>(rt.alloc(), config, input, output) {
+    match replay::<T, P, I, W>(rt.alloc(), config, input, output) {
         Ok(()) => Ok(()),
         Err(e) => Err(exit_of_replay(e)),
     }
@@ -73,8 +75,13 @@ fn carry_out<R: Files + Net + Clock + RandomSource + AllocGlobal, I: Read, W: Wr
 ) -> Result<(), Exit> {
     match call {
         Call::Check(path) => check_file(rt, path.as_str(), output),
-        Call::Replay(Some(path)) => replay_script(rt, Some(path.as_str()), input, output),
-        Call::Replay(None) => replay_script(rt, None, input, output),
+        Call::Replay(Some(path)) => {
+            let path = Some(path.as_str());
+            replay_script::<WheelTimers, IndexedRules, R, I, W>(rt, path, input, output)
+        }
+        Call::Replay(None) => {
+            replay_script::<WheelTimers, IndexedRules, R, I, W>(rt, None, input, output)
+        }
         Call::Serve(path, turns) => serve_file(rt, path.as_str(), *turns, output),
     }
 }

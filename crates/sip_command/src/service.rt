@@ -9,12 +9,12 @@ use rand_core::Rng;
 use sip_arguments::Exit;
 use sip_event::Boot;
 use sip_host::Addr;
+use sip_index::IndexedRules;
 use sip_link::{Clock, SteadyClock, UdpLink};
 use sip_loop::engine::Engine;
 use sip_loop::{ServeError, serve};
-use sip_policy::ListRules;
 use sip_settings::Config;
-use sip_timers::ListTimers;
+use sip_wheel::WheelTimers;
 use std::alloc::Global;
 use std::io::Write;
 use std::net::Net;
@@ -27,7 +27,7 @@ const LONGEST: u64 = 1000;
 /// A server, and what drives it.
 #[derive(Drop)]
 struct Service<'a, R> {
-    engine: Engine<ListTimers, ListRules>,
+    engine: Engine<WheelTimers, IndexedRules>,
     link: UdpLink,
     clock: SteadyClock<'a, R>,
     words: StdRng,

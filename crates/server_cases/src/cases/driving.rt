@@ -1,13 +1,12 @@
-//! An engine with the sample configuration, its timers and rules in lists, and calls of it.
+//! An engine with the sample configuration, and calls of it.
 
+use crate::kinds::{Server, ServerRules, ServerTimers};
 use sip_event::Boot;
 use sip_host::Addr;
-use sip_loop::engine::{Engine, StepError};
+use sip_loop::engine::StepError;
 use sip_loop::{ReplayError, replay};
-use sip_policy::ListRules;
 use sip_run::fire_next;
 use sip_settings::sample;
-use sip_timers::ListTimers;
 use std::alloc::{AllocError, Global};
 use std::io::{Read, Write};
 
@@ -18,23 +17,18 @@ pub const PHONE: Addr = Addr {
 };
 
 /// An engine with the sample configuration, whose first datagram has this number.
-pub fn opened(alloc: Global, first: u64) -> Result<Engine<ListTimers, ListRules>, AllocError> {
+pub fn opened(alloc: Global, first: u64) -> Result<Server, AllocError> {
     let boot = Boot {
         word: 0,
         first,
         keys: 0,
     };
-    Engine::open(alloc, sample(alloc)?, boot)
+    Server::open(alloc, sample(alloc)?, boot)
 }
 
 /// Delivers a datagram; nothing is due by its moment. Answers how long the packet is that goes out for it; 0,
 /// where there is none, or more than one.
-pub fn hear(
-    engine: &mut Engine<ListTimers, ListRules>,
-    at: u64,
-    word: u128,
-    bytes: &[u8],
-) -> Result<usize, StepError> {
+pub fn hear(engine: &mut Server, at: u64, word: u128, bytes: &[u8]) -> Result<usize, StepError> {
     if fire_next(engine, at)?.is_some() {
         return Err(StepError::MomentTooLarge);
     }
@@ -54,5 +48,5 @@ pub fn replayed<I: Read, W: Write>(
     let Ok(config) = sample(alloc) else {
         return Err(ReplayError::NoMemory);
     };
-    replay::<ListTimers, ListRules, I, W>(alloc, config, reader, writer)
+    replay::<ServerTimers, ServerRules, I, W>(alloc, config, reader, writer)
 }

@@ -1,14 +1,13 @@
 use crate::cases::datagrams::{REGISTER, REGISTER_AGAIN};
 use crate::cases::driving::{hear, opened};
-use sip_loop::engine::{Engine, StepError};
-use sip_policy::ListRules;
+use crate::kinds::Server;
+use sip_loop::engine::StepError;
 use sip_text::Bytes;
-use sip_timers::ListTimers;
 use sip_uri::Aor;
 use std::alloc::Global;
 
 /// Whether Mufasa has one binding, the one that the second REGISTER made.
-fn is_bound(alloc: Global, engine: &Engine<ListTimers, ListRules>) -> bool {
+fn is_bound(alloc: Global, engine: &Server) -> bool {
     let Ok(user) = Bytes::copy(alloc, b"Mufasa") else {
         return false;
     };

@@ -1,8 +1,7 @@
 use crate::cases::driving::{PHONE, hear, opened};
+use crate::kinds::Server;
 use sip_event::Ticket;
-use sip_loop::engine::{Engine, StepError};
-use sip_policy::ListRules;
-use sip_timers::ListTimers;
+use sip_loop::engine::StepError;
 use std::alloc::Global;
 
 const TOO_LARGE: u64 = 4_611_686_018_427_387_904;
@@ -13,7 +12,7 @@ const TICKET: Ticket = Ticket {
 };
 
 /// Whether each step at a moment of 2^62 is refused, and nothing changes.
-fn is_too_late(engine: &mut Engine<ListTimers, ListRules>) -> bool {
+fn is_too_late(engine: &mut Server) -> bool {
     let late = Some(StepError::MomentTooLarge);
     engine.deliver(TOO_LARGE, 1, PHONE, b"").err() == late
         && engine.fire(TOO_LARGE).err() == late
@@ -22,7 +21,7 @@ fn is_too_late(engine: &mut Engine<ListTimers, ListRules>) -> bool {
 }
 
 /// Whether an engine takes the last datagram that has a number and refuses more as worn out, and time passes still.
-fn is_worn_soon(engine: &mut Engine<ListTimers, ListRules>) -> bool {
+fn is_worn_soon(engine: &mut Server) -> bool {
     hear(engine, 0, 1, b"") == Ok(0)
         && hear(engine, 0, 1, b"") == Err(StepError::Worn)
         && engine.fire(7).err().is_none()

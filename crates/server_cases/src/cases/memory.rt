@@ -1,16 +1,15 @@
 use crate::cases::datagrams::REGISTER;
 use crate::cases::driving::{hear, opened};
 use crate::cases::faults::ends;
+use crate::kinds::Server;
 use sip_loop::ReplayError;
-use sip_loop::engine::{Engine, StepError};
-use sip_policy::ListRules;
-use sip_timers::ListTimers;
+use sip_loop::engine::StepError;
 use std::alloc::Global;
 use std::io::ErrorKind;
 
 /// Whether a REGISTER is challenged, or is refused for want of memory, changes nothing, and is challenged
 /// when it comes again.
-fn is_challenged_in_the_end(engine: &mut Engine<ListTimers, ListRules>) -> bool {
+fn is_challenged_in_the_end(engine: &mut Server) -> bool {
     match hear(engine, 1_000, 1, REGISTER) {
         Ok(length) => length == 348,
         Err(StepError::NoMemory) => {

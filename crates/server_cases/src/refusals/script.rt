@@ -1,11 +1,9 @@
 use crate::fault::Fault;
+use crate::kinds::Server;
 use crate::refusals::take::take;
 use sip_event::{Boot, Event};
-use sip_loop::engine::Engine;
-use sip_policy::ListRules;
 use sip_script::{Lines, next_event, print_step};
 use sip_settings::Config;
-use sip_timers::ListTimers;
 use std::alloc::Global;
 use std::io::{Read, Write};
 
@@ -19,7 +17,7 @@ const BOOT: Boot = Boot {
 /// Takes the steps of an event, those of what is due before it first, and prints them; how many were refused at first.
 fn take_event<W: Write, M: Write>(
     alloc: Global,
-    engine: &mut Engine<ListTimers, ListRules>,
+    engine: &mut Server,
     event: &Event,
     output: &mut W,
     marks: &mut M,
@@ -39,7 +37,7 @@ fn take_event<W: Write, M: Write>(
 /// Takes the next event of a script, if there is one; how many of its steps were refused at first.
 fn take_next<I: Read, W: Write, M: Write>(
     alloc: Global,
-    engine: &mut Engine<ListTimers, ListRules>,
+    engine: &mut Server,
     lines: &mut Lines,
     line: &mut Vec<u8>,
     input: &mut I,
@@ -55,7 +53,7 @@ fn take_next<I: Read, W: Write, M: Write>(
 /// Takes all events of a script; how many steps were refused at first.
 fn take_all<I: Read, W: Write, M: Write>(
     alloc: Global,
-    engine: &mut Engine<ListTimers, ListRules>,
+    engine: &mut Server,
     lines: &mut Lines,
     line: &mut Vec<u8>,
     input: &mut I,
@@ -80,7 +78,7 @@ pub fn play<I: Read, W: Write, M: Write>(
     output: &mut W,
     marks: &mut M,
 ) -> Result<u64, Fault> {
-    let mut engine = Engine::<ListTimers, ListRules>::open(alloc, config, BOOT)?;
+    let mut engine = Server::open(alloc, config, BOOT)?;
     let mut lines = Lines::new(alloc)?;
     let mut line = Vec::new(alloc);
     take_all(

@@ -1,8 +1,6 @@
+use crate::kinds::Server;
 use sip_location::Binding;
-use sip_loop::engine::Engine;
-use sip_policy::ListRules;
 use sip_text::{Bytes, same_bytes};
-use sip_timers::ListTimers;
 use sip_uri::{Aor, write_uri};
 use std::alloc::{AllocError, Global};
 
@@ -50,7 +48,7 @@ fn aor_of(alloc: Global, user: &str) -> Result<Aor, AllocError> {
 fn put_bindings(
     alloc: Global,
     text: &mut Bytes,
-    engine: &Engine<ListTimers, ListRules>,
+    engine: &Server,
     user: &str,
 ) -> Result<(), AllocError> {
     let aor = aor_of(alloc, user)?;
@@ -62,10 +60,7 @@ fn put_bindings(
 }
 
 impl Standing {
-    pub fn of(
-        alloc: Global,
-        engine: &Engine<ListTimers, ListRules>,
-    ) -> Result<Standing, AllocError> {
+    pub fn of(alloc: Global, engine: &Server) -> Result<Standing, AllocError> {
         let mut bindings = Bytes::new(alloc);
         for user in USERS {
             put_bindings(alloc, &mut bindings, engine, user)?;

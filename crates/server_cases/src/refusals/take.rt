@@ -1,12 +1,11 @@
 ghost use Rattle.std.specs.Prelude.{◌≡◌, OnErr};
 
 use crate::fault::Fault;
+use crate::kinds::Server;
 use crate::refusals::standing::Standing;
 use sip_event::{Event, StepOut};
-use sip_loop::engine::{Engine, StepError};
-use sip_policy::ListRules;
+use sip_loop::engine::StepError;
 use sip_run::{event_moment, fire_next, take_event};
-use sip_timers::ListTimers;
 use std::alloc::Global;
 use std::io::Write;
 
@@ -19,7 +18,7 @@ pub struct Taken {
 }
 
 /// The step of what is due first by an event's moment, or the event's own.
-fn step(engine: &mut Engine<ListTimers, ListRules>, event: &Event) -> Result<Taken, StepError>
+fn step(engine: &mut Server, event: &Event) -> Result<Taken, StepError>
     ensures { OnErr result (engine.new ≡ engine.old) }
 {
     if let Some(out) = fire_next(engine, event_moment(event))? {
@@ -47,7 +46,7 @@ fn say<M: Write>(marks: &mut M, word: &[u8]) -> Result<(), Fault> {
 /// The same step once more, where nothing changed since.
 fn step_again(
     alloc: Global,
-    engine: &mut Engine<ListTimers, ListRules>,
+    engine: &mut Server,
     event: &Event,
     before: &Standing,
 ) -> Result<Taken, Fault> {
@@ -67,7 +66,7 @@ fn step_again(
 /// want of memory.
 pub fn take<M: Write>(
     alloc: Global,
-    engine: &mut Engine<ListTimers, ListRules>,
+    engine: &mut Server,
     event: &Event,
     marks: &mut M,
 ) -> Result<Taken, Fault> {
