@@ -6,25 +6,41 @@ mod decisions;
 mod lookups;
 mod names;
 mod proofs;
+mod timer_cases;
+mod timers;
 mod updates;
 
 use choices::choices;
 use comparisons::{Part, comparisons};
-use decisions::decisions;
+use decisions::{Others, decisions};
 use lookups::lookups;
 use proofs::proofs;
+use sip_index::IndexedRules;
+use sip_policy::ListRules;
 use std::alloc::Global;
 use std::io;
+use timer_cases::timer_case;
 use updates::updates;
 
-const CASES: [&str; 7] = [
+const CASES: [&str; 18] = [
     "update",
     "proof",
     "same_parameters",
     "same_headers",
-    "decision",
+    "list_by_targets",
+    "index_by_targets",
+    "list_by_askers",
+    "index_by_askers",
     "allows",
     "best",
+    "list_adds_mixed",
+    "list_cancels_mixed",
+    "list_next_mixed",
+    "wheel_adds_rising",
+    "wheel_adds_falling",
+    "wheel_cancels_falling",
+    "wheel_cancels_mixed",
+    "wheel_next_mixed",
 ];
 
 /// How many calls of a case came to what they are to come to. None where the case is unknown, or memory runs out.
@@ -34,10 +50,13 @@ fn counted(alloc: Global, case: &str, size: u32, times: u32) -> Option<u32> {
         "proof" => proofs(alloc, size, times),
         "same_parameters" => comparisons(alloc, Part::Parameter, size, times),
         "same_headers" => comparisons(alloc, Part::Header, size, times),
-        "decision" => decisions(alloc, size, times),
+        "list_by_targets" => decisions::<ListRules>(alloc, Others::Targets, size, times),
+        "index_by_targets" => decisions::<IndexedRules>(alloc, Others::Targets, size, times),
+        "list_by_askers" => decisions::<ListRules>(alloc, Others::Askers, size, times),
+        "index_by_askers" => decisions::<IndexedRules>(alloc, Others::Askers, size, times),
         "allows" => lookups(alloc, size, times),
         "best" => choices(alloc, size, times),
-        _ => None,
+        _ => timer_case(alloc, case, size, times),
     }
 }
 
