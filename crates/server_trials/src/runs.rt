@@ -1,5 +1,6 @@
 //! Every stored run of the folder that the program runs in: how many agree with their files, and the name of each that
-//! doesn't. A run NAME is files alone:
+//! doesn't. Those with a script are replayed by the program and on plain lists of timers and rules, and print the same.
+//! A run NAME is files alone:
 //!
 //! - NAME.args: the words of the command line, one a line;
 //! - NAME.script: standard input; empty, where it is absent;
@@ -15,37 +16,68 @@ mod names;
 mod run;
 
 use names::names_in;
-use run::{agrees, steps_agree};
+use run::{agreement_of, steps_agree};
 use std::io;
 use std::net::Net;
 use std::random::RandomSource;
 use std::rt::{Clock, Files};
 
-/// Whether a run agrees; the name of one that doesn't is printed.
-fn is_told<R: Files + Net + Clock + RandomSource + Print + AllocGlobal>(
-    rt: &R,
-    name: &str,
-) -> io::Result<bool> {
-    if agrees(rt, name) {
-        return Ok(true);
-    }
-    rt.println(name)?;
-    Ok(false)
+/// How many runs there are, and how many of them agree.
+#[derive(Clone, Copy)]
+struct Count {
+    runs: u32,
+    agreed: u32,
 }
 
-/// Does every run, and prints how many agree.
+impl Count {
+    fn new() -> Self {
+        Count { runs: 0, agreed: 0 }
+    }
+
+    fn add(&mut self, agrees: bool) {
+        self.runs = self.runs.saturating_add(1);
+        if agrees {
+            self.agreed = self.agreed.saturating_add(1);
+        }
+    }
+}
+
+/// Does a run, by the program and, where it has a script, on plain lists; the name of one that doesn't agree is printed.
+fn do_run<R: Files + Net + Clock + RandomSource + Print + AllocGlobal>(
+    rt: &R,
+    name: &str,
+    by_program: &mut Count,
+    on_lists: &mut Count,
+) -> io::Result<()> {
+    let agreement = agreement_of(rt, name);
+    by_program.add(agreement.by_program);
+    if !agreement.by_program {
+        println!(rt; "{name}")?;
+    }
+    if let Some(agrees) = agreement.on_lists {
+        on_lists.add(agrees);
+        if !agrees {
+            println!(rt; "{name} on plain lists")?;
+        }
+    }
+    Ok(())
+}
+
+/// Does every run, and prints how many agree; then how many of those with a script do on plain lists of timers and rules.
 pub fn tell_all<R: Files + Net + Clock + RandomSource + Print + AllocGlobal + Clone + Drop>(
     rt: &R,
 ) -> io::Result<()> {
     let names = names_in(rt, ".")?;
-    let runs = names.len();
-    let mut agreed = 0usize;
+    let mut by_program = Count::new();
+    let mut on_lists = Count::new();
     for name in &names {
-        if is_told(rt, name.as_str())? {
-            agreed = agreed.saturating_add(1);
-        }
+        do_run(rt, name.as_str(), &mut by_program, &mut on_lists)?;
     }
-    println!(rt; "{agreed} of {runs} runs agree")
+    println!(rt; "{} of {} runs agree", by_program.agreed, by_program.runs)?;
+    println!(rt;
+        "{} of {} scripts agree on plain lists",
+        on_lists.agreed, on_lists.runs
+    )
 }
 
 /// Takes the steps of one run, and prints whether they agree.

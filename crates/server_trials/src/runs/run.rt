@@ -1,12 +1,14 @@
-ghost use Rattle.std.specs.Prelude.{◌≤◌};
-
 use crate::runs::damage::damaged;
 use hex::encode_to_slice;
 use md5::{Digest, Md5};
 use server_cases::refusals::prints;
-use sip_command::command;
+use sip_arguments::{Call, Exit, Parsed, parse};
+use sip_command::{command, replay_script};
+use sip_policy::ListRules;
+use sip_timers::ListTimers;
 use std::alloc::{AllocError, Global};
 use std::fs;
+use std::io::Write;
 use std::net::Net;
 use std::random::RandomSource;
 use std::rt::{Clock, Files};
@@ -71,10 +73,9 @@ fn words_of<R: Files + AllocGlobal>(rt: &R, name: &str) -> Option<Vec<String>> {
 }
 
 /// Whether a status is the one that a run's file says.
-fn is_status<R: Files + AllocGlobal>(rt: &R, name: &str, status: u8) -> bool
-    requires { status ≤ 5 }
-{
-    says(rt, name, "status", b"0\n", &[b'0' + status, b'\n'])
+fn is_status<R: Files + AllocGlobal>(rt: &R, name: &str, status: u8) -> bool {
+    let digit = b'0'.saturating_add(status);
+    says(rt, name, "status", b"0\n", &[digit, b'\n'])
 }
 
 /// Whether these words and this input give the output, the complaint and the status that a run's files say.
@@ -93,6 +94,47 @@ fn gives<R: Files + Net + Clock + RandomSource + AllocGlobal>(
         && is_status(rt, name, status)
 }
 
+/// Replays a script as these words say, on plain lists of timers and rules; how the program would end.
+fn replay_on_lists<R: Files + AllocGlobal>(
+    rt: &R,
+    words: &[String],
+    script: &[u8],
+    output: &mut Vec<u8>,
+) -> Result<(), Exit> {
+    let mut input = script;
+    match parse(rt.alloc(), words)? {
+        Parsed::Call(Call::Replay(Some(path))) => {
+            let path = Some(path.as_str());
+            replay_script::<ListTimers, ListRules, R, &[u8], Vec<u8>>(rt, path, &mut input, output)
+        }
+        Parsed::Call(Call::Replay(None)) => {
+            replay_script::<ListTimers, ListRules, R, &[u8], Vec<u8>>(rt, None, &mut input, output)
+        }
+        _ => Err(Exit::Device),
+    }
+}
+
+/// Whether the replay that these words ask for gives the same on plain lists of timers and rules.
+fn gives_on_lists<R: Files + AllocGlobal>(
+    rt: &R,
+    name: &str,
+    words: &[String],
+    script: &[u8],
+) -> bool {
+    let mut output = Vec::new(rt.alloc());
+    let mut complaints = Vec::new(rt.alloc());
+    let status = match replay_on_lists(rt, words, script, &mut output) {
+        Ok(()) => 0,
+        Err(exit) => {
+            let _ = writeln!(&mut complaints, "{exit}");
+            exit.status()
+        }
+    };
+    is_output(rt, name, output.as_slice())
+        && says(rt, name, "err", b"", complaints.as_slice())
+        && is_status(rt, name, status)
+}
+
 /// A run's standard input.
 fn script_of<R: Files + AllocGlobal>(rt: &R, name: &str) -> Option<Vec<u8>> {
     if let Some(datagram) = file_of(rt, name, "damage") {
@@ -102,14 +144,33 @@ fn script_of<R: Files + AllocGlobal>(rt: &R, name: &str) -> Option<Vec<u8>> {
     file_of(rt, name, "script")
 }
 
+/// Whether a run agrees with its files, by the program, and, where it has a script, on plain lists of timers and rules.
+#[derive(Clone, Copy)]
+pub struct Agreement {
+    pub by_program: bool,
+    pub on_lists: Option<bool>,
+}
+
 /// Whether a run agrees with its files.
-pub fn agrees<R: Files + Net + Clock + RandomSource + AllocGlobal>(rt: &R, name: &str) -> bool {
+pub fn agreement_of<R: Files + Net + Clock + RandomSource + AllocGlobal>(
+    rt: &R,
+    name: &str,
+) -> Agreement {
     let Some(words) = words_of(rt, name) else {
-        return false;
+        return Agreement {
+            by_program: false,
+            on_lists: None,
+        };
     };
     match script_of(rt, name) {
-        Some(script) => gives(rt, name, words.as_slice(), script.as_slice()),
-        None => gives(rt, name, words.as_slice(), b""),
+        Some(script) => Agreement {
+            by_program: gives(rt, name, words.as_slice(), script.as_slice()),
+            on_lists: Some(gives_on_lists(rt, name, words.as_slice(), script.as_slice())),
+        },
+        None => Agreement {
+            by_program: gives(rt, name, words.as_slice(), b""),
+            on_lists: None,
+        },
     }
 }
 
