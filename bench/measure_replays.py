@@ -5,7 +5,7 @@ at the top.
 Counts are marginal: what a replay with ten of a thing costs more than one with two of it behind the same set-up, for each
 of the eight, so that neither the start nor the set-up is in them. Instructions are callgrind's, allocations and the bytes
 held at once those of a preloaded counter. KIND is `costs`, `growth`, `memory` or `again`; all of them without it. Where
-SHARES names another build of the program, in which the functions of the lists of timers and rules are kept apart, their
+SHARES names another build of the program, in which the functions of timers and rules, of either kind, are kept apart, their
 inclusive costs are told from that.
 """
 
@@ -22,8 +22,8 @@ HERE = os.path.dirname(os.path.abspath(__file__))
 PROGRAM = sys.argv[1] if len(sys.argv) > 1 else os.path.join(HERE, "..", "crates", "sipd", "out", "sipd")
 KINDS = sys.argv[2:] or ["costs", "growth", "memory", "again"]
 FEW, MANY = 2, 10
-TIMERS = r"ListTimersTimers::(next|reserve|pop_due|cancel|add)\b"
-RULES = r"ListRulesRules::decide"
+TIMERS = r"(List|Wheel)TimersTimers::(next|reserve|pop_due|cancel|add)\b"
+RULES = r"(List|Indexed)RulesRules::decide"
 
 
 def run(program, words, script, config, folder, **variables):
