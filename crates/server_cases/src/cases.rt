@@ -1,5 +1,6 @@
-//! What no stored run shows of the engine and of replays, as calls: the bindings, the limits, faults of devices, many
-//! requests, and want of memory. A case asks predicates that own one value at most, and answers whether it held.
+//! What no stored run shows of the engine, of replays and of runs over lists of events, as calls: the bindings, the
+//! limits, faults of devices, many requests, and want of memory. A case asks predicates that own few values, and
+//! answers whether it held.
 
 mod datagrams;
 mod devices;
@@ -9,12 +10,14 @@ mod faults;
 mod limits;
 mod memory;
 mod replay;
+mod runs;
 
 use engine::{binding_of_a_register, printed_error};
 use faults::{failing_reads, failing_writes};
 use limits::time_and_number_limits;
 use memory::{refused_inside_deliver, refused_inside_replay};
 use replay::{many_registers, refused_first_lines};
+use runs::runs_are_listed;
 use std::io;
 
 fn tell<R: Print>(rt: &R, name: &str, holds: bool) -> io::Result<()> {
@@ -36,5 +39,6 @@ pub fn tell_all<R: Print + AllocGlobal>(rt: &R) -> io::Result<()> {
     tell(rt, "refused_inside_deliver", refused_inside_deliver(alloc))?;
     tell(rt, "refused_inside_replay", refused_inside_replay(alloc))?;
     tell(rt, "refused_first_lines", refused_first_lines(alloc))?;
-    tell(rt, "many_registers", many_registers(alloc))
+    tell(rt, "many_registers", many_registers(alloc))?;
+    tell(rt, "runs_are_listed", runs_are_listed(alloc))
 }

@@ -1,4 +1,4 @@
-//! What no stored run shows of the whole server: the engine and replays as calls, each a case with a name (`cases`),
+//! What no stored run shows of the whole server: the engine, replays and runs as calls, each a case with a name (`cases`),
 //! and the steps of a script whose memory is refused from outside (`refusals`).
 #![tactic(auto)]
 

@@ -4,7 +4,7 @@
 //! With words it tries one thing:
 //!
 //! - `runs`: every stored run of the folder that it runs in;
-//! - `cases`: what no stored run shows of the engine, of replays and of `serve`;
+//! - `cases`: what no stored run shows of the engine, of replays, of runs over lists of events and of `serve`;
 //! - `refusals`: the steps of the script of standard input, where `tests/refuse_each.sh` refuses their memory;
 //! - `tables CASE SIZE TIMES`: calls on a table of a size, so many times, which `bench/measure_tables.py` counts;
 //! - `parts CASE TARGETS TIMES`: calls on the parts, so many times, which `bench/measure_parts.py` counts;
