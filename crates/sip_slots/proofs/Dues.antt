@@ -1,16 +1,16 @@
 -- Which timer of a list is due first, and lists in rising order.
-use Rattle.std.proofs.Common.{◌≡◌, ◌≢◌, ℕ, ◌+◌, ◌≤◌, List, [], ◌∷◌, ◌++◌, Option, Some, None, option_map, cond, ltb, true, false, refl, sym, ap, subst, ◌∙◌, arith}
-use Rattle.std.specs.Prelude.{IfSome}
+use Rattle.std.proofs.Common.{◌≡◌, ◌≢◌, ℕ, zero, suc, ◌+◌, ◌≤◌, List, [], ◌∷◌, ◌++◌, Option, Some, None, option_map, Bool, cond, ltb, eqb, true, false, refl, sym, ap, subst, ◌∙◌, arith}
+use Rattle.std.specs.Prelude.{IfSome, not}
 use Rattle.std.proofs.lemmas.Bool.Decides.{nat_tests}
 use Rattle.std.proofs.lemmas.List.Sums.{sum_by-cons, sum_by-append}
 use Rattle.slab.specs.Slab.{Slab, get}
 use Rattle.sip_timers.specs.declared.timer.Timer.{Timer}
-use Rattle.sip_timers.specs.Timers.{keys_with, due_before, AreOrdered}
+use Rattle.sip_timers.specs.Timers.{keys_with, without, KeysDiffer, due_before, AreOrdered}
 use Rattle.sip_slots.specs.declared.row.RowNumber.{RowNumber}
 use Rattle.sip_slots.specs.declared.row.Row.{Row}
 use Rattle.sip_slots.specs.Lists.{earlier, least}
-use Rattle.sip_slots.specs.Threads.{number_of, last_or, timer_of, IsThread, timer_at, sooner}
-use Rattle.sip_slots.proofs.Threads.{keys_with-here, keys_with-more}
+use Rattle.sip_slots.specs.Threads.{number_of, last_or, timer_of, IsThread, all_but, all_but_least, timer_at, sooner}
+use Rattle.sip_slots.proofs.Threads.{keys_with-here, keys_with-more, without_none, split_at}
 
 pub due_before-cons : (moment : ℕ) (t : Timer) (ts : List Timer) → due_before moment (t ∷ ts) ≡ cond (ltb t.due moment) 1 0 + due_before moment ts
 due_before-cons moment t ts = sum_by-cons (λ t. cond (ltb t.due moment) 1 0) t ts
@@ -90,6 +90,31 @@ pub least-taken : (front back : List Timer) (t u : Timer) → u.key ≢ t.key �
 least-taken front back t u other e =
     rw (least-append front back) (without_other (least front) (least back) t u other (rw (least-append front (t ∷ back)) at e))
 
+-- the same when those of a key are taken out
+pub least-without : (key : ℕ) (ts : List Timer) (u : Timer) → KeysDiffer ts → u.key ≢ key → least ts ≡ Some u → least (without key ts) ≡ Some u
+least-without key ts u differ other e = by_count (keys_with key ts) refl
+  where
+    by_count : (n : ℕ) → keys_with key ts ≡ n → least (without key ts) ≡ Some u
+    by_count zero none = ap least (without_none key ts none) ∙ e
+    by_count (suc n) some =
+        let split = split_at key ts differ (omega (arith, some)) in
+        ap least split.rest ∙ least-taken split.front split.back split.timer u (λ f. other (f ∙ split.keyed)) (sym (ap least split.whole) ∙ e)
+
+one_with_key : (ts : List Timer) (t u : Timer) → Some t ≡ Some u → 1 ≤ keys_with t.key ts → 1 ≤ keys_with u.key ts
+one_with_key ts t u e stands = let P : ℕ → Type 0 = λ k. 1 ≤ keys_with k ts in subst P (sym (same_key t u e)) stands
+
+-- the timer that is due first stands among them
+pub least_is_one : (ts : List Timer) (u : Timer) → least ts ≡ Some u → 1 ≤ keys_with u.key ts
+least_is_one [] u e = absurd (cc)
+least_is_one (t ∷ ts) u e = by_rest (least ts) (λ v f. least_is_one ts v f) e
+  where
+    by_rest : (o : Option Timer) → ((v : Timer) → o ≡ Some v → 1 ≤ keys_with v.key ts) → Some (earlier t o) ≡ Some u → 1 ≤ keys_with u.key (t ∷ ts)
+    by_rest None later e = one_with_key (t ∷ ts) t u e (keys_with-here t ts)
+    by_rest (Some v) later e = elim (ltb v.due t.due) as (λ b. Some (cond b v t) ≡ Some u → 1 ≤ keys_with u.key (t ∷ ts)) [
+      | true ↦ (λ f. one_with_key (t ∷ ts) v u f (omega (arith, later v refl, keys_with-more v.key t ts)))
+      | false ↦ (λ f. one_with_key (t ∷ ts) t u f (keys_with-here t ts))
+    ] e
+
 bound_of : (moment : ℕ) (t u : Timer) → ltb t.due moment ≡ false → Some t ≡ Some u → ltb u.due moment ≡ false
 bound_of moment t u bound e =
     let P : Option Timer → Type 0 = λ o. IfSome o (λ v. ltb v.due moment ≡ false) in subst P e bound
@@ -132,17 +157,32 @@ stands_of_two rows t u v first second =
       | false ↦ (λ e. stands_of rows t u first e)
     ]
 
+stands_of_earlier : (rows : Slab Row) (t u : Timer) (o : Option Timer) → timer_at rows (number_of t) ≡ Some t → ((v : Timer) → o ≡ Some v → timer_at rows (number_of v) ≡ Some v) → Some (earlier t o) ≡ Some u → timer_at rows (number_of u) ≡ Some u
+stands_of_earlier rows t u None here later e = stands_of rows t u here e
+stands_of_earlier rows t u (Some v) here later e = stands_of_two rows t u v here (later v refl) e
+
 -- the timer that is due first has its row
 pub least_stands : (rows : Slab Row) (before : Option RowNumber) (ts : List Timer) (after : Option RowNumber) (u : Timer) → IsThread rows before ts after → least ts ≡ Some u → timer_at rows (number_of u) ≡ Some u
 least_stands rows before [] after u p e = absurd (cc)
-least_stands rows before (t ∷ ts) after u p e = by_rest (least ts) (λ v f. least_stands rows (Some (number_of t)) ts after v p.1 f) here e
-  where
-    here : timer_at rows (number_of t) ≡ Some t
-    here = ap (λ o. option_map (timer_of t.key) o) p.0
+least_stands rows before (t ∷ ts) after u p e =
+    stands_of_earlier rows t u (least ts) (ap (λ o. option_map (timer_of t.key) o) p.0) (λ v f. least_stands rows (Some (number_of t)) ts after v p.1 f) e
 
-    by_rest : (o : Option Timer) → ((v : Timer) → o ≡ Some v → timer_at rows (number_of v) ≡ Some v) → timer_at rows (number_of t) ≡ Some t → Some (earlier t o) ≡ Some u → timer_at rows (number_of u) ≡ Some u
-    by_rest None later here e = stands_of rows t u here e
-    by_rest (Some v) later here e = stands_of_two rows t u v here (later v refl) e
+-- so has the one that is due first when those of a key are taken out
+pub least_stands_without : (rows : Slab Row) (before : Option RowNumber) (ts : List Timer) (after : Option RowNumber) (key : ℕ) (u : Timer) → IsThread rows before ts after → least (without key ts) ≡ Some u → timer_at rows (number_of u) ≡ Some u
+least_stands_without rows before [] after key u p e = absurd (cc)
+least_stands_without rows before (t ∷ ts) after key u p e = by_key (eqb t.key key) (λ v f. least_stands_without rows (Some (number_of t)) ts after key v p.1 f) e
+  where
+    by_key : (b : Bool) → ((v : Timer) → least (without key ts) ≡ Some v → timer_at rows (number_of v) ≡ Some v) → least (cond (not b) (t ∷ without key ts) (without key ts)) ≡ Some u → timer_at rows (number_of u) ≡ Some u
+    by_key true later e = later u e
+    by_key false later e = stands_of_earlier rows t u (least (without key ts)) (ap (λ o. option_map (timer_of t.key) o) p.0) later e
+
+-- so has the one that is due first but for one other
+pub second_stands : (rows : Slab Row) (ts : List Timer) (u : Timer) → IsThread rows None ts None → least (all_but_least ts) ≡ Some u → timer_at rows (number_of u) ≡ Some u
+second_stands rows ts u p e = by_least (least ts) e
+  where
+    by_least : (o : Option Timer) → least (all_but o ts) ≡ Some u → timer_at rows (number_of u) ≡ Some u
+    by_least None e = absurd (cc)
+    by_least (Some t) e = least_stands_without rows None ts None t.key u p e
 
 -- ---- lists in rising order
 

@@ -1,11 +1,14 @@
 -- Lists that are threaded through rows: cut, joined, and with other rows written.
-use Rattle.std.proofs.Common.{◌≡◌, ◌≢◌, ℕ, zero, suc, ◌+◌, ◌≤◌, List, [], ◌∷◌, ◌++◌, length, Option, Some, None, cond, eqb, true, false, refl, sym, ap, ◌∙◌, arith}
-use Rattle.std.specs.Prelude.{not}
+use Rattle.std.proofs.Common.{◌≡◌, ◌≢◌, ℕ, zero, suc, ◌+◌, ◌≤◌, List, [], ◌∷◌, ◌++◌, length, append-nil, Option, Some, None, Bool, cond, eqb, true, false, refl, sym, ap, ◌∙◌, arith}
+use Rattle.std.specs.Prelude.{not, ◌&&◌}
 use Rattle.std.proofs.lemmas.Bool.Decides.{nat_tests}
+use Rattle.std.proofs.lemmas.List.Elements.{filter-append}
 use Rattle.std.proofs.lemmas.List.Sums.{sum_by-cons, sum_by-append}
 use Rattle.slab.specs.Slab.{Slab, get}
 use Rattle.sip_timers.specs.declared.timer.Timer.{Timer}
 use Rattle.sip_timers.specs.Timers.{keys_with, without, KeysDiffer}
+use Rattle.sip_timers.proofs.Counting.{count_le}
+use Rattle.sip_timers.proofs.Placing.{count-without}
 use Rattle.sip_slots.specs.declared.row.RowNumber.{RowNumber}
 use Rattle.sip_slots.specs.declared.row.Row.{Row}
 use Rattle.sip_slots.specs.Threads.{number_of, first_or, last_or, row_of, IsThread, walk}
@@ -108,6 +111,45 @@ without_none key (t ∷ ts) none =
       | true ↦ (λ e. absurd (grind (arith, nat_tests, keys_with-cons key t ts)))
       | false ↦ (λ e. ap (λ us. t ∷ us) (without_none key ts rest))
     ] refl
+
+without_here : (key : ℕ) (t : Timer) (ts : List Timer) → eqb t.key key ≡ true → without key (t ∷ ts) ≡ without key ts
+without_here key t ts e = rw e refl
+
+without_past : (key : ℕ) (t : Timer) (ts : List Timer) → eqb t.key key ≡ false → without key (t ∷ ts) ≡ t ∷ without key ts
+without_past key t ts e = rw e refl
+
+-- two keys may be taken out one after the other, or the other way round
+pub without_swap : (key other : ℕ) (ts : List Timer) → without key (without other ts) ≡ without other (without key ts)
+without_swap key other [] = refl
+without_swap key other (t ∷ ts) = by_keys (eqb t.key key) (eqb t.key other) (without_swap key other ts) refl refl
+  where
+    by_keys : (b c : Bool) → without key (without other ts) ≡ without other (without key ts) → eqb t.key key ≡ b → eqb t.key other ≡ c → without key (without other (t ∷ ts)) ≡ without other (without key (t ∷ ts))
+    by_keys true true rest e f = ap (without key) (without_here other t ts f) ∙ rest ∙ sym (ap (without other) (without_here key t ts e))
+    by_keys true false rest e f = ap (without key) (without_past other t ts f) ∙ without_here key t (without other ts) e ∙ rest ∙ sym (ap (without other) (without_here key t ts e))
+    by_keys false true rest e f = ap (without key) (without_here other t ts f) ∙ rest ∙ sym (without_here other t (without key ts) f) ∙ sym (ap (without other) (without_past key t ts e))
+    by_keys false false rest e f = ap (without key) (without_past other t ts f) ∙ without_past key t (without other ts) e ∙ ap (λ us. t ∷ us) rest ∙ sym (without_past other t (without key ts) f) ∙ sym (ap (without other) (without_past key t ts e))
+
+without-append : (key : ℕ) (xs ys : List Timer) → without key (xs ++ ys) ≡ without key xs ++ without key ys
+without-append key xs ys = filter-append (λ t. not (eqb t.key key)) xs ys
+
+-- a timer of a new key that was put behind the others is taken out again
+pub without_put : (ts : List Timer) (t : Timer) → keys_with t.key ts ≡ 0 → without t.key (ts ++ t ∷ []) ≡ ts
+without_put ts t fresh =
+    let own : eqb t.key t.key ≡ true = grind (arith, nat_tests) in
+    without-append t.key ts (t ∷ []) ∙ ap (λ us. without t.key ts ++ us) (without_here t.key t [] own) ∙ append-nil (without t.key ts) ∙ without_none t.key ts fresh
+
+-- another one is taken out, behind which it was put
+pub without_put_other : (key : ℕ) (ts : List Timer) (t : Timer) → t.key ≢ key → without key (ts ++ t ∷ []) ≡ without key ts ++ t ∷ []
+without_put_other key ts t other =
+    let past : eqb t.key key ≡ false = grind (arith, nat_tests) in
+    without-append key ts (t ∷ []) ∙ ap (λ us. without key ts ++ us) (without_past key t [] past)
+
+pub keys_without : (key other : ℕ) (ts : List Timer) → keys_with other (without key ts) ≤ keys_with other ts
+keys_without key other ts =
+    rw (count-without (λ t. eqb t.key other) key ts) (count_le (λ t. not (eqb t.key key) && eqb t.key other) (λ t. eqb t.key other) ts (λ t h. grind (arith, nat_tests)))
+
+pub KeysDiffer-without : (key : ℕ) (ts : List Timer) → KeysDiffer ts → KeysDiffer (without key ts)
+KeysDiffer-without key ts differ = λ other. omega (arith, differ other, keys_without key other ts)
 
 -- the timers in front of the one of a key and behind it
 pub record Split (key : ℕ) (ts : List Timer) : Type 0 where

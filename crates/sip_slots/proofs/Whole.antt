@@ -9,14 +9,12 @@ use Rattle.std.proofs.lemmas.List.Sums.{sum_by-append, sum_by-cons}
 use Rattle.slab.specs.Slab.{Slab, get, ContainsKey, Updates, slab_len}
 use Rattle.sip_timers.specs.declared.timer.Timer.{Timer}
 use Rattle.sip_timers.specs.Timers.{keys_with, without, KeysDiffer}
-use Rattle.sip_timers.proofs.Counting.{count_le}
-use Rattle.sip_timers.proofs.Placing.{count-without}
 use Rattle.sip_slots.specs.declared.row.RowNumber.{RowNumber}
 use Rattle.sip_slots.specs.declared.row.Row.{Row}
 use Rattle.sip_slots.specs.declared.head.Head.{Head}
 use Rattle.sip_slots.specs.Lists.{concat}
 use Rattle.sip_slots.specs.Threads.{number_of, first_or, row_of, IsThread, list_of, lists_of, no_head, KnowsLeast, IsHeld, AreHeld, SameSize}
-use Rattle.sip_slots.proofs.Threads.{keys_with-cons, keys_with-append, key_is_once, without_none, IsThread-frame, split_at}
+use Rattle.sip_slots.proofs.Threads.{keys_with-cons, keys_with-append, key_is_once, without_none, keys_without, IsThread-frame, split_at}
 use Rattle.sip_slots.proofs.Holding.{same_row, held_is, row_stands}
 
 -- ---- one slot among all
@@ -83,7 +81,7 @@ keys_differ_in spare rows heads lists slot held = λ key. omega (arith, held.onc
 
 held_frame : (old new : Slab Row) (head : Head) (ts : List Timer) → ((key : ℕ) → 1 ≤ keys_with key ts → get new key ≡ get old key) → length ts ≤ slab_len new → IsHeld old head ts → IsHeld new head ts
 held_frame old new head ts keeps fits held =
-    record { thread = IsThread-frame old new None ts None keeps held.thread; first = held.first; last = held.last; rising = held.rising; known = held.known; fits = fits }
+    record { thread = IsThread-frame old new None ts None keeps held.thread; first = held.first; last = held.last; rising = held.rising; known = held.known; second = held.second; fits = fits }
 
 -- a key that no row has is that of no timer
 pub absent : (spare : ℕ) (rows : Slab Row) (heads : List Head) (lists : List (List Timer)) (key : ℕ) → AreHeld spare rows heads lists → get rows key ≡ None → keys_with key (concat lists) ≡ 0
@@ -135,10 +133,6 @@ held_step spare spare_after old new heads lists slot head ts held within now kee
 
 same_len : (old new : Slab Row) → SameSize old new → slab_len new ≡ slab_len old
 same_len old new size = size.len
-
-keys_without : (key other : ℕ) (ts : List Timer) → keys_with other (without key ts) ≤ keys_with other ts
-keys_without key other ts =
-    rw (count-without (λ t. eqb t.key other) key ts) (count_le (λ t. not (eqb t.key key) && eqb t.key other) (λ t. eqb t.key other) ts (λ t h. grind (arith, nat_tests)))
 
 pub key_is_gone : (key : ℕ) (ts : List Timer) → keys_with key (without key ts) ≡ 0
 key_is_gone key [] = refl
@@ -278,7 +272,7 @@ pub none_held : (rows : Slab Row) (count : ℕ) → rows.slots ≡ [] → AreHel
 none_held rows count empty =
     let none = concat_none count in
     let len : slab_len rows ≡ 0 = ap (count_by is_some) empty in
-    let here : IsHeld rows no_head [] = record { thread = tt; first = refl; last = refl; rising = λ e. tt; known = tt; fits = omega arith } in
+    let here : IsHeld rows no_head [] = record { thread = tt; first = refl; last = refl; rising = λ e. tt; known = tt; second = tt; fits = omega arith } in
     record {
       slots = length-replicate count no_head ∙ sym (length-replicate {A = List Timer} count []);
       held = λ slot. rw (same_in_all count slot no_head, same_in_all {X = List Timer} count slot []) here;
@@ -370,7 +364,7 @@ remembered rows heads slot head least held within read knows =
     let own = head_is 0 rows heads (lists_of rows heads) slot head held within read in
     let inside : slot < length (lists_of rows heads) = omega (arith, held.slots) in
     let P : List Timer → Type 0 = λ us. KnowsLeast least us in
-    let now : IsHeld rows (record head { least = least }) ts = record { thread = own.thread; first = own.first; last = own.last; rising = own.rising; known = subst P (list_of_head rows heads slot head within read) knows; fits = own.fits } in
+    let now : IsHeld rows (record head { least = least }) ts = record { thread = own.thread; first = own.first; last = own.last; rising = own.rising; known = subst P (list_of_head rows heads slot head within read) knows; second = own.second; fits = own.fits } in
     let same : set (lists_of rows heads) slot ts ≡ lists_of rows heads = set-get_or (lists_of rows heads) slot [] in
     let Q : List (List Timer) → Type 0 = λ ls. AreHeld 0 rows (set heads slot (record head { least = least })) ls in
     subst Q same (held_step 0 0 rows rows heads (lists_of rows heads) slot (record head { least = least }) ts held within now (λ key a b. refl) (λ key. omega (arith, held.once key, ap (λ ls. keys_with key (concat ls)) same)) (omega (arith, held.counted, ap (λ ls. length (concat ls)) same)))

@@ -1,8 +1,8 @@
 -- How lists of timers are threaded through the rows of one slab.
-use Rattle.std.specs.Prelude.{ℕ, ◌≡◌, ◌≢◌, ◌≤◌, ◌+◌, zero, suc, true, List, [], ◌∷◌, Option, Some, None, option_map, map, length, slice_index_or, if◌then◌else◌}
+use Rattle.std.specs.Prelude.{ℕ, ◌≡◌, ◌≢◌, ◌≤◌, ◌+◌, ◌==◌, nat_lt, zero, suc, true, List, [], ◌∷◌, Option, Some, None, MatchOption, option_map, map, length, slice_index_or, if◌then◌else◌}
 use Rattle.slab.specs.Slab.{Slab, get, slab_len}
 use Rattle.sip_timers.specs.declared.timer.Timer.{Timer}
-use Rattle.sip_timers.specs.Timers.{keys_with, AreOrdered}
+use Rattle.sip_timers.specs.Timers.{keys_with, without, AreOrdered}
 use Rattle.sip_slots.specs.declared.row.RowNumber.{RowNumber}
 use Rattle.sip_slots.specs.declared.row.Row.{Row}
 use Rattle.sip_slots.specs.declared.head.Head.{Head}
@@ -61,6 +61,15 @@ abbrev pub KnowsLeast : Option RowNumber → List Timer → Type 0
 KnowsLeast None ts = Unit {0}
 KnowsLeast (Some number) ts = option_map number_of (least ts) ≡ Some number
 
+-- the timers that are left when one is taken out, if there is one
+abbrev pub all_but : Option Timer → List Timer → List Timer
+all_but None ts = []
+all_but (Some t) ts = without t.key ts
+
+-- all timers but the one that is due first
+abbrev pub all_but_least : List Timer → List Timer
+all_but_least ts = all_but (least ts) ts
+
 -- a head and the rows have this list
 pub record IsHeld (rows : Slab Row) (head : Head) (ts : List Timer) : Type 0 where
   pub thread : IsThread rows None ts None
@@ -68,11 +77,12 @@ pub record IsHeld (rows : Slab Row) (head : Head) (ts : List Timer) : Type 0 whe
   pub last : head.last ≡ last_or ts None
   pub rising : head.is_rising ≡ true → AreOrdered ts
   pub known : KnowsLeast head.least ts
+  pub second : KnowsLeast head.second (all_but_least ts)
   pub fits : length ts ≤ slab_len rows
 
 -- the head of an empty list
 abbrev pub no_head : Head
-no_head = record { first = None; last = None; is_rising = true; least = None }
+no_head = record { first = None; last = None; is_rising = true; least = None; second = None }
 
 -- the heads and the rows have these lists; so many rows stand in none of them, and no key stands twice
 pub record AreHeld (spare : ℕ) (rows : Slab Row) (heads : List Head) (lists : List (List Timer)) : Type 0 where
@@ -99,6 +109,16 @@ pub record PreviousIs (old new : Slab Row) (at previous : Option RowNumber) : Ty
 -- the row that is known to be due first, or is remembered as that
 abbrev pub known_least : Head → Option RowNumber
 known_least head = if head.is_rising then head.first else head.least
+
+-- the row that is due first when one is put behind the others, if it was known before
+abbrev pub IsLeastWith : Slab Row → Option RowNumber → RowNumber → ℕ → Option RowNumber → Type 0
+IsLeastWith rows known number due after =
+    MatchOption known (after ≡ None) (λ n. (row : Row) → get rows n.0 ≡ Some row → after ≡ Some (if nat_lt due row.due then number else n))
+
+-- what is remembered, unless it is the row of this number
+abbrev pub other_than : ℕ → Option RowNumber → Option RowNumber
+other_than key None = None
+other_than key (Some n) = if n.0 == key then None else Some n
 
 -- of two timers, either of which may be wanting, the one that is due first, at a tie the first one
 abbrev pub sooner : Option Timer → Option Timer → Option Timer

@@ -1,10 +1,10 @@
-ghost use Rattle.std.specs.Prelude.{◌≡◌, ◌≢◌, ◌≤◌, ◌+◌, ℕ, ◌∷◌, [], ◌++◌, Some, None, IfSome, length, MatchOption, nat_lt, if◌then◌else◌, is_some, true};
+ghost use Rattle.std.specs.Prelude.{◌≡◌, ◌≢◌, ◌≤◌, ◌<◌, ◌+◌, ◌==◌, ℕ, ◌∷◌, [], ◌++◌, Some, None, IfSome, length, MatchOption, nat_lt, if◌then◌else◌, is_some, true};
 ghost use Rattle.slab.specs.Slab.{get, ContainsKey, slab_len};
 ghost use Rattle.sip_timers.specs.Timers.{keys_with, without, KeysDiffer};
 ghost use Rattle.sip_slots.specs.declared.row.RowNumber.{RowNumber};
 ghost use Rattle.sip_slots.specs.declared.row.Row.{Row};
 ghost use Rattle.sip_slots.specs.Lists.{least};
-ghost use Rattle.sip_slots.specs.Threads.{list_of, timer_of, IsHeld, KnowsLeast, known_least, SameSize};
+ghost use Rattle.sip_slots.specs.Threads.{list_of, timer_of, IsHeld, IsLeastWith, KnowsLeast, known_least, other_than, SameSize};
 
 use crate::row::{Row, RowNumber, set_beside, set_next, set_previous};
 use slab::Slab;
@@ -18,6 +18,8 @@ pub(crate) struct Head {
     pub is_rising: bool,
     /// The timer that is due first, if it is remembered.
     pub least: Option<RowNumber>,
+    /// The timer that is due first once the least is taken out, if it is remembered.
+    pub second: Option<RowNumber>,
 }
 
 impl Head {
@@ -27,6 +29,7 @@ impl Head {
         last: None,
         is_rising: true,
         least: None,
+        second: None,
     };
 
     /// The timer that is due first, if that is known without a look through the list.
@@ -37,6 +40,41 @@ impl Head {
             self.first
         } else {
             self.least
+        }
+    }
+
+    /// The second least once a row is put behind the others, if that is known.
+    fn second_with(&self, rows: &Slab<Row>, number: RowNumber, due: u64) -> Option<RowNumber>
+        requires least { IfSome (known_least self.now) (λ n. ContainsKey rows.now n.0) }
+        requires second { IfSome self.now.second (λ n. ContainsKey rows.now n.0) }
+        ensures unknown { known_least self.now ≡ None → result ≡ None }
+        ensures sooner { (n : RowNumber) (row : Row) → known_least self.now ≡ Some n → get rows.now n.0 ≡ Some row → due < row.due → result ≡ Some n }
+        ensures later { (n : RowNumber) (row : Row) → known_least self.now ≡ Some n → get rows.now n.0 ≡ Some row → row.due ≤ due → IsLeastWith rows.now self.now.second number due result }
+    {
+        let least = self.known_least()?;
+        if due < rows[least.0].due {
+            return Some(least);
+        }
+        least_with(rows, self.second, number, due)
+    }
+
+    /// The least once a row is taken out, if it was remembered.
+    fn least_without(&self, number: RowNumber) -> Option<RowNumber>
+        ensures { MatchOption self.now.least (result ≡ None) (λ n. result ≡ (if n.0 == number.0 then self.now.second else self.now.least)) }
+    {
+        match self.least {
+            Some(least) if least.0 == number.0 => self.second,
+            _ => self.least,
+        }
+    }
+
+    /// The second least once a row is taken out, if it was remembered and so was the least.
+    fn second_without(&self, number: RowNumber) -> Option<RowNumber>
+        ensures { MatchOption self.now.least (result ≡ None) (λ n. result ≡ (if n.0 == number.0 then None else other_than number.0 self.now.second)) }
+    {
+        match self.least {
+            Some(least) if least.0 != number.0 => other_than(number, self.second),
+            _ => None,
         }
     }
 
@@ -66,6 +104,7 @@ impl Head {
         let row = rows[number.0];
         let is_rising = self.stays_rising(rows, row.due);
         let least = least_with(rows, self.known_least(), number, row.due);
+        let second = self.second_with(rows, number, row.due);
         set_beside(rows, number, self.last, None);
         set_next(rows, self.last, Some(number));
         *self = Head {
@@ -73,6 +112,7 @@ impl Head {
             last: Some(number),
             is_rising,
             least,
+            second,
         };
     }
 
@@ -92,7 +132,8 @@ impl Head {
             first: end_without(row.previous, self.first, row.next),
             last: end_without(row.next, self.last, row.previous),
             is_rising: self.is_rising,
-            least: other_than(number, self.least),
+            least: self.least_without(number),
+            second: self.second_without(number),
         };
     }
 }
@@ -108,18 +149,17 @@ fn end_without(
     if beside.is_some() { end } else { across }
 }
 
-/// What is remembered when a row is taken out.
-fn other_than(number: RowNumber, least: Option<RowNumber>) -> Option<RowNumber>
-    ensures same { (n : RowNumber) → result ≡ Some n → least ≡ Some n }
-    ensures other { (n : RowNumber) → result ≡ Some n → n.0 ≢ number.0 }
+/// What is remembered, unless it is the row that is taken out.
+fn other_than(number: RowNumber, known: Option<RowNumber>) -> Option<RowNumber>
+    ensures { result ≡ other_than number.0 known }
 {
-    match least {
-        Some(known) if known.0 != number.0 => Some(known),
+    match known {
+        Some(row) if row.0 != number.0 => Some(row),
         _ => None,
     }
 }
 
-/// Which row is due first when one is put behind the others.
+/// Which row is due first when one is put behind the others, if it was known before.
 fn least_with(
     rows: &Slab<Row>,
     known: Option<RowNumber>,
@@ -127,7 +167,7 @@ fn least_with(
     due: u64,
 ) -> Option<RowNumber>
     requires { IfSome known (λ n. ContainsKey rows.now n.0) }
-    ensures { MatchOption known (result ≡ None) (λ n. (row : Row) → get rows.now n.0 ≡ Some row → result ≡ Some (if nat_lt due row.due then number else n)) }
+    ensures { IsLeastWith rows.now known number due result }
 {
     match known {
         Some(least) => {

@@ -13,7 +13,7 @@ pub set_previous-requires : goal.set_previous-requires
 set_previous-requires c = next_still_stands c.args.rows.now c.set_next.new.rows (list_of c.args.rows.now c.args.self.now) c.args.number.0 c.index-row.result.now c.requires.held.thread c.requires.differ c.requires.present c.index-row.ensures c.set_next.ensures.next
 
 pub returns-clause-taken : goal.returns-clause-taken
-returns-clause-taken c = held_taken c.args.rows.now c.set_next.new.rows c.set_previous.new.rows c.args.self.now _ (list_of c.args.rows.now c.args.self.now) c.args.number.0 c.index-row.result.now c.requires.held c.requires.differ c.requires.present c.index-row.ensures c.set_next.ensures.next c.set_previous.ensures.previous (c.set_previous.ensures.size.len ∙ c.set_next.ensures.size.len) c.end_without.ensures c.end_without-2.ensures refl c.other_than.ensures.same c.other_than.ensures.other
+returns-clause-taken c = held_taken c.args.rows.now c.set_next.new.rows c.set_previous.new.rows c.args.self.now _ (list_of c.args.rows.now c.args.self.now) c.args.number.0 c.index-row.result.now c.requires.held c.requires.differ c.requires.present c.index-row.ensures c.set_next.ensures.next c.set_previous.ensures.previous (c.set_previous.ensures.size.len ∙ c.set_next.ensures.size.len) c.end_without.ensures c.end_without-2.ensures refl c.least_without.ensures c.second_without.ensures
 
 pub returns-clause-others : goal.returns-clause-others
 returns-clause-others c = others_taken c.args.rows.now c.set_next.new.rows c.set_previous.new.rows (list_of c.args.rows.now c.args.self.now) c.args.number.0 c.index-row.result.now c.requires.held.thread c.requires.differ c.requires.present c.index-row.ensures c.set_next.ensures.next c.set_previous.ensures.previous
