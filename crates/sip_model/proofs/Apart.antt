@@ -60,7 +60,7 @@ differ_with_cancels now bs h = λ number. omega (arith, count_with_cancels numbe
 -- ---- the branches of a new request
 
 -- one that passes a test or doesn't
-at_most_one : (t : Bool) → cond {A = ℕ} t 1 0 ≤ 1
+pub at_most_one : (t : Bool) → cond {A = ℕ} t 1 0 ≤ 1
 at_most_one true = omega arith
 at_most_one false = omega arith
 

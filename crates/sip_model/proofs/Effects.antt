@@ -34,14 +34,14 @@ use Rattle.sip_verdict.specs.context.Opening.{arriving, branches_from, unsent, f
 use Rattle.sip_model.specs.Effect.{upward_packets, change_packets, Effect, replaced, changed, nothing, opened, replied, is_registration, challenge_status, registering, forked, sent_to, sending, renewing, copied, cancelling, counted, asked, issuing, method_of, effect_of}
 use Rattle.sip_model.specs.Step.{Act}
 use Rattle.sip_model.specs.Run.{Link}
-use Rattle.sip_model.specs.Access.{CameFor, IsNewRequest, IsSaidAt, IsOpen, IsDenied, IsWithin, Brought, Before, ToTarget, Answers, InKnownDialog, decision_on, targets_on, requests_to}
+use Rattle.sip_model.specs.Access.{CameFor, IsNewRequest, IsSaidAt, IsOpen, IsDenied, Brought, Before, ToTarget, Answers, InKnownDialog, decision_on, targets_on, requests_to}
 use Rattle.sip_model.proofs.Sixteen.{few_targets, numbered_to_sixteen}
 use Rattle.sip_model.proofs.Apart.{TargetsDiffer, one_differs, from_differ}
 use Rattle.sip_model.proofs.Lists.{all_append, all_map, all_weaker, all_every, all_contains, all_there}
 use Rattle.sip_model.proofs.Finals.{IsHonest, IsMarked, IsOfSixteen, IsHonestRequest, AreHonest, honest_anyway}
 use Rattle.sip_model.proofs.Later.{IsLater, later_itself, later_tried, later_acknowledged, later_honest}
 use Rattle.sip_model.proofs.Due.{Owed, MayGoUp, Made, IsDue, IsAcknowledgeable, new_goes_up, settled_due, responded_due, cancelled_due, upward_owed, change_owed, replaced_honest}
-use Rattle.sip_model.proofs.Fitting.{Fits, IsResponding, IsBrought, IsPassing, IsInside, IsAsked, IsSending, RefusesOtherwise, brought, registration_other}
+use Rattle.sip_model.proofs.Fitting.{Fits, IsResponding, IsBrought, IsInside, IsAsked, IsSending, RefusesOtherwise, within_known, brought, registration_other}
 
 -- ---- the branches of a new request
 
@@ -161,26 +161,7 @@ module _ (server : Server) (history : List Link) (state : ProxyState) (act : Act
     -- a request in a dialog goes where the dialog allows
     within_owed : (address : Addr) (id : DialogId) → IsInside server state a m short address id → (p : Packet) → p.to ≡ address
         → p.bytes ≡ text_of (onward_as server a.number m a.from (onward_uri server.config.own m) 1) → p.ticket.datagram ≡ a.number → Owed server history state act state.bindings p
-    within_owed address id h p goes says numbered =
-        let passing : IsPassing server m short = h.passing in
-        let within : IsWithin server state act a m address =
-        record {
-          bytes = bytes;
-          method = passing.method;
-          uri = passing.uri;
-          version = passing.version;
-          id = id;
-          is_said = said_whole passing.is_whole;
-          is_request = passing.is_request;
-          is_no_register = passing.is_no_register;
-          is_no_cancel = passing.is_no_cancel;
-          is_valid = passing.is_valid;
-          dialog_is = h.has_dialog;
-          address_is = h.goes_to;
-          is_known = h.in_dialog;
-        }
-        in
-        InKnownDialog a m address within goes says numbered
+    within_owed address id h p goes says numbered = InKnownDialog a m address (within_known server state act a bytes m short address id said h) goes says numbered
 
     -- a request of a dialog begins none, and has no Record-Route
     plain_onward : (address : Addr) (id : DialogId) → IsInside server state a m short address id
@@ -271,7 +252,7 @@ module _ (server : Server) (history : List Link) (state : ProxyState) (act : Act
     registering_good : (q : Question) (id : ℕ) (outcome : Registered) (s : ProxyState) → RefusesOtherwise outcome → IsOpen state act a.number m a.from → AreHonest server history s.requests
         → IsGood (registering server a m q id outcome s)
     registering_good q id (Bound after) s other opened h = answered_good 200 _ _ (asked a q (record s { bindings = after })) opened (λ e. omega arith) h
-    registering_good q id (Refused status extras) s other opened h = answered_good status extras _ (asked a q s) opened other h
+    registering_good q id (Refused status extras) s other opened h = answered_good status extras _ (asked a q s) opened other.1 h
 
     -- a copy of an open request
     copied_good : (r : OpenRequest) (s : ProxyState) → IsHonestRequest server history r → AreHonest server history s.requests → IsGood (copied a m r s)
@@ -336,10 +317,10 @@ module _ (server : Server) (history : List Link) (state : ProxyState) (act : Act
         → ((aor : Aor) → length (live aor a.now state.bindings) ≤ 16) → AreHonest server history state.requests → IsGood (effect_of server a m v (counted a state))
     effect_good Drop fits came few h = nothing_good (counted a state) h
     effect_good (Respond r b status) fits came few h = let good = responded_good r b status fits (came r b status fits) h in record { sends = good.sends; honest = good.honest }
-    effect_good (Copy r) fits came few h = copied_good r (counted a state) (kept_honest r fits h) h
-    effect_good (AckOn address id) fits came few h = record { sends = (within_owed address id fits _ refl refl refl, tt); honest = h }
-    effect_good (Cancel found) fits came few h = cancelling_good found (counted a state) fits.1 (opened_by fits.0) h h
-    effect_good (Answer status extras) fits came few h = answered_good status extras [] (counted a state) (opened_by fits.0) fits.1 h
+    effect_good (Copy r) fits came few h = copied_good r (counted a state) (kept_honest r fits.there h) h
+    effect_good (AckOn address id) fits came few h = record { sends = (within_owed address id fits.0 _ refl refl refl, tt); honest = h }
+    effect_good (Cancel found) fits came few h = cancelling_good found (counted a state) fits.there (opened_by fits.brought) h h
+    effect_good (Answer status extras) fits came few h = answered_good status extras [] (counted a state) (opened_by fits.0) fits.1.1 h
     effect_good (InDialog address id) fits came few h =
         forked_good (dialog_branch server a.now m address ∷ []) [] (renewing server a m id (counted a state)) (refl, tt) (one_differs (dialog_branch server a.now m address)) (omega arith, tt)
         (within_owed address id fits.1 _ refl (plain_onward address id fits.1) refl, tt) (opened_by fits.0) h

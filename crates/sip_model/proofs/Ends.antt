@@ -236,3 +236,9 @@ pub chain_keeps : (server : Server) (first : ℕ) (history : List Link) (last : 
     → AllByRecursion (λ (r : OpenRequest). is_answering r.side ≡ false → r.finals ≡ []) last.requests
 chain_keeps server first history last h =
     all_weaker IsSound (λ r. is_answering r.side ≡ false → r.finals ≡ []) last.requests (λ r sound. sound.counted.none_kept) (chain_sound server first history last h)
+
+-- a request that owes its final answer waits for a branch
+pub chain_waits : (server : Server) (first : ℕ) (history : List Link) (last : ProxyState) → IsChain server (first_state first) history last
+    → AllByRecursion (λ (r : OpenRequest). is_answering r.side ≡ true → all_final r ≡ false) last.requests
+chain_waits server first history last h =
+    all_weaker IsSound (λ r. is_answering r.side ≡ true → all_final r ≡ false) last.requests (λ r sound. sound.waits) (chain_sound server first history last h)

@@ -58,7 +58,7 @@ AreHonest server history requests = AllByRecursion (IsHonestRequest server histo
 -- ---- a longer history
 
 -- what came in a history came in a longer one
-came_before : (server : Server) (link : Link) (history : List Link) (number status : ℕ) (m : Message) → CameFor server history number status m
+pub came_before : (server : Server) (link : Link) (history : List Link) (number status : ℕ) (m : Message) → CameFor server history number status m
     → CameFor server (link ∷ history) number status m
 came_before server link history number status m c =
     record {

@@ -11,7 +11,7 @@ use Rattle.sip_verdict.specs.context.BranchById.{branch_by_id, HasNumbers}
 use Rattle.sip_verdict.proofs.of_context.ByNumbers.{by_numbers}
 use Rattle.sip_model.specs.Run.{Link, IsChain}
 use Rattle.sip_model.proofs.Places.{all_weaker}
-use Rattle.sip_model.proofs.Finals.{IsOfSixteen, AreHonest}
+use Rattle.sip_model.proofs.Finals.{IsOfSixteen, IsHonestRequest, AreHonest}
 use Rattle.sip_model.proofs.Owing.{honest_of_chain}
 use Rattle.sip_model.proofs.Orders.{chain_named}
 use Rattle.sip_model.proofs.Rising.{chain_rising}
@@ -37,3 +37,10 @@ pub chain_by_numbers : (server : Server) (first : ℕ) (history : List Link) (la
     → (text method : List ℕ) → found_branch server text method last.requests ≡ branch_by_id server text method last.requests
 chain_by_numbers server first history last h low = λ text method.
     by_numbers server text method last.requests (chain_named server first history last h).numbers.differ (chain_fits server first history last h low)
+
+-- no branch of an open request has a number above 16
+pub chain_sixteen : (server : Server) (first : ℕ) (history : List Link) (last : ProxyState) → IsChain server (first_state first) history last
+    → AllByRecursion (λ (r : OpenRequest). AllByRecursion (λ (b : Branch). b.number ≤ 16) r.branches) last.requests
+chain_sixteen server first history last h =
+    all_weaker (IsHonestRequest server history) (λ (r : OpenRequest). AllByRecursion (λ (b : Branch). b.number ≤ 16) r.branches) last.requests (λ r honest. honest.numbers)
+    (honest_of_chain server first history last h)

@@ -37,7 +37,7 @@ use Rattle.sip_verdict.specs.location.Registering.{registration_of, to_aor}
 use Rattle.sip_verdict.specs.state.declared.branch.Branch.{Branch}
 use Rattle.sip_verdict.specs.state.declared.open_request.OpenRequest.{OpenRequest}
 use Rattle.sip_verdict.specs.state.declared.proxy_state.ProxyState.{ProxyState}
-use Rattle.sip_verdict.specs.state.State.{has_key}
+use Rattle.sip_verdict.specs.state.State.{has_key, is_provisional}
 use Rattle.sip_verdict.specs.state.Dialogs.{dialog_of}
 use Rattle.sip_verdict.specs.context.Branches.{is_accepted}
 use Rattle.sip_verdict.specs.context.FoundBranch.{is_branch, branch_in, found_branch}
@@ -45,7 +45,8 @@ use Rattle.sip_verdict.specs.state.Arrival.{Arrival}
 use Rattle.sip_verdict.specs.declared.question.Question.{Question}
 use Rattle.sip_verdict.specs.Verdict.{Registered, Bound, Refused, Verdict, Drop, Respond, Copy, AckOn, Cancel, Answer, InDialog, Challenge, Deny, Send, Register, is_many, response_verdict, top_branch, responding, next_address, within_at, within, ack_verdict, is_full, is_cancelled_by, found_for_cancel, cancel_verdict, is_register, question_of, registered_by, registration_by, is_own_uri, request_targets, decided, policy_verdict, is_outside, core_verdict, checked_verdict, new_verdict, by_open, by_key, by_start, message_verdict, message_in}
 use Rattle.sip_model.specs.Effect.{method_of}
-use Rattle.sip_model.specs.Access.{IsNewRequest, decision_on, rule_of}
+use Rattle.sip_model.specs.Step.{Act}
+use Rattle.sip_model.specs.Access.{IsNewRequest, IsSaidAt, IsWithin, decision_on, rule_of}
 use Rattle.sip_model.proofs.Lists.{all_find, all_there}
 
 -- ---- what each verdict says
@@ -65,6 +66,26 @@ pub record IsBrought (state : ProxyState) (m : Message) : Type 0 where
   pub key_is : key_of m ≡ Some key
   pub is_new : find (has_key key) state.requests ≡ None
   pub is_no_ack : bytes_eq (method_of m.start) (codes "ACK") ≡ false
+
+-- a request came whose key is that of an open request
+pub record IsCopy (state : ProxyState) (m : Message) (r : OpenRequest) : Type 0 where
+  pub key : Key
+  pub key_is : key_of m ≡ Some key
+  pub is_open : find (has_key key) state.requests ≡ Some r
+  pub there : Contains state.requests r
+
+-- a CANCEL came that is new, and this is the open request that it names, if it names one
+pub record IsNaming (state : ProxyState) (a : Arrival) (m : Message) (found : Option OpenRequest) : Type 0 where
+  pub brought : IsBrought state m
+  pub key : Key
+  pub key_is : key_of m ≡ Some key
+  pub is_cancel : bytes_eq (method_of m.start) (codes "CANCEL") ≡ true
+  pub found_is : found_for_cancel state key a.from ≡ found
+  pub there : IfSome found (Contains state.requests)
+
+-- the status of a final answer, and not 403
+abbrev pub IsOtherFinal : ℕ → Type 0
+IsOtherFinal status = (is_provisional status ≡ false) × ((status ≡ 403) → ⊥)
 
 -- a request passes every check, and is neither REGISTER nor CANCEL
 pub record IsPassing (server : Server) (m : Message) (short : Bool) : Type 0 where
@@ -112,15 +133,36 @@ pub record IsRegistering (server : Server) (state : ProxyState) (a : Arrival) (b
 abbrev pub Fits : Server → ProxyState → Arrival → List ℕ → Message → Bool → Verdict → Type 0
 Fits server state a bytes m short Drop = Unit {0}
 Fits server state a bytes m short (Respond r b status) = IsResponding server state m short r b status
-Fits server state a bytes m short (Copy r) = Contains state.requests r
-Fits server state a bytes m short (AckOn address id) = IsInside server state a m short address id
-Fits server state a bytes m short (Cancel found) = IsBrought state m × IfSome found (Contains state.requests)
-Fits server state a bytes m short (Answer status extras) = IsBrought state m × ((status ≡ 403) → ⊥)
+Fits server state a bytes m short (Copy r) = IsCopy state m r
+Fits server state a bytes m short (AckOn address id) = IsInside server state a m short address id × (bytes_eq (method_of m.start) (codes "ACK") ≡ true)
+Fits server state a bytes m short (Cancel found) = IsNaming state a m found
+Fits server state a bytes m short (Answer status extras) = IsBrought state m × IsOtherFinal status
 Fits server state a bytes m short (InDialog address id) = IsBrought state m × IsInside server state a m short address id
 Fits server state a bytes m short (Challenge q) = IsAsked server state a bytes m q Decision.Challenge
 Fits server state a bytes m short (Deny q id) = IsAsked server state a bytes m q (Decision.Deny id)
 Fits server state a bytes m short (Send q id targets) = IsSending server state a bytes m q id targets
 Fits server state a bytes m short (Register q id outcome) = IsRegistering server state a bytes m q id outcome
+
+-- what a step's datagram says is a request or an ACK of a known dialog
+pub within_known : (server : Server) (state : ProxyState) (act : Act) (a : Arrival) (bytes : List ℕ) (m : Message) (short : Bool) (address : Addr) (id : DialogId)
+    → IsSaidAt state act a bytes m short → IsInside server state a m short address id → IsWithin server state act a m address
+within_known server state act a bytes m short address id said h =
+    let passing : IsPassing server m short = h.passing in
+    record {
+      bytes = bytes;
+      method = passing.method;
+      uri = passing.uri;
+      version = passing.version;
+      id = id;
+      is_said = subst (λ t. IsSaidAt state act a bytes m t) passing.is_whole said;
+      is_request = passing.is_request;
+      is_no_register = passing.is_no_register;
+      is_no_cancel = passing.is_no_cancel;
+      is_valid = passing.is_valid;
+      dialog_is = h.has_dialog;
+      address_is = h.goes_to;
+      is_known = h.in_dialog;
+    }
 
 -- ---- options
 
@@ -136,19 +178,22 @@ ok_is (Err f) x e = absurd (cc)
 
 -- ---- validation
 
--- no check refuses by 403
-refusal_other : (own : Own) (m : Message) (short : Bool) → IfSome (refusal_of own m short) (λ refused. (refused.0 ≡ 403) → ⊥)
+-- each check refuses by a final status, and none by 403
+refusal_other : (own : Own) (m : Message) (short : Bool) → IfSome (refusal_of own m short) (λ refused. IsOtherFinal refused.0)
 refusal_other own m short = by_candidate (candidate_of own m short) where
-  by_row : (r : Candidate) (o : Option Row) → IfSome o (λ row. (row.status ≡ 403) → ⊥) → IfSome {T = ℕ × List ℕ} (option_map (λ row. (row.status, row.extra r)) o) (λ refused. (refused.0 ≡ 403) → ⊥)
+  by_row : (r : Candidate) (o : Option Row) → IfSome o (λ row. IsOtherFinal row.status) → IfSome {T = ℕ × List ℕ} (option_map (λ row. (row.status, row.extra r)) o) (λ refused. IsOtherFinal refused.0)
   by_row r None h = tt
   by_row r (Some row) h = h
 
-  others : AllByRecursion (λ (row : Row). (row.status ≡ 403) → ⊥) rows
-  others = (λ e. omega arith, (λ e. omega arith, (λ e. omega arith, (λ e. omega arith, (λ e. omega arith, (λ e. omega arith, (λ e. omega arith, tt)))))))
+  others : AllByRecursion (λ (row : Row). IsOtherFinal row.status) rows
+  others = (
+    (refl, λ e. omega arith),
+    ((refl, λ e. omega arith), ((refl, λ e. omega arith), ((refl, λ e. omega arith), ((refl, λ e. omega arith), ((refl, λ e. omega arith), ((refl, λ e. omega arith), tt)))))),
+  )
 
-  by_candidate : (o : Option Candidate) → IfSome (option_map_or refusal o None) (λ refused. (refused.0 ≡ 403) → ⊥)
+  by_candidate : (o : Option Candidate) → IfSome (option_map_or refusal o None) (λ refused. IsOtherFinal refused.0)
   by_candidate None = tt
-  by_candidate (Some r) = by_row r (find (λ row. row.applies r) rows) (all_find (λ (row : Row). (row.status ≡ 403) → ⊥) (λ row. row.applies r) rows others)
+  by_candidate (Some r) = by_row r (find (λ row. row.applies r) rows) (all_find (λ (row : Row). IsOtherFinal row.status) (λ row. row.applies r) rows others)
 
 -- a request that passes every check has its whole body
 passes_whole : (own : Own) (m : Message) (method uri version : List ℕ) (short : Bool) → m.start ≡ Request method uri version → refusal_of own m short ≡ None → short ≡ false
@@ -182,24 +227,24 @@ responding_there server requests fields =
 
 -- ---- registration
 
--- whether a refusal of a registration isn't by 403
+-- whether a refusal of a registration is by a final status, and not by 403
 abbrev pub RefusesOtherwise : Registered → Type 0
 RefusesOtherwise (Bound after) = Unit {0}
-RefusesOtherwise (Refused status extras) = (status ≡ 403) → ⊥
+RefusesOtherwise (Refused status extras) = IsOtherFinal status
 
--- no registration that was let through is refused by 403
+-- a registration that was let through is refused by a final status, and never by 403
 pub registration_other : (server : Server) (known : List Binding) (now : ℕ) (m : Message) (core : CoreFields) → RefusesOtherwise (registration_by server known now m core)
 registration_other server known now m core =
     by_test (is_own_uri server (request_uri_of server.config.own m) && is_users_address server.config.users server.config.own.domains (to_aor core))
     (registered known (registration_of core m.fields) now) where
       by_test : (t : Bool) (result : Result (List Binding) LocationError) → RefusesOtherwise (cond t (registered_by result) (Refused 404 []))
       by_test true (Ok after) = tt
-      by_test true (Err NoMemory) = λ e. omega arith
-      by_test true (Err BadStar) = λ e. omega arith
-      by_test true (Err TooBrief) = λ e. omega arith
-      by_test true (Err OldCSeq) = λ e. omega arith
-      by_test true (Err TooMany) = λ e. omega arith
-      by_test false result = λ e. omega arith
+      by_test true (Err NoMemory) = (refl, λ e. omega arith)
+      by_test true (Err BadStar) = (refl, λ e. omega arith)
+      by_test true (Err TooBrief) = (refl, λ e. omega arith)
+      by_test true (Err OldCSeq) = (refl, λ e. omega arith)
+      by_test true (Err TooMany) = (refl, λ e. omega arith)
+      by_test false result = (refl, λ e. omega arith)
 
 -- ---- a request
 
@@ -248,16 +293,20 @@ module _ (server : Server) (state : ProxyState) (a : Arrival) (bytes : List ℕ)
   -- an ACK that no open request takes
   ack_fits : (method uri version : List ℕ) → m.start ≡ Request method uri version → bytes_eq method (codes "ACK") ≡ true → Fits server state a bytes m short (ack_verdict server state a.now m short)
   ack_fits method uri version is_request ack = by_refusal (refusal_of server.config.own m short) refl where
+    is_ack : bytes_eq (method_of m.start) (codes "ACK") ≡ true
+    is_ack = ap (λ (start : Start). bytes_eq (method_of start) (codes "ACK")) is_request ∙ ack
+
     by_refusal : (o : Option (ℕ × List ℕ)) → refusal_of server.config.own m short ≡ o → Fits server state a bytes m short (cond (is_some o) Drop (within server state a.now m AckOn Drop))
     by_refusal (Some refused) valid = tt
     by_refusal None valid =
         within_fits AckOn Drop
         (passing server m short method uri version is_request (other_method method (codes "REGISTER") ack refl) (other_method method (codes "CANCEL") ack refl) valid)
-        (λ address id h. h) tt
+        (λ address id h. (h, is_ack)) tt
 
   -- a CANCEL whose key isn't open
-  cancel_fits : (key : Key) → IsBrought state m → Fits server state a bytes m short (cancel_verdict server state a m short key)
-  cancel_fits key fresh = by_tests (is_bad_request server.config.own m short) (is_full state) where
+  cancel_fits : (method uri version : List ℕ) (key : Key) → m.start ≡ Request method uri version → bytes_eq method (codes "CANCEL") ≡ true → key_of m ≡ Some key → IsBrought state m
+      → Fits server state a bytes m short (cancel_verdict server state a m short key)
+  cancel_fits method uri version key is_request cancel key_is fresh = by_tests (is_bad_request server.config.own m short) (is_full state) where
     same_source : (r : OpenRequest) → Contains state.requests r → (t : Bool) → IfSome (cond t (Some r) None) (Contains state.requests)
     same_source r h true = h
     same_source r h false = tt
@@ -268,9 +317,17 @@ module _ (server : Server) (state : ProxyState) (a : Arrival) (bytes : List ℕ)
     by_found (Some r) h = same_source r h (bytes_eq r.source.ip a.from.ip)
 
     by_tests : (t u : Bool) → Fits server state a bytes m short (cond t (Answer 400 []) (cond u (Answer 503 []) (Cancel (found_for_cancel state key a.from))))
-    by_tests true u = (fresh, λ e. omega arith)
-    by_tests false true = (fresh, λ e. omega arith)
-    by_tests false false = (fresh, by_found (find (is_cancelled_by key) state.requests) (all_find (Contains state.requests) (is_cancelled_by key) state.requests (all_there state.requests)))
+    by_tests true u = (fresh, (refl, λ e. omega arith))
+    by_tests false true = (fresh, (refl, λ e. omega arith))
+    by_tests false false =
+        record {
+          brought = fresh;
+          key = key;
+          key_is = key_is;
+          is_cancel = ap (λ (start : Start). bytes_eq (method_of start) (codes "CANCEL")) is_request ∙ cancel;
+          found_is = refl;
+          there = by_found (find (is_cancelled_by key) state.requests) (all_find (Contains state.requests) (is_cancelled_by key) state.requests (all_there state.requests));
+        }
 
   -- what policy decides fits a valid new request
   policy_fits : (method : List ℕ) (core : CoreFields) → IsNewRequest server state bytes m method core → Fits server state a bytes m short (policy_verdict server state a.now m method core)
@@ -335,7 +392,7 @@ module _ (server : Server) (state : ProxyState) (a : Arrival) (bytes : List ℕ)
         policy_fits server state a bytes m short method core (new_request server state bytes m method uri version short key core said is_request key_is is_new no_ack no_cancel valid room core_is outside)
     outside_fits core valid room core_is false outside =
         within_fits server state a bytes m short InDialog (Answer 481 []) (passing server m short method uri version is_request (inside core outside) no_cancel valid) (λ address id h. (fresh, h))
-        (fresh, λ e. omega arith)
+        (fresh, (refl, λ e. omega arith))
 
     by_core : refusal_of server.config.own m short ≡ None → is_full state ≡ false → (o : Option CoreFields) → result_ok (core_of m) ≡ o → Fits server state a bytes m short (core_verdict server state a.now m method o)
     by_core valid room None core_is = tt
@@ -343,10 +400,10 @@ module _ (server : Server) (state : ProxyState) (a : Arrival) (bytes : List ℕ)
 
     by_room : refusal_of server.config.own m short ≡ None → (t : Bool) → is_full state ≡ t
         → Fits server state a bytes m short (cond t (Answer 503 []) (core_verdict server state a.now m method (result_ok (core_of m))))
-    by_room valid true room = (fresh, λ e. omega arith)
+    by_room valid true room = (fresh, (refl, λ e. omega arith))
     by_room valid false room = by_core valid room (result_ok (core_of m)) refl
 
-    by_refusal : (o : Option (ℕ × List ℕ)) → refusal_of server.config.own m short ≡ o → IfSome o (λ refused. (refused.0 ≡ 403) → ⊥) → Fits server state a bytes m short (checked_verdict server state a.now m method o)
+    by_refusal : (o : Option (ℕ × List ℕ)) → refusal_of server.config.own m short ≡ o → IfSome o (λ refused. IsOtherFinal refused.0) → Fits server state a bytes m short (checked_verdict server state a.now m method o)
     by_refusal None valid other = by_room valid (is_full state) refl
     by_refusal (Some refused) valid other = (fresh, other)
 
@@ -358,22 +415,22 @@ module _ (server : Server) (state : ProxyState) (a : Arrival) (bytes : List ℕ)
         → Fits server state a bytes m short (cond t (ack_verdict server state a.now m short)
         (cond u (cancel_verdict server state a m short key) (checked_verdict server state a.now m method (refusal_of server.config.own m short))))
     by_tests true ack u cancel = ack_fits server state a bytes m short method uri version is_request ack
-    by_tests false ack true cancel = cancel_fits server state a bytes m short key (brought state m method uri version key is_request key_is is_new ack)
+    by_tests false ack true cancel = cancel_fits server state a bytes m short method uri version key is_request cancel key_is (brought state m method uri version key is_request key_is is_new ack)
     by_tests false ack false cancel = checked_fits method uri version key is_request key_is is_new ack cancel
 
   -- a request
   request_fits : (method uri version : List ℕ) → m.start ≡ Request method uri version → Fits server state a bytes m short (by_key server state a m short method (key_of m))
   request_fits method uri version is_request = by_option (key_of m) refl where
-    copy_fits : (r : OpenRequest) → Contains state.requests r → (t : Bool) → bytes_eq method (codes "ACK") ≡ t → (u : Bool)
+    copy_fits : (r : OpenRequest) → IsCopy state m r → (t : Bool) → bytes_eq method (codes "ACK") ≡ t → (u : Bool)
         → Fits server state a bytes m short (cond (t && u) (ack_verdict server state a.now m short) (Copy r))
-    copy_fits r there true ack true = ack_fits server state a bytes m short method uri version is_request ack
-    copy_fits r there true ack false = there
-    copy_fits r there false ack u = there
+    copy_fits r copy true ack true = ack_fits server state a bytes m short method uri version is_request ack
+    copy_fits r copy true ack false = copy
+    copy_fits r copy false ack u = copy
 
     by_found : (key : Key) → key_of m ≡ Some key → (o : Option OpenRequest) → find (has_key key) state.requests ≡ o → IfSome o (Contains state.requests)
         → Fits server state a bytes m short (by_open server state a m short method key o)
-    by_found key key_is None is_new there = new_fits method uri version key is_request key_is is_new
-    by_found key key_is (Some r) is_new there = copy_fits r there (bytes_eq method (codes "ACK")) refl (is_accepted r)
+    by_found key key_is None is there = new_fits method uri version key is_request key_is is
+    by_found key key_is (Some r) is there = copy_fits r (record { key = key; key_is = key_is; is_open = is; there = there }) (bytes_eq method (codes "ACK")) refl (is_accepted r)
 
     by_option : (o : Option Key) → key_of m ≡ o → Fits server state a bytes m short (by_key server state a m short method o)
     by_option None key_is = tt

@@ -72,7 +72,7 @@ upward_branches now None r = refl
 upward_branches now (Some u) r = refl
 
 -- so do several answers
-tried_branches : (now : ℕ) (upward : List Upward) (r : OpenRequest) → (tried now upward r).branches ≡ r.branches
+pub tried_branches : (now : ℕ) (upward : List Upward) (r : OpenRequest) → (tried now upward r).branches ≡ r.branches
 tried_branches now [] r = refl
 tried_branches now (u ∷ us) r = tried_branches now us _
 

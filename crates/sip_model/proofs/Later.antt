@@ -76,7 +76,7 @@ pub number_is : (a b : ℕ) → (a == b) ≡ true → a ≡ b
 number_is a b e = grind (arith, nat_tests)
 
 -- of two that go where a branch goes, whichever
-goes_either : (number : ℕ) (t : Bool) (x y z : Branch) → goes_to number x ≡ goes_to number z → goes_to number y ≡ goes_to number z → goes_to number (cond t x y) ≡ goes_to number z
+pub goes_either : (number : ℕ) (t : Bool) (x y z : Branch) → goes_to number x ≡ goes_to number z → goes_to number y ≡ goes_to number z → goes_to number (cond t x y) ≡ goes_to number z
 goes_either number true x y z a b = a
 goes_either number false x y z a b = b
 

@@ -14,6 +14,14 @@ use Rattle.sip_model.proofs.Registers.{bindings_of_chain}
 use Rattle.sip_model.proofs.Sixteen.{few_of_chain}
 use Rattle.sip_model.proofs.Services.{serves_of_step}
 use Rattle.sip_model.proofs.Owing.{owed_of_step, honest_of_chain}
+use Rattle.sip_model.proofs.Repeats.{step_repeats}
+use Rattle.sip_model.proofs.Went.{went_of_chain}
+use Rattle.sip_model.proofs.Followed.{step_records}
+use Rattle.sip_model.proofs.MadeFinals.{best_made}
+use Rattle.sip_model.proofs.AllSent.{step_sends}
+use Rattle.sip_model.proofs.Steady.{steady_in_step}
+use Rattle.sip_model.proofs.Causes.{step_causes}
+use Rattle.sip_model.proofs.Audited.{rising_of_step}
 use Rattle.sip_model.proofs.Places.{all_weaker}
 use Rattle.sip_model.proofs.Sameness.{serves_same, owed_same}
 
@@ -30,6 +38,12 @@ lawful_of_chain server first link history last chain =
           all_weaker (IsOwed server (link ∷ history) link.before link.act link.before.bindings) (IsOwed server (link ∷ history) link.before link.act (bindings_after server history))
           (originals link.out.packets) (owed_same server (link ∷ history) link.before link.act link.before.bindings (bindings_after server history) before)
           (owed_of_step server history link chain.1 (few_of_chain server first history link.before chain.2) (honest_of_chain server first history link.before chain.2));
+      sent = step_sends server history link.before link.act link.out link.after best_made chain.1 (steady_in_step server first link history chain.2);
+      again = step_causes server link.before link.act link.out link.after chain.1;
+      repeats = step_repeats server link.before link.act link.out link.after chain.1;
+      went = went_of_chain server first link history last chain;
+      records = step_records server link.before link.act link.out link.after chain.1;
+      rise = rising_of_step server first link history chain.1 chain.2;
     }
 
 -- Every step of a chain from a first state is lawful by the history before it

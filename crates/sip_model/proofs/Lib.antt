@@ -27,8 +27,10 @@ pub mod Finals
 pub mod Later
 pub mod Due
 pub mod Fitting
+pub mod Parting
 pub mod Effects
 pub mod Owing
+pub mod StepParts
 pub mod Lawful
 pub mod Reaching
 pub mod Joins
@@ -50,3 +52,16 @@ pub mod Listing
 pub mod Went
 pub mod StepsAlike
 pub mod StepsLeft
+pub mod Marking
+pub mod GivenUp
+pub mod MadeFinals
+pub mod AtOnce
+pub mod Settled
+pub mod Edits
+pub mod ForOpen
+pub mod Sendings
+pub mod Expiring
+pub mod AllSent
+pub mod Causes
+pub mod Audited
+pub mod Steady

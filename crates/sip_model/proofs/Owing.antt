@@ -34,7 +34,7 @@ use Rattle.sip_model.proofs.Effects.{IsGood, nothing_good, changed_good, kept_ho
 -- ---- the effects of a step
 
 -- a datagram that says a message is said in its step
-said_at : (state : ProxyState) (at word : ℕ) (from : Addr) (bytes : List ℕ) (m : Message) (short : Bool) → message_in (reading_of bytes) ≡ Some (m, short)
+pub said_at : (state : ProxyState) (at word : ℕ) (from : Addr) (bytes : List ℕ) (m : Message) (short : Bool) → message_in (reading_of bytes) ≡ Some (m, short)
     → IsSaidAt state (Given (Datagram at word from bytes)) (arrival_of state at word from) bytes m short
 said_at state at word from bytes m short says = record { at = at; word = word; from = from; is_act = refl; is_arrival = refl; says = says }
 

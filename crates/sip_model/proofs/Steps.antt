@@ -162,7 +162,7 @@ effect_at server state a m (Send q id targets) = sending_at server state a m q i
 effect_at server state a m (Register q id outcome) = registering_at server state a m q id outcome
 
 -- of a datagram
-datagram_at : (server : Server) (state : ProxyState) (a : Arrival) (o : Option (Message × Verdict)) → IsAt a.now (option_map_or (λ x. effect_of server a x.0 x.1 (counted a state)) o (nothing (counted a state)))
+pub datagram_at : (server : Server) (state : ProxyState) (a : Arrival) (o : Option (Message × Verdict)) → IsAt a.now (option_map_or (λ x. effect_of server a x.0 x.1 (counted a state)) o (nothing (counted a state)))
 datagram_at server state a None = refl
 datagram_at server state a (Some x) = effect_at server state a x.0 x.1
 
@@ -188,7 +188,7 @@ failed_at server now state r None = refl
 failed_at server now state r (Some b) = refl
 
 -- of either
-fault_at : (server : Server) (now : ℕ) (ticket : Ticket) (state : ProxyState) (o : Option OpenRequest) → IsAt now (failed_request server now ticket (record state { moment = now }) o)
+pub fault_at : (server : Server) (now : ℕ) (ticket : Ticket) (state : ProxyState) (o : Option OpenRequest) → IsAt now (failed_request server now ticket (record state { moment = now }) o)
 fault_at server now ticket state None = refl
 fault_at server now ticket state (Some r) = failed_at server now state r (find (is_failed ticket.branch) r.branches)
 
@@ -215,7 +215,7 @@ taken server old now effect new finals e moves at none again =
     }
 
 -- what is later isn't before
-none_before : (now : ℕ) (dues : List ℕ) → AllByRecursion (λ due. now < due) dues → AllByRecursion (λ due. now ≤ due) dues
+pub none_before : (now : ℕ) (dues : List ℕ) → AllByRecursion (λ due. now < due) dues → AllByRecursion (λ due. now ≤ due) dues
 none_before now dues all = all_weaker (λ due. now < due) (λ due. now ≤ due) dues (λ due h. omega arith) all
 
 -- time passes

@@ -168,7 +168,7 @@ some_best (f ∷ fs) some = by_best (best_of (f ∷ fs)) (one_goes_up f fs) wher
   by_best (Some g) h = (g, refl)
 
 -- an answer that goes up leaves the branches
-upward_branches : (now : ℕ) (o : Option Upward) (r : OpenRequest) → (after_upward now o r).branches ≡ r.branches
+pub upward_branches : (now : ℕ) (o : Option Upward) (r : OpenRequest) → (after_upward now o r).branches ≡ r.branches
 upward_branches now None r = refl
 upward_branches now (Some u) r = refl
 

@@ -1,6 +1,7 @@
 -- The law of whole runs: who was sent what, which bindings changed, and which rule denied.
-use Rattle.std.specs.Prelude.{◌≡◌, ◌⊎◌, ℕ, ◌==◌, Bool, true, false, not, if◌then◌else◌, List, [], ◌∷◌, filter, find, codes, Contains, Option, Some, None, Ok}
-use Rattle.std.specs.List.{AllByRecursion, flat_map}
+use Rattle.std.specs.Prelude.{◌≡◌, ◌⊎◌, ◌<◌, ℕ, ◌==◌, ◌||◌, Bool, true, false, not, if◌then◌else◌, List, [], ◌∷◌, ◌++◌, filter, find, codes, Contains, Option, Some, None, is_some, Ok}
+use Rattle.std.specs.List.{AllByRecursion, list_any, flat_map}
+use Rattle.std.specs.Option.{option_map_or}
 use Rattle.std.specs.Str.{bytes_eq}
 use Rattle.sip_verdict.specs.field.declared.field.Field.{Field}
 use Rattle.sip_verdict.specs.form.declared.message.Start.TheVariants.{Request, Status}
@@ -26,10 +27,13 @@ use Rattle.sip_verdict.specs.targets.declared.target.Target.{Target}
 use Rattle.sip_verdict.specs.targets.declared.targets.Targets.{Targets}
 use Rattle.sip_verdict.specs.targets.Targets.{target_list}
 use Rattle.sip_verdict.specs.validate.Refusal.{refusal_of}
-use Rattle.sip_verdict.specs.best.Best.{is_challenge_status, is_challenge_field, taking_along}
+use Rattle.sip_verdict.specs.best.declared.final_answer.Final.{Final}
+use Rattle.sip_verdict.specs.best.Best.{is_challenge_status, is_challenge_field, taking_along, best_of}
 use Rattle.sip_verdict.specs.dialog.declared.dialog.DialogId.{DialogId}
 use Rattle.sip_verdict.specs.dialog.Dialogs.{IsInDialog}
+use Rattle.sip_verdict.specs.context.audit.declared.record.Record.{Record}
 use Rattle.sip_verdict.specs.event.declared.packet.Packet.{Packet}
+use Rattle.sip_verdict.specs.event.declared.packet.Ticket.{Ticket}
 use Rattle.sip_verdict.specs.event.declared.event.StepOut.{StepOut}
 use Rattle.sip_verdict.specs.event.declared.event.Event.TheVariants.{Datagram, Time, Fault}
 use Rattle.sip_verdict.specs.state.declared.server.Server.{Server}
@@ -37,17 +41,22 @@ use Rattle.sip_verdict.specs.location.Registering.{to_aor}
 use Rattle.sip_verdict.specs.state.declared.proxy_state.ProxyState.{ProxyState}
 use Rattle.sip_verdict.specs.state.declared.open_request.OpenRequest.{OpenRequest}
 use Rattle.sip_verdict.specs.state.declared.branch.Branch.{Branch}
-use Rattle.sip_verdict.specs.state.State.{is_invite, has_key, is_failure, is_provisional}
+use Rattle.sip_verdict.specs.state.declared.branch.Phase.{Phase}
+use Rattle.sip_verdict.specs.state.declared.branch.Phase.TheVariants.{Unheard, Heard, Cancelled, Done, Ended}
+use Rattle.sip_verdict.specs.state.State.{is_invite, has_key, is_success, is_failure, is_decline, is_provisional, is_final, is_answering}
 use Rattle.sip_verdict.specs.state.Dialogs.{dialog_of}
 use Rattle.sip_verdict.specs.context.Sending.{made_answer, answer_packet, answer_to, to_branch, ack_packets, branch_packets, onward_as, request_of}
-use Rattle.sip_verdict.specs.context.Branches.{is_ready}
+use Rattle.sip_verdict.specs.context.Branches.{is_same_branch, is_ready, is_unheard, is_accepted, final_of, upward_of}
 use Rattle.sip_verdict.specs.state.Arrival.{Arrival}
-use Rattle.sip_verdict.specs.Verdict.{Bound, Refused, has_contact, is_full, is_register, is_outside, question_of, answer_of, request_targets, registration_by, next_address, responding, message_in}
-use Rattle.sip_verdict.specs.context.Opening.{arriving, branches_from}
-use Rattle.sip_model.specs.Effect.{contact_fields, challenge_status, challenges_to, method_of}
-use Rattle.sip_model.specs.Step.{Act, Given, Passing, originals, arrival_of}
+use Rattle.sip_verdict.specs.Verdict.{Bound, Refused, Verdict, Drop, Respond, Copy, AckOn, Cancel, Answer, InDialog, Challenge, Deny, Send, Register, has_contact, is_full, is_register, is_outside, question_of, answer_of, request_targets, registration_by, next_address, responding, found_for_cancel, message_in, verdict_of}
+use Rattle.sip_verdict.specs.context.Opening.{arriving, branches_from, dialog_branch}
+use Rattle.sip_retransmission.specs.Retransmission.{IsRetransmission, IsResent, answers_again, acked_again}
+use Rattle.sip_model.specs.Effect.{contact_fields, challenge_status, challenges_to, method_of, ack_packet}
+use Rattle.sip_model.specs.Step.{Act, Given, Passing, originals, retransmissions, arrival_of}
 use Rattle.sip_model.specs.Run.{Link}
 use Rattle.sip_model.specs.Bindings.{Arrived, bindings_after}
+use Rattle.sip_model.specs.Lives.{sent_first, first_sending}
+use Rattle.sip_model.specs.Histories.{records_at}
 
 -- ---- a valid new request outside a dialog
 
@@ -252,15 +261,194 @@ pub data IsOwed (server : Server) (history : List Link) (state : ProxyState) (ac
   InKnownDialog : (a : Arrival) (m : Message) (address : Addr) → IsWithin server state act a m address → p.to ≡ address
       → p.bytes ≡ text_of (onward_as server a.number m a.from (onward_uri server.config.own m) 1) → p.ticket.datagram ≡ a.number → IsOwed server history state act rows p
 
+-- ---- all that is sent for the first time
+
+-- a branch has an address
+abbrev pub has_address : Branch → Bool
+has_address b = is_some b.address
+
+-- What a request that is sent to its branches gets at once: an INVITE with an address among them a 100, and one without any address a 500 (RFC 3261 16.2, 16.9).
+abbrev pub answer_at_once : Server → Arrival → Message → List Branch → List Packet
+answer_at_once server a m branches =
+    if not (list_any has_address branches) then answer_alone server a m 500 []
+    else if is_invite (arriving a m) then answer_alone server a m 100 []
+    else []
+
+-- that, and then its request to each branch that has an address, in the order of the branches
+abbrev pub sent_to_branches : Server → Arrival → Message → List Branch → List Packet
+sent_to_branches server a m branches = answer_at_once server a m branches ++ flat_map (branch_packets server false (arriving a m)) branches
+
+-- All that a datagram is answered at once, or sent on as, by the verdict on it.
+abbrev pub sent_at_once : Server → Arrival → Message → Verdict → List Packet
+sent_at_once server a m Drop = []
+sent_at_once server a m (Respond r b status) = []
+sent_at_once server a m (Copy r) = []
+sent_at_once server a m (AckOn address id) = ack_packet server a m address ∷ []
+sent_at_once server a m (Cancel None) = answer_alone server a m 481 []
+sent_at_once server a m (Cancel (Some r)) = answer_alone server a m 200 []
+sent_at_once server a m (Answer status extras) = answer_alone server a m status extras
+sent_at_once server a m (InDialog address id) = sent_to_branches server a m (dialog_branch server a.now m address ∷ [])
+sent_at_once server a m (Challenge q) = answer_alone server a m (challenge_status q.operation) (challenges_to server a q)
+sent_at_once server a m (Deny q id) = answer_alone server a m 403 (denial_warning server.config.own id ∷ [])
+sent_at_once server a m (Send q id Targets.NotFound) = answer_alone server a m 404 []
+sent_at_once server a m (Send q id Targets.Unavailable) = answer_alone server a m 480 []
+sent_at_once server a m (Send q id (Targets.Bindings targets)) = sent_to_branches server a m (branches_from a.now 1 (target_list (Targets.Bindings targets)))
+sent_at_once server a m (Send q id (Targets.Hop uri address)) = sent_to_branches server a m (branches_from a.now 1 (target_list (Targets.Hop uri address)))
+sent_at_once server a m (Register q id (Bound rows)) = answer_alone server a m 200 (contact_fields a.now q.target rows)
+sent_at_once server a m (Register q id (Refused status extras)) = answer_alone server a m status extras
+
+-- the same of a step: nothing, unless it is taken for a datagram that says a message
+abbrev pub sent_for : Server → ProxyState → Act → List Packet
+sent_for server state (Given (Datagram at word from bytes)) =
+    let a : Arrival = arrival_of state at word from in
+    option_map_or (λ x. sent_at_once server a x.0 x.1) (verdict_of server state a bytes) []
+sent_for server state (Given (Time at)) = []
+sent_for server state (Given (Fault at ticket)) = []
+sent_for server state (Passing at) = []
+
+-- A response comes in a step, for a branch to a target of an open request.
+pub record ComesNow (server : Server) (state : ProxyState) (act : Act) (r : OpenRequest) (b : Branch) (status : ℕ) (response : Message) : Type 0 where
+  pub a : Arrival
+  pub bytes : List ℕ
+  pub reason : List ℕ
+  pub is_said : IsSaidAt state act a bytes response false
+  pub is_response : response.start ≡ Status status reason
+  pub is_for : responding server state.requests response.fields ≡ Some (r, b)
+  pub is_target : b.is_cancel ≡ false
+
+-- The ACK that a step sends for an open request: of the first final response of a branch of an INVITE, of 300 to 699 (RFC 3261 17.1.1.3); or none.
+pub data IsAckNow (server : Server) (state : ProxyState) (act : Act) (r : OpenRequest) : List Packet → Type 0 where
+  NoAck : IsAckNow server state act r []
+  Acks : (b : Branch) (status : ℕ) (response : Message) → ComesNow server state act r b status response → is_invite r ≡ true → is_failure status ≡ true → is_final b.phase ≡ false
+      → IsAckNow server state act r (ack_packets server false r b (first_value Name.To response.fields))
+
+-- A branch of this phase still takes a 2xx: it has no final response, or its first one was a 2xx (RFC 6026 7.2).
+abbrev pub TakesSuccess : Phase → Type 0
+TakesSuccess (Unheard due) = Unit {0}
+TakesSuccess (Heard due) = Unit {0}
+TakesSuccess (Cancelled due) = Unit {0}
+TakesSuccess (Done due first) = is_success first ≡ true
+TakesSuccess Ended = ⊥
+
+-- A response of this status is sent on at once: of 101 to 199, while neither its branch nor its request has a final one; a 2xx, while the request has no final answer, or is an INVITE whose
+-- last one was a 2xx (RFC 3261 16.7 step 5, RFC 6026 7.1).
+pub data IsPassedOn (r : OpenRequest) (b : Branch) (status : ℕ) : Type 0 where
+  Early : is_provisional status ≡ true → ((status ≡ 100) → ⊥) → is_final b.phase ≡ false → is_answering r.side ≡ true → IsPassedOn r b status
+  Accepting : is_success status ≡ true → TakesSuccess b.phase → (is_answering r.side || is_accepted r) ≡ true → IsPassedOn r b status
+
+-- What a branch to a target ends with in a step at a moment: the final response that comes for it; 408 where its deadline passes without one, unless it is an INVITE that was heard; 487 where
+-- it had been sent a CANCEL; 503 where it could not be sent to (RFC 3261 16.7 to 16.9).
+pub data EndsNow (server : Server) (state : ProxyState) (act : Act) (at : ℕ) (r : OpenRequest) (b : Branch) : Final → Type 0 where
+  ByResponse : (status : ℕ) (response : Message) → ComesNow server state act r b status response → is_provisional status ≡ false → EndsNow server state act at r b (final_of status response)
+  BySilence : b.phase ≡ Unheard at → EndsNow server state act at r b (record { status = 408; message = None })
+  ByLaterSilence : b.phase ≡ Heard at → is_invite r ≡ false → EndsNow server state act at r b (record { status = 408; message = None })
+  ByCancel : b.phase ≡ Cancelled at → EndsNow server state act at r b (record { status = 487; message = None })
+  ByFault : (when : ℕ) (ticket : Ticket) → act ≡ Given (Fault when ticket) → ticket.datagram ≡ r.number → ticket.branch ≡ b.number → is_unheard b.phase ≡ true
+      → EndsNow server state act at r b (record { status = 503; message = None })
+
+-- each other branch to a target has ended before
+abbrev pub OthersEnded : OpenRequest → Branch → Type 0
+OthersEnded r b = AllByRecursion (λ (x : Branch). x.is_cancel ≡ false → is_same_branch x b ≡ false → is_final x.phase ≡ true) r.branches
+
+-- an answer that is made here after all branches ended, without fields: 408, 487 or 500
+abbrev pub IsMadeLater : ℕ → Type 0
+IsMadeLater status = (status ≡ 408) ⊎ ((status ≡ 487) ⊎ (status ≡ 500))
+
+-- What goes to the caller of an open request in a step: nothing; a response that is sent on at once; or, as its last branch ends and no final answer went before, the best of what its branches
+-- ended with, in order of arrival (RFC 3261 16.7 steps 5 to 7).
+pub data IsAnswerNow (server : Server) (state : ProxyState) (act : Act) (at : ℕ) (r : OpenRequest) : List Packet → Type 0 where
+  NoAnswer : IsAnswerNow server state act at r []
+  PassedOn : (b : Branch) (status : ℕ) (response : Message) → ComesNow server state act r b status response → IsPassedOn r b status
+      → IsAnswerNow server state act at r (answer_to false r (text_of (without_top_via response)) ∷ [])
+  Best : (b : Branch) (last best : Final) → Contains r.branches b → b.is_cancel ≡ false → is_final b.phase ≡ false → EndsNow server state act at r b last → OthersEnded r b → is_answering r.side ≡ true
+      → best_of (r.finals ++ last ∷ []) ≡ Some best → (best.message ≡ None → IsMadeLater best.status)
+      → IsAnswerNow server state act at r (answer_to false r (text_of (upward_of server r best).message) ∷ [])
+
+-- a CANCEL of the caller's came in a history, for the request of a number (RFC 3261 9.2, 16.10)
+pub record WasCancelled (server : Server) (history : List Link) (number : ℕ) : Type 0 where
+  pub link : Link
+  pub a : Arrival
+  pub bytes : List ℕ
+  pub m : Message
+  pub short : Bool
+  pub key : Key
+  pub request : OpenRequest
+  pub is_there : Contains history link
+  pub is_said : IsSaidAt link.before link.act a bytes m short
+  pub is_cancel : bytes_eq (method_of m.start) (codes "CANCEL") ≡ true
+  pub key_is : key_of m ≡ Some key
+  pub names_it : found_for_cancel link.before key a.from ≡ Some request
+  pub is_number : request.number ≡ number
+
+-- The branches of a request were given up in a history: its caller cancelled it, or a 2xx or 6xx came for it (RFC 3261 16.7 step 10, 16.10).
+pub data WasGivenUp (server : Server) (history : List Link) (number : ℕ) : Type 0 where
+  ByCaller : WasCancelled server history number → WasGivenUp server history number
+  ByAnswer : (status : ℕ) (response : Message) → CameFor server history number status response → (is_success status || is_decline status) ≡ true → WasGivenUp server history number
+
+-- A branch to a target of an INVITE is sent its CANCEL in a step: it was heard before, or is now, and none was sent before; and it was given up, or Timer C passes (RFC 3261 9.1, 16.8).
+pub record IsCancelledNow (server : Server) (history : List Link) (state : ProxyState) (act : Act) (at : ℕ) (r : OpenRequest) (b : Branch) : Type 0 where
+  pub is_target : b.is_cancel ≡ false
+  pub is_of_invite : is_invite r ≡ true
+  pub was_heard : (is_ready b.phase ≡ true) ⊎ ((is_unheard b.phase ≡ true) × IsHeardNow server state act r b)
+  pub was_given_up : WasGivenUp server history r.number ⊎ (b.phase ≡ Heard at)
+
+-- the CANCELs that a step sends for an open request: those of some of its branches, each once
+pub record AreCancelsNow (server : Server) (history : List Link) (state : ProxyState) (act : Act) (at : ℕ) (r : OpenRequest) (packets : List Packet) : Type 0 where
+  pub is_one : Branch → Bool
+  pub are_all : packets ≡ flat_map (λ (b : Branch). to_branch r b 0 false (cancel_of (request_of server r b))) (filter is_one r.branches)
+  pub each : AllByRecursion (λ (b : Branch). is_one b ≡ true → IsCancelledNow server history state act at r b) r.branches
+
+-- What a step sends for a request that was open before it, if it does for one: an ACK, an answer, and CANCELs, in this order, or some of them.
+pub data IsForOpen (server : Server) (history : List Link) (state : ProxyState) (act : Act) (at : ℕ) : List Packet → Type 0 where
+  ForNone : IsForOpen server history state act at []
+  ForOne : (r : OpenRequest) (acks answers cancels : List Packet) → Contains state.requests r → IsAckNow server state act r acks → IsAnswerNow server state act at r answers
+      → AreCancelsNow server history state act at r cancels → IsForOpen server history state act at (acks ++ answers ++ cancels)
+
+-- All that a step sends for the first time: what its datagram is answered or sent on as, and then what is sent for a request that was open before.
+pub record IsAllSent (server : Server) (history : List Link) (state : ProxyState) (act : Act) (at : ℕ) (packets : List Packet) : Type 0 where
+  pub others : List Packet
+  pub are_all : packets ≡ sent_for server state act ++ others
+  pub are_owed : IsForOpen server history state act at others
+
+-- ---- what goes again
+
+-- All that goes again in a step at a moment: nothing; the last answer of the request that a datagram copies; the ACK of a branch whose final response came before, and comes again; or what has
+-- its moment then (RFC 3261 17).
+pub data GoesAgain (server : Server) (state : ProxyState) (act : Act) (at : ℕ) : List Packet → Type 0 where
+  Nothing : GoesAgain server state act at []
+  ByCopy : (a : Arrival) (bytes : List ℕ) (m : Message) (short : Bool) (key : Key) (r : OpenRequest) → IsSaidAt state act a bytes m short → bytes_eq (method_of m.start) (codes "ACK") ≡ false
+      → key_of m ≡ Some key → find (has_key key) state.requests ≡ Some r → GoesAgain server state act at (answers_again r r.answer)
+  ByFinal : (a : Arrival) (bytes : List ℕ) (m : Message) (status : ℕ) (reason : List ℕ) (r : OpenRequest) (b : Branch) → IsSaidAt state act a bytes m false → m.start ≡ Status status reason
+      → responding server state.requests m.fields ≡ Some (r, b) → GoesAgain server state act at (acked_again server r b status)
+  ByTime : (r later : OpenRequest) (packets : List Packet) → Contains state.requests r → IsResent server at r packets later → GoesAgain server state act at packets
+
+-- ---- the audit log
+
+-- the records of a history, the newest step's first
+abbrev pub recorded_by : List Link → List Record
+recorded_by [] = []
+recorded_by (link ∷ history) = link.out.records ++ recorded_by history
+
+-- the number of a record is above those of some others
+abbrev pub IsAbove : List Record → Record → Type 0
+IsAbove others r = AllByRecursion (λ (other : Record). other.number < r.number) others
+
 -- ---- the law
 
 -- A step is lawful by its history: from its moment on the bindings before it say the same as those that the allowed REGISTERs of its history make, and those after it do so with its own;
--- what it is taken for is served by these; and all that it sends for the first time is owed.
+-- what it is taken for is served by these; all that it sends for the first time is owed, and is exactly what its datagram gets and what an open request does; all that goes again has its
+-- cause, is of a request that is open, and went before; and it records the request that policy was asked about, and nothing else, under a number above all before.
 pub record IsLawful (server : Server) (history : List Link) (link : Link) : Type 0 where
   pub bindings : SameBindings link.before.moment link.before.bindings (bindings_after server history)
   pub binds : SameBindings link.after.moment link.after.bindings (bindings_after server (link ∷ history))
   pub serves : Serves server (bindings_after server history) link.before link.act link.out
   pub owed : AllByRecursion (IsOwed server (link ∷ history) link.before link.act (bindings_after server history)) (originals link.out.packets)
+  pub sent : IsAllSent server (link ∷ history) link.before link.act link.out.at (originals link.out.packets)
+  pub again : GoesAgain server link.before link.act link.out.at (retransmissions link.out.packets)
+  pub repeats : AllByRecursion (IsRetransmission server link.before.requests) (retransmissions link.out.packets)
+  pub went : AllByRecursion (λ (p : Packet). Contains (sent_first history) (first_sending p)) (retransmissions link.out.packets)
+  pub records : link.out.records ≡ records_at server link.before link.act
+  pub rise : AllByRecursion (IsAbove (recorded_by history)) link.out.records
 
 -- every step of a history is lawful by the history before it
 abbrev pub Access : Server → List Link → Type 0

@@ -5,6 +5,7 @@ pub mod Run
 pub mod Bindings
 pub mod Access
 pub mod Order
+pub mod Parts
 pub mod Lives
 pub mod Examples
 pub mod RegisterExamples

@@ -7,6 +7,7 @@ pub mod examples;
 pub mod histories;
 pub mod laws;
 pub mod order;
+pub mod parts;
 pub mod registrations;
 pub mod runs;
 

@@ -7,10 +7,11 @@ ghost use Rattle.sip_verdict.specs.location.Binding.{live};
 ghost use Rattle.sip_verdict.specs.context.FoundBranch.{found_branch};
 ghost use Rattle.sip_verdict.specs.context.BranchById.{branch_by_id, HasNumbers};
 ghost use Rattle.sip_verdict.specs.state.declared.server.Server.{Server};
+ghost use Rattle.sip_verdict.specs.state.declared.branch.Branch.{Branch};
 ghost use Rattle.sip_verdict.specs.state.declared.open_request.OpenRequest.{OpenRequest};
 ghost use Rattle.sip_verdict.specs.state.declared.proxy_state.ProxyState.{ProxyState};
 ghost use Rattle.sip_verdict.specs.state.State.{first_state, is_answering};
-ghost use Rattle.sip_verdict.specs.context.Branches.{Change};
+ghost use Rattle.sip_verdict.specs.context.Branches.{Change, all_final};
 ghost use Rattle.sip_retransmission.specs.Retransmission.{IsRetransmission};
 ghost use Rattle.sip_verdict.specs.event.declared.event.StepOut.{StepOut};
 ghost use Rattle.sip_model.specs.Step.{Act, IsStep, NoneBefore, NoneAgainBefore, IsOverdue, retransmissions};
@@ -41,6 +42,12 @@ pub fn numbers_rise()
 pub fn at_most_sixteen_bindings()
     ensures { (server : Server) (first : ℕ) (history : List Link) (last : ProxyState)
         → IsChain server (first_state first) history last → (aor : Aor) → length (live aor last.moment last.bindings) ≤ 16 }
+{}
+
+/// A request is sent to at most 16 targets: no branch of an open request has a number above 16.
+pub fn at_most_sixteen_branches()
+    ensures { (server : Server) (first : ℕ) (history : List Link) (last : ProxyState) → IsChain server (first_state first) history last
+        → AllByRecursion (λ (r : OpenRequest). AllByRecursion (λ (b : Branch). b.number ≤ 16) r.branches) last.requests }
 {}
 
 /// The numbers of open requests and of their branches are in the ranges of their types, while the number of
@@ -101,12 +108,15 @@ pub fn one_final_answer()
 {}
 
 /// Each open request can end by the passing of time alone: one of its deadlines stands, and each that
-/// passes leaves fewer that may still pass.
+/// passes leaves fewer that may still pass. While it owes its final answer it waits for a branch.
 pub fn requests_can_end()
     ensures has_deadline { (server : Server) (first : ℕ) (history : List Link) (last : ProxyState)
         → IsChain server (first_state first) history last → AllByRecursion CanEnd last.requests }
     ensures fewer_left { (server : Server) (due : ℕ) (r : OpenRequest) (change : Change)
         → IsOverdue server due r change → deadlines_left change.request + 1 ≤ deadlines_left r }
+    ensures waits { (server : Server) (first : ℕ) (history : List Link) (last : ProxyState)
+        → IsChain server (first_state first) history last
+        → AllByRecursion (λ (r : OpenRequest). is_answering r.side ≡ true → all_final r ≡ false) last.requests }
 {}
 
 /// Once a request had its final answer, the final answers of its branches are kept no longer: nothing that
