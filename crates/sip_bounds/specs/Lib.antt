@@ -1,0 +1,5 @@
+pub mod Invites
+pub mod Endings
+pub mod FinalAnswers
+pub mod Sendings
+pub mod Bounds
