@@ -11,6 +11,7 @@ use Rattle.sip_model.specs.state.declared.server.Server.{Server}
 use Rattle.sip_model.specs.state.declared.proxy_state.ProxyState.{ProxyState}
 use Rattle.sip_model.specs.state.State.{first_state}
 use Rattle.sip_model.specs.Access.{Access}
+use Rattle.sip_bounds.specs.Bounds.{IsBounded}
 use Rattle.sip_model.specs.Run.{Link, IsRun, first_moment}
 use Rattle.sip_script.specs.Print.{step_text, printed}
 use Rattle.sip_loop.specs.Errors.{error_at}
@@ -26,7 +27,7 @@ use Rattle.sip_script.specs.declared.stop.Stop.{Stop}
 use Rattle.sip_script.specs.declared.stop.Stop.TheVariants as stops
 use Rattle.sip_loop.proofs.Fronts.{appends_kept, front_all, front_none, front_second, front_still}
 use Rattle.std.proofs.lemmas.List.Sums.{sum_by-append}
-use Rattle.sip_loop.proofs.Replaying.{Replays}
+use Rattle.sip_loop.proofs.Replaying.{AllAreLawful, Replays}
 use Rattle.sip_loop.proofs.Running.{RunsJoin, run_on}
 
 -- ---- nothing was taken
@@ -293,28 +294,23 @@ unflushed (Err e) config script a b c whole refused k = within_kept (server_with
 
 -- ---- what was done is lawful
 
-abbrev pub AllHaveAccess : Type 0
-AllHaveAccess =
-    (server : Server) (first : ℕ) (events : List Event) (until : Option ℕ) (steps : List StepOut) (history : List Link) (last : ProxyState)
-    → IsRun server (first_state first) events until steps history last → Access server history
-
-comes_lawfully : AllHaveAccess → (server : Server) (script : Option (List ℕ)) (steps : List StepOut) (comes : ComesTo server (first_state 1) script steps) → Access server comes.history
+comes_lawfully : AllAreLawful → (server : Server) (script : Option (List ℕ)) (steps : List StepOut) (comes : ComesTo server (first_state 1) script steps) → Access server comes.history × IsBounded server comes.history
 comes_lawfully law server script steps comes = law server 1 comes.events (moment_ahead comes.ahead) steps comes.history comes.last comes.is_run
 
-refused_lawfully : AllHaveAccess → (server : Server) (script a b : Option (List ℕ)) (e : ReplayError) (refusal : Refuses server (first_state 1) 0 script a b e) → Access server (history_before server (first_state 1) 0 script a b e refusal)
+refused_lawfully : AllAreLawful → (server : Server) (script a b : Option (List ℕ)) (e : ReplayError) (refusal : Refuses server (first_state 1) 0 script a b e) → Access server (history_before server (first_state 1) 0 script a b e refusal) × IsBounded server (history_before server (first_state 1) 0 script a b e refusal)
 refused_lawfully law server script a b errors.NoMemory refusal = comes_lawfully law server script refusal.steps refusal.comes
 refused_lawfully law server script a b (errors.Script line) refusal = comes_lawfully law server script refusal.steps refusal.comes
 refused_lawfully law server script a b errors.Read refusal = comes_lawfully law server script refusal.steps refusal.comes
 refused_lawfully law server script a b errors.Write refusal = comes_lawfully law server script refusal.steps refusal.comes
 
-is_refused : AllHaveAccess → (config : Config) (script a b : Option (List ℕ)) (e : ReplayError) → Refuses (server_with config) (first_state 1) 0 script a b e → IsRefused config script a b e
-is_refused law config script a b e refusal = record { refusal = refusal; access = refused_lawfully law (server_with config) script a b e refusal }
+is_refused : AllAreLawful → (config : Config) (script a b : Option (List ℕ)) (e : ReplayError) → Refuses (server_with config) (first_state 1) 0 script a b e → IsRefused config script a b e
+is_refused law config script a b e refusal = let both = refused_lawfully law (server_with config) script a b e refusal in record { refusal = refusal; access = both.0; bounded = both.1 }
 
 -- behind a flush
-pub refused_flushed : AllHaveAccess → (config : Config) (script a b c : Option (List ℕ)) (e : ReplayError) → Refuses (server_with config) (first_state 1) 0 script a b e → Keeps b c → IsRefused config script a c e
+pub refused_flushed : AllAreLawful → (config : Config) (script a b c : Option (List ℕ)) (e : ReplayError) → Refuses (server_with config) (first_state 1) 0 script a b e → Keeps b c → IsRefused config script a c e
 refused_flushed law config script a b c e h k = is_refused law config script a c e (refused_kept config script a b c e h k)
 
 -- and where that fails
-pub refused_unflushed : AllHaveAccess → {T : Type 0} (r : Result T ReplayError) (config : Config) (script a b c : Option (List ℕ)) → OnOk r (IsReplay config script a b)
+pub refused_unflushed : AllAreLawful → {T : Type 0} (r : Result T ReplayError) (config : Config) (script a b c : Option (List ℕ)) → OnOk r (IsReplay config script a b)
     → IfErr r (λ e. Refuses (server_with config) (first_state 1) 0 script a b e) → Keeps b c → IsRefused config script a c errors.Write
 refused_unflushed law r config script a b c whole refused k = is_refused law config script a c errors.Write (unflushed r config script a b c whole refused k)

@@ -8,7 +8,8 @@ use Rattle.sip_model.specs.state.declared.server.Server.{Server}
 use Rattle.sip_model.specs.state.declared.proxy_state.ProxyState.{ProxyState}
 use Rattle.sip_event.specs.declared.event.StepOut.{StepOut}
 use Rattle.sip_model.specs.Access.{Access}
-use Rattle.sip_model.specs.Run.{Link, IsRun}
+use Rattle.sip_bounds.specs.Bounds.{IsBounded}
+use Rattle.sip_model.specs.Run.{Link, IsChain, IsRun}
 use Rattle.sip_model.specs.state.State.{first_state}
 use Rattle.sip_script.specs.Print.{printed}
 use Rattle.std.specs.Prelude.{count_by, cond}
@@ -110,7 +111,19 @@ replay_kept config script a b c h k = record {
   written = appends_kept a b c (printed h.steps) h.written k;
 }
 
-pub lawful : ((server : Server) (first : ℕ) (events : List Event) (until : Option ℕ) (steps : List StepOut) (history : List Link) (last : ProxyState) → IsRun server (first_state first) events until steps history last → Access server history)
-    → (config : Config) (script a b c : Option (List ℕ)) → IsReplay config script a b → Keeps b c → IsLawfulReplay config script a c
+-- every history of a run is lawful, and bounded
+abbrev pub AllAreLawful : Type 0
+AllAreLawful =
+    (server : Server) (first : ℕ) (events : List Event) (until : Option ℕ) (steps : List StepOut) (history : List Link) (last : ProxyState)
+    → IsRun server (first_state first) events until steps history last → Access server history × IsBounded server history
+
+-- by the two laws
+pub by_laws : ((server : Server) (first : ℕ) (events : List Event) (until : Option ℕ) (steps : List StepOut) (history : List Link) (last : ProxyState) → IsRun server (first_state first) events until steps history last → Access server history)
+    → ((server : Server) (first : ℕ) (history : List Link) (last : ProxyState) → IsChain server (first_state first) history last → IsBounded server history) → AllAreLawful
+by_laws access bounded = λ server first events until steps history last run. (access server first events until steps history last run, bounded server first history last run.chain)
+
+pub lawful : AllAreLawful → (config : Config) (script a b c : Option (List ℕ)) → IsReplay config script a b → Keeps b c → IsLawfulReplay config script a c
 unfolding replay_kept
-lawful law config script a b c h k = record { replay = replay_kept config script a b c h k; access = law (server_with config) 1 h.events None h.steps h.history h.last h.is_run }
+lawful law config script a b c h k =
+    let both = law (server_with config) 1 h.events None h.steps h.history h.last h.is_run in
+    record { replay = replay_kept config script a b c h k; access = both.0; bounded = both.1 }

@@ -12,6 +12,7 @@ use Rattle.sip_model.specs.state.declared.proxy_state.ProxyState.{ProxyState}
 use Rattle.sip_model.specs.state.State.{first_state}
 use Rattle.sip_model.specs.Run.{Link, IsChain}
 use Rattle.sip_model.specs.Access.{Access}
+use Rattle.sip_bounds.specs.Bounds.{IsBounded}
 use Rattle.sip_loop.specs.Counts.{counted_times, IsAskedWithin}
 use Rattle.sip_loop.specs.Serving.{Turn, Silence, Arrival, Doing, Told, Progress, Whole, Read, Begun, AreDrawn, AreTold, IsServed, IsToldMore, IsUnserved, IsWaiting, Serves, begun, given_in, heard_in, passed_to, reading_of, readings_in, told_more, turns_in}
 use Rattle.sip_loop.specs.Courses.{Breaks, Course, Goes, HasRunOf, Leads, Turns}
@@ -135,10 +136,15 @@ run_of server start Whole done state h = h
 run_of server start (Read at) done state h = h at (inl refl)
 run_of server start (Begun turn) done state h = h (reading_of turn) (inl refl)
 
+-- every history has access
 abbrev pub HistoriesHaveAccess : Type 0
 HistoriesHaveAccess = (server : Server) (first : ℕ) (history : List Link) (last : ProxyState) → IsChain server (first_state first) history last → Access server history
 
-module _ (lawful : HistoriesHaveAccess) (server : Server) (old new : ProxyState) (before after : Told) where
+-- and is bounded
+abbrev pub HistoriesAreBounded : Type 0
+HistoriesAreBounded = (server : Server) (first : ℕ) (history : List Link) (last : ProxyState) → IsChain server (first_state first) history last → IsBounded server history
+
+module _ (lawful : HistoriesHaveAccess) (bounded : HistoriesAreBounded) (server : Server) (old new : ProxyState) (before after : Told) where
   serves : (progress : Progress) (count : ℕ) (records : List Record) (failed : Option Packet) (waiting : List Packet) → (h : Turns server old new before after progress count records failed waiting)
       → Serves server old new before after progress h.more
   serves progress count records failed waiting h =
@@ -148,6 +154,7 @@ module _ (lawful : HistoriesHaveAccess) (server : Server) (old new : ProxyState)
         history = run.history;
         is_run = run.is_run;
         access = λ first past chain. lawful server first (run.history ++ past) new (joined_chain server (first_state first) old new past run.history chain run.is_run.chain);
+        bounded = λ first past chain. bounded server first (run.history ++ past) new (joined_chain server (first_state first) old new past run.history chain run.is_run.chain);
         told = h.told;
       }
 

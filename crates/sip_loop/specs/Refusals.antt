@@ -9,6 +9,7 @@ use Rattle.sip_model.specs.state.declared.proxy_state.ProxyState.{ProxyState}
 use Rattle.sip_model.specs.state.State.{first_state}
 use Rattle.sip_model.specs.Run.{Link, IsRun, event_moment}
 use Rattle.sip_model.specs.Access.{Access}
+use Rattle.sip_bounds.specs.Bounds.{IsBounded}
 use Rattle.sip_engine.specs.declared.error.StepError.{StepError}
 use Rattle.sip_engine.specs.StepError.{refusal_at}
 use Rattle.sip_run.specs.Refusals.{refusal_of_event}
@@ -93,10 +94,11 @@ history_before server first lines script old new (Script line) refusal = refusal
 history_before server first lines script old new Read refusal = refusal.comes.history
 history_before server first lines script old new Write refusal = refusal.comes.history
 
--- What holds at each refusal of a replay; and each step that was taken before it is lawful by its history, as `Access` says.
+-- What holds at each refusal of a replay; and each step that was taken before it is lawful by its history, as `Access` says, and these steps are bounded, as `IsBounded` says.
 pub record IsRefused (config : Config) (script old new : Option (List ℕ)) (e : ReplayError) : Type 0 where
   pub refusal : Refuses (server_with config) (first_state 1) 0 script old new e
   pub access : Access (server_with config) (history_before (server_with config) (first_state 1) 0 script old new e refusal)
+  pub bounded : IsBounded (server_with config) (history_before (server_with config) (first_state 1) 0 script old new e refusal)
 
 -- ---- inside
 

@@ -9,6 +9,7 @@ use Rattle.sip_model.specs.state.declared.proxy_state.ProxyState.{ProxyState}
 use Rattle.sip_model.specs.state.State.{first_state}
 use Rattle.sip_model.specs.Run.{Link, IsRun}
 use Rattle.sip_model.specs.Access.{Access}
+use Rattle.sip_bounds.specs.Bounds.{IsBounded}
 use Rattle.sip_script.specs.Print.{printed}
 use Rattle.sip_script.specs.Lines.{Reading}
 use Rattle.sip_script.specs.Events.{SaysEvent, GivesEvent}
@@ -42,10 +43,12 @@ pub record IsReplay (config : Config) (script old new : Option (List ℕ)) : Typ
   pub is_run : IsRun (server_with config) (first_state 1) events None steps history last
   pub written : Appends old new (printed steps)
 
--- The same, and each step of that run is lawful by its history: what is sent goes to whom the first rule that matches lets it go, and so on, as `Access` says.
+-- The same, and each step of that run is lawful by its history: what is sent goes to whom the first rule that matches lets it go, and so on, as `Access` says; and the run is bounded, as
+-- `IsBounded` says.
 pub record IsLawfulReplay (config : Config) (script old new : Option (List ℕ)) : Type 0 where
   pub replay : IsReplay config script old new
   pub access : Access (server_with config) replay.history
+  pub bounded : IsBounded (server_with config) replay.history
 
 -- ---- inside
 

@@ -17,6 +17,7 @@ use Rattle.sip_model.specs.state.State.{first_state}
 use Rattle.sip_model.specs.Step.{moment_of}
 use Rattle.sip_model.specs.Run.{Link, IsChain, IsRun}
 use Rattle.sip_model.specs.Access.{Access}
+use Rattle.sip_bounds.specs.Bounds.{IsBounded}
 use Rattle.sip_engine.specs.StepError.{refusal_at}
 use Rattle.sip_run.specs.Due.{NothingDueBy}
 use Rattle.sip_run.specs.Refusals.{refusal_of_event}
@@ -176,11 +177,13 @@ pub record AreTold (before after : Told) (progress : Progress) (turns : List Tur
 -- ---- serving
 
 -- A server did these, newest first: its steps are a run of the model over the events of its turns and the faults of packets that failed, from the state in which it was, and each step of that
--- run is lawful by its history, whatever history led to that state, as `Access` says; the devices told these turns, and that the link was given these packets.
+-- run is lawful by its history, whatever history led to that state, as `Access` says, and the whole history is bounded, as `IsBounded` says; the devices told these turns, and that the link was
+-- given these packets.
 pub record Serves (server : Server) (old new : ProxyState) (before after : Told) (progress : Progress) (done : List Doing) : Type 0 where
   pub history : List Link
   pub is_run : IsRun server old (reverse (events_in done)) (passed_to progress) (reverse (steps_in done)) history new
   pub access : (first : ℕ) (past : List Link) → IsChain server (first_state first) past old → Access server (history ++ past)
+  pub bounded : (first : ℕ) (past : List Link) → IsChain server (first_state first) past old → IsBounded server (history ++ past)
   pub told : AreTold before after progress (turns_in done) (given_in done)
 
 -- So many turns were served whole: all that they hand out was given to the link, and these are the records of their steps.

@@ -3,11 +3,13 @@ ghost use Rattle.sip_event.specs.declared.event.Event.{Event};
 ghost use Rattle.sip_event.specs.declared.event.StepOut.{StepOut};
 ghost use Rattle.sip_model.specs.settings.declared.config.Config.{Config};
 ghost use Rattle.sip_model.specs.Access.{Access};
+ghost use Rattle.sip_bounds.specs.Bounds.{IsBounded};
 ghost use Rattle.sip_model.specs.state.State.{first_state};
 ghost use Rattle.sip_loop.specs.Refusals.{ComesTo};
 ghost use Rattle.sip_loop.specs.Replays.{server_with, IsReplay, SaysEvents};
 ghost use Rattle.sip_script.specs.Events.{IsNoEvent};
 
+use sip_bounds::bounds::every_history_is_bounded;
 use sip_model::laws::every_run_has_access;
 use sip_script::laws::{event_is_no_refusal, next_event_is_one};
 
@@ -21,6 +23,16 @@ pub fn every_replay_has_access()
     ensures refused { (config : Config) (script : Option (List ℕ)) (steps : List StepOut) → (comes : ComesTo (server_with config) (first_state 1) script steps) → Access (server_with config) comes.history }
 {
     every_run_has_access();
+}
+
+/// Over every replay what is sent and kept is bounded: of each request at most one final answer goes to its caller, or several
+/// 2xx of an INVITE; nothing goes out more often than RFC 3261 lets it; and each request is closed in time. So it is over a
+/// replay that is refused, as far as it came.
+pub fn every_replay_is_bounded()
+    ensures whole { (config : Config) (script old new : Option (List ℕ)) → (replay : IsReplay config script old new) → IsBounded (server_with config) replay.history }
+    ensures refused { (config : Config) (script : Option (List ℕ)) (steps : List StepOut) → (comes : ComesTo (server_with config) (first_state 1) script steps) → IsBounded (server_with config) comes.history }
+{
+    every_history_is_bounded();
 }
 
 /// A script says one list of events at most, so that a replay of it is a run over that list and no other. Where a

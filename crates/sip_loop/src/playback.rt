@@ -14,6 +14,7 @@ use crate::due::fire_due;
 use crate::error::{ReplayError, stop_of};
 use sip_engine::Engine;
 use sip_event::{Boot, Event, StepOut};
+use sip_bounds::bounds::every_history_is_bounded;
 use sip_model::laws::every_run_has_access;
 use sip_model::policy::Rules;
 use sip_model::runs::runs_join;
@@ -53,6 +54,7 @@ pub fn replay<T: Timers, R: Rules, I: TellingReader, W: TellingWriter>(
     ensures flushed { ¬ (result ≡ Err ReplayError.Write) → W.is_flushed writer.new }
 {
     every_run_has_access();
+    every_history_is_bounded();
     let outcome = play::<T, R, I, W>(alloc, config, reader, writer);
     match hand_on(writer) {
         Ok(()) => outcome,

@@ -17,6 +17,7 @@ use sip_event::StepOut;
 use sip_event::audit::Record;
 use sip_link::{Clock, Link};
 use sip_model::histories::{moment_rises, steps_stand_at_their_moments};
+use sip_bounds::bounds::every_history_is_bounded;
 use sip_model::laws::every_history_has_access;
 use sip_model::policy::Rules;
 use sip_model::text::Items;
@@ -175,6 +176,7 @@ pub fn serve<T: Timers, R: Rules, L: Link, C: Clock, W: Rng>(
     ensures link_held { ¬ (result ≡ Err Refusal.Link) → L.failures link.new ≡ L.failures link.old }
 {
     every_history_has_access();
+    every_history_is_bounded();
     let mut records = Items::new(alloc);
     for _ in 0..turns {
         turn(engine, link, clock, words, &mut records)?;

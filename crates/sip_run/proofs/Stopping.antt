@@ -7,8 +7,9 @@ use Rattle.sip_model.specs.state.declared.server.Server.{Server}
 use Rattle.sip_model.specs.state.declared.proxy_state.ProxyState.{ProxyState}
 use Rattle.sip_model.specs.state.State.{first_state}
 use Rattle.sip_model.specs.Step.{moment_of}
-use Rattle.sip_model.specs.Run.{Link, IsRun, event_moment, first_moment}
+use Rattle.sip_model.specs.Run.{IsChain, Link, IsRun, event_moment, first_moment}
 use Rattle.sip_model.specs.Access.{Access}
+use Rattle.sip_bounds.specs.Bounds.{IsBounded}
 use Rattle.sip_engine.specs.declared.error.StepError.{StepError}
 use Rattle.sip_engine.specs.declared.error.StepError.TheVariants.{NoMemory}
 use Rattle.sip_engine.specs.StepError.{refusal_at}
@@ -69,12 +70,27 @@ stops_at join server then_server old mid events i event a b c e lt is same h hal
 
 -- ---- the whole
 
+-- every run has access
 abbrev pub AllHaveAccess : Type 0
 AllHaveAccess =
     (server : Server) (first : ℕ) (events : List Event) (until : Option ℕ) (steps : List StepOut) (history : List Link) (last : ProxyState)
     → IsRun server (first_state first) events until steps history last → Access server history
 
-run_over : AllHaveAccess → (server : Server) (first : ℕ) (last : ProxyState) (events : List Event) (list : List StepOut) → Goes server (first_state first) last events None [] list → IsRunOver server first events list None
+-- every history is bounded
+abbrev pub AllAreBounded : Type 0
+AllAreBounded = (server : Server) (first : ℕ) (history : List Link) (last : ProxyState) → IsChain server (first_state first) history last → IsBounded server history
+
+-- every run is lawful: it has both
+abbrev pub AllAreLawful : Type 0
+AllAreLawful =
+    (server : Server) (first : ℕ) (events : List Event) (until : Option ℕ) (steps : List StepOut) (history : List Link) (last : ProxyState)
+    → IsRun server (first_state first) events until steps history last → Access server history × IsBounded server history
+
+-- by the two laws
+pub by_laws : AllHaveAccess → AllAreBounded → AllAreLawful
+by_laws access bounded = λ server first events until steps history last run. (access server first events until steps history last run, bounded server first history last run.chain)
+
+run_over : AllAreLawful → (server : Server) (first : ℕ) (last : ProxyState) (events : List Event) (list : List StepOut) → Goes server (first_state first) last events None [] list → IsRunOver server first events list None
 run_over law server first last events list h = record {
   taken = events;
   left = [];
@@ -83,11 +99,12 @@ run_over law server first last events list h = record {
   cut = sym (append-nil events);
   is_run = subst (λ (l : List StepOut). IsRun server (first_state first) events None l h.history last) (sym h.listed) h.is_run;
   turns = h.turns;
-  access = law server first events None h.steps h.history last h.is_run;
+  access = (law server first events None h.steps h.history last h.is_run).0;
+  bounded = (law server first events None h.steps h.history last h.is_run).1;
   ended = inl tt;
 }
 
-run_stopped : AllHaveAccess → (server : Server) (first : ℕ) (events : List Event) (list : List StepOut) (e : StepError) → Stops server (first_state first) events [] list e → IsRunOver server first events list (Some e)
+run_stopped : AllAreLawful → (server : Server) (first : ℕ) (events : List Event) (list : List StepOut) (e : StepError) → Stops server (first_state first) events [] list e → IsRunOver server first events list (Some e)
 run_stopped law server first events list e h = record {
   taken = h.taken;
   left = h.event ∷ h.left;
@@ -96,12 +113,13 @@ run_stopped law server first events list e h = record {
   cut = h.cut;
   is_run = subst (λ (l : List StepOut). IsRun server (first_state first) h.taken (Some (event_moment h.event)) l h.goes.history h.last) (sym h.goes.listed) h.goes.is_run;
   turns = h.goes.turns;
-  access = law server first h.taken (Some (event_moment h.event)) h.goes.steps h.goes.history h.last h.goes.is_run;
+  access = (law server first h.taken (Some (event_moment h.event)) h.goes.steps h.goes.history h.last h.goes.is_run).0;
+  bounded = (law server first h.taken (Some (event_moment h.event)) h.goes.steps h.goes.history h.last h.goes.is_run).1;
   ended = inl h.refused;
 }
 
 -- all events were taken by a server that was opened
-pub whole : AllHaveAccess → (server then_server : Server) (first : ℕ) (state last : ProxyState) (events : List Event) (start list : List StepOut) → then_server ≡ server → state ≡ first_state first → start ≡ []
+pub whole : AllAreLawful → (server then_server : Server) (first : ℕ) (state last : ProxyState) (events : List Event) (start list : List StepOut) → then_server ≡ server → state ≡ first_state first → start ≡ []
     → Goes then_server state last events None start list → IsRunOver server first events list None
 whole law server then_server first state last events start list same at_first none h =
     run_over law server first last events list
@@ -109,7 +127,7 @@ whole law server then_server first state last events start list same at_first no
     (subst (λ (x : ProxyState). Goes server x last events None start list) at_first (subst (λ s. Goes s state last events None start list) same h)))
 
 -- up to a refusal
-pub stopped : AllHaveAccess → (server then_server : Server) (first : ℕ) (state : ProxyState) (events : List Event) (start list : List StepOut) (e : StepError) → then_server ≡ server → state ≡ first_state first
+pub stopped : AllAreLawful → (server then_server : Server) (first : ℕ) (state : ProxyState) (events : List Event) (start list : List StepOut) (e : StepError) → then_server ≡ server → state ≡ first_state first
     → start ≡ [] → Stops then_server state events start list e → IsRunOver server first events list (Some e)
 stopped law server then_server first state events start list e same at_first none h =
     run_stopped law server first events list e
@@ -117,7 +135,7 @@ stopped law server then_server first state events start list e same at_first non
     (subst (λ (x : ProxyState). Stops server x events start list e) at_first (subst (λ s. Stops s state events start list e) same h)))
 
 -- there was no server
-nothing_run : AllHaveAccess → (server : Server) (first : ℕ) (events : List Event) → IsRunOver server first events [] (Some NoMemory)
+nothing_run : AllAreLawful → (server : Server) (first : ℕ) (events : List Event) → IsRunOver server first events [] (Some NoMemory)
 nothing_run law server first events =
     let nothing : IsRun server (first_state first) [] (first_moment events None) [] [] (first_state first) = record { chain = refl; paced = tt; of_events = refl; of_steps = refl } in
     record {
@@ -128,9 +146,10 @@ nothing_run law server first events =
       cut = refl;
       is_run = nothing;
       turns = tt;
-      access = law server first [] (first_moment events None) [] [] (first_state first) nothing;
+      access = (law server first [] (first_moment events None) [] [] (first_state first) nothing).0;
+      bounded = (law server first [] (first_moment events None) [] [] (first_state first) nothing).1;
       ended = inr (record { nothing = refl; no_memory = refl });
     }
 
-pub unopened : AllHaveAccess → (server : Server) (first : ℕ) (events : List Event) (list : List StepOut) → list ≡ [] → IsRunOver server first events list (Some NoMemory)
+pub unopened : AllAreLawful → (server : Server) (first : ℕ) (events : List Event) (list : List StepOut) → list ≡ [] → IsRunOver server first events list (Some NoMemory)
 unopened law server first events list none = subst (λ (l : List StepOut). IsRunOver server first events l (Some NoMemory)) (sym none) (nothing_run law server first events)

@@ -10,6 +10,7 @@ use Rattle.sip_model.specs.state.State.{first_state}
 use Rattle.sip_model.specs.Step.{Act, Given, Passing, IsDeadline, IsResend, moment_of}
 use Rattle.sip_model.specs.Run.{Link, IsRun, event_moment, first_moment}
 use Rattle.sip_model.specs.Access.{Access}
+use Rattle.sip_bounds.specs.Bounds.{IsBounded}
 use Rattle.sip_engine.specs.declared.error.StepError.{StepError}
 use Rattle.sip_engine.specs.declared.error.StepError.TheVariants.{NoMemory}
 use Rattle.sip_engine.specs.StepError.{refusal_at}
@@ -52,7 +53,7 @@ pub record IsUnopened (history : List Link) (stopped : Option StepError) : Type 
   pub no_memory : stopped ≡ Some NoMemory
 
 -- A server that begins with a datagram's number took events in their order, all or up to a refusal, each in its turn. These steps are a run for those, in which time passed up to the moment
--- of the first that is left, and each step is lawful by its history, as `Access` says.
+-- of the first that is left; each step is lawful by its history, as `Access` says, and the history is bounded, as `IsBounded` says.
 pub record IsRunOver (server : Server) (first : ℕ) (events : List Event) (steps : List StepOut) (stopped : Option StepError) : Type 0 where
   pub taken : List Event
   pub left : List Event
@@ -62,6 +63,7 @@ pub record IsRunOver (server : Server) (first : ℕ) (events : List Event) (step
   pub is_run : IsRun server (first_state first) taken (first_moment left None) steps history last
   pub turns : AreTurns server history
   pub access : Access server history
+  pub bounded : IsBounded server history
   pub ended : IsAtEnd last left stopped ⊎ IsUnopened history stopped
 
 -- ---- inside

@@ -6,6 +6,7 @@ ghost use Rattle.sip_run.specs.Runs.{FiringHalts, Goes, Halts, IsRunOver, Stops,
 use crate::due::fire_next;
 use crate::outcome::Run;
 use crate::taking::{event_moment, take_event};
+use sip_bounds::bounds::every_history_is_bounded;
 use sip_engine::{Engine, StepError};
 use sip_event::{Boot, Event, StepOut};
 use sip_model::laws::every_run_has_access;
@@ -21,11 +22,13 @@ use std::alloc::Global;
 /// and is refused with `NoMemory`. Each valid new request outside a dialog is sent to exactly the unexpired bindings or the
 /// configured hop that the first matching rule gives its proven user; bindings change or are listed exactly as an allowed REGISTER
 /// says; every policy denial is a 403 whose Warning names that rule; all else sent belongs to an open request or a known dialog
-/// (`Access`, of the run's history).
+/// (`Access`, of the run's history). Nothing is sent more often than RFC 3261 lets it, of each request at most one final answer but
+/// for several 2xx of an INVITE, and each request is closed in time (`IsBounded`).
 pub fn run<T: Timers, R: Rules>(alloc: Global, config: Config, boot: Boot, events: &[Event]) -> Run
     ensures { IsRunOver (server_of config boot.word) boot.first events.now result.steps result.stopped }
 {
     every_run_has_access();
+    every_history_is_bounded();
     let mut steps = Items::new(alloc);
     let mut engine = match Engine::<T, R>::open(alloc, config, boot) {
         Ok(engine) => engine,

@@ -17,7 +17,7 @@ returns-in_err-turn-clause-refused g c =
     let between : Told = (record { heard = g.L.Link.heard c.loop.link; given = g.L.Link.given c.loop.link; readings = g.C.Clock.readings c.loop.clock; words = g.W.Rng.stream c.loop.words }) in
     let after : Told = (record { heard = g.L.Link.heard c.turn.new.link; given = g.L.Link.given c.turn.new.link; readings = g.C.Clock.readings c.turn.new.clock; words = g.W.Rng.stream c.turn.new.words }) in
     rw (p.1, p.2)
-    (unserved c.every_history_has_access.ensures c.args.engine.now.server c.args.engine.now.state c.turn.new.engine.state before after c.args.turns c.in_err-turn.field-0.0
+    (unserved c.every_history_has_access.ensures c.every_history_is_bounded.ensures c.args.engine.now.server c.args.engine.now.state c.turn.new.engine.state before after c.args.turns c.in_err-turn.field-0.0
     (breaks_further c.args.engine.now.server c.args.engine.now.state c.loop.engine.state c.turn.new.engine.state before between after c.loop.counter c.args.turns c.new-records.result c.loop.records c.in_err-turn.field-0.0
     c.loop.invariant.3 (subst (λ (s : Server). Breaks s c.loop.engine.state c.turn.new.engine.state between after 1 c.in_err-turn.field-0.0) c.loop.invariant.0 c.in_err-turn.ensures.broken) c.loop-test.true))
 
@@ -43,4 +43,4 @@ returns-clause-served g c =
     let after : Told = (record { heard = g.L.Link.heard c.loop.link; given = g.L.Link.given c.loop.link; readings = g.C.Clock.readings c.loop.clock; words = g.W.Rng.stream c.loop.words }) in
     let all : c.loop.counter ≡ c.args.turns = omega (arith, c.loop-test.false, c.loop.auto.counter-end) in
     subst (λ (n : ℕ). IsServed n c.args.engine.now.server c.args.engine.now.state c.loop.engine.state before after c.loop.records) all
-    (served c.every_history_has_access.ensures c.args.engine.now.server c.args.engine.now.state c.loop.engine.state before after c.loop.counter c.new-records.result c.loop.records c.new-records.ensures c.loop.invariant.3)
+    (served c.every_history_has_access.ensures c.every_history_is_bounded.ensures c.args.engine.now.server c.args.engine.now.state c.loop.engine.state before after c.loop.counter c.new-records.result c.loop.records c.new-records.ensures c.loop.invariant.3)
