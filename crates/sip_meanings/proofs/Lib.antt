@@ -1,0 +1,11 @@
+mod RuleNumbers
+mod OneKey
+mod Issuing
+mod FullTable
+mod Contacts
+mod FirstRequests
+mod Branching
+mod Belonging
+mod Numbered
+mod Reasons
+mod Granting

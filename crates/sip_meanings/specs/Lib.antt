@@ -1,0 +1,8 @@
+pub mod Keys
+pub mod Nonces
+pub mod Lists
+pub mod ListExamples
+pub mod Valid
+pub mod Packets
+pub mod Responses
+pub mod Successes

@@ -1,0 +1,13 @@
+pub mod Lists
+pub mod Changes
+pub mod Requests
+pub mod Facts
+pub mod Failures
+pub mod Telling
+pub mod Edits
+pub mod Answers
+pub mod Dialogs
+pub mod Same
+pub mod Told
+pub mod Ended
+pub mod Going
