@@ -1,7 +1,6 @@
 pub mod Keys
 pub mod Nonces
 pub mod Lists
-pub mod ListExamples
 pub mod Valid
 pub mod Packets
 pub mod Responses

@@ -4,10 +4,7 @@ ghost use Rattle.sip_model.specs.field.declared.field.Field.{Field};
 ghost use Rattle.sip_model.specs.verdict.location.declared.binding.Binding.{Binding};
 ghost use Rattle.sip_model.specs.verdict.location.Binding.{live};
 ghost use Rattle.sip_model.specs.Effect.{contact_fields};
-ghost use Rattle.sip_model.specs.Examples.{packet_of};
-ghost use Rattle.sip_model.specs.RegisterExamples.{registered_beside};
 ghost use Rattle.sip_meanings.specs.Lists.{ListsInOrder};
-ghost use Rattle.sip_meanings.specs.ListExamples.{known_before, both_text};
 
 /// What a 200 to a REGISTER lists is all that lives: one Contact for each live binding of the address, in the order of
 /// the bindings, and no other list of fields is that (RFC 3261 10.3 step 8).
@@ -15,10 +12,4 @@ pub fn live_are_listed()
     ensures in_order { (now : ℕ) (aor : Aor) (rows : List Binding) → ListsInOrder now aor rows (contact_fields now aor rows) }
     ensures alone { (now : ℕ) (aor : Aor) (rows : List Binding) (fields : List Field) → ListsInOrder now aor rows fields → fields ≡ contact_fields now aor rows }
     ensures as_many { (now : ℕ) (aor : Aor) (rows : List Binding) → length (contact_fields now aor rows) ≡ length (live aor now rows) }
-{}
-
-/// A user with a binding who makes another gets both listed, the first first; one that has expired, and one of another
-/// user, aren't.
-pub fn both_are_listed()
-    ensures { (registered_beside known_before).originals ≡ packet_of 5062 2 0 both_text ∷ [] }
 {}

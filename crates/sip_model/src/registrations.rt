@@ -28,3 +28,9 @@ pub fn interval_too_brief()
     ensures unbound { Registers.brief_effect.state.bindings ≡ [] }
     ensures used { Registers.brief_effect.state.nonces ≡ Registers.used_nonce ∷ [] }
 {}
+
+/// A user with a binding who makes another gets both listed, the first first; one that has expired, and one of another
+/// user, aren't (RFC 3261 10.3 step 8).
+pub fn both_are_listed()
+    ensures { (Registers.registered_beside Registers.known_before).originals ≡ Examples.packet_of 5062 2 0 Registers.both_text ∷ [] }
+{}
