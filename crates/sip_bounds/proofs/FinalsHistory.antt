@@ -1,14 +1,11 @@
 -- Over every history the caller of each request is sent at most one final answer, or several 2xx of an INVITE.
 use Rattle.std.proofs.Common.{◌≡◌, inl, inr, ℕ, ◌≤◌, Bool, true, false, not, ◌&&◌, List, [], ◌∷◌, refl, sym, subst, arith}
-use Rattle.std.specs.Prelude.{codes}
-use Rattle.std.proofs.lemmas.Slice.Eq.{bytes_eq-Decides}
 use Rattle.std.proofs.lemmas.List.Sums.{length-filter}
 use Rattle.sip_model.specs.event.declared.packet.Packet.{Packet}
 use Rattle.sip_model.specs.event.declared.event.StepOut.{StepOut}
 use Rattle.sip_model.specs.state.declared.server.Server.{Server}
 use Rattle.sip_model.specs.state.declared.proxy_state.ProxyState.{ProxyState}
 use Rattle.sip_model.specs.state.State.{first_state}
-use Rattle.sip_model.specs.Effect.{method_of}
 use Rattle.sip_model.specs.Step.{Act, IsStep, originals, retransmissions}
 use Rattle.sip_model.specs.Run.{Link, IsChain}
 use Rattle.sip_model.specs.Lives.{sent_first}
@@ -36,13 +33,13 @@ invite_later link history n h = record {
   is_there = contained_behind link history h.link h.is_there;
   is_said = h.is_said;
   is_number = h.is_number;
-  is_method = h.is_method;
+  is_invite = h.is_invite;
 }
 
 -- one that the newest step is taken for came
 invite_now : (link : Link) (history : List Link) → ComesAs (λ n. WasInvite n (link ∷ history)) link.before link.act
 invite_now link history = λ a bytes m short said invite.
-    record { link = link; a = a; bytes = bytes; m = m; short = short; is_there = contains_first link history; is_said = said; is_number = refl; is_method = (bytes_eq-Decides (method_of m.start) (codes "INVITE")).0 invite }
+    record { link = link; a = a; bytes = bytes; m = m; short = short; is_there = contains_first link history; is_said = said; is_number = refl; is_invite = invite }
 
 -- ---- histories
 

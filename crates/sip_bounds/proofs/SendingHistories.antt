@@ -1,5 +1,5 @@
 -- Over every history: what was sent to targets, and that it was sent on time.
-use Rattle.std.proofs.Common.{◌≡◌, ◌⊎◌, inl, inr, ℕ, ◌+◌, ◌≤◌, ◌<◌, Bool, true, false, cond, List, [], ◌∷◌, ◌++◌, Option, Some, None, refl, sym, ap, subst, ◌∙◌, arith, count_by, codes}
+use Rattle.std.proofs.Common.{◌≡◌, ◌⊎◌, inl, inr, ℕ, ◌+◌, ◌≤◌, ◌<◌, Bool, true, false, cond, List, [], ◌∷◌, ◌++◌, Option, Some, None, refl, sym, ap, subst, ◌∙◌, arith, count_by, codes, bytes_eq}
 use Rattle.std.specs.List.{AllByRecursion, flat_map, filter_map}
 use Rattle.std.specs.Option.{option_to_list, option_map_or}
 use Rattle.sip_model.specs.form.declared.message.Message.{Message}
@@ -54,7 +54,7 @@ record IsInviteNow (number : ℕ) (link : Link) : Type 0 where
   short : Bool
   is_said : IsSaidAt link.before link.act a bytes m short
   is_number : a.number ≡ number
-  is_method : method_of m.start ≡ codes "INVITE"
+  is_invite : bytes_eq (method_of m.start) (codes "INVITE") ≡ true
 
 -- an INVITE is that of the newest step, or an earlier one
 was_cases : (number : ℕ) (link : Link) (history : List Link) → WasInvite number (link ∷ history) → IsInviteNow number link ⊎ WasInvite number history
@@ -67,7 +67,7 @@ was_cases number link history w = by_place (in_list (link ∷ history) w.link w.
     short = w.short;
     is_said = subst (λ (l : Link). IsSaidAt l.before l.act w.a w.bytes w.m w.short) (sym is) w.is_said;
     is_number = w.is_number;
-    is_method = w.is_method;
+    is_invite = w.is_invite;
   })
   by_place (inr there) = inr (record {
     link = w.link;
@@ -78,7 +78,7 @@ was_cases number link history w = by_place (in_list (link ∷ history) w.link w.
     is_there = contains_of history w.link there;
     is_said = w.is_said;
     is_number = w.is_number;
-    is_method = w.is_method;
+    is_invite = w.is_invite;
   })
 
 -- an empty history says none
@@ -177,10 +177,10 @@ module _ (laws : AreCopyLaws) (server : Server) (model : AreModelLaws server) (f
 
   -- the datagram of a step says an INVITE if the history says so of its number
   link_says : (link : Link) (history : List Link) → IsChain server (first_state first) history link.before → (a : Arrival) (bytes : List ℕ) (m : Message) (short : Bool) → IsSaidAt link.before link.act a bytes m short
-      → WasInvite a.number (link ∷ history) → method_of m.start ≡ codes "INVITE"
+      → WasInvite a.number (link ∷ history) → bytes_eq (method_of m.start) (codes "INVITE") ≡ true
   link_says link history chain a bytes m short said w = by_case (was_cases a.number link history w) where
-    by_case : IsInviteNow a.number link ⊎ WasInvite a.number history → method_of m.start ≡ codes "INVITE"
-    by_case (inl now) = ap (λ (x : Message). method_of x.start) (one_message link.before link.act a now.a bytes now.bytes m now.m short now.short said now.is_said) ∙ now.is_method
+    by_case : IsInviteNow a.number link ⊎ WasInvite a.number history → bytes_eq (method_of m.start) (codes "INVITE") ≡ true
+    by_case (inl now) = ap (λ (x : Message). bytes_eq (method_of x.start) (codes "INVITE")) (one_message link.before link.act a now.a bytes now.bytes m now.m short now.short said now.is_said) ∙ now.is_invite
     by_case (inr before) =
         let low = was_below history link.before chain a.number before in
         let next = said_next link.before link.act a bytes m short said in

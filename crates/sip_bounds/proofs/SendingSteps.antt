@@ -2,6 +2,7 @@
 use Rattle.std.proofs.Common.{◌≡◌, ℕ, zero, suc, ◌+◌, ◌≤◌, Bool, true, false, ◌&&◌, ◌==◌, cond, List, [], ◌∷◌, ◌++◌, Option, Some, None, is_some, refl, sym, ap, subst, ◌∙◌, arith, count_by, codes, bytes_eq, option_and_then}
 use Rattle.std.specs.List.{AllByRecursion, filter_map}
 use Rattle.std.specs.Option.{option_to_list, unwrap_or}
+use Rattle.std.proofs.lemmas.Slice.Eq.{bytes_eq-Decides}
 use Rattle.sip_model.specs.field.declared.field_name.FieldName.TheVariants as Name
 use Rattle.sip_model.specs.field.declared.field.Field.{Field}
 use Rattle.sip_model.specs.field.Values.{first_value}
@@ -63,11 +64,11 @@ request_key_method method fields uri version key e = by_value (first_value Name.
   by_value (Some value) e = by_via (via_of value) e
 
 -- a request that a datagram says as an INVITE is one by its key
-pub invite_key : (m : Message) (key : Key) → key_of m ≡ Some key → method_of m.start ≡ codes "INVITE" → bytes_eq key.method (codes "INVITE") ≡ true
+pub invite_key : (m : Message) (key : Key) → key_of m ≡ Some key → bytes_eq (method_of m.start) (codes "INVITE") ≡ true → bytes_eq key.method (codes "INVITE") ≡ true
 invite_key m key is said = by_start m.start is said where
-  by_start : (start : Start) → start_key m.fields start ≡ Some key → method_of start ≡ codes "INVITE" → bytes_eq key.method (codes "INVITE") ≡ true
+  by_start : (start : Start) → start_key m.fields start ≡ Some key → bytes_eq (method_of start) (codes "INVITE") ≡ true → bytes_eq key.method (codes "INVITE") ≡ true
   by_start (Request method uri version) is said =
-      let own : key.method ≡ key_method (codes "INVITE") = request_key_method method m.fields uri version key is ∙ ap key_method said in
+      let own : key.method ≡ key_method (codes "INVITE") = request_key_method method m.fields uri version key is ∙ ap key_method ((bytes_eq-Decides method (codes "INVITE")).0 said) in
       subst (λ (name : List ℕ). bytes_eq name (codes "INVITE") ≡ true) (sym own) refl
   by_start (Status code reason) is said = absurd (cc)
 
@@ -124,7 +125,7 @@ acknowledged_succeeds now r = by_test (is_invite r && was_refused r.answer) wher
   by_test false = succeeds_alike r r refl refl refl
 
 module _ (laws : AreCopyLaws) (server : Server) (state : ProxyState) (act : Act) (now : ℕ) (was was_now : ℕ → Type 0) (tells : Tells was was_now state.next (next_after state act))
-    (says : (a : Arrival) (bytes : List ℕ) (m : Message) (short : Bool) → IsSaidAt state act a bytes m short → was_now a.number → method_of m.start ≡ codes "INVITE") where
+    (says : (a : Arrival) (bytes : List ℕ) (m : Message) (short : Bool) → IsSaidAt state act a bytes m short → was_now a.number → bytes_eq (method_of m.start) (codes "INVITE") ≡ true) where
   -- a request that a datagram brings, whether it is opened or not
   turned_holds : (requests : List OpenRequest) (firsts : List Packet) (sent after : ℕ → ℕ → List ℕ) (a : Arrival) (bytes : List ℕ) (m : Message) (short : Bool) (r : OpenRequest) → IsSaidAt state act a bytes m short
       → IsOpening server a m r firsts → Adds now firsts [] sent after → Holds was state.next sent requests → Holds was_now (state.next + 1) after requests

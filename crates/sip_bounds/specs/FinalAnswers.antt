@@ -18,9 +18,8 @@ begins_success bytes = starts_with nat_eq bytes (codes "SIP/2.0 2")
 
 -- ---- final answers
 
--- Whether a packet is a final answer to the caller of the request that the datagram of a number brought. What goes to a target has a branch of its own on its ticket, and the
--- ACKs and CANCELs
--- of this server, which have none, begin with their methods.
+-- Whether a packet is a final answer to the caller of the request that the datagram of a number brought. What goes to a target has a branch of its own on its ticket, and
+-- the ACKs and CANCELs of this server, which have none, begin with their methods.
 abbrev pub is_final_to : ℕ → Packet → Bool
 is_final_to number p = p.ticket.datagram == number && p.ticket.branch == 0 && begins_final p.bytes
 

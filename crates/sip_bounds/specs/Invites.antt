@@ -1,5 +1,6 @@
 -- Which requests of a history were INVITEs.
-use Rattle.std.specs.Prelude.{◌≡◌, ℕ, Bool, List, codes, Contains}
+use Rattle.std.specs.Prelude.{◌≡◌, ℕ, Bool, true, List, codes, Contains}
+use Rattle.std.specs.Str.{bytes_eq}
 use Rattle.sip_model.specs.form.declared.message.Message.{Message}
 use Rattle.sip_model.specs.state.Arrival.{Arrival}
 use Rattle.sip_model.specs.Effect.{method_of}
@@ -16,4 +17,4 @@ pub record WasInvite (number : ℕ) (history : List Link) : Type 0 where
   pub is_there : Contains history link
   pub is_said : IsSaidAt link.before link.act a bytes m short
   pub is_number : a.number ≡ number
-  pub is_method : method_of m.start ≡ codes "INVITE"
+  pub is_invite : bytes_eq (method_of m.start) (codes "INVITE") ≡ true

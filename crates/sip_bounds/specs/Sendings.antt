@@ -66,7 +66,7 @@ StayOnTime (link ∷ history) = AreOnTime link (link ∷ history) × StayOnTime 
 
 -- ---- the law
 
--- No request goes out to a target more than eleven times, the first included, and an INVITE at its moments alone; as long as none was heard of it, it was on time after each step.
+-- No request goes out to a target more than eleven times, the first included, and an INVITE at its moments alone; as long as nothing was heard of it, it was on time after each step.
 pub record GoOutSoOften (history : List Link) : Type 0 where
   pub few : (number branch : ℕ) → 1 ≤ branch → length (moments_of number branch history) ≤ 11
   pub invites : (number branch : ℕ) → 1 ≤ branch → WasInvite number history → AreInviteMoments (moments_of number branch history)

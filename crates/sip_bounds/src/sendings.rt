@@ -1,15 +1,20 @@
-ghost use Rattle.std.specs.Prelude.{ℕ, List};
+ghost use Rattle.std.specs.Prelude.{◌≡◌, ℕ, List, [], ◌∷◌};
 ghost use Rattle.sip_model.specs.state.declared.server.Server.{Server};
 ghost use Rattle.sip_model.specs.state.declared.proxy_state.ProxyState.{ProxyState};
 ghost use Rattle.sip_model.specs.state.State.{first_state};
 ghost use Rattle.sip_model.specs.Run.{Link, IsChain};
-ghost use Rattle.sip_bounds.specs.Sendings.{GoOutSoOften};
+ghost use Rattle.sip_bounds.specs.Sendings.{invite_moments, GoOutSoOften};
 
 use sip_model::order::{no_deadline_passed, numbers_rise};
 use sip_model::parts::steps_have_parts;
 use sip_ties::copies::{
     begins_with, copy_leaves_one_less, nothing_leaves_more, sent_at, stays_timely,
 };
+
+/// The seven moments of an INVITE that is first sent at the moment 0.
+pub fn moments_of_an_invite()
+    ensures { invite_moments 0 7 ≡ 31500 ∷ 15500 ∷ 7500 ∷ 3500 ∷ 1500 ∷ 500 ∷ 0 ∷ [] }
+{}
 
 /// A request that this proxy sends to a target goes out at most eleven times, whatever happens; an INVITE at most
 /// seven times, and only 500, 1500, 3500, 7500, 15500 and 31500 ms after its first sending (RFC 3261 17.1.1.2,
