@@ -43,38 +43,54 @@ impl Head {
         }
     }
 
-    /// The second least once a row is put behind the others, if that is known.
-    fn second_with(&self, rows: &Slab<Row>, number: RowNumber, due: u64) -> Option<RowNumber>
-        requires least { IfSome (known_least self.now) (λ n. ContainsKey rows.now n.0) }
-        requires second { IfSome self.now.second (λ n. ContainsKey rows.now n.0) }
-        ensures unknown { known_least self.now ≡ None → result ≡ None }
-        ensures sooner { (n : RowNumber) (row : Row) → known_least self.now ≡ Some n → get rows.now n.0 ≡ Some row → due < row.due → result ≡ Some n }
-        ensures later { (n : RowNumber) (row : Row) → known_least self.now ≡ Some n → get rows.now n.0 ≡ Some row → row.due ≤ due → IsLeastWith rows.now self.now.second number due result }
+    /// Remembers a row that is put behind the others, where it is due before the least or the second least.
+    fn remember(&mut self, rows: &Slab<Row>, number: RowNumber, due: u64)
+        requires least { IfSome (known_least self.old) (λ n. ContainsKey rows.now n.0) }
+        requires second { IfSome self.old.second (λ n. ContainsKey rows.now n.0) }
+        ensures least { IsLeastWith rows.now (known_least self.old) number due self.new.least }
+        ensures unknown { known_least self.old ≡ None → self.new.second ≡ None }
+        ensures sooner { (n : RowNumber) (row : Row) → known_least self.old ≡ Some n → get rows.now n.0 ≡ Some row → due < row.due → self.new.second ≡ Some n }
+        ensures later { (n : RowNumber) (row : Row) → known_least self.old ≡ Some n → get rows.now n.0 ≡ Some row → row.due ≤ due → IsLeastWith rows.now self.old.second number due self.new.second }
+        ensures ends { (self.new.first ≡ self.old.first) × (self.new.last ≡ self.old.last) }
     {
-        let least = self.known_least()?;
+        let known = self.known_least();
+        self.least = known;
+        let Some(least) = known else {
+            self.second = None;
+            return;
+        };
         if due < rows[least.0].due {
-            return Some(least);
+            self.least = Some(number);
+            self.second = Some(least);
+            return;
         }
-        least_with(rows, self.second, number, due)
-    }
-
-    /// The least once a row is taken out, if it was remembered.
-    fn least_without(&self, number: RowNumber) -> Option<RowNumber>
-        ensures { MatchOption self.now.least (result ≡ None) (λ n. result ≡ (if n.0 == number.0 then self.now.second else self.now.least)) }
-    {
-        match self.least {
-            Some(least) if least.0 == number.0 => self.second,
-            _ => self.least,
+        if let Some(second) = self.second {
+            if due < rows[second.0].due {
+                self.second = Some(number);
+            }
         }
     }
 
-    /// The second least once a row is taken out, if it was remembered and so was the least.
-    fn second_without(&self, number: RowNumber) -> Option<RowNumber>
-        ensures { MatchOption self.now.least (result ≡ None) (λ n. result ≡ (if n.0 == number.0 then None else other_than number.0 self.now.second)) }
+    /// Remembers a row no longer, which is taken out: the second least takes the place of the least.
+    fn forget(&mut self, number: RowNumber)
+        ensures least { MatchOption self.old.least (self.new.least ≡ None) (λ n. self.new.least ≡ (if n.0 == number.0 then self.old.second else self.old.least)) }
+        ensures second { MatchOption self.old.least (self.new.second ≡ None) (λ n. self.new.second ≡ (if n.0 == number.0 then None else other_than number.0 self.old.second)) }
+        ensures ends { (self.new.first ≡ self.old.first) × (self.new.last ≡ self.old.last) }
+        ensures rising { self.new.is_rising ≡ self.old.is_rising }
     {
-        match self.least {
-            Some(least) if least.0 != number.0 => other_than(number, self.second),
-            _ => None,
+        let Some(least) = self.least else {
+            self.second = None;
+            return;
+        };
+        if least.0 == number.0 {
+            self.least = self.second;
+            self.second = None;
+            return;
+        }
+        if let Some(second) = self.second {
+            if second.0 == number.0 {
+                self.second = None;
+            }
         }
     }
 
@@ -103,17 +119,12 @@ impl Head {
     {
         let row = rows[number.0];
         let is_rising = self.stays_rising(rows, row.due);
-        let least = least_with(rows, self.known_least(), number, row.due);
-        let second = self.second_with(rows, number, row.due);
+        self.remember(rows, number, row.due);
         set_beside(rows, number, self.last, None);
         set_next(rows, self.last, Some(number));
-        *self = Head {
-            first: self.first.or(Some(number)),
-            last: Some(number),
-            is_rising,
-            least,
-            second,
-        };
+        self.first = self.first.or(Some(number));
+        self.last = Some(number);
+        self.is_rising = is_rising;
     }
 
     /// Takes a row out: those beside it are tied to each other, and itself stays as it is.
@@ -128,13 +139,9 @@ impl Head {
         let row = rows[number.0];
         set_next(rows, row.previous, row.next);
         set_previous(rows, row.next, row.previous);
-        *self = Head {
-            first: end_without(row.previous, self.first, row.next),
-            last: end_without(row.next, self.last, row.previous),
-            is_rising: self.is_rising,
-            least: self.least_without(number),
-            second: self.second_without(number),
-        };
+        self.first = end_without(row.previous, self.first, row.next);
+        self.last = end_without(row.next, self.last, row.previous);
+        self.forget(number);
     }
 }
 
@@ -147,36 +154,4 @@ fn end_without(
     ensures { result ≡ (if is_some beside then end else across) }
 {
     if beside.is_some() { end } else { across }
-}
-
-/// What is remembered, unless it is the row that is taken out.
-fn other_than(number: RowNumber, known: Option<RowNumber>) -> Option<RowNumber>
-    ensures { result ≡ other_than number.0 known }
-{
-    match known {
-        Some(row) if row.0 != number.0 => Some(row),
-        _ => None,
-    }
-}
-
-/// Which row is due first when one is put behind the others, if it was known before.
-fn least_with(
-    rows: &Slab<Row>,
-    known: Option<RowNumber>,
-    number: RowNumber,
-    due: u64,
-) -> Option<RowNumber>
-    requires { IfSome known (λ n. ContainsKey rows.now n.0) }
-    ensures { IsLeastWith rows.now known number due result }
-{
-    match known {
-        Some(least) => {
-            if due < rows[least.0].due {
-                Some(number)
-            } else {
-                Some(least)
-            }
-        }
-        None => None,
-    }
 }

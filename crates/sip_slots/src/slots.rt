@@ -130,13 +130,16 @@ impl Slots {
         least_of(&self.rows, &self.heads[slot])
     }
 
-    /// Looks up which timer of a slot is due first, so that `least` takes a fixed time until that one is
-    /// taken out.
+    /// Looks up which timer of a slot is due first, if that isn't known, so that `least` takes a fixed time
+    /// until that one is taken out.
     pub fn remember_least(&mut self, slot: usize)
         requires { slot < length self.old.lists }
         ensures same { self.new.lists ≡ self.old.lists }
         ensures left { self.old.room ≤ self.new.room }
     {
+        if self.heads[slot].known_least().is_some() {
+            return;
+        }
         let least = least_number(&self.rows, &self.heads[slot]);
         self.heads[slot].least = least;
     }

@@ -1,4 +1,4 @@
-use Rattle.std.proofs.Common.{refl, ◌∙◌}
+use Rattle.std.proofs.Common.{◌∙◌}
 use Rattle.sip_slots.specs.Threads.{list_of}
 use Rattle.sip_slots.proofs.Holding.{row_stands, previous_stands, next_still_stands, held_taken, others_taken}
 use Rattle.sip_slots.proofs.head.Head.take_out.Goals as goal
@@ -13,7 +13,7 @@ pub set_previous-requires : goal.set_previous-requires
 set_previous-requires c = next_still_stands c.args.rows.now c.set_next.new.rows (list_of c.args.rows.now c.args.self.now) c.args.number.0 c.index-row.result.now c.requires.held.thread c.requires.differ c.requires.present c.index-row.ensures c.set_next.ensures.next
 
 pub returns-clause-taken : goal.returns-clause-taken
-returns-clause-taken c = held_taken c.args.rows.now c.set_next.new.rows c.set_previous.new.rows c.args.self.now _ (list_of c.args.rows.now c.args.self.now) c.args.number.0 c.index-row.result.now c.requires.held c.requires.differ c.requires.present c.index-row.ensures c.set_next.ensures.next c.set_previous.ensures.previous (c.set_previous.ensures.size.len ∙ c.set_next.ensures.size.len) c.end_without.ensures c.end_without-2.ensures refl c.least_without.ensures c.second_without.ensures
+returns-clause-taken c = held_taken c.args.rows.now c.set_next.new.rows c.set_previous.new.rows c.args.self.now _ (list_of c.args.rows.now c.args.self.now) c.args.number.0 c.index-row.result.now c.requires.held c.requires.differ c.requires.present c.index-row.ensures c.set_next.ensures.next c.set_previous.ensures.previous (c.set_previous.ensures.size.len ∙ c.set_next.ensures.size.len) (c.forget.ensures.ends.0 ∙ c.end_without-self.ensures) (c.forget.ensures.ends.1 ∙ c.end_without-self-2.ensures) c.forget.ensures.rising c.forget.ensures.least c.forget.ensures.second
 
 pub returns-clause-others : goal.returns-clause-others
 returns-clause-others c = others_taken c.args.rows.now c.set_next.new.rows c.set_previous.new.rows (list_of c.args.rows.now c.args.self.now) c.args.number.0 c.index-row.result.now c.requires.held.thread c.requires.differ c.requires.present c.index-row.ensures c.set_next.ensures.next c.set_previous.ensures.previous

@@ -10,7 +10,7 @@ held c =
     let rows = (c.self.inside).rows in
     let items = (c.self.inside.heads).items in
     let within : c.args.slot < length items = omega (arith, c.requires, c.self.invariant.slots, ap (λ v. length v.lists) c.self.view_is) in
-    let same : list_of rows c.index.result.now ≡ list_of rows c.index_mut.result.now = list_of_head rows items c.args.slot c.index.result.now within c.index.ensures ∙ sym (list_of_head rows items c.args.slot c.index_mut.result.now within c.index_mut.ensures.value) in
+    let same : list_of rows c.index-2.result.now ≡ list_of rows c.index_mut.result.now = list_of_head rows items c.args.slot c.index-2.result.now within c.index-2.ensures ∙ sym (list_of_head rows items c.args.slot c.index_mut.result.now within c.index_mut.ensures.value) in
     let P : List Timer → Type 0 = λ ts. KnowsLeast c.least_number-least.result ts in
     remembered rows items c.args.slot c.index_mut.result.now c.least_number-least.result c.self.invariant within c.index_mut.ensures.value (subst P same c.least_number-least.ensures)
 
