@@ -23,7 +23,7 @@ PartsLaw = (server : Server) (old : ProxyState) (act : Act) (out : StepOut) (new
 -- ---- INVITEs that came
 
 -- one that came in a history came in a longer one
-invite_later : (link : Link) (history : List Link) (n : ℕ) → WasInvite n history → WasInvite n (link ∷ history)
+pub invite_later : (link : Link) (history : List Link) (n : ℕ) → WasInvite n history → WasInvite n (link ∷ history)
 invite_later link history n h = record {
   link = h.link;
   a = h.a;
@@ -37,7 +37,7 @@ invite_later link history n h = record {
 }
 
 -- one that the newest step is taken for came
-invite_now : (link : Link) (history : List Link) → ComesAs (λ n. WasInvite n (link ∷ history)) link.before link.act
+pub invite_now : (link : Link) (history : List Link) → ComesAs (λ n. WasInvite n (link ∷ history)) link.before link.act
 invite_now link history = λ a bytes m short said invite.
     record { link = link; a = a; bytes = bytes; m = m; short = short; is_there = contains_first link history; is_said = said; is_number = refl; is_invite = invite }
 

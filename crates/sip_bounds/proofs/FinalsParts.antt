@@ -203,12 +203,12 @@ kept_told Invite requests next sent r new there number fits h =
 -- ---- parts
 
 -- what a step's datagram says comes with the next number
-said_next : (state : ProxyState) (act : Act) (a : Arrival) (bytes : List ℕ) (m : Message) (short : Bool) → IsSaidAt state act a bytes m short
+pub said_next : (state : ProxyState) (act : Act) (a : Arrival) (bytes : List ℕ) (m : Message) (short : Bool) → IsSaidAt state act a bytes m short
     → (a.number ≡ state.next) × (next_after state act ≡ state.next + 1)
 said_next state act a bytes m short h = (ap (λ (x : Arrival). x.number) h.is_arrival, ap (next_after state) h.is_act)
 
 -- no step takes a number back
-next_low : (state : ProxyState) (act : Act) → state.next ≤ next_after state act
+pub next_low : (state : ProxyState) (act : Act) → state.next ≤ next_after state act
 next_low state (Given (Datagram at word from bytes)) = omega arith
 next_low state (Given (Time at)) = omega arith
 next_low state (Given (Fault at ticket)) = omega arith

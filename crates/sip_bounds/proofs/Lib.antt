@@ -21,3 +21,7 @@ pub mod SendingOpenings
 pub mod SendingRequests
 pub mod SendingSteps
 pub mod SendingTimes
+pub mod FinalsSpent
+pub mod FinalsCopies
+pub mod FinalsBounds
+pub mod FinalsRepeats

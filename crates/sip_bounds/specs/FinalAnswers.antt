@@ -1,7 +1,20 @@
 -- The final answers that a history sends to the caller of a request, counted in packets, by their bytes (RFC 3261 7.2, 16.7, 17.2).
-use Rattle.std.specs.Prelude.{◌≡◌, ◌≤◌, ◌⊎◌, ℕ, nat_eq, ◌==◌, ◌&&◌, Bool, true, not, List, length, filter, codes}
+use Rattle.std.specs.Prelude.{◌≡◌, ◌≤◌, ◌⊎◌, ℕ, ◌+◌, nat_eq, ◌==◌, ◌&&◌, Bool, true, false, not, if◌then◌else◌, List, [], ◌∷◌, length, filter, find, count_by, codes, Option, None}
+use Rattle.std.specs.Option.{option_and_then, option_map_or}
 use Rattle.std.specs.List.{starts_with, AllByRecursion}
+use Rattle.std.specs.Str.{bytes_eq}
+use Rattle.sip_model.specs.form.declared.message.Message.{Message}
+use Rattle.sip_model.specs.message.Reading.{reading_of}
+use Rattle.sip_model.specs.key.Key.{key_of}
 use Rattle.sip_model.specs.event.declared.packet.Packet.{Packet}
+use Rattle.sip_model.specs.event.declared.event.Event.TheVariants.{Datagram, Time, Fault}
+use Rattle.sip_model.specs.state.declared.open_request.OpenRequest.{OpenRequest}
+use Rattle.sip_model.specs.state.declared.proxy_state.ProxyState.{ProxyState}
+use Rattle.sip_model.specs.state.State.{has_key}
+use Rattle.sip_model.specs.Effect.{method_of}
+use Rattle.sip_model.specs.verdict.Verdict.{message_in}
+use Rattle.sip_model.specs.Order.{is_numbered}
+use Rattle.sip_model.specs.Step.{Act, Given, Passing, retransmissions}
 use Rattle.sip_model.specs.Run.{Link}
 use Rattle.sip_model.specs.Lives.{sent_first}
 use Rattle.sip_bounds.specs.Invites.{WasInvite}
@@ -33,3 +46,32 @@ final_answers number history = filter (is_final_to number) (sent_first history)
 abbrev pub IsAnsweredOnce : ℕ → List Link → Type 0
 IsAnsweredOnce number history =
     (length (final_answers number history) ≤ 1) ⊎ (WasInvite number history × AllByRecursion (λ (p : Packet). begins_success p.bytes ≡ true) (final_answers number history))
+
+-- ---- how often they go again
+
+-- how many final answers to a caller a history hands out again
+abbrev pub finals_again : ℕ → List Link → ℕ
+finals_again number [] = 0
+finals_again number (link ∷ history) = count_by (is_final_to number) (retransmissions link.out.packets) + finals_again number history
+
+-- the open request that a message is a copy of: it has that request's key, and is no ACK (RFC 3261 17.2.3)
+abbrev pub copied_by : List OpenRequest → Message → Option OpenRequest
+copied_by requests m = if bytes_eq (method_of m.start) (codes "ACK") then None else option_and_then (λ key. find (has_key key) requests) (key_of m)
+
+-- whether a step is taken for a copy of the request of a number
+abbrev pub is_copy_at : ℕ → ProxyState → Act → Bool
+is_copy_at number state (Given (Datagram at word from bytes)) =
+    option_map_or (is_numbered number) (option_and_then (λ said. copied_by state.requests said.0) (message_in (reading_of bytes))) false
+is_copy_at number state (Given (Time at)) = false
+is_copy_at number state (Given (Fault at ticket)) = false
+is_copy_at number state (Passing at) = false
+
+-- how many copies of the request of a number came
+abbrev pub copies_came : ℕ → List Link → ℕ
+copies_came number [] = 0
+copies_came number (link ∷ history) = (if is_copy_at number link.before link.act then 1 else 0) + copies_came number history
+
+-- Final answers went again no more often than copies of their request came, and to an INVITE ten times more: by Timer G (RFC 3261 17.2.1, 17.2.2).
+abbrev pub AnswersGoAgain : ℕ → List Link → Type 0
+AnswersGoAgain number history =
+    (finals_again number history ≤ copies_came number history) ⊎ (WasInvite number history × (finals_again number history ≤ 10 + copies_came number history))

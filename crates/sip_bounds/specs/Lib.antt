@@ -1,4 +1,5 @@
 pub mod Invites
+pub mod Copies
 pub mod Endings
 pub mod FinalAnswers
 pub mod Sendings
