@@ -1,0 +1,11 @@
+pub mod Refused
+pub mod Said
+pub mod Messages
+pub mod Firsts
+pub mod Coming
+pub mod Later
+pub mod CallAnswers
+pub mod CallRequests
+pub mod Copying
+pub mod Recording
+pub mod GivingUp

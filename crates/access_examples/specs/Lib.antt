@@ -1,0 +1,5 @@
+pub mod Links
+pub mod WrongAnswers
+pub mod WrongRequests
+pub mod WrongCopies
+pub mod WrongRecords

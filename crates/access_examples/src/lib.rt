@@ -1,0 +1,8 @@
+//! Histories that a sceptic would write, none of which has `Access`: what the law refuses, read alone, without the
+//! clause of the step beside it. Nothing runs here.
+#![tactic(auto)]
+
+pub mod early_copies;
+pub mod extra_answers;
+pub mod extra_records;
+pub mod extra_requests;
