@@ -64,7 +64,7 @@ CancelFacts state a m (Some r) = IsCancelOf state a m r
 abbrev pub Facts : Server → ProxyState → Arrival → Message → Bool → Verdict → Type 0
 Facts server state a m short Drop = Unit {0}
 Facts server state a m short (Respond r b status) = IsForBranch server state m short r b status
-Facts server state a m short (Copy r) = Unit {0}
+Facts server state a m short (Copy r) = IsIn r state.requests
 Facts server state a m short (AckOn address id) = dialog_of m ≡ Some id
 Facts server state a m short (Cancel found) = CancelFacts state a m found
 Facts server state a m short (Answer status extras) = Unit {0}
@@ -204,15 +204,16 @@ module _ (server : Server) (state : ProxyState) (a : Arrival) (m : Message) (sho
         checked_facts a.now method (refusal_of server.config.own m short) (record { key = key; is_key = keyed; is_no_ack = ap (λ (v : List ℕ). bytes_eq v (codes "ACK")) is ∙ ack })
 
   -- a request whose key may be open
-  open_facts : (method : List ℕ) (key : Key) (o : Option OpenRequest) → method_of m.start ≡ method → key_of m ≡ Some key
+  open_facts : (method : List ℕ) (key : Key) (o : Option OpenRequest) → method_of m.start ≡ method → key_of m ≡ Some key → find (has_key key) state.requests ≡ o
       → Facts server state a m short (by_open server state a m short method key o)
-  open_facts method key (Some r) is keyed = facts_either (bytes_eq method (codes "ACK") && is_accepted r) (ack_verdict server state a.now m short) (Copy r) (ack_facts a.now) tt
-  open_facts method key None is keyed = new_facts method key is keyed
+  open_facts method key (Some r) is keyed found =
+      facts_either (bytes_eq method (codes "ACK") && is_accepted r) (ack_verdict server state a.now m short) (Copy r) (ack_facts a.now) (found_in (has_key key) state.requests r found).0
+  open_facts method key None is keyed found = new_facts method key is keyed
 
   -- a request that may have a key
   key_facts : (method : List ℕ) (o : Option Key) → method_of m.start ≡ method → key_of m ≡ o → Facts server state a m short (by_key server state a m short method o)
   key_facts method None is keyed = tt
-  key_facts method (Some key) is keyed = open_facts method key (find (has_key key) state.requests) is keyed
+  key_facts method (Some key) is keyed = open_facts method key (find (has_key key) state.requests) is keyed refl
 
   -- a request or a response
   start_facts : (start : Start) → m.start ≡ start → Facts server state a m short (by_start server state a m short start)

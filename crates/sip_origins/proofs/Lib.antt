@@ -11,3 +11,4 @@ pub mod Same
 pub mod Told
 pub mod Ended
 pub mod Going
+pub mod Early

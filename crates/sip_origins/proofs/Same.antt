@@ -39,7 +39,7 @@ truth_decides false true = (λ e. absurd (cc), λ e. absurd (cc))
 truth_decides false false = (λ e. refl, λ e. refl)
 
 -- numbers that pass the test are one
-number_decides : (x y : ℕ) → Decides (x == y) (x ≡ y)
+pub number_decides : (x y : ℕ) → Decides (x == y) (x ≡ y)
 number_decides x y = (λ e. grind (arith, nat_tests), λ e. grind (arith, nat_tests))
 
 -- and addresses
@@ -114,16 +114,16 @@ in_filter p (x ∷ xs) y there passes = by_test (p x) refl (λ later. in_filter 
   by_test false is rest (inr later) = rest later
 
 -- a count, one by one
-count_first : {X : Type 0} (p : X → Bool) (x : X) (xs : List X) → count_by p (x ∷ xs) ≡ cond (p x) 1 0 + count_by p xs
+pub count_first : {X : Type 0} (p : X → Bool) (x : X) (xs : List X) → count_by p (x ∷ xs) ≡ cond (p x) 1 0 + count_by p xs
 count_first p x xs = sum_by-cons (λ y. cond (p y) 1 0) x xs
 
 -- a test that passes counts
-one_at : (t : Bool) → t ≡ true → cond {A = ℕ} t 1 0 ≡ 1
+pub one_at : (t : Bool) → t ≡ true → cond {A = ℕ} t 1 0 ≡ 1
 one_at true e = refl
 one_at false e = absurd (cc)
 
 -- what is there and passes counts
-counts_in : {X : Type 0} (p : X → Bool) (xs : List X) (y : X) → IsIn y xs → p y ≡ true → 1 ≤ count_by p xs
+pub counts_in : {X : Type 0} (p : X → Bool) (xs : List X) (y : X) → IsIn y xs → p y ≡ true → 1 ≤ count_by p xs
 counts_in p [] y h e = absurd h
 counts_in p (x ∷ xs) y (inl same) e = let head = count_first p x xs in let one = one_at (p x) (ap p same ∙ e) in omega (arith, head, one)
 counts_in p (x ∷ xs) y (inr h) e = let head = count_first p x xs in let rest = counts_in p xs y h e in omega (arith, head, rest)

@@ -28,7 +28,7 @@ use Rattle.sip_model.specs.event.declared.packet.Packet.{Packet}
 use Rattle.sip_model.specs.state.declared.server.Server.{Server}
 use Rattle.sip_model.specs.state.declared.branch.Branch.{Branch}
 use Rattle.sip_model.specs.state.declared.open_request.OpenRequest.{OpenRequest}
-use Rattle.sip_model.specs.state.State.{is_answering, is_final, is_success}
+use Rattle.sip_model.specs.state.State.{is_invite, is_answering, is_final, is_success}
 use Rattle.sip_model.specs.state.Arrival.{Arrival}
 use Rattle.sip_model.specs.context.Sending.{onward_as}
 use Rattle.sip_model.specs.verdict.Verdict.{is_many, responding}
@@ -179,3 +179,10 @@ pub record WasToldAnew (server : Server) (newer history : List Link) (id : Dialo
   pub response : Message
   pub begins : Begins server history a invite status response id
   pub is_newer : Contains newer begins.came_for.link
+
+-- An INVITE that came in the datagram of a number is open: neither its transaction nor those of all its branches have ended.
+pub record IsInviteOpen (requests : List OpenRequest) (number : ℕ) : Type 0 where
+  pub request : OpenRequest
+  pub is_open : Contains requests request
+  pub is_number : request.number ≡ number
+  pub is_for_invite : is_invite request ≡ true

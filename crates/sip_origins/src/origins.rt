@@ -1,4 +1,4 @@
-ghost use Rattle.std.specs.Prelude.{ℕ, ◌-◌, ◌<◌, List, ◌∷◌, ◌++◌, Contains};
+ghost use Rattle.std.specs.Prelude.{◌≡◌, ℕ, false, ◌-◌, ◌<◌, List, ◌∷◌, ◌++◌, Contains};
 ghost use Rattle.std.specs.List.{AllByRecursion};
 ghost use Rattle.sip_model.specs.dialog.declared.dialog.Dialog.{Dialog};
 ghost use Rattle.sip_model.specs.state.declared.proxy_state.ProxyState.{ProxyState};
@@ -10,9 +10,10 @@ ghost use Rattle.sip_model.specs.form.declared.message.Message.{Message};
 ghost use Rattle.sip_model.specs.host.declared.addr.Addr.{Addr};
 ghost use Rattle.sip_model.specs.state.Arrival.{Arrival};
 ghost use Rattle.sip_model.specs.Access.{IsWithin};
-ghost use Rattle.sip_origins.specs.Dialogs.{WasTold, GoesWhereTold, EndsDialog, WasToldAnew};
+ghost use Rattle.sip_origins.specs.Dialogs.{WasTold, GoesWhereTold, EndsDialog, WasToldAnew, IsInviteOpen};
 
 use sip_model::histories::dialogs_are_taught;
+use sip_model::order::{numbers_differ, requests_can_end};
 use sip_model::parts::steps_have_parts;
 
 /// Each open request came: a datagram of the history said it, from the address to which its answers go, and the
@@ -58,5 +59,17 @@ pub fn ended_dialogs_are_told_anew()
         → WasToldAnew server newer (newer ++ link ∷ older) d.id }
 {
     steps_have_parts();
+    dialogs_are_taught();
+}
+
+/// A known dialog that no 2xx confirmed is known only while the INVITE of its number is open: when that leaves the open
+/// requests, whatever its answer was, the dialog is known no longer (RFC 3261 12.3).
+pub fn early_dialogs_end_with_their_invite()
+    ensures { (server : Server) (first : ℕ) (history : List Link) (last : ProxyState)
+        → IsChain server (first_state first) history last
+        → (d : Dialog) → Contains last.dialogs d → last.moment - d.since < 43200000 → d.has_success ≡ false → IsInviteOpen last.requests d.number }
+{
+    numbers_differ();
+    requests_can_end();
     dialogs_are_taught();
 }
