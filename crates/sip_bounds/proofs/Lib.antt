@@ -1,3 +1,4 @@
+pub mod CancelBranches
 pub mod EndingChanges
 pub mod EndingHistories
 pub mod EndingLists

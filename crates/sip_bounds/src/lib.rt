@@ -3,6 +3,7 @@
 #![tactic(auto)]
 
 pub mod bounds;
+pub mod cancels;
 pub mod endings;
 pub mod final_answers;
 pub mod sendings;
