@@ -1,4 +1,6 @@
 pub mod CancelBranches
+pub mod CancelChanges
+pub mod CancelTexts
 pub mod EndingChanges
 pub mod EndingHistories
 pub mod EndingLists
