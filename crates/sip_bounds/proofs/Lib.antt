@@ -1,5 +1,8 @@
 pub mod CancelBranches
 pub mod CancelChanges
+pub mod CancelHistories
+pub mod CancelOpenings
+pub mod CancelParts
 pub mod CancelTexts
 pub mod EndingChanges
 pub mod EndingHistories

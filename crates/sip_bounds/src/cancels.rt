@@ -5,7 +5,27 @@ ghost use Rattle.sip_model.specs.state.State.{first_state};
 ghost use Rattle.sip_model.specs.Run.{Link, IsChain};
 ghost use Rattle.sip_bounds.specs.Cancels.{begins_cancel, GoOutElevenTimes};
 
-/// A CANCEL is told from what else bears no branch on its ticket: an answer, and an ACK.
+use sip_model::parts::steps_have_parts;
+use sip_ties::copies::{
+    begins_with, copy_leaves_one_less, nothing_leaves_more, sent_at, stays_timely,
+};
+
+/// A CANCEL that this proxy sends to a target, once its INVITE is to end, goes out at most eleven times, whatever
+/// happens: for each time it is sent first at most ten copies follow, by the deadline of its transaction (RFC 3261
+/// 9.1, 17.1.2.2: Timers E and F).
+pub fn cancels_go_out_so_often()
+    ensures { (server : Server) (first : ℕ) (history : List Link) (last : ProxyState)
+        → IsChain server (first_state first) history last → GoOutElevenTimes history }
+{
+    steps_have_parts();
+    sent_at();
+    begins_with();
+    stays_timely();
+    copy_leaves_one_less();
+    nothing_leaves_more();
+}
+
+/// A CANCEL is told by its bytes from what else bears no branch on its ticket: an answer, and an ACK.
 pub fn cancels_are_told_apart()
     ensures cancel { begins_cancel (codes "CANCEL sip:bob@example.com SIP/2.0\r\n") ≡ true }
     ensures ack { begins_cancel (codes "ACK sip:bob@example.com SIP/2.0\r\n") ≡ false }
