@@ -1,7 +1,7 @@
 -- The CANCELs of an open request: how many copies of those that say one thing may still be sent, and what its changes make of that.
-use Rattle.std.proofs.Common.{◌≡◌, ◌⊎◌, inl, inr, ℕ, ◌+◌, ◌*◌, ◌≤◌, Bool, true, false, not, ◌&&◌, ◌||◌, ◌==◌, cond, List, [], ◌∷◌, ◌++◌, map, filter, Option, Some, None, refl, sym, ap, subst, ◌∙◌, arith, sum_by, count_by}
+use Rattle.std.proofs.Common.{◌≡◌, inl, inr, ℕ, ◌+◌, ◌*◌, ◌≤◌, Bool, true, false, not, ◌&&◌, ◌||◌, ◌==◌, cond, List, [], ◌∷◌, ◌++◌, map, filter, Option, refl, sym, ap, subst, ◌∙◌, arith, sum_by, count_by}
 use Rattle.std.specs.List.{AllByRecursion, flat_map}
-use Rattle.std.proofs.lemmas.List.Sums.{sum_by-cons, sum_by-append}
+use Rattle.std.proofs.lemmas.List.Sums.{sum_by-cons}
 use Rattle.sip_model.specs.host.declared.addr.Addr.{Addr}
 use Rattle.sip_model.specs.state.declared.branch.Phase.{Phase}
 use Rattle.sip_model.specs.state.declared.branch.Phase.TheVariants.{Unheard, Heard, Cancelled, Done, Ended}
@@ -9,8 +9,8 @@ use Rattle.sip_model.specs.state.declared.branch.Branch.{Branch}
 use Rattle.sip_model.specs.state.State.{first_resend}
 use Rattle.sip_model.specs.context.Branches.{is_same_branch, turned, is_ready, is_cancellable, cancel_branch, held_branch, with_cancel}
 use Rattle.sip_ties.specs.Copies.{other_copies_left}
-use Rattle.sip_bounds.proofs.SendingLists.{IsIn, all_joined, count_cons, count_joined, only_one, number_is, same_number, both_pass}
-use Rattle.sip_bounds.proofs.SendingBranches.{is_target, AreApart, same_is}
+use Rattle.sip_bounds.proofs.SendingLists.{IsIn, all_joined, count_cons, only_one, number_is, same_number, both_pass}
+use Rattle.sip_bounds.proofs.SendingBranches.{AreApart, same_is}
 use Rattle.sip_bounds.proofs.SendingTimes.{AreCopyLaws, IsNearEnd}
 
 -- ---- how many copies may still be sent

@@ -1,5 +1,5 @@
 -- A change of an open request: it leaves its CANCELs no more copies than before, and ten more for each CANCEL that it sends.
-use Rattle.std.proofs.Common.{◌≡◌, ℕ, ◌+◌, ◌*◌, ◌≤◌, Bool, true, false, not, ◌&&◌, ◌||◌, cond, List, [], ◌∷◌, ◌++◌, map, filter, Option, Some, None, refl, sym, ap, subst, ◌∙◌, arith, count_by}
+use Rattle.std.proofs.Common.{◌≡◌, ℕ, ◌+◌, ◌*◌, ◌≤◌, Bool, true, false, ◌&&◌, ◌||◌, cond, List, [], ◌++◌, map, filter, Option, Some, None, refl, ◌∙◌, arith, count_by}
 use Rattle.std.specs.List.{AllByRecursion, flat_map}
 use Rattle.sip_model.specs.host.declared.addr.Addr.{Addr}
 use Rattle.sip_model.specs.form.declared.message.Message.{Message}
@@ -18,15 +18,14 @@ use Rattle.sip_model.specs.context.Branches.{Change, is_same_branch, phased, wit
 use Rattle.sip_model.specs.Effect.{change_packets, upward_packets}
 use Rattle.sip_model.specs.Step.{Act, IsOverdue, OfSide, OfBranch, is_failed}
 use Rattle.sip_model.specs.Parts.{IsChangeAt, ByResponse, ByDeadline, ByFault, ByCancel}
-use Rattle.sip_ties.specs.Copies.{other_copies_left}
 use Rattle.sip_bounds.proofs.FinalsKept.{IsKept, IsHonest}
 use Rattle.sip_bounds.proofs.FinalsChanges.{IsSound, change_sound}
 use Rattle.sip_bounds.proofs.SendingLists.{IsIn, in_list, all_before, all_behind, count_joined, found_in}
 use Rattle.sip_bounds.proofs.SendingBranches.{AreApart, Succeeds}
 use Rattle.sip_bounds.proofs.SendingTimes.{AreCopyLaws, IsNearEnd}
 use Rattle.sip_bounds.proofs.SendingChanges.{change_succeeds}
-use Rattle.sip_bounds.proofs.CancelBranches.{Asks, left, made, is_early, is_slot, IsSteady, IsCalmer, calm, mapped_left, mapped_slots, mapped_each, left_alike, alone, IsCalming, phased_calmer, wanted_calmer, cancels_left, cancels_slots, cancels_each}
-use Rattle.sip_bounds.proofs.CancelTexts.{IsTest, IsNoCancel, upward_no, asks, first_cancels}
+use Rattle.sip_bounds.proofs.CancelBranches.{Asks, left, is_early, is_slot, IsSteady, IsCalmer, calm, mapped_left, mapped_slots, mapped_each, left_alike, alone, IsCalming, phased_calmer, wanted_calmer, cancels_left, cancels_slots, cancels_each}
+use Rattle.sip_bounds.proofs.CancelTexts.{IsNoCancel, upward_no, asks, first_cancels}
 
 -- ---- an open request
 
@@ -279,11 +278,13 @@ module _ (laws : AreCopyLaws) (test : Packet → Bool) (server : Server) where
   change_spent state act now r change again is fine =
       let sound : IsSound r change = change_sound server state act now r change again is fine.keeps in
       let own : IsSpent test server r change = spent state act now r change again is fine sound.honest in
-      let follows : Succeeds r change.request = change_succeeds server state act now r change again is fine.apart in
-      (own, record {
-        apart = λ n. let few = fine.apart n in let same = follows.no_more n in omega (arith, few, same);
-        slots = λ n. let few = fine.slots n in let less = own.slots n in omega (arith, few, less);
-        each = own.each;
-        answer = own.answer;
-        keeps = sound.is_like.keeps;
-      })
+      let follows : Succeeds r change.request = change_succeeds server state act now r change again is fine.apart in (
+        own,
+        record {
+          apart = λ n. let few = fine.apart n in let same = follows.no_more n in omega (arith, few, same);
+          slots = λ n. let few = fine.slots n in let less = own.slots n in omega (arith, few, less);
+          each = own.each;
+          answer = own.answer;
+          keeps = sound.is_like.keeps;
+        },
+      )

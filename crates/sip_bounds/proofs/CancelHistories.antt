@@ -1,9 +1,8 @@
 -- Over every history: each CANCEL goes out at most eleven times for each of its first sendings.
-use Rattle.std.proofs.Common.{◌≡◌, ℕ, ◌+◌, ◌*◌, ◌≤◌, Bool, true, false, not, ◌&&◌, ◌==◌, List, [], ◌∷◌, refl, sym, ap, subst, ◌∙◌, arith, count_by, bytes_eq}
+use Rattle.std.proofs.Common.{◌≡◌, ℕ, ◌+◌, ◌*◌, ◌≤◌, Bool, true, false, ◌&&◌, ◌==◌, List, [], ◌∷◌, refl, sym, ap, subst, ◌∙◌, arith, bytes_eq}
 use Rattle.std.proofs.lemmas.Slice.Eq.{bytes_eq-Decides}
 use Rattle.sip_model.specs.dialog.Addresses.{is_same_addr}
 use Rattle.sip_model.specs.event.declared.packet.Packet.{Packet}
-use Rattle.sip_model.specs.event.declared.event.StepOut.{StepOut}
 use Rattle.sip_model.specs.state.declared.server.Server.{Server}
 use Rattle.sip_model.specs.state.declared.open_request.OpenRequest.{OpenRequest}
 use Rattle.sip_model.specs.state.declared.proxy_state.ProxyState.{ProxyState}
@@ -11,19 +10,19 @@ use Rattle.sip_model.specs.state.State.{first_state}
 use Rattle.sip_model.specs.Step.{originals, retransmissions}
 use Rattle.sip_model.specs.Run.{Link, IsChain}
 use Rattle.sip_model.specs.Parts.{HasParts, next_after}
-use Rattle.sip_bounds.specs.Cancels.{begins_cancel, says_same, handed_out, first_sendings, GoOutElevenTimes}
+use Rattle.sip_bounds.specs.Cancels.{begins_cancel, says_same, handed_out, first_sendings, IsOwnCancel, GoOutElevenTimes}
 use Rattle.sip_bounds.proofs.FinalsHistory.{PartsLaw}
-use Rattle.sip_bounds.proofs.SendingLists.{count_parts, number_is, both_pass}
+use Rattle.sip_bounds.proofs.SendingLists.{count_parts, number_is}
 use Rattle.sip_bounds.proofs.SendingTimes.{AreCopyLaws}
 use Rattle.sip_bounds.proofs.CancelTexts.{IsTest}
 use Rattle.sip_bounds.proofs.CancelParts.{Stands, total, IsWell, parts_well}
 
 -- what says the same as a CANCEL of this server is one
-same_test : (p : Packet) → p.ticket.branch ≡ 0 → begins_cancel p.bytes ≡ true → IsTest (says_same p)
-same_test p none begins = record {
+same_test : (p : Packet) → IsOwnCancel p → IsTest (says_same p)
+same_test p own = record {
   either = λ q again. refl;
-  begins = λ q same. ap begins_cancel ((bytes_eq-Decides q.bytes p.bytes).0 (texts q same)) ∙ begins;
-  no_branch = λ q same. number_is q.ticket.branch p.ticket.branch (branches q same) ∙ none;
+  begins = λ q same. ap begins_cancel ((bytes_eq-Decides q.bytes p.bytes).0 (texts q same)) ∙ own.begins;
+  no_branch = λ q same. number_is q.ticket.branch p.ticket.branch (branches q same) ∙ own.no_branch;
 } where
   four : (a b c d : Bool) → (a && b && c && d) ≡ true → (b ≡ true) × (d ≡ true)
   four true true true true e = (refl, refl)
@@ -63,5 +62,5 @@ module _ (laws : AreCopyLaws) (parts : PartsLaw) (server : Server) (first : ℕ)
 
 -- The law.
 pub chain_eleven : AreCopyLaws → PartsLaw → (server : Server) (first : ℕ) (history : List Link) (last : ProxyState) → IsChain server (first_state first) history last → GoOutElevenTimes history
-chain_eleven laws parts server first history last chain p none begins =
-    let few = (chain_holds laws parts server first p (same_test p none begins) history last chain).few in omega (arith, few)
+chain_eleven laws parts server first history last chain p own =
+    let few = (chain_holds laws parts server first p (same_test p own) history last chain).few in omega (arith, few)

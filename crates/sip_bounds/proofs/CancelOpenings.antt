@@ -1,5 +1,5 @@
 -- A request as it is opened: no CANCEL is sent for it yet, but with its best answer.
-use Rattle.std.proofs.Common.{◌≡◌, ℕ, ◌+◌, ◌*◌, ◌≤◌, ◌<◌, Bool, true, false, not, ◌&&◌, ◌||◌, ◌==◌, cond, List, [], ◌∷◌, ◌++◌, map, filter, Option, Some, None, is_some, refl, sym, ap, subst, ◌∙◌, arith, count_by}
+use Rattle.std.proofs.Common.{◌≡◌, ℕ, ◌+◌, ◌*◌, ◌≤◌, ◌<◌, Bool, true, false, not, ◌&&◌, ◌||◌, ◌==◌, cond, List, [], ◌∷◌, ◌++◌, map, filter, Some, None, is_some, refl, arith, count_by}
 use Rattle.std.specs.List.{AllByRecursion, flat_map}
 use Rattle.sip_model.specs.form.declared.message.Message.{Message}
 use Rattle.sip_model.specs.reply.Reasons.{reason_of}
@@ -13,16 +13,16 @@ use Rattle.sip_model.specs.context.Sending.{made_answer, branch_packets}
 use Rattle.sip_model.specs.context.Branches.{answered}
 use Rattle.sip_model.specs.context.Opening.{closing, unsent, forking, is_tried, trying, tried, opening}
 use Rattle.sip_model.specs.Effect.{change_packets, upward_packets, opening_packets}
-use Rattle.sip_model.specs.Parts.{IsBegun, AreBegun, IsOpening, Answered, Sent, made_text}
+use Rattle.sip_model.specs.Parts.{AreBegun, IsOpening, Answered, Sent, made_text}
 use Rattle.sip_ties.specs.Copies.{other_copies_left}
 use Rattle.sip_bounds.proofs.FinalsKept.{IsKept, IsHonest, made_kept, made_status}
 use Rattle.sip_bounds.proofs.FinalsChanges.{IsLike, IsSound, settled_sound}
 use Rattle.sip_bounds.proofs.SendingLists.{count_cons, count_joined, one_at, none_at, number_is, both_pass}
-use Rattle.sip_bounds.proofs.SendingBranches.{is_target, AreApart, Succeeds, succeeds_alike}
+use Rattle.sip_bounds.proofs.SendingBranches.{is_target, Succeeds, succeeds_alike}
 use Rattle.sip_bounds.proofs.SendingTimes.{AreCopyLaws}
 use Rattle.sip_bounds.proofs.SendingChanges.{settled_succeeds}
-use Rattle.sip_bounds.proofs.CancelBranches.{Asks, cost, left, left_cons, is_early, is_slot, IsSteady}
-use Rattle.sip_bounds.proofs.CancelTexts.{IsTest, IsNoCancel, answer_begins, upward_no, asks}
+use Rattle.sip_bounds.proofs.CancelBranches.{Asks, left, left_cons, is_early, is_slot, IsSteady}
+use Rattle.sip_bounds.proofs.CancelTexts.{IsNoCancel, answer_begins, upward_no, asks}
 use Rattle.sip_bounds.proofs.CancelChanges.{IsFine, IsLess, same_less, IsSpent, settled_spent}
 
 -- ---- branches that are first sent

@@ -1,9 +1,8 @@
 -- The parts of a step: what each leaves of the copies of CANCELs that may still be sent, and what it sends of them.
-use Rattle.std.proofs.Common.{◌≡◌, ◌⊎◌, inl, inr, ℕ, ◌+◌, ◌*◌, ◌≤◌, ◌<◌, Bool, true, false, not, ◌&&◌, ◌||◌, ◌==◌, cond, List, [], ◌∷◌, ◌++◌, map, filter, Option, Some, None, is_some, refl, sym, ap, subst, ◌∙◌, arith, sum_by, count_by}
-use Rattle.std.specs.List.{AllByRecursion, flat_map, filter_map}
+use Rattle.std.proofs.Common.{◌≡◌, inl, inr, ℕ, ◌+◌, ◌*◌, ◌≤◌, Bool, true, false, not, ◌&&◌, ◌==◌, cond, List, [], ◌∷◌, ◌++◌, map, Some, refl, sym, ap, subst, ◌∙◌, arith, sum_by, count_by}
+use Rattle.std.specs.List.{AllByRecursion, filter_map}
 use Rattle.std.specs.Option.{option_to_list}
 use Rattle.std.proofs.lemmas.List.Sums.{sum_by-cons, sum_by_push}
-use Rattle.sip_model.specs.form.declared.message.Message.{Message}
 use Rattle.sip_model.specs.event.declared.packet.Packet.{Packet}
 use Rattle.sip_model.specs.event.declared.event.Event.TheVariants.{Datagram, Time, Fault}
 use Rattle.sip_model.specs.state.declared.server.Server.{Server}
@@ -12,23 +11,21 @@ use Rattle.sip_model.specs.state.declared.branch.Phase.{Phase}
 use Rattle.sip_model.specs.state.declared.branch.Phase.TheVariants.{Unheard, Heard, Cancelled, Done, Ended}
 use Rattle.sip_model.specs.state.declared.branch.Branch.{Branch}
 use Rattle.sip_model.specs.state.declared.open_request.OpenRequest.{OpenRequest}
-use Rattle.sip_model.specs.state.declared.open_request.Upward.{Upward}
 use Rattle.sip_model.specs.state.declared.proxy_state.ProxyState.{ProxyState}
-use Rattle.sip_model.specs.state.Arrival.{Arrival}
 use Rattle.sip_model.specs.state.State.{is_invite, has_key, has_left, deadlines_of, phase_deadline, side_deadline}
-use Rattle.sip_model.specs.context.Sending.{made_answer, branch_packets}
-use Rattle.sip_model.specs.context.Branches.{Change, is_same_branch, is_unheard, acknowledged, acknowledged_side, was_refused, answered}
-use Rattle.sip_model.specs.context.Opening.{forking, is_tried, trying, tried, opening}
-use Rattle.sip_model.specs.retransmission.Retransmission.{IsResent, OfAnswer, OfRequest, answers_again, answer_next, branch_due, branch_next, goes_again, is_cancelled_again, is_sent_again, resent_branch, with_resend, resend_after, acked_again}
-use Rattle.sip_model.specs.Effect.{replaced, change_packets, upward_packets, opening_packets}
+use Rattle.sip_model.specs.context.Sending.{branch_packets}
+use Rattle.sip_model.specs.context.Branches.{Change, is_same_branch, is_unheard, acknowledged, acknowledged_side, was_refused}
+use Rattle.sip_model.specs.context.Opening.{opening}
+use Rattle.sip_model.specs.retransmission.Retransmission.{IsResent, OfAnswer, OfRequest, answers_again, answer_next, branch_due, branch_next, is_cancelled_again, is_sent_again, resent_branch, with_resend, resend_after}
+use Rattle.sip_model.specs.Effect.{replaced, change_packets}
 use Rattle.sip_model.specs.Step.{Act, Given, Passing, NoneBefore}
 use Rattle.sip_model.specs.Order.{is_numbered, AreNumbered}
-use Rattle.sip_model.specs.Parts.{IsBegun, AreBegun, IsOpening, Answered, Sent, made_text, IsChangeAt, ByResponse, ByDeadline, ByFault, ByCancel, IsPart, Stays, Passes, Copies, TurnsAway, Opens, Changes, Resends, Acknowledges, AreParts, One, Two, next_after}
+use Rattle.sip_model.specs.Parts.{IsChangeAt, ByResponse, ByDeadline, ByFault, ByCancel, IsPart, Stays, Passes, Copies, TurnsAway, Opens, Changes, Resends, Acknowledges, AreParts, One, Two, next_after}
 use Rattle.sip_ties.specs.machines.OtherClient.{steady}
 use Rattle.sip_ties.specs.Copies.{other_copies_left}
 use Rattle.sip_bounds.proofs.FinalsKept.{IsKept}
 use Rattle.sip_bounds.proofs.FinalsLists.{numbered_replaced, numbered_push, numbered_later}
-use Rattle.sip_bounds.proofs.SendingLists.{IsIn, in_list, all_in, all_joined, all_behind, all_flat, all_made, found_in, count_cons, count_joined, counts_in, one_at, none_at, number_is, same_number}
+use Rattle.sip_bounds.proofs.SendingLists.{IsIn, in_list, all_in, all_joined, all_behind, all_flat, all_made, found_in, count_cons, count_joined, counts_in, one_at, same_number}
 use Rattle.sip_bounds.proofs.SendingBranches.{is_target, mapped_count}
 use Rattle.sip_bounds.proofs.SendingTimes.{AreCopyLaws, IsNearEnd, next_time}
 use Rattle.sip_bounds.proofs.SendingRequests.{all_replaced}
@@ -37,7 +34,7 @@ use Rattle.sip_bounds.proofs.SendingSteps.{said_next}
 use Rattle.sip_bounds.proofs.SendingCopies.{due_is}
 use Rattle.sip_bounds.proofs.CancelBranches.{Asks, cost, left, is_slot, IsSteady, IsCalmer, calm, mapped_left, mapped_slots, mapped_each, mapped_falls, alone}
 use Rattle.sip_bounds.proofs.CancelTexts.{IsTest, IsNoCancel, answers_none, acked_none, target_none, asks, cancel_copy}
-use Rattle.sip_bounds.proofs.CancelChanges.{IsFine, IsSpent, change_spent}
+use Rattle.sip_bounds.proofs.CancelChanges.{IsFine, change_spent}
 use Rattle.sip_bounds.proofs.CancelOpenings.{IsOpenedWell, opening_well}
 
 -- ---- all open requests

@@ -1,7 +1,7 @@
 -- What is no CANCEL of this server: answers and ACKs, by how they begin, and requests to targets, by their tickets.
-use Rattle.std.proofs.Common.{◌≡◌, ℕ, ◌+◌, ◌≤◌, Bool, true, false, not, ◌&&◌, ◌==◌, nat_eq, cond, List, [], ◌∷◌, ◌++◌, Option, Some, None, is_some, refl, sym, ap, subst, ◌∙◌, arith, count_by, codes, decimal, length, map}
+use Rattle.std.proofs.Common.{◌≡◌, ℕ, ◌≤◌, Bool, true, false, not, ◌&&◌, cond, List, [], ◌∷◌, ◌++◌, Option, Some, None, refl, ap, arith, count_by, codes, decimal, length, map}
 use Rattle.std.specs.Option.{option_map_or}
-use Rattle.std.specs.List.{AllByRecursion, flat_map, starts_with}
+use Rattle.std.specs.List.{AllByRecursion, flat_map}
 use Rattle.sip_model.specs.host.declared.addr.Addr.{Addr}
 use Rattle.sip_model.specs.form.declared.message.Start.{Start}
 use Rattle.sip_model.specs.form.declared.message.Message.{Message}
@@ -20,7 +20,7 @@ use Rattle.sip_model.specs.state.State.{is_invite, is_success, is_failure}
 use Rattle.sip_model.specs.context.Sending.{begins_dialog, onward_as, request_of, sent_of, to_branch, branch_packets, ack_packets, answer_to}
 use Rattle.sip_model.specs.context.Branches.{cancel_branch, after_upward, upward_list, last_answer}
 use Rattle.sip_model.specs.retransmission.Retransmission.{answers_again, acks_again, acked_again, is_lasting}
-use Rattle.sip_bounds.specs.Cancels.{begins_cancel}
+use Rattle.sip_bounds.specs.Cancels.{begins_cancel, IsOwnCancel}
 use Rattle.sip_bounds.proofs.FinalsText.{HasStatus}
 use Rattle.sip_bounds.proofs.FinalsKept.{IsHonest}
 use Rattle.sip_bounds.proofs.SendingLists.{count_cons, count_joined, none_at}
@@ -165,3 +165,12 @@ cancel_copy test is server r b cancel = by_address b.address b.is_cancel cancel 
   by_address (Some to) true e =
       let p : Packet = record { to = to; bytes = text_of (cancel_of (request_of server r b)); ticket = record { datagram = r.number; branch = 0 }; again = false } in
       omega (arith, count_cons test (record p { again = true }) [], ap (λ (t : Bool). cond {A = ℕ} t 1 0) (is.either p true))
+
+-- what a CANCEL sends is one of this server
+pub cancel_own : (server : Server) (again : Bool) (r : OpenRequest) (b : Branch) → b.is_cancel ≡ true → AllByRecursion IsOwnCancel (branch_packets server again r b)
+cancel_own server again r b cancel = by_address b.address b.is_cancel cancel where
+  by_address : (o : Option Addr) (t : Bool) → t ≡ true
+      → AllByRecursion IsOwnCancel (to_branch r (record b { address = o }) (cond t 0 b.number) again (cond t (cancel_of (request_of server r b)) (request_of server r b)))
+  by_address None t e = tt
+  by_address (Some to) true e = (record { no_branch = refl; begins = refl }, tt)
+  by_address (Some to) false e = absurd (cc)

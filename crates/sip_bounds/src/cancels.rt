@@ -1,9 +1,13 @@
-ghost use Rattle.std.specs.Prelude.{◌≡◌, ℕ, true, false, List, codes};
+ghost use Rattle.std.specs.Prelude.{◌≡◌, ℕ, Bool, true, false, List, codes};
+ghost use Rattle.std.specs.List.{AllByRecursion};
 ghost use Rattle.sip_model.specs.state.declared.server.Server.{Server};
 ghost use Rattle.sip_model.specs.state.declared.proxy_state.ProxyState.{ProxyState};
+ghost use Rattle.sip_model.specs.state.declared.branch.Branch.{Branch};
+ghost use Rattle.sip_model.specs.state.declared.open_request.OpenRequest.{OpenRequest};
 ghost use Rattle.sip_model.specs.state.State.{first_state};
+ghost use Rattle.sip_model.specs.context.Sending.{branch_packets};
 ghost use Rattle.sip_model.specs.Run.{Link, IsChain};
-ghost use Rattle.sip_bounds.specs.Cancels.{begins_cancel, GoOutElevenTimes};
+ghost use Rattle.sip_bounds.specs.Cancels.{begins_cancel, IsOwnCancel, GoOutElevenTimes};
 
 use sip_model::parts::steps_have_parts;
 use sip_ties::copies::{
@@ -24,6 +28,12 @@ pub fn cancels_go_out_so_often()
     copy_leaves_one_less();
     nothing_leaves_more();
 }
+
+/// What is sent for a CANCEL, first and again, is what this law counts: its ticket names no branch, and it begins with
+/// its method.
+pub fn cancels_are_counted()
+    ensures { (server : Server) (again : Bool) (r : OpenRequest) (b : Branch) → b.is_cancel ≡ true → AllByRecursion IsOwnCancel (branch_packets server again r b) }
+{}
 
 /// A CANCEL is told by its bytes from what else bears no branch on its ticket: an answer, and an ACK.
 pub fn cancels_are_told_apart()
