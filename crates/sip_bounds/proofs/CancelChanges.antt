@@ -24,7 +24,7 @@ use Rattle.sip_bounds.proofs.SendingLists.{IsIn, in_list, all_before, all_behind
 use Rattle.sip_bounds.proofs.SendingBranches.{AreApart, Succeeds}
 use Rattle.sip_bounds.proofs.SendingTimes.{AreCopyLaws, IsNearEnd}
 use Rattle.sip_bounds.proofs.SendingChanges.{change_succeeds}
-use Rattle.sip_bounds.proofs.CancelBranches.{Asks, left, is_early, is_slot, IsSteady, IsCalmer, calm, mapped_left, mapped_slots, mapped_each, left_alike, alone, IsCalming, phased_calmer, wanted_calmer, cancels_left, cancels_slots, cancels_each}
+use Rattle.sip_bounds.proofs.CancelBranches.{Asks, copies_left, is_early, is_place, IsSteady, SendsNoMore, sends_the_same, mapped_left, mapped_places, mapped_each, left_alike, alone, LeavesNoMore, phased_no_more, wanted_no_more, cancels_left, cancels_places, cancels_each}
 use Rattle.sip_bounds.proofs.CancelTexts.{IsNoCancel, upward_no, asks, first_cancels}
 
 -- ---- an open request
@@ -32,7 +32,7 @@ use Rattle.sip_bounds.proofs.CancelTexts.{IsNoCancel, upward_no, asks, first_can
 -- What holds of each open request: its branches are told apart, none is sent two CANCELs, its CANCELs are near their deadlines, and no answer that it keeps is a CANCEL.
 pub record IsFine (r : OpenRequest) : Type 0 where
   pub apart : AreApart r.branches
-  pub slots : (n : ℕ) → count_by (is_slot n) r.branches ≤ 1
+  pub places : (n : ℕ) → count_by (is_place n) r.branches ≤ 1
   pub each : AllByRecursion IsSteady r.branches
   pub answer : IsNoCancel r.answer
   pub keeps : AllByRecursion IsKept r.finals
@@ -41,21 +41,21 @@ pub record IsFine (r : OpenRequest) : Type 0 where
 pub record IsLess (r x : OpenRequest) : Type 0 where
   pub number_is : x.number ≡ r.number
   pub asks_same : (test : Packet → Bool) (server : Server) (number : ℕ) (uri : List ℕ) (address : Option Addr) → asks test server x number uri address ≡ asks test server r number uri address
-  pub fewer : (g : Asks) → left g x.branches ≤ left g r.branches
-  pub slots : (n : ℕ) → count_by (is_slot n) x.branches ≤ count_by (is_slot n) r.branches
+  pub fewer : (g : Asks) → copies_left g x.branches ≤ copies_left g r.branches
+  pub places : (n : ℕ) → count_by (is_place n) x.branches ≤ count_by (is_place n) r.branches
   pub each : AllByRecursion IsSteady x.branches
 
 -- one that stays, but for what its CANCELs don't see
 pub same_less : (r : OpenRequest) → AllByRecursion IsSteady r.branches → IsLess r r
-same_less r all = record { number_is = refl; asks_same = λ test server number uri address. refl; fewer = λ g. omega arith; slots = λ n. omega arith; each = all }
+same_less r all = record { number_is = refl; asks_same = λ test server number uri address. refl; fewer = λ g. omega arith; places = λ n. omega arith; each = all }
 
--- one whose branches are calmer
-pub mapped_less : (r : OpenRequest) (f : Branch → Branch) → ((x : Branch) → IsIn x r.branches → IsCalmer x (f x)) → AllByRecursion IsSteady r.branches → IsLess r (record r { branches = map f r.branches })
+-- one whose branches send no more CANCELs
+pub mapped_less : (r : OpenRequest) (f : Branch → Branch) → ((x : Branch) → IsIn x r.branches → SendsNoMore x (f x)) → AllByRecursion IsSteady r.branches → IsLess r (record r { branches = map f r.branches })
 mapped_less r f each all = record {
   number_is = refl;
   asks_same = λ test server number uri address. refl;
   fewer = λ g. mapped_left g f r.branches each;
-  slots = λ n. mapped_slots n f r.branches each;
+  places = λ n. mapped_places n f r.branches each;
   each = mapped_each f r.branches each all;
 }
 
@@ -65,14 +65,14 @@ less_both r x y h later = record {
   number_is = later.number_is ∙ h.number_is;
   asks_same = λ test server number uri address. later.asks_same test server number uri address ∙ h.asks_same test server number uri address;
   fewer = λ g. let first = h.fewer g in let second = later.fewer g in omega (arith, first, second);
-  slots = λ n. let first = h.slots n in let second = later.slots n in omega (arith, first, second);
+  places = λ n. let first = h.places n in let second = later.places n in omega (arith, first, second);
   each = later.each;
 }
 
 -- one of which an answer went to the caller
 upward_less : (now : ℕ) (o : Option Upward) (x : OpenRequest) → AllByRecursion IsSteady x.branches → IsLess x (after_upward now o x)
 upward_less now None x all = same_less x all
-upward_less now (Some u) x all = record { number_is = refl; asks_same = λ test server number uri address. refl; fewer = λ g. omega arith; slots = λ n. omega arith; each = all }
+upward_less now (Some u) x all = record { number_is = refl; asks_same = λ test server number uri address. refl; fewer = λ g. omega arith; places = λ n. omega arith; each = all }
 
 -- ---- phases
 
@@ -94,8 +94,8 @@ heard_early r now status Ended h = by_test (is_invite r) h where
   by_test false is = absurd (cc)
 
 -- of a branch to a target
-heard_calming : (r : OpenRequest) (now status : ℕ) (b : Branch) → b.is_cancel ≡ false → IsCalming b (heard r now status b.phase)
-heard_calming r now status b target = record { fewer = λ is. absurd (cc); near = λ is h. absurd (cc); early = λ is h. heard_early r now status b.phase h }
+heard_leaves : (r : OpenRequest) (now status : ℕ) (b : Branch) → b.is_cancel ≡ false → LeavesNoMore b (heard r now status b.phase)
+heard_leaves r now status b target = record { fewer = λ is. absurd (cc); near = λ is h. absurd (cc); early = λ is h. heard_early r now status b.phase h }
 
 -- of a CANCEL
 near_heard : (phase : Phase) (b : Branch) → IsNearEnd phase b.again → IsNearEnd (other_heard phase) b.again
@@ -105,53 +105,53 @@ near_heard (Cancelled due) b h = h
 near_heard (Done due status) b h = h
 near_heard Ended b h = h
 
-other_calming : AreCopyLaws → (b : Branch) → b.is_cancel ≡ true → IsCalming b (other_heard b.phase)
-other_calming laws b cancel = record { fewer = λ is. laws.no_more b.phase b.again; near = λ is h. near_heard b.phase b h; early = λ is h. absurd (cc) }
+other_leaves : AreCopyLaws → (b : Branch) → b.is_cancel ≡ true → LeavesNoMore b (other_heard b.phase)
+other_leaves laws b cancel = record { fewer = λ is. laws.no_more b.phase b.again; near = λ is h. near_heard b.phase b h; early = λ is h. absurd (cc) }
 
 -- a final answer
-done_calming : (b : Branch) (until status : ℕ) → IsCalming b (Done until status)
-done_calming b until status = record { fewer = λ is. omega arith; near = λ is h. tt; early = λ is h. absurd (cc) }
+done_leaves : (b : Branch) (until status : ℕ) → LeavesNoMore b (Done until status)
+done_leaves b until status = record { fewer = λ is. omega arith; near = λ is h. tt; early = λ is h. absurd (cc) }
 
 -- an end
-ended_calming : (b : Branch) → IsCalming b Ended
-ended_calming b = record { fewer = λ is. omega arith; near = λ is h. tt; early = λ is h. absurd (cc) }
+ended_leaves : (b : Branch) → LeavesNoMore b Ended
+ended_leaves b = record { fewer = λ is. omega arith; near = λ is h. tt; early = λ is h. absurd (cc) }
 
 -- a request with a branch in such a phase
-phased_less : (r : OpenRequest) (b : Branch) (to : Option (List ℕ)) (phase : Phase) → IsFine r → IsIn b r.branches → IsCalming b phase → IsLess r (with_phase (record b { final_to = to }) phase r)
-phased_less r b to phase fine there calming =
-    mapped_less r (phased (record b { final_to = to }) phase) (phased_calmer r.branches b to phase (alone r.branches b fine.apart fine.slots there) calming) fine.each
+phased_less : (r : OpenRequest) (b : Branch) (to : Option (List ℕ)) (phase : Phase) → IsFine r → IsIn b r.branches → LeavesNoMore b phase → IsLess r (with_phase (record b { final_to = to }) phase r)
+phased_less r b to phase fine there leaves =
+    mapped_less r (phased (record b { final_to = to }) phase) (phased_no_more r.branches b to phase (alone r.branches b fine.apart fine.places there) leaves) fine.each
 
 -- one that was given up
 given_up_less : (r : OpenRequest) (b : Branch) (status : ℕ) → IsFine r → IsIn b r.branches → IsLess r (given_up b status r)
 given_up_less r b status fine there =
-    let own : IsLess r (with_phase b Ended r) = phased_less r b b.final_to Ended fine there (ended_calming b) in
-    record { number_is = refl; asks_same = λ test server number uri address. refl; fewer = own.fewer; slots = own.slots; each = own.each }
+    let own : IsLess r (with_phase b Ended r) = phased_less r b b.final_to Ended fine there (ended_leaves b) in
+    record { number_is = refl; asks_same = λ test server number uri address. refl; fewer = own.fewer; places = own.places; each = own.each }
 
 -- all that are to be cancelled
-marked_calmer : (x : Branch) → IsCalmer x (marked_branch x)
-marked_calmer x = by_test (x.is_cancel || is_final x.phase) where
-  by_test : (t : Bool) → IsCalmer x (cond t x (record x { wants_cancel = true }))
-  by_test true = calm x
-  by_test false = wanted_calmer true x
+marked_no_more : (x : Branch) → SendsNoMore x (marked_branch x)
+marked_no_more x = by_test (x.is_cancel || is_final x.phase) where
+  by_test : (t : Bool) → SendsNoMore x (cond t x (record x { wants_cancel = true }))
+  by_test true = sends_the_same x
+  by_test false = wanted_no_more true x
 
 marked_less : (r : OpenRequest) → AllByRecursion IsSteady r.branches → IsLess r (marked r)
-marked_less r all = mapped_less r marked_branch (λ x there. marked_calmer x) all
+marked_less r all = mapped_less r marked_branch (λ x there. marked_no_more x) all
 
 -- ---- what follows
 
 -- What a change makes of an open request: ten more copies of a CANCEL are left for each that it sends, and none else.
-pub record IsSpent (test : Packet → Bool) (server : Server) (r : OpenRequest) (change : Change) : Type 0 where
+pub record IsCounted (test : Packet → Bool) (server : Server) (r : OpenRequest) (change : Change) : Type 0 where
   pub number_is : change.request.number ≡ r.number
-  pub fewer : left (asks test server change.request) change.request.branches ≤ left (asks test server r) r.branches + 10 * count_by test (change_packets change)
-  pub slots : (n : ℕ) → count_by (is_slot n) change.request.branches ≤ count_by (is_slot n) r.branches
+  pub fewer : copies_left (asks test server change.request) change.request.branches ≤ copies_left (asks test server r) r.branches + 10 * count_by test (change_packets change)
+  pub places : (n : ℕ) → count_by (is_place n) change.request.branches ≤ count_by (is_place n) r.branches
   pub each : AllByRecursion IsSteady change.request.branches
   pub answer : IsNoCancel change.request.answer
 
 module _ (laws : AreCopyLaws) (test : Packet → Bool) (server : Server) where
   -- a request in between settles
-  pub settled_spent : (now : ℕ) (acks : List Packet) (relayed : Option Upward) (r x : OpenRequest) → IsLess r x → IsNoCancel x.answer → AllByRecursion IsHonest (settled server now acks relayed x).upward
-      → IsSpent test server r (settled server now acks relayed x)
-  settled_spent now acks relayed r x h no_cancel honest = record {
+  pub settled_counted : (now : ℕ) (acks : List Packet) (relayed : Option Upward) (r x : OpenRequest) → IsLess r x → IsNoCancel x.answer → AllByRecursion IsHonest (settled server now acks relayed x).upward
+      → IsCounted test server r (settled server now acks relayed x)
+  settled_counted now acks relayed r x h no_cancel honest = record {
     number_is = less.number_is;
     fewer = omega (
       arith,
@@ -161,7 +161,7 @@ module _ (laws : AreCopyLaws) (test : Packet → Bool) (server : Server) where
       first_cancels test server now after (filter is_cancellable after.branches),
       count_joined test (acks ++ upward_packets (with_cancels now after) (upward_list relayed ++ upward_list best)) (flat_map (branch_packets server false after) (new_cancels now after)),
     );
-    slots = λ n. let own = less.slots n in let more = cancels_slots n now after.branches in omega (arith, own, more);
+    places = λ n. let own = less.places n in let more = cancels_places n now after.branches in omega (arith, own, more);
     each = cancels_each laws now after.branches less.each;
     answer = upward_no now best told (all_behind IsHonest (upward_list relayed) (upward_list best) honest) (upward_no now relayed x (all_before IsHonest (upward_list relayed) (upward_list best) honest) no_cancel);
   } where
@@ -178,16 +178,16 @@ module _ (laws : AreCopyLaws) (test : Packet → Bool) (server : Server) where
     less = let front : IsLess x told = upward_less now relayed x h.each in less_both r x after h (less_both x told after front (upward_less now best told front.each))
 
   -- a response to a CANCEL
-  cancel_spent : (now : ℕ) (r : OpenRequest) (b : Branch) (status : ℕ) (m : Message) → IsFine r → IsIn b r.branches → b.is_cancel ≡ true → AllByRecursion IsHonest (cancel_responded server now r b status m).upward
-      → IsSpent test server r (cancel_responded server now r b status m)
-  cancel_spent now r b status m fine there cancel honest = by_tests (is_provisional status) (is_final b.phase) honest where
+  cancel_counted : (now : ℕ) (r : OpenRequest) (b : Branch) (status : ℕ) (m : Message) → IsFine r → IsIn b r.branches → b.is_cancel ≡ true → AllByRecursion IsHonest (cancel_responded server now r b status m).upward
+      → IsCounted test server r (cancel_responded server now r b status m)
+  cancel_counted now r b status m fine there cancel honest = by_tests (is_provisional status) (is_final b.phase) honest where
     by_tests : (s t : Bool)
         → AllByRecursion IsHonest (cond s (settled server now [] None (with_phase b (other_heard b.phase) r)) (cond t (settled server now [] None r) (settled server now [] None (with_phase b (Done (now + 5000) status) r)))).upward
-        → IsSpent test server r (cond s (settled server now [] None (with_phase b (other_heard b.phase) r)) (cond t (settled server now [] None r) (settled server now [] None (with_phase b (Done (now + 5000) status) r))))
-    by_tests true t own = settled_spent now [] None r (with_phase b (other_heard b.phase) r) (phased_less r b b.final_to (other_heard b.phase) fine there (other_calming laws b cancel)) fine.answer own
-    by_tests false true own = settled_spent now [] None r r (same_less r fine.each) fine.answer own
+        → IsCounted test server r (cond s (settled server now [] None (with_phase b (other_heard b.phase) r)) (cond t (settled server now [] None r) (settled server now [] None (with_phase b (Done (now + 5000) status) r))))
+    by_tests true t own = settled_counted now [] None r (with_phase b (other_heard b.phase) r) (phased_less r b b.final_to (other_heard b.phase) fine there (other_leaves laws b cancel)) fine.answer own
+    by_tests false true own = settled_counted now [] None r r (same_less r fine.each) fine.answer own
     by_tests false false own =
-        settled_spent now [] None r (with_phase b (Done (now + 5000) status) r) (phased_less r b b.final_to (Done (now + 5000) status) fine there (done_calming b (now + 5000) status)) fine.answer own
+        settled_counted now [] None r (with_phase b (Done (now + 5000) status) r) (phased_less r b b.final_to (Done (now + 5000) status) fine there (done_leaves b (now + 5000) status)) fine.answer own
 
   -- the first final answer of a branch to a target
   answer_less : (now : ℕ) (r : OpenRequest) (b : Branch) (status : ℕ) (m : Message) → IsFine r → IsIn b r.branches → IsLess r (with_answer r b now status m) × IsNoCancel (with_answer r b now status m).answer
@@ -198,39 +198,39 @@ module _ (laws : AreCopyLaws) (test : Packet → Bool) (server : Server) where
     less : IsLess r before
     less =
         let own : IsLess r (with_phase (told_to r b status m) (Done (now + linger r) status) r) =
-        phased_less r b (acked_to r status m) (Done (now + linger r) status) fine there (done_calming b (now + linger r) status) in
-        record { number_is = refl; asks_same = λ test server number uri address. refl; fewer = own.fewer; slots = own.slots; each = own.each }
+        phased_less r b (acked_to r status m) (Done (now + linger r) status) fine there (done_leaves b (now + linger r) status) in
+        record { number_is = refl; asks_same = λ test server number uri address. refl; fewer = own.fewer; places = own.places; each = own.each }
 
     by_test : (t : Bool) → IsLess r (cond t (marked before) before) × IsNoCancel (cond t (marked before) before).answer
     by_test true = (less_both r before (marked before) less (marked_less before less.each), fine.answer)
     by_test false = (less, fine.answer)
 
   -- a response to the request to a target
-  target_spent : (now : ℕ) (r : OpenRequest) (b : Branch) (status : ℕ) (m : Message) → IsFine r → IsIn b r.branches → b.is_cancel ≡ false → AllByRecursion IsHonest (target_responded server now r b status m).upward
-      → IsSpent test server r (target_responded server now r b status m)
-  target_spent now r b status m fine there target honest = by_tests (is_provisional status) (is_final b.phase) honest where
+  target_counted : (now : ℕ) (r : OpenRequest) (b : Branch) (status : ℕ) (m : Message) → IsFine r → IsIn b r.branches → b.is_cancel ≡ false → AllByRecursion IsHonest (target_responded server now r b status m).upward
+      → IsCounted test server r (target_responded server now r b status m)
+  target_counted now r b status m fine there target honest = by_tests (is_provisional status) (is_final b.phase) honest where
     chosen : (s t : Bool) → Change
     chosen s t =
         cond s (settled server now [] (relayed_provisional r b status m) (with_phase b (heard r now status b.phase) r))
         (cond t (settled server now [] (further r b b.phase status m) r) (settled server now (acks_of server r b status m) (relayed_success r b status m) (with_answer r b now status m)))
 
-    by_tests : (s t : Bool) → AllByRecursion IsHonest (chosen s t).upward → IsSpent test server r (chosen s t)
+    by_tests : (s t : Bool) → AllByRecursion IsHonest (chosen s t).upward → IsCounted test server r (chosen s t)
     by_tests true t own =
-        settled_spent now [] (relayed_provisional r b status m) r (with_phase b (heard r now status b.phase) r)
-        (phased_less r b b.final_to (heard r now status b.phase) fine there (heard_calming r now status b target)) fine.answer own
-    by_tests false true own = settled_spent now [] (further r b b.phase status m) r r (same_less r fine.each) fine.answer own
+        settled_counted now [] (relayed_provisional r b status m) r (with_phase b (heard r now status b.phase) r)
+        (phased_less r b b.final_to (heard r now status b.phase) fine there (heard_leaves r now status b target)) fine.answer own
+    by_tests false true own = settled_counted now [] (further r b b.phase status m) r r (same_less r fine.each) fine.answer own
     by_tests false false own =
         let less = answer_less now r b status m fine there in
-        settled_spent now (acks_of server r b status m) (relayed_success r b status m) r (with_answer r b now status m) less.0 less.1 own
+        settled_counted now (acks_of server r b status m) (relayed_success r b status m) r (with_answer r b now status m) less.0 less.1 own
 
   -- a response
-  response_spent : (now : ℕ) (r : OpenRequest) (b : Branch) (status : ℕ) (m : Message) → IsFine r → IsIn b r.branches → AllByRecursion IsHonest (responded server now r b status m).upward
-      → IsSpent test server r (responded server now r b status m)
-  response_spent now r b status m fine there honest = by_kind b.is_cancel refl honest where
+  response_counted : (now : ℕ) (r : OpenRequest) (b : Branch) (status : ℕ) (m : Message) → IsFine r → IsIn b r.branches → AllByRecursion IsHonest (responded server now r b status m).upward
+      → IsCounted test server r (responded server now r b status m)
+  response_counted now r b status m fine there honest = by_kind b.is_cancel refl honest where
     by_kind : (t : Bool) → b.is_cancel ≡ t → AllByRecursion IsHonest (cond t (cancel_responded server now r b status m) (target_responded server now r b status m)).upward
-        → IsSpent test server r (cond t (cancel_responded server now r b status m) (target_responded server now r b status m))
-    by_kind true is own = cancel_spent now r b status m fine there is own
-    by_kind false is own = target_spent now r b status m fine there is own
+        → IsCounted test server r (cond t (cancel_responded server now r b status m) (target_responded server now r b status m))
+    by_kind true is own = cancel_counted now r b status m fine there is own
+    by_kind false is own = target_counted now r b status m fine there is own
 
   -- the deadline of a branch
   overdue_less : (r : OpenRequest) (b : Branch) (phase : Phase) → IsFine r → IsIn b r.branches → IsLess r (target_overdue r b phase) × IsNoCancel (target_overdue r b phase).answer
@@ -238,51 +238,51 @@ module _ (laws : AreCopyLaws) (test : Packet → Bool) (server : Server) where
   overdue_less r b (Heard due) fine there = by_test (is_invite r) where
     by_test : (t : Bool) → IsLess r (cond t (record r { branches = map (λ (x : Branch). cond (is_same_branch x b) (record x { wants_cancel = true }) x) r.branches }) (given_up b 408 r))
         × IsNoCancel (cond t (record r { branches = map (λ (x : Branch). cond (is_same_branch x b) (record x { wants_cancel = true }) x) r.branches }) (given_up b 408 r)).answer
-    by_test true = (mapped_less r (λ (x : Branch). cond (is_same_branch x b) (record x { wants_cancel = true }) x) (λ x here. wanted_calmer (is_same_branch x b) x) fine.each, fine.answer)
+    by_test true = (mapped_less r (λ (x : Branch). cond (is_same_branch x b) (record x { wants_cancel = true }) x) (λ x here. wanted_no_more (is_same_branch x b) x) fine.each, fine.answer)
     by_test false = (given_up_less r b 408 fine there, fine.answer)
   overdue_less r b (Cancelled due) fine there = (given_up_less r b 487 fine there, fine.answer)
-  overdue_less r b (Done due status) fine there = (phased_less r b b.final_to Ended fine there (ended_calming b), fine.answer)
+  overdue_less r b (Done due status) fine there = (phased_less r b b.final_to Ended fine there (ended_leaves b), fine.answer)
   overdue_less r b Ended fine there = (same_less r fine.each, fine.answer)
 
   branch_less : (r : OpenRequest) (b : Branch) → IsFine r → IsIn b r.branches → IsLess r (branch_overdue r b) × IsNoCancel (branch_overdue r b).answer
   branch_less r b fine there = by_kind b.is_cancel where
     by_kind : (t : Bool) → IsLess r (cond t (with_phase b Ended r) (target_overdue r b b.phase)) × IsNoCancel (cond t (with_phase b Ended r) (target_overdue r b b.phase)).answer
-    by_kind true = (phased_less r b b.final_to Ended fine there (ended_calming b), fine.answer)
+    by_kind true = (phased_less r b b.final_to Ended fine there (ended_leaves b), fine.answer)
     by_kind false = overdue_less r b b.phase fine there
 
   -- a deadline
-  deadline_spent : (now : ℕ) (r : OpenRequest) (change : Change) → IsFine r → IsOverdue server now r change → AllByRecursion IsHonest change.upward → IsSpent test server r change
-  deadline_spent now r _ fine (OfSide is) honest =
-      settled_spent now [] None r (record r { side = Closed })
-      (record { number_is = refl; asks_same = λ test server number uri address. refl; fewer = λ g. omega arith; slots = λ n. omega arith; each = fine.each }) fine.answer honest
-  deadline_spent now r _ fine (OfBranch b there is) honest =
-      let less = branch_less r b fine (in_list r.branches b there) in settled_spent now [] None r (branch_overdue r b) less.0 less.1 honest
+  deadline_counted : (now : ℕ) (r : OpenRequest) (change : Change) → IsFine r → IsOverdue server now r change → AllByRecursion IsHonest change.upward → IsCounted test server r change
+  deadline_counted now r _ fine (OfSide is) honest =
+      settled_counted now [] None r (record r { side = Closed })
+      (record { number_is = refl; asks_same = λ test server number uri address. refl; fewer = λ g. omega arith; places = λ n. omega arith; each = fine.each }) fine.answer honest
+  deadline_counted now r _ fine (OfBranch b there is) honest =
+      let less = branch_less r b fine (in_list r.branches b there) in settled_counted now [] None r (branch_overdue r b) less.0 less.1 honest
 
   -- the caller's CANCEL
-  caller_spent : (now : ℕ) (r : OpenRequest) (t : Bool) → IsFine r → AllByRecursion IsHonest (settled server now [] None (cond t (marked r) r)).upward → IsSpent test server r (settled server now [] None (cond t (marked r) r))
-  caller_spent now r true fine honest = settled_spent now [] None r (marked r) (marked_less r fine.each) fine.answer honest
-  caller_spent now r false fine honest = settled_spent now [] None r r (same_less r fine.each) fine.answer honest
+  caller_counted : (now : ℕ) (r : OpenRequest) (t : Bool) → IsFine r → AllByRecursion IsHonest (settled server now [] None (cond t (marked r) r)).upward → IsCounted test server r (settled server now [] None (cond t (marked r) r))
+  caller_counted now r true fine honest = settled_counted now [] None r (marked r) (marked_less r fine.each) fine.answer honest
+  caller_counted now r false fine honest = settled_counted now [] None r r (same_less r fine.each) fine.answer honest
 
   -- any change
-  spent : (state : ProxyState) (act : Act) (now : ℕ) (r : OpenRequest) (change : Change) (again : List Packet) → IsChangeAt server state act now r change again → IsFine r → AllByRecursion IsHonest change.upward
-      → IsSpent test server r change
-  spent state act now r _ _ (ByResponse a bytes m status reason b said start for there) fine honest = response_spent now r b status m fine (in_list r.branches b there) honest
-  spent state act now r change _ (ByDeadline _ passes) fine honest = deadline_spent now r change fine passes honest
-  spent state act now r _ _ (ByFault at ticket b is number found) fine honest =
-      settled_spent now [] None r (given_up b 503 r) (given_up_less r b 503 fine (found_in (is_failed ticket.branch) r.branches b found).0) fine.answer honest
-  spent state act now r _ _ (ByCancel a bytes m short key said is key_is found) fine honest = caller_spent now r (is_invite r && is_answering r.side) fine honest
+  change_counted : (state : ProxyState) (act : Act) (now : ℕ) (r : OpenRequest) (change : Change) (again : List Packet) → IsChangeAt server state act now r change again → IsFine r → AllByRecursion IsHonest change.upward
+      → IsCounted test server r change
+  change_counted state act now r _ _ (ByResponse a bytes m status reason b said start for there) fine honest = response_counted now r b status m fine (in_list r.branches b there) honest
+  change_counted state act now r change _ (ByDeadline _ passes) fine honest = deadline_counted now r change fine passes honest
+  change_counted state act now r _ _ (ByFault at ticket b is number found) fine honest =
+      settled_counted now [] None r (given_up b 503 r) (given_up_less r b 503 fine (found_in (is_failed ticket.branch) r.branches b found).0) fine.answer honest
+  change_counted state act now r _ _ (ByCancel a bytes m short key said is key_is found) fine honest = caller_counted now r (is_invite r && is_answering r.side) fine honest
 
   -- Whatever changes a request, it stays fine, and ten more copies of a CANCEL are left for each that is sent with it.
-  pub change_spent : (state : ProxyState) (act : Act) (now : ℕ) (r : OpenRequest) (change : Change) (again : List Packet) → IsChangeAt server state act now r change again → IsFine r
-      → IsSpent test server r change × IsFine change.request
-  change_spent state act now r change again is fine =
+  pub change_leaves : (state : ProxyState) (act : Act) (now : ℕ) (r : OpenRequest) (change : Change) (again : List Packet) → IsChangeAt server state act now r change again → IsFine r
+      → IsCounted test server r change × IsFine change.request
+  change_leaves state act now r change again is fine =
       let sound : IsSound r change = change_sound server state act now r change again is fine.keeps in
-      let own : IsSpent test server r change = spent state act now r change again is fine sound.honest in
+      let own : IsCounted test server r change = change_counted state act now r change again is fine sound.honest in
       let follows : Succeeds r change.request = change_succeeds server state act now r change again is fine.apart in (
         own,
         record {
           apart = λ n. let few = fine.apart n in let same = follows.no_more n in omega (arith, few, same);
-          slots = λ n. let few = fine.slots n in let less = own.slots n in omega (arith, few, less);
+          places = λ n. let few = fine.places n in let less = own.places n in omega (arith, few, less);
           each = own.each;
           answer = own.answer;
           keeps = sound.is_like.keeps;

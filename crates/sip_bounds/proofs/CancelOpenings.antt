@@ -21,9 +21,9 @@ use Rattle.sip_bounds.proofs.SendingLists.{count_cons, count_joined, one_at, non
 use Rattle.sip_bounds.proofs.SendingBranches.{is_target, Succeeds, succeeds_alike}
 use Rattle.sip_bounds.proofs.SendingTimes.{AreCopyLaws}
 use Rattle.sip_bounds.proofs.SendingChanges.{settled_succeeds}
-use Rattle.sip_bounds.proofs.CancelBranches.{Asks, left, left_cons, is_early, is_slot, IsSteady}
+use Rattle.sip_bounds.proofs.CancelBranches.{Asks, copies_left, left_cons, is_early, is_place, IsSteady}
 use Rattle.sip_bounds.proofs.CancelTexts.{IsNoCancel, answer_begins, upward_no, asks}
-use Rattle.sip_bounds.proofs.CancelChanges.{IsFine, IsLess, same_less, IsSpent, settled_spent}
+use Rattle.sip_bounds.proofs.CancelChanges.{IsFine, IsLess, same_less, IsCounted, settled_counted}
 
 -- ---- branches that are first sent
 
@@ -47,14 +47,14 @@ begun_one p n own now number (b ∷ bs) h = by_test (p b) refl (begun_one p n ow
   by_test false is rest = omega (arith, count_cons p b bs, none_at (p b) is, rest)
 
 -- those of one number
-slot_number : (n : ℕ) (b : Branch) → is_slot n b ≡ true → b.number ≡ n
-slot_number n b is = number_is b.number n (both_pass (b.number == n) (b.is_cancel || is_early b.phase) is).0
+place_number : (n : ℕ) (b : Branch) → is_place n b ≡ true → b.number ≡ n
+place_number n b is = number_is b.number n (both_pass (b.number == n) (b.is_cancel || is_early b.phase) is).0
 
 target_number : (n : ℕ) (b : Branch) → is_target n b ≡ true → b.number ≡ n
 target_number n b is = number_is b.number n (both_pass (not b.is_cancel) (b.number == n) is).1
 
 -- none is a CANCEL
-begun_left : (g : Asks) (now number : ℕ) (bs : List Branch) → AreBegun now number bs → left g bs ≡ 0
+begun_left : (g : Asks) (now number : ℕ) (bs : List Branch) → AreBegun now number bs → copies_left g bs ≡ 0
 begun_left g now number [] h = refl
 begun_left g now number (b ∷ bs) h = omega (arith, left_cons g b bs, none (g b.number b.uri b.address) b.is_cancel (other_copies_left b.phase b.again) h.0.is_target, begun_left g now (number + 1) bs h.1) where
   none : (s t : Bool) (n : ℕ) → t ≡ false → cond {A = ℕ} (t && s) n 0 ≡ 0
@@ -95,7 +95,7 @@ tried_well server now r each no_cancel keeps = by_test (is_tried r) where
 
   by_test : (t : Bool) → IsTried r (tried now (cond t (record { status = 100; message = made_answer server r.number r.request r.source 100 []; target = None } ∷ []) []) r)
   by_test true = record {
-    less = record { number_is = refl; asks_same = λ test server number uri address. refl; fewer = λ g. omega arith; slots = λ n. omega arith; each = each };
+    less = record { number_is = refl; asks_same = λ test server number uri address. refl; fewer = λ g. omega arith; places = λ n. omega arith; each = each };
     answer = upward_no now (Some hundred) r (honest, tt) no_cancel;
     like = record { number_is = refl; key_is = refl; keeps = keeps };
     succeeds = succeeds_alike r (answered now hundred r) refl refl refl;
@@ -106,29 +106,29 @@ tried_well server now r each no_cancel keeps = by_test (is_tried r) where
 
 -- What is opened is fine, and has no more copies left than ten for each CANCEL that was sent with it.
 pub record IsOpenedWell (test : Packet → Bool) (server : Server) (r : OpenRequest) (firsts : List Packet) : Type 0 where
-  pub fewer : left (asks test server r) r.branches ≤ 10 * count_by test firsts
+  pub fewer : copies_left (asks test server r) r.branches ≤ 10 * count_by test firsts
   pub fine : IsFine r
 
 module _ (laws : AreCopyLaws) (test : Packet → Bool) (server : Server) where
   -- one that is answered at once
   answered_well : (a : Arrival) (m : Message) (status : ℕ) (text : List ℕ) (firsts : List Packet) → IsNoCancel (closing a m status text).answer → IsOpenedWell test server (closing a m status text) firsts
-  answered_well a m status text firsts no_cancel = record { fewer = omega arith; fine = record { apart = λ n. omega arith; slots = λ n. omega arith; each = tt; answer = no_cancel; keeps = tt } }
+  answered_well a m status text firsts no_cancel = record { fewer = omega arith; fine = record { apart = λ n. omega arith; places = λ n. omega arith; each = tt; answer = no_cancel; keeps = tt } }
 
   -- one that is sent to its branches
   sent_well : (a : Arrival) (m : Message) (bs : List Branch) → AreBegun a.now 1 bs → IsOpenedWell test server (opening server a.now (forking a m bs)).request (opening_packets server a.now (forking a m bs))
   sent_well a m bs begun = record {
     fewer = omega (
       arith,
-      spent.fewer,
+      change_counted.fewer,
       begun_left (asks test server fork) a.now 1 bs begun,
       count_joined test (upward_packets fork (trying server fork) ++ change_packets (opening server a.now fork)) (flat_map (branch_packets server false fork) bs),
       count_joined test (upward_packets fork (trying server fork)) (change_packets (opening server a.now fork)),
     );
     fine = record {
       apart = λ n. let same = (settled_succeeds server a.now [] None fork (tried a.now (trying server fork) fork) well.succeeds).no_more n in let one = begun_one (is_target n) n (target_number n) a.now 1 bs begun in omega (arith, same, one);
-      slots = λ n. let less = spent.slots n in let one = begun_one (is_slot n) n (slot_number n) a.now 1 bs begun in omega (arith, less, one);
-      each = spent.each;
-      answer = spent.answer;
+      places = λ n. let less = change_counted.places n in let one = begun_one (is_place n) n (place_number n) a.now 1 bs begun in omega (arith, less, one);
+      each = change_counted.each;
+      answer = change_counted.answer;
       keeps = sound.is_like.keeps;
     };
   } where
@@ -141,8 +141,8 @@ module _ (laws : AreCopyLaws) (test : Packet → Bool) (server : Server) where
     sound : IsSound fork (opening server a.now fork)
     sound = settled_sound server a.now [] None fork (tried a.now (trying server fork) fork) tt tt well.like
 
-    spent : IsSpent test server fork (opening server a.now fork)
-    spent = settled_spent laws test server a.now [] None fork (tried a.now (trying server fork) fork) well.less well.answer sound.honest
+    change_counted : IsCounted test server fork (opening server a.now fork)
+    change_counted = settled_counted laws test server a.now [] None fork (tried a.now (trying server fork) fork) well.less well.answer sound.honest
 
   -- either
   pub opening_well : (a : Arrival) (m : Message) (r : OpenRequest) (firsts : List Packet) → IsOpening server a m r firsts → IsOpenedWell test server r firsts

@@ -32,9 +32,9 @@ use Rattle.sip_bounds.proofs.SendingRequests.{all_replaced}
 use Rattle.sip_bounds.proofs.SendingOpenings.{opening_number}
 use Rattle.sip_bounds.proofs.SendingSteps.{said_next}
 use Rattle.sip_bounds.proofs.SendingCopies.{due_is}
-use Rattle.sip_bounds.proofs.CancelBranches.{Asks, cost, left, is_slot, IsSteady, IsCalmer, calm, mapped_left, mapped_slots, mapped_each, mapped_falls, alone}
+use Rattle.sip_bounds.proofs.CancelBranches.{Asks, copies_of, copies_left, is_place, IsSteady, SendsNoMore, sends_the_same, mapped_left, mapped_places, mapped_each, mapped_one_less, alone}
 use Rattle.sip_bounds.proofs.CancelTexts.{IsTest, IsNoCancel, answers_none, acked_none, target_none, asks, cancel_copy}
-use Rattle.sip_bounds.proofs.CancelChanges.{IsFine, change_spent}
+use Rattle.sip_bounds.proofs.CancelChanges.{IsFine, change_leaves}
 use Rattle.sip_bounds.proofs.CancelOpenings.{IsOpenedWell, opening_well}
 
 -- ---- all open requests
@@ -92,13 +92,13 @@ cancel_next r b cancel = by_tests (is_invite r) (is_unheard b.phase) where
   by_tests false false = refl
 
 -- each copy by its deadline leaves one less
-falls : AreCopyLaws → (phase : Phase) (again : Resend) → is_cancelled_again phase ≡ true → ((until : ℕ) → phase_deadline phase ≡ Some until → again.due ≤ until) → IsNearEnd phase again
+leaves_one_less : AreCopyLaws → (phase : Phase) (again : Resend) → is_cancelled_again phase ≡ true → ((until : ℕ) → phase_deadline phase ≡ Some until → again.due ≤ until) → IsNearEnd phase again
     → (other_copies_left phase (next_time false phase again) + 1 ≡ other_copies_left phase again) × IsNearEnd phase (next_time false phase again)
-falls laws (Unheard until) again goes early near = (laws.less_unheard until again near (early until refl), laws.timely_again until 4000 again (omega arith) near)
-falls laws (Heard until) again goes early near = (laws.less_heard until again near (early until refl), laws.timely_heard until again near)
-falls laws (Cancelled until) again goes early near = absurd (cc)
-falls laws (Done until status) again goes early near = absurd (cc)
-falls laws Ended again goes early near = absurd (cc)
+leaves_one_less laws (Unheard until) again goes early near = (laws.less_unheard until again near (early until refl), laws.timely_again until 4000 again (omega arith) near)
+leaves_one_less laws (Heard until) again goes early near = (laws.less_heard until again near (early until refl), laws.timely_heard until again near)
+leaves_one_less laws (Cancelled until) again goes early near = absurd (cc)
+leaves_one_less laws (Done until status) again goes early near = absurd (cc)
+leaves_one_less laws Ended again goes early near = absurd (cc)
 
 -- a branch is the same as itself
 same_itself : (b : Branch) → is_same_branch b b ≡ true
@@ -108,61 +108,61 @@ same_itself b = by_tests (b.number == b.number) b.is_cancel (same_number b.numbe
   by_tests true false is = refl
   by_tests false t is = absurd (cc)
 
--- a CANCEL that goes again: each branch is calmer, and it has one copy less
-record IsFalling (r : OpenRequest) (b : Branch) (next : Resend) : Type 0 where
-  calmer : (x : Branch) → IsIn x r.branches → IsCalmer x (resent_branch b next x)
-  less : (g : Asks) → cost g (resent_branch b next b) + cond {A = ℕ} (g b.number b.uri b.address) 1 0 ≤ cost g b
+-- a CANCEL that goes again: each branch sends no more copies, and it sends one less
+record IsOneLess (r : OpenRequest) (b : Branch) (next : Resend) : Type 0 where
+  none_more_often : (x : Branch) → IsIn x r.branches → SendsNoMore x (resent_branch b next x)
+  less : (g : Asks) → copies_of g (resent_branch b next b) + cond {A = ℕ} (g b.number b.uri b.address) 1 0 ≤ copies_of g b
 
-cancel_falls : (r : OpenRequest) (b : Branch) (next : Resend) → IsFine r → IsIn b r.branches → b.is_cancel ≡ true → other_copies_left b.phase next + 1 ≡ other_copies_left b.phase b.again → IsNearEnd b.phase next → IsFalling r b next
-cancel_falls r b next fine there cancel one near = record { calmer = λ x here. by_test x here (is_same_branch x b) refl; less = λ g. at_itself g (is_same_branch b b) (same_itself b) } where
-  own : IsCalmer b (record b { again = next })
+cancel_one_less : (r : OpenRequest) (b : Branch) (next : Resend) → IsFine r → IsIn b r.branches → b.is_cancel ≡ true → other_copies_left b.phase next + 1 ≡ other_copies_left b.phase b.again → IsNearEnd b.phase next → IsOneLess r b next
+cancel_one_less r b next fine there cancel one near = record { none_more_often = λ x here. by_test x here (is_same_branch x b) refl; less = λ g. at_itself g (is_same_branch b b) (same_itself b) } where
+  own : SendsNoMore b (record b { again = next })
   own = record { kind = refl; number_is = refl; goes = λ g. refl; fewer = λ is. omega (arith, one); near = λ is h. near; early = λ is h. h }
 
-  by_test : (x : Branch) → IsIn x r.branches → (t : Bool) → is_same_branch x b ≡ t → IsCalmer x (cond t (record x { again = next }) x)
-  by_test x here true same = subst (λ (y : Branch). IsCalmer y (record y { again = next })) (sym (alone r.branches b fine.apart fine.slots there x here same)) own
-  by_test x here false same = calm x
+  by_test : (x : Branch) → IsIn x r.branches → (t : Bool) → is_same_branch x b ≡ t → SendsNoMore x (cond t (record x { again = next }) x)
+  by_test x here true same = subst (λ (y : Branch). SendsNoMore y (record y { again = next })) (sym (alone r.branches b fine.apart fine.places there x here same)) own
+  by_test x here false same = sends_the_same x
 
   counted : (s t : Bool) (m n : ℕ) → s ≡ true → m + 1 ≡ n → cond {A = ℕ} (s && t) m 0 + cond {A = ℕ} t 1 0 ≤ cond {A = ℕ} (s && t) n 0
   counted true true m n is e = omega (arith, e)
   counted true false m n is e = omega arith
   counted false t m n is e = absurd (cc)
 
-  at_itself : (g : Asks) (t : Bool) → t ≡ true → cost g (cond t (record b { again = next }) b) + cond {A = ℕ} (g b.number b.uri b.address) 1 0 ≤ cost g b
+  at_itself : (g : Asks) (t : Bool) → t ≡ true → copies_of g (cond t (record b { again = next }) b) + cond {A = ℕ} (g b.number b.uri b.address) 1 0 ≤ copies_of g b
   at_itself g true is = counted b.is_cancel (g b.number b.uri b.address) (other_copies_left b.phase next) (other_copies_left b.phase b.again) cancel one
   at_itself g false is = absurd (cc)
 
 -- a branch to a target that goes again
-target_calmer : (r : OpenRequest) (b : Branch) (next : Resend) → IsFine r → IsIn b r.branches → b.is_cancel ≡ false → (x : Branch) → IsIn x r.branches → IsCalmer x (resent_branch b next x)
-target_calmer r b next fine there target x here = by_test (is_same_branch x b) refl where
-  own : IsCalmer b (record b { again = next })
+target_no_more : (r : OpenRequest) (b : Branch) (next : Resend) → IsFine r → IsIn b r.branches → b.is_cancel ≡ false → (x : Branch) → IsIn x r.branches → SendsNoMore x (resent_branch b next x)
+target_no_more r b next fine there target x here = by_test (is_same_branch x b) refl where
+  own : SendsNoMore b (record b { again = next })
   own = record { kind = refl; number_is = refl; goes = λ g. refl; fewer = λ is. absurd (cc); near = λ is h. absurd (cc); early = λ is h. h }
 
-  by_test : (t : Bool) → is_same_branch x b ≡ t → IsCalmer x (cond t (record x { again = next }) x)
-  by_test true same = subst (λ (y : Branch). IsCalmer y (record y { again = next })) (sym (alone r.branches b fine.apart fine.slots there x here same)) own
-  by_test false same = calm x
+  by_test : (t : Bool) → is_same_branch x b ≡ t → SendsNoMore x (cond t (record x { again = next }) x)
+  by_test true same = subst (λ (y : Branch). SendsNoMore y (record y { again = next })) (sym (alone r.branches b fine.apart fine.places there x here same)) own
+  by_test false same = sends_the_same x
 
 -- What goes again leaves no more copies than before, together with itself.
 pub record IsResentWell (test : Packet → Bool) (server : Server) (r later : OpenRequest) (again : List Packet) : Type 0 where
   pub number_is : later.number ≡ r.number
-  pub fewer : left (asks test server later) later.branches + count_by test again ≤ left (asks test server r) r.branches
+  pub fewer : copies_left (asks test server later) later.branches + count_by test again ≤ copies_left (asks test server r) r.branches
   pub fine : IsFine later
 
 -- a request that is acknowledged, or whose answer goes again
 pub same_fine : (r later : OpenRequest) → later.branches ≡ r.branches → later.answer ≡ r.answer → later.finals ≡ r.finals → IsFine r → IsFine later
 same_fine r later branches answer finals fine = record {
   apart = λ n. subst (λ (bs : List Branch). count_by (is_target n) bs ≤ 1) (sym branches) (fine.apart n);
-  slots = λ n. subst (λ (bs : List Branch). count_by (is_slot n) bs ≤ 1) (sym branches) (fine.slots n);
+  places = λ n. subst (λ (bs : List Branch). count_by (is_place n) bs ≤ 1) (sym branches) (fine.places n);
   each = subst (AllByRecursion IsSteady) (sym branches) fine.each;
   answer = subst IsNoCancel (sym answer) fine.answer;
   keeps = subst (AllByRecursion IsKept) (sym finals) fine.keeps;
 }
 
 -- one of which a branch goes again
-branch_fine : (r : OpenRequest) (b : Branch) (next : Resend) → ((x : Branch) → IsIn x r.branches → IsCalmer x (resent_branch b next x)) → IsFine r → IsFine (record r { branches = map (resent_branch b next) r.branches })
-branch_fine r b next calmer fine = record {
+branch_fine : (r : OpenRequest) (b : Branch) (next : Resend) → ((x : Branch) → IsIn x r.branches → SendsNoMore x (resent_branch b next x)) → IsFine r → IsFine (record r { branches = map (resent_branch b next) r.branches })
+branch_fine r b next none_more_often fine = record {
   apart = λ n. let own = fine.apart n in let same = mapped_count (resent_branch b next) n r.branches (λ x. kept x (is_same_branch x b)) (λ x. numbered x (is_same_branch x b)) in omega (arith, own, same);
-  slots = λ n. let own = fine.slots n in let less = mapped_slots n (resent_branch b next) r.branches calmer in omega (arith, own, less);
-  each = mapped_each (resent_branch b next) r.branches calmer fine.each;
+  places = λ n. let own = fine.places n in let less = mapped_places n (resent_branch b next) r.branches none_more_often in omega (arith, own, less);
+  each = mapped_each (resent_branch b next) r.branches none_more_often fine.each;
   answer = fine.answer;
   keeps = fine.keeps;
 } where
@@ -183,29 +183,29 @@ module _ (laws : AreCopyLaws) (test : Packet → Bool) (is_test : IsTest test) (
   cancel_well now requests r b none there fine inside cancel due =
       let is_due = due_is r b now due in
       let goes : is_cancelled_again b.phase ≡ true = sym (ap (λ (t : Bool). cond t (is_cancelled_again b.phase) (is_sent_again (is_invite r) b.phase)) cancel) ∙ is_due.0 in
-      let one = falls laws b.phase b.again goes (λ until is. let before = not_passed now requests r b until none there inside is in omega (arith, before, is_due.1)) ((all_in IsSteady r.branches b fine.each inside).1 cancel) in
+      let one = leaves_one_less laws b.phase b.again goes (λ until is. let before = not_passed now requests r b until none there inside is in omega (arith, before, is_due.1)) ((all_in IsSteady r.branches b fine.each inside).1 cancel) in
       let next = cancel_next r b cancel in
-      let falling : IsFalling r b (branch_next r b) =
-      cancel_falls r b (branch_next r b) fine inside cancel (subst (λ (again : Resend). other_copies_left b.phase again + 1 ≡ other_copies_left b.phase b.again) (sym next) one.0)
+      let one_less : IsOneLess r b (branch_next r b) =
+      cancel_one_less r b (branch_next r b) fine inside cancel (subst (λ (again : Resend). other_copies_left b.phase again + 1 ≡ other_copies_left b.phase b.again) (sym next) one.0)
       (subst (λ (again : Resend). IsNearEnd b.phase again) (sym next) one.1) in
       record {
         number_is = refl;
         fewer = omega (
           arith,
-          mapped_falls (asks test server r) (resent_branch b (branch_next r b)) b (cond {A = ℕ} (asks test server r b.number b.uri b.address) 1 0) r.branches falling.calmer inside (falling.less (asks test server r)),
+          mapped_one_less (asks test server r) (resent_branch b (branch_next r b)) b (cond {A = ℕ} (asks test server r b.number b.uri b.address) 1 0) r.branches one_less.none_more_often inside (one_less.less (asks test server r)),
           cancel_copy test is_test server r b cancel,
         );
-        fine = branch_fine r b (branch_next r b) falling.calmer fine;
+        fine = branch_fine r b (branch_next r b) one_less.none_more_often fine;
       }
 
   -- a request to a target
   target_well : (r : OpenRequest) (b : Branch) → IsFine r → IsIn b r.branches → b.is_cancel ≡ false → IsResentWell test server r (with_resend b r) (branch_packets server true r b)
   target_well r b fine inside target =
-      let calmer : (x : Branch) → IsIn x r.branches → IsCalmer x (resent_branch b (branch_next r b) x) = target_calmer r b (branch_next r b) fine inside target in
+      let none_more_often : (x : Branch) → IsIn x r.branches → SendsNoMore x (resent_branch b (branch_next r b) x) = target_no_more r b (branch_next r b) fine inside target in
       record {
         number_is = refl;
-        fewer = omega (arith, mapped_left (asks test server r) (resent_branch b (branch_next r b)) r.branches calmer, target_none test is_test server r b target (all_in IsSteady r.branches b fine.each inside).0);
-        fine = branch_fine r b (branch_next r b) calmer fine;
+        fewer = omega (arith, mapped_left (asks test server r) (resent_branch b (branch_next r b)) r.branches none_more_often, target_none test is_test server r b target (all_in IsSteady r.branches b fine.each inside).0);
+        fine = branch_fine r b (branch_next r b) none_more_often fine;
       }
 
   -- anything
@@ -235,7 +235,7 @@ module _ (laws : AreCopyLaws) (test : Packet → Bool) (is_test : IsTest test) (
 
   -- how many copies their CANCELs may still send
   abbrev pub total : List OpenRequest → ℕ
-  total requests = sum_by (λ (r : OpenRequest). left (asks test server r) r.branches) requests
+  total requests = sum_by (λ (r : OpenRequest). copies_left (asks test server r) r.branches) requests
 
   -- What a part leaves: all stands, and no more copies are left than before, with those that were sent, and ten more for each first sending.
   pub record IsWell (next : ℕ) (requests after : List OpenRequest) (firsts again : List Packet) : Type 0 where
@@ -248,17 +248,17 @@ module _ (laws : AreCopyLaws) (test : Packet → Bool) (is_test : IsTest test) (
 
   -- a request replaces the one of its number
   replaced_well : (next : ℕ) (requests : List OpenRequest) (firsts again : List Packet) (r new : OpenRequest) → IsIn r requests → new.number ≡ r.number → IsFine new
-      → left (asks test server new) new.branches + count_by test again ≤ left (asks test server r) r.branches + 10 * count_by test firsts → Stands next requests → IsWell next requests (replaced new requests) firsts again
+      → copies_left (asks test server new) new.branches + count_by test again ≤ copies_left (asks test server r) r.branches + 10 * count_by test firsts → Stands next requests → IsWell next requests (replaced new requests) firsts again
   replaced_well next requests firsts again r new there same fine fewer h = record {
     stands = record { numbered = numbered_replaced next new requests h.numbered; fine = all_replaced IsFine new requests h.fine fine };
-    fewer = let sum = replaced_sum (λ (x : OpenRequest). left (asks test server x) x.branches) new r requests (h.numbered.differ new.number) same there in omega (arith, sum, fewer);
+    fewer = let sum = replaced_sum (λ (x : OpenRequest). copies_left (asks test server x) x.branches) new r requests (h.numbered.differ new.number) same there in omega (arith, sum, fewer);
   }
 
   -- a change of an open request
   change_well : (state : ProxyState) (act : Act) (now next : ℕ) (requests : List OpenRequest) (r : OpenRequest) (change : Change) (again : List Packet) → IsIn r requests → IsChangeAt server state act now r change again
       → Stands next requests → IsWell next requests (replaced change.request requests) (change_packets change) again
   change_well state act now next requests r change again there is h =
-      let own = change_spent laws test server state act now r change again is (all_in IsFine requests r h.fine there) in
+      let own = change_leaves laws test server state act now r change again is (all_in IsFine requests r h.fine there) in
       let fewer = own.0.fewer in
       replaced_well next requests (change_packets change) again r change.request there own.0.number_is own.1 (omega (arith, fewer, change_none state act now r change again is)) h
 
@@ -290,7 +290,7 @@ module _ (laws : AreCopyLaws) (test : Packet → Bool) (is_test : IsTest test) (
             numbered = subst (λ (n : ℕ). AreNumbered n (requests ++ r ∷ [])) (sym next.0) (numbered_push state.next r requests (opening_number server a m r firsts opening ∙ next.1) h.numbered);
             fine = all_joined IsFine requests (r ∷ []) h.fine (opened.fine, tt);
           };
-          fewer = omega (arith, fewer, sum_by_push (λ (x : OpenRequest). left (asks test server x) x.branches) requests r);
+          fewer = omega (arith, fewer, sum_by_push (λ (x : OpenRequest). copies_left (asks test server x) x.branches) requests r);
         })
     by_part (Changes r change there is e p) =
         told (replaced change.request requests) (change_packets change) again e p refl (change_well state act now (next_after state act) requests r change again (in_list requests r there) is moved)
