@@ -1,5 +1,6 @@
 //! What a history sends and keeps is bounded (RFC 3261 16.7, 16.8, 17): how many final answers go to a caller, how
-//! often a request goes out to a target, and how long it stays open. Nothing runs here; `run`, `replay` and `serve` call the law of all of it.
+//! often a request and a CANCEL go out to a target, and how long a request stays open. Nothing runs here; `run`,
+//! `replay` and `serve` call the law of all of it.
 #![tactic(auto)]
 
 pub mod bounds;
