@@ -102,13 +102,17 @@ pub no_longer : {X : Type 0} (xs : List X) (x : X) → (xs ++ x ∷ []) ≡ xs �
 no_longer [] x e = some_is_not_none x [] e
 no_longer {X} (y ∷ xs) x e = no_longer xs x (ap (λ (l : List X). drop 1 l) e)
 
--- Where no request is open, nothing goes beside what a datagram gets.
+-- Where no request is open, a step sends for the first time what its datagram gets.
+pub none_open : (server : Server) (earlier : List Link) (link : Link) → link.before.requests ≡ [] → Access server (link ∷ earlier)
+    → originals link.out.packets ≡ sent_for server link.before link.act
+none_open server earlier link none access =
+    sends_alone server (link ∷ earlier) link.before link.act link.out.at
+    (subst (λ (rs : List OpenRequest). AllByRecursion (IsIdle server (link ∷ earlier) link.before link.act link.out.at) rs) (sym none) tt) (originals link.out.packets) access.0.sent
+
+-- so nothing goes beside that
 pub nothing_beside : (server : Server) (earlier : List Link) (link : Link) (p : Packet) → p.again ≡ false → link.before.requests ≡ []
     → link.out.packets ≡ sent_for server link.before link.act ++ p ∷ [] → Access server (link ∷ earlier) → ⊥
 nothing_beside server earlier link p first none packets access =
     let gets : List Packet = sent_for server link.before link.act in
     let all : originals (gets ++ p ∷ []) ≡ gets ++ p ∷ [] = firsts_are_originals (gets ++ p ∷ []) (all_append IsFirst gets (p ∷ []) (sent_first_only server link.before link.act) (first, tt)) in
-    no_longer gets p
-    (sym all ∙ ap originals (sym packets)
-    ∙ sends_alone server (link ∷ earlier) link.before link.act link.out.at
-    (subst (λ (rs : List OpenRequest). AllByRecursion (IsIdle server (link ∷ earlier) link.before link.act link.out.at) rs) (sym none) tt) (originals link.out.packets) access.0.sent)
+    no_longer gets p (sym all ∙ ap originals (sym packets) ∙ none_open server earlier link none access)

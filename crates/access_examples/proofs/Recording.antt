@@ -1,5 +1,5 @@
 -- Records that nothing makes.
-use Rattle.std.proofs.Common.{◌≡◌, ℕ, List, [], ◌∷◌, length, drop, Option, Some, None, refl, sym, ap, ◌∙◌}
+use Rattle.std.proofs.Common.{◌≤◌, suc, subst, arith, ◌≡◌, ℕ, List, [], ◌∷◌, length, drop, Option, Some, None, refl, sym, ap, ◌∙◌}
 use Rattle.std.specs.Option.{option_map_or}
 use Rattle.std.specs.Fmt.{digits}
 use Rattle.hex.specs.Hex.{encode_with}
@@ -40,6 +40,13 @@ one_record server state act = by_found (judged_at server state act) where
   by_found : (found : Option Judged) → drop 1 (option_map_or (λ j. records_of server j.arrival j.message j.verdict) found []) ≡ []
   by_found None = refl
   by_found (Some j) = one_of server j.arrival j.message j.verdict
+
+-- so a lawful one does
+pub at_most_one : (server : Server) (earlier : List Link) (link : Link) → Access server (link ∷ earlier) → length link.out.records ≤ 1
+at_most_one server earlier link access = by_list link.out.records (ap (λ (rs : List Record). drop 1 rs) access.0.records ∙ one_record server link.before link.act) where
+  by_list : (rs : List Record) → drop 1 rs ≡ [] → length rs ≤ 1
+  by_list [] e = omega (arith)
+  by_list (x ∷ rest) e = subst (λ (ys : List Record). suc (length ys) ≤ 1) (sym e) (omega (arith))
 
 -- the denial has one, and the wrong step two
 pub denial_has_one : length vault_effect.records ≡ 1

@@ -3,6 +3,7 @@
 #![tactic(auto)]
 
 pub mod early_copies;
+pub mod every_step;
 pub mod extra_answers;
 pub mod extra_records;
 pub mod extra_requests;
