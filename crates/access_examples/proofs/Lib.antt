@@ -9,3 +9,4 @@ pub mod CallRequests
 pub mod Copying
 pub mod Recording
 pub mod GivingUp
+pub mod Timing

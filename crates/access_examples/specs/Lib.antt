@@ -3,3 +3,4 @@ pub mod WrongAnswers
 pub mod WrongRequests
 pub mod WrongCopies
 pub mod WrongRecords
+pub mod WrongMoments

@@ -7,3 +7,4 @@ pub mod every_step;
 pub mod extra_answers;
 pub mod extra_records;
 pub mod extra_requests;
+pub mod wrong_times;

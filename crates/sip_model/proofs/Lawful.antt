@@ -22,6 +22,7 @@ use Rattle.sip_model.proofs.AllSent.{step_sends}
 use Rattle.sip_model.proofs.Steady.{steady_in_step}
 use Rattle.sip_model.proofs.Causes.{step_causes}
 use Rattle.sip_model.proofs.Audited.{rising_of_step}
+use Rattle.sip_model.proofs.Standing.{stands_of_chain}
 use Rattle.sip_model.proofs.Places.{all_weaker}
 use Rattle.sip_model.proofs.Sameness.{serves_same, owed_same}
 
@@ -31,6 +32,7 @@ lawful_of_chain : (server : Server) (first : ℕ) (link : Link) (history : List 
 lawful_of_chain server first link history last chain =
     let before : SameBindings link.before.moment link.before.bindings (bindings_after server history) = bindings_of_chain server first history link.before chain.2 in
     record {
+      stands = stands_of_chain server first link history last chain;
       bindings = before;
       binds = subst (λ (s : ProxyState). SameBindings s.moment s.bindings (bindings_after server (link ∷ history))) chain.0 (bindings_of_chain server first (link ∷ history) last chain);
       serves = serves_same server link.before.bindings (bindings_after server history) link.before link.act link.out before (serves_of_step server link.before link.act link.out link.after chain.1);

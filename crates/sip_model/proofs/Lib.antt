@@ -65,3 +65,4 @@ pub mod AllSent
 pub mod Causes
 pub mod Audited
 pub mod Steady
+pub mod Standing

@@ -33,7 +33,7 @@ going_again server floor due r _ _ h (OfRequest b there is) =
     subst (DueFrom floor) is (all_in (IsBranchAgain floor (is_invite r)) r.branches b h.branches_again (in_from_contains r.branches b there)).due_from
 
 -- a step doesn't stand before the moment of a state before which no deadline stands and nothing is to go again
-stands_later : (server : Server) (old : ProxyState) (act : Act) (out : StepOut) (new : ProxyState) → NoneBefore old.moment old.requests → AllByRecursion (IsAgain old.moment) old.requests
+pub stands_later : (server : Server) (old : ProxyState) (act : Act) (out : StepOut) (new : ProxyState) → NoneBefore old.moment old.requests → AllByRecursion (IsAgain old.moment) old.requests
     → IsStep server old act out new → old.moment ≤ stands_at old act out
 stands_later server old (Given (Datagram at word from bytes)) out new none again h = omega arith
 stands_later server old (Given (Time at)) out new none again h = h.quiet.no_earlier

@@ -1,5 +1,5 @@
 -- The law of whole runs: who was sent what, which bindings changed, and which rule denied.
-use Rattle.std.specs.Prelude.{◌≡◌, ◌⊎◌, ◌<◌, ℕ, ◌==◌, ◌||◌, Bool, true, false, not, if◌then◌else◌, List, [], ◌∷◌, ◌++◌, filter, find, codes, Contains, Option, Some, None, is_some, Ok}
+use Rattle.std.specs.Prelude.{◌≡◌, ◌⊎◌, ◌<◌, ◌≤◌, ℕ, max, ◌==◌, ◌||◌, Bool, true, false, not, if◌then◌else◌, List, [], ◌∷◌, ◌++◌, filter, find, codes, Contains, Option, Some, None, is_some, Ok}
 use Rattle.std.specs.List.{AllByRecursion, list_any, flat_map}
 use Rattle.std.specs.Option.{option_map_or}
 use Rattle.std.specs.Str.{bytes_eq}
@@ -53,7 +53,7 @@ use Rattle.sip_verdict.specs.context.Opening.{arriving, branches_from, dialog_br
 use Rattle.sip_retransmission.specs.Retransmission.{IsRetransmission, IsResent, answers_again, acked_again}
 use Rattle.sip_model.specs.Effect.{contact_fields, challenge_status, challenges_to, method_of, ack_packet}
 use Rattle.sip_model.specs.Step.{Act, Given, Passing, originals, retransmissions, arrival_of}
-use Rattle.sip_model.specs.Run.{Link}
+use Rattle.sip_model.specs.Run.{Link, event_moment}
 use Rattle.sip_model.specs.Bindings.{Arrived, bindings_after}
 use Rattle.sip_model.specs.Lives.{sent_first, first_sending}
 use Rattle.sip_model.specs.Histories.{records_at}
@@ -433,12 +433,26 @@ recorded_by (link ∷ history) = link.out.records ++ recorded_by history
 abbrev pub IsAbove : List Record → Record → Type 0
 IsAbove others r = AllByRecursion (λ (other : Record). other.number < r.number) others
 
+-- ---- moments
+
+-- the moment after a history: its newest step's, and 0 before the first
+abbrev pub moment_in : List Link → ℕ
+moment_in [] = 0
+moment_in (link ∷ history) = link.out.at
+
+-- A step after a moment stands at its own: an event at its moment, or at the last one if it goes back; time that passes at one no earlier than the last, and no later than the moment up to
+-- which it passes.
+abbrev pub StandsAt : ℕ → Act → ℕ → Type 0
+StandsAt last (Given event) at = at ≡ max last (event_moment event)
+StandsAt last (Passing until) at = (last ≤ at) × (at ≤ max last until)
+
 -- ---- the law
 
--- A step is lawful by its history: from its moment on the bindings before it say the same as those that the allowed REGISTERs of its history make, and those after it do so with its own;
+-- A step is lawful by its history: it stands at its moment; from then on the bindings before it say the same as those that the allowed REGISTERs of its history make, and those after it do so with its own;
 -- what it is taken for is served by these; all that it sends for the first time is owed, and is exactly what its datagram gets and what an open request does; all that goes again has its
 -- cause, is of a request that is open, and went before; and it records the request that policy was asked about, and nothing else, under a number above all before.
 pub record IsLawful (server : Server) (history : List Link) (link : Link) : Type 0 where
+  pub stands : StandsAt (moment_in history) link.act link.out.at
   pub bindings : SameBindings link.before.moment link.before.bindings (bindings_after server history)
   pub binds : SameBindings link.after.moment link.after.bindings (bindings_after server (link ∷ history))
   pub serves : Serves server (bindings_after server history) link.before link.act link.out
