@@ -12,9 +12,9 @@ ghost use Rattle.sip_loop.specs.Replays.{server_with, IsLawfulReplay, IsReplay, 
 
 use crate::due::fire_due;
 use crate::error::{ReplayError, stop_of};
+use sip_bounds::bounds::every_history_is_bounded;
 use sip_engine::Engine;
 use sip_event::{Boot, Event, StepOut};
-use sip_bounds::bounds::every_history_is_bounded;
 use sip_model::laws::every_run_has_access;
 use sip_model::policy::Rules;
 use sip_model::runs::runs_join;
