@@ -1,6 +1,8 @@
-ghost use Rattle.std.specs.Prelude.{◌≡◌, ◌<◌, ◌∷◌, length, take_while, option_map, IfSome};
+ghost use Rattle.std.specs.Prelude.{◌≡◌, ◌<◌, ◌≤◌, ◌∷◌, length, take, drop, take_while, option_map, IfSome};
 ghost use Rattle.sip_text.specs.Cuts as Definitions;
-ghost use Rattle.sip_text.specs.Cuts.{quoting_after, is_mark, parts_at, parts_behind, is_full, word_at, behind_word};
+ghost use Rattle.sip_text.specs.Cuts.{quoting_after, is_mark, split_from, parts_at, parts_behind, is_full, word_at, behind_word};
+ghost use Rattle.sip_text.specs.Splits.{in_front};
+ghost use Rattle.sip_text.specs.declared.cuts.Quoting.TheVariants.{Outside};
 
 use crate::lists::{is_space_or_tab, without_front_blanks};
 
@@ -39,8 +41,27 @@ impl Quoting {
 pub fn split_outside(bytes: &[u8], mark: u8) -> Option<(&[u8], &[u8])>
     ensures { option_map (λ x. (x.0.now, x.1.now)) result ≡ Definitions.split_outside mark bytes.now }
 {
-    let mut quoting = Quoting::Outside;
     for at in 0..bytes.len() {
+        let byte = bytes[at];
+        if byte == mark {
+            return Some((&bytes[..at], &bytes[at + 1..]));
+        }
+        if byte == b'"' {
+            return split_behind(bytes, mark, at);
+        }
+    }
+    None
+}
+
+/// The same from a byte on, before which there is neither quoted text nor that mark.
+#[tactic(auto, using(crate::proofs::CutsOutside::split_ends, crate::proofs::CutsOutside::split_goes_on, crate::proofs::CutsOutside::split_nowhere))]
+fn split_behind(bytes: &[u8], mark: u8, start: usize) -> Option<(&[u8], &[u8])>
+    requires inside { start ≤ length bytes.now }
+    requires so_far { in_front (take start bytes.now) (split_from Outside mark (drop start bytes.now)) ≡ Definitions.split_outside mark bytes.now }
+    ensures { option_map (λ x. (x.0.now, x.1.now)) result ≡ Definitions.split_outside mark bytes.now }
+{
+    let mut quoting = Quoting::Outside;
+    for at in start..bytes.len() {
         let byte = bytes[at];
         if quoting.is_mark(mark, byte) {
             return Some((&bytes[..at], &bytes[at + 1..]));
@@ -66,10 +87,12 @@ pub fn first_part(bytes: &[u8], mark: u8) -> (&[u8], Option<&[u8]>)
 fn length_of_word(bytes: &[u8]) -> usize
     ensures { result ≡ length (take_while is_full bytes.now) }
 {
-    bytes
-        .iter()
-        .take_while(|byte| !is_space_or_tab(**byte))
-        .count()
+    for at in 0..bytes.len() {
+        if is_space_or_tab(bytes[at]) {
+            return at;
+        }
+    }
+    bytes.len()
 }
 
 /// The bytes before the first space or tab, and what follows the spaces and tabs there.

@@ -39,7 +39,7 @@ fn escape_at(text: &[u8]) -> Option<(u8, &[u8])>
 pub fn unescape(alloc: Global, text: &[u8]) -> Result<Bytes, TextError>
     ensures { Reads (λ bytes. bytes) TextError.BadEscape result (unescaped text.now) }
 {
-    let mut bytes = Bytes::new(alloc);
+    let mut bytes = Bytes::with_room(alloc, text.len())?;
     let mut rest = text;
     while let Some(at) = memchr(b'%', rest) {
         let (plain, escape) = rest.split_at(at);

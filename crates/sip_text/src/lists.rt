@@ -8,6 +8,7 @@ use crate::span::Span;
 use std::alloc::Global;
 
 /// Whether a byte is a space or a tab (RFC 3261 25.1, `WSP`).
+#[inline]
 pub fn is_space_or_tab(byte: u8) -> bool
     ensures { result ≡ is_blank byte }
 {
@@ -17,20 +18,22 @@ pub fn is_space_or_tab(byte: u8) -> bool
 fn blanks_before(bytes: &[u8]) -> usize
     ensures { result ≡ length (take_while is_blank bytes.now) }
 {
-    bytes
-        .iter()
-        .take_while(|byte| is_space_or_tab(**byte))
-        .count()
+    for at in 0..bytes.len() {
+        if !is_space_or_tab(bytes[at]) {
+            return at;
+        }
+    }
+    bytes.len()
 }
 
 fn blanks_behind(bytes: &[u8]) -> usize
     ensures { result ≡ length (take_while is_blank (reverse bytes.now)) }
 {
-    bytes
-        .iter()
-        .rev()
-        .take_while(|byte| is_space_or_tab(**byte))
-        .count()
+    let mut end = bytes.len();
+    while end > 0 && is_space_or_tab(bytes[end - 1]) {
+        end -= 1;
+    }
+    bytes.len() - end
 }
 
 /// Where a byte of a list stands: outside, in quoted text, behind a `\` in it, or between `<` and the

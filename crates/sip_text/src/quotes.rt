@@ -31,7 +31,7 @@ pub fn unquote(alloc: Global, text: &[u8]) -> Result<Bytes, TextError>
     let Some((b'"', inside)) = text.split_first() else {
         return Err(TextError::Unbalanced);
     };
-    let mut bytes = Bytes::new(alloc);
+    let mut bytes = Bytes::with_room(alloc, inside.len())?;
     let mut rest = inside;
     while let Some((byte, after)) = quoted_byte(rest) {
         bytes.push(byte)?;
@@ -61,10 +61,12 @@ pub fn is_quoted(text: &[u8]) -> bool
 fn plain_length(bytes: &[u8]) -> usize
     ensures { result ≡ length (plain_front bytes.now) }
 {
-    bytes
-        .iter()
-        .take_while(|byte| **byte != b'"' && **byte != b'\\')
-        .count()
+    for at in 0..bytes.len() {
+        if bytes[at] == b'"' || bytes[at] == b'\\' {
+            return at;
+        }
+    }
+    bytes.len()
 }
 
 /// The rest of quoted text before its last `"`, where each byte of it stands for itself.

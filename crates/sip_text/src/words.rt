@@ -1,4 +1,5 @@
-ghost use Rattle.std.specs.Prelude.{◌≡◌, ◌↔◌, IsTrue, IfOk};
+ghost use Rattle.std.specs.Prelude.{◌≡◌, ◌↔◌, ◌==◌, IsTrue, IfOk};
+ghost use Rattle.std.specs.Char.{to_ascii_lowercase};
 ghost use Rattle.std.specs.Str.{bytes_eq};
 ghost use Rattle.std.specs.List.{list_all};
 ghost use Rattle.sip_text.specs.Words.{is_token_text, decimal_of, without_case, is_same_text};
@@ -6,21 +7,34 @@ ghost use Rattle.sip_text.specs.Words.{is_token_text, decimal_of, without_case, 
 use crate::bytes::Bytes;
 use std::alloc::{AllocError, Global};
 
+/// For each byte `1` if it may stand in a token, else `0`: one look-up is cheaper than the comparisons.
+static TOKEN_BYTES: [u8; 256] = *b"\
+    00000000000000000000000000000000\
+    01000101001101101111111111000000\
+    01111111111111111111111111100001\
+    11111111111111111111111111100010\
+    00000000000000000000000000000000\
+    00000000000000000000000000000000\
+    00000000000000000000000000000000\
+    00000000000000000000000000000000";
+
 /// Whether a byte may stand in a token (RFC 3261 25.1).
+#[inline]
 fn is_token_byte(byte: u8) -> bool
     ensures { result ≡ Rattle.sip_text.specs.Words.is_token_byte byte }
 {
-    byte.is_ascii_alphanumeric()
-        || matches!(
-            byte,
-            b'-' | b'.' | b'!' | b'%' | b'*' | b'_' | b'+' | b'`' | b'\'' | b'~'
-        )
+    TOKEN_BYTES[byte as usize] == b'1'
 }
 
 fn all_token_bytes(bytes: &[u8]) -> bool
     ensures { result ≡ list_all Rattle.sip_text.specs.Words.is_token_byte bytes.now }
 {
-    bytes.iter().all(|byte| is_token_byte(*byte))
+    for byte in bytes {
+        if !is_token_byte(*byte) {
+            return false;
+        }
+    }
+    true
 }
 
 /// Whether the bytes are a token (RFC 3261 25.1): one or more letters, digits and the ten marks.
@@ -54,12 +68,28 @@ pub fn decimal(bytes: &[u8]) -> Option<u64>
     Some(number)
 }
 
+/// Whether two bytes are equal, the letters `A` to `Z` compared without case.
+#[inline]
+fn same_letter(left: u8, right: u8) -> bool
+    ensures { result ≡ (to_ascii_lowercase left == to_ascii_lowercase right) }
+{
+    left == right || left.eq_ignore_ascii_case(&right)
+}
+
 /// Whether two texts are equal, the letters `A` to `Z` compared without case, as names and tokens are
 /// (RFC 3261 7.3.1).
 pub fn same_no_case(left: &[u8], right: &[u8]) -> bool
     ensures { result ≡ is_same_text left.now right.now }
 {
-    left.eq_ignore_ascii_case(right)
+    if left.len() != right.len() {
+        return false;
+    }
+    for at in 0..left.len() {
+        if !same_letter(left[at], right[at]) {
+            return false;
+        }
+    }
+    true
 }
 
 /// Whether two texts are equal, byte by byte. Takes no memory.
@@ -67,14 +97,22 @@ pub fn same_bytes(left: &[u8], right: &[u8]) -> bool
     ensures value { result ≡ bytes_eq left.now right.now }
     ensures equal { IsTrue result ↔ (left.now ≡ right.now) }
 {
-    left == right
+    if left.len() != right.len() {
+        return false;
+    }
+    for at in 0..left.len() {
+        if left[at] != right[at] {
+            return false;
+        }
+    }
+    true
 }
 
 /// A text with the letters `A` to `Z` in lower case. `AllocError` is the only refusal.
 pub fn lower_case(alloc: Global, text: &[u8]) -> Result<Bytes, AllocError>
     ensures { IfOk result (λ lower. lower ≡ without_case text.now) }
 {
-    let mut lower = Bytes::new(alloc);
+    let mut lower = Bytes::with_room(alloc, text.len())?;
     for byte in text {
         lower.push(byte.to_ascii_lowercase())?;
     }

@@ -1,4 +1,4 @@
-use Rattle.std.proofs.Common.{◌≡◌, sym, ap, ◌∙◌, [], ◌∷◌}
+use Rattle.std.proofs.Common.{sym, ap, ◌∙◌, [], ◌∷◌}
 use Rattle.std.specs.Prelude.{is_some}
 use Rattle.sip_text.specs.Escapes.{inside_quotes}
 use Rattle.sip_text.proofs.Escaping.{some_behind}

@@ -1,4 +1,4 @@
-use Rattle.std.proofs.Common.{◌≡◌, List, ℕ, [], ◌∷◌, take, drop, ap, sym, ◌∙◌, rules}
+use Rattle.std.proofs.Common.{◌≡◌, ℕ, [], ◌∷◌, take, drop, ap, ◌∙◌, rules}
 use Rattle.sip_text.proofs.QuotedLaws.{plain_ends}
 use Rattle.sip_text.proofs.quotes.plain_inside.Goals as goal
 
