@@ -13,3 +13,4 @@ pub mod CutsOutside
 pub mod PartLaws
 pub mod PlainDecimals
 pub mod Differing
+pub mod SmallDecimals

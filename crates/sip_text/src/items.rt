@@ -22,6 +22,7 @@ impl<T: Drop> Model for Items<T> {
 
 impl<T: Drop> Items<T> {
     /// No item. Takes no memory.
+    #[inline]
     pub fn new(alloc: Global) -> Self
         ensures { result ≡ [] }
     {
@@ -31,6 +32,7 @@ impl<T: Drop> Items<T> {
     }
 
     /// No item, and room for so many.
+    #[inline]
     pub fn with_room(alloc: Global, room: usize) -> Result<Self, AllocError>
         ensures { IfOk result (λ items. items ≡ []) }
     {
@@ -40,6 +42,7 @@ impl<T: Drop> Items<T> {
     }
 
     /// Adds an item at the end.
+    #[inline]
     pub fn push(&mut self, item: T) -> Result<(), AllocError>
         ensures ok { OnOk result (self.new ≡ self.old ++ item ∷ []) }
         ensures err { OnErr result (self.new ≡ self.old) }
@@ -49,6 +52,7 @@ impl<T: Drop> Items<T> {
     }
 
     /// The items.
+    #[inline]
     pub fn as_slice(&self) -> &[T]
         ensures { result.now ≡ self.now }
     {
@@ -56,6 +60,7 @@ impl<T: Drop> Items<T> {
     }
 
     /// The items, each of which may be changed.
+    #[inline]
     pub fn as_mut_slice(&mut self) -> &mut [T]
         ensures* writes_back { sem 𝓛 (Lends (the_row T.row) (Array T.row 0) self.entry result (written self.old)) }
         ensures value { result.now ≡ self.old }

@@ -10,6 +10,7 @@ impl Span {
     ghost use Rattle.sip_text.specs.Span.{IsWithin, part};
 
     /// The bytes of this part.
+    #[inline]
     pub fn of(self, source: &[u8]) -> &[u8]
         requires { IsWithin self source.now }
         ensures { result.now ≡ part source.now self }

@@ -20,6 +20,7 @@ impl<'a> Model for Text<'a> {
 
 impl<'a> Text<'a> {
     /// These bytes, of which none is copied.
+    #[inline]
     pub fn new(bytes: &'a [u8]) -> Self
         ensures { result ≡ bytes.now }
     {
@@ -27,6 +28,7 @@ impl<'a> Text<'a> {
     }
 
     /// The bytes, which live as long as who keeps them.
+    #[inline]
     pub fn as_slice(&self) -> &'a [u8]
         ensures { result.now ≡ self.now }
     {
@@ -34,6 +36,7 @@ impl<'a> Text<'a> {
     }
 
     /// The bytes, copied. `AllocError` is the only refusal.
+    #[inline]
     pub fn to_bytes(&self, alloc: Global) -> Result<Bytes, AllocError>
         ensures { IfOk result (λ bytes. bytes ≡ self.now) }
     {
