@@ -5,3 +5,4 @@ pub mod Replays
 pub mod LiveRows
 pub mod Rows
 pub mod Lookups
+pub mod LowerTexts

@@ -74,12 +74,12 @@ digit_reads : (d : ℕ) → d < 16 → digit_value (slice_index lower_digits d) 
 unfolding all_read reads
 digit_reads d lt = eqb-true (digit_value (slice_index lower_digits d)) d (read_at 16 d refl lt)
 
-byte_is : (k n : ℕ) → byte_at k n ≡ n / 256 ^ k % 256
+pub byte_is : (k n : ℕ) → byte_at k n ≡ n / 256 ^ k % 256
 byte_is zero n = omega arith
 byte_is (suc k) n = refl
 
 -- a byte is the next two digits
-two_digits : (q high low : ℕ) → high ≡ q % 256 / 16 → low ≡ q % 256 % 16 → (q / 256 * 16 + high) * 16 + low ≡ q
+pub two_digits : (q high low : ℕ) → high ≡ q % 256 / 16 → low ≡ q % 256 % 16 → (q / 256 * 16 + high) * 16 + low ≡ q
 two_digits q high low e f = omega arith
 
 step : (k n : ℕ) → (n / 256 ^ suc k * 16 + digit_value (slice_index lower_digits (byte_at k n / 16))) * 16 + digit_value (slice_index lower_digits (byte_at k n % 16)) ≡ n / 256 ^ k
@@ -116,7 +116,7 @@ word_reads word lt = record {
 }
 
 -- a number is below the power of its digits' count
-below : (n : ℕ) (bs : List ℕ) → list_all is_hex_digit bs ≡ true → digits_value_after 16 n bs < (n + 1) * 16 ^ length bs
+pub below : (n : ℕ) (bs : List ℕ) → list_all is_hex_digit bs ≡ true → digits_value_after 16 n bs < (n + 1) * 16 ^ length bs
 below n [] all = omega arith
 below n (b ∷ bs) all =
     let both = and_parts (is_hex_digit b) (list_all is_hex_digit bs) all in

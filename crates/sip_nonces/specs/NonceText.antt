@@ -1,5 +1,5 @@
 -- The text of a nonce (this project's choice).
-use Rattle.std.specs.Prelude.{ℕ, ◌==◌, if◌then◌else◌, List, length, Option, Some, None}
+use Rattle.std.specs.Prelude.{ℕ, ◌-◌, ◌&&◌, ◌==◌, nat_le, if◌then◌else◌, List, length, Option, Some, None}
 use Rattle.std.specs.Str.{bytes_eq}
 use Rattle.std.specs.Int.{w128, to_be_bytes}
 use Rattle.std.specs.Option.{option_and_then}
@@ -17,3 +17,7 @@ named text word = if bytes_eq (nonce_text word) text then Some word else None
 -- the word whose nonce a text is, if it is one's
 abbrev pub word_of : List ℕ → Option ℕ
 word_of text = if length text == 32 then option_and_then (named text) (hex_number_of text) else None
+
+-- the value of a hexadecimal digit in lower case
+abbrev pub lower_value : ℕ → Option ℕ
+lower_value b = if nat_le 48 b && nat_le b 57 then Some (b - 48) else if nat_le 97 b && nat_le b 102 then Some (b - 87) else None
