@@ -5,4 +5,5 @@ pub mod ListLaws
 pub mod ReadingLaws
 pub mod Escapes
 pub mod Names
+pub mod TableLemmas
 pub use Rattle.sip_host.proofs as of_host

@@ -13,28 +13,59 @@ pub(crate) enum Class {
     Header,
 }
 
-/// Whether a byte is a letter, a digit or a mark.
-fn is_unreserved(byte: u8) -> bool
-    ensures { result ≡ Parts.is_unreserved byte }
+const USER: u8 = 1;
+
+const PASSWORD: u8 = 2;
+
+const PARAMETER: u8 = 4;
+
+const HEADER: u8 = 8;
+
+// For each byte a letter, whose low four bits are the flags above.
+static CLASSES: [u8; 256] = *b"\
+    @@@@@@@@@@@@@@@@@@@@@@@@@@@@@@@@\
+    @O@@O@GOOOOOCOOMOOOOOOOOOOLA@C@I\
+    @OOOOOOOOOOOOOOOOOOOOOOOOOOL@L@O\
+    @OOOOOOOOOOOOOOOOOOOOOOOOOO@@@O@\
+    @@@@@@@@@@@@@@@@@@@@@@@@@@@@@@@@\
+    @@@@@@@@@@@@@@@@@@@@@@@@@@@@@@@@\
+    @@@@@@@@@@@@@@@@@@@@@@@@@@@@@@@@\
+    @@@@@@@@@@@@@@@@@@@@@@@@@@@@@@@@";
+
+fn is_user_byte(byte: u8) -> bool
+    ensures { result ≡ Parts.is_user_byte byte }
 {
-    byte.is_ascii_alphanumeric()
-        || matches!(
-            byte,
-            b'-' | b'_' | b'.' | b'!' | b'~' | b'*' | b'\'' | b'(' | b')'
-        )
+    CLASSES[byte as usize] & USER != 0
+}
+
+fn is_password_byte(byte: u8) -> bool
+    ensures { result ≡ Parts.is_password_byte byte }
+{
+    CLASSES[byte as usize] & PASSWORD != 0
+}
+
+fn is_parameter_byte(byte: u8) -> bool
+    ensures { result ≡ Parts.is_parameter_byte byte }
+{
+    CLASSES[byte as usize] & PARAMETER != 0
+}
+
+fn is_header_byte(byte: u8) -> bool
+    ensures { result ≡ Parts.is_header_byte byte }
+{
+    CLASSES[byte as usize] & HEADER != 0
 }
 
 /// Whether a byte needs no escape in a text.
 fn is_of(class: Class, byte: u8) -> bool
     ensures { result ≡ Parts.is_of class byte }
 {
-    is_unreserved(byte)
-        || match class {
-            Class::User => matches!(byte, b'&' | b'=' | b'+' | b'$' | b',' | b';' | b'?' | b'/'),
-            Class::Password => matches!(byte, b'&' | b'=' | b'+' | b'$' | b','),
-            Class::Parameter => matches!(byte, b'[' | b']' | b'/' | b':' | b'&' | b'+' | b'$'),
-            Class::Header => matches!(byte, b'[' | b']' | b'/' | b'?' | b':' | b'+' | b'$'),
-        }
+    match class {
+        Class::User => is_user_byte(byte),
+        Class::Password => is_password_byte(byte),
+        Class::Parameter => is_parameter_byte(byte),
+        Class::Header => is_header_byte(byte),
+    }
 }
 
 /// What follows the byte or the escape at the front of a text. None at its end, or at another byte.
