@@ -1,14 +1,11 @@
 ghost use Rattle.std.specs.Prelude.{◌≡◌, IfOk, option_map, if◌then◌else◌, None};
 ghost use Rattle.std.specs.List.{list_all};
-ghost use Rattle.sip_text.specs.Words.{is_token_byte};
 ghost use Rattle.sip_text.specs.Cuts.{parts_at, split_outside};
 ghost use Rattle.sip_header.specs.NameAddr.{is_opaque_byte, is_opaque, other_of, any_uri_of, with_parameters, is_bare_byte, bare_in, is_word_byte, is_display, behind_bracket, bracketed_by, name_addr_of};
 
 use crate::parameters::{Parameter, parameters_from};
 use sip_form::view::Value;
-use sip_text::{
-    Items, Text, first_part, is_quoted, is_space_or_tab, is_token, split_outside, without_blanks,
-};
+use sip_text::{Items, Text, first_part, is_quoted, split_outside, without_blanks};
 use sip_uri::{Uri, UriError, parse_uri, write_uri};
 use std::alloc::{AllocError, Global};
 
@@ -87,25 +84,40 @@ fn all_opaque_bytes(bytes: &[u8]) -> bool
 fn all_bare_bytes(bytes: &[u8]) -> bool
     ensures { result ≡ list_all is_bare_byte bytes.now }
 {
-    bytes.iter().all(|byte| !(*byte == b'?' || *byte == b','))
+    for byte in bytes {
+        if *byte == b'?' || *byte == b',' {
+            return false;
+        }
+    }
+    true
 }
 
-fn is_in_token(byte: u8) -> bool
-    ensures { result ≡ is_token_byte byte }
-{
-    is_token(&[byte])
-}
+// For each byte whether it may stand in a display name without quotes.
+static WORD_BYTES: [u8; 256] = *b"\
+    00000000010000000000000000000000\
+    11000101001101101111111111000000\
+    01111111111111111111111111100001\
+    11111111111111111111111111100010\
+    00000000000000000000000000000000\
+    00000000000000000000000000000000\
+    00000000000000000000000000000000\
+    00000000000000000000000000000000";
 
 fn is_word_byte(byte: u8) -> bool
     ensures { result ≡ is_word_byte byte }
 {
-    is_in_token(byte) || is_space_or_tab(byte)
+    WORD_BYTES[byte as usize] & 1 != 0
 }
 
 fn all_word_bytes(bytes: &[u8]) -> bool
     ensures { result ≡ list_all is_word_byte bytes.now }
 {
-    bytes.iter().all(|byte| is_word_byte(*byte))
+    for byte in bytes {
+        if !is_word_byte(*byte) {
+            return false;
+        }
+    }
+    true
 }
 
 /// Whether one or more bytes that may stand in a URI are behind the first `:`.
