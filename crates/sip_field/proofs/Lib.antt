@@ -1,2 +1,3 @@
 pub mod Counting
-pub mod Places
+pub mod KnownNames
+pub mod Spelled

@@ -5,11 +5,13 @@
 mod field;
 mod field_name;
 mod fields;
+mod known;
 mod named;
 
 pub use field::Field;
 pub use field_name::{FieldName, known_name};
 pub use fields::Fields;
+pub use known::KnownName;
 
 /// Of `sip_text`.
 pub mod text {
