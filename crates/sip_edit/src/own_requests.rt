@@ -18,6 +18,9 @@ use std::alloc::{AllocError, Global};
 /// The most fields that stand once: Via, Max-Forwards, From, To, Call-ID and CSeq.
 const SINGLE_FIELDS: usize = 6;
 
+/// The most bytes of a CSeq besides its method: its number and a space.
+const REST_OF_CSEQ: usize = 11;
+
 /// Adds the first field of a name, if there is one.
 fn put_first<'v>(
     out: &mut ViewFields<'v>,
@@ -54,7 +57,7 @@ fn put_seventy(out: &mut ViewFields<'_>) -> Result<(), AllocError>
 fn cseq_text(alloc: Global, number: u32, method: &[u8]) -> Result<Bytes, AllocError>
     ensures { IfOk result (λ text. text ≡ decimal number ++ codes " " ++ method.now) }
 {
-    let mut text = Bytes::new(alloc);
+    let mut text = Bytes::with_room(alloc, method.len().saturating_add(REST_OF_CSEQ))?;
     text.push_decimal(u64::from(number))?;
     text.extend(b" ")?;
     text.extend(method)?;

@@ -7,12 +7,20 @@ use sip_text::{Bytes, hex_text};
 use sip_way::Own;
 use std::alloc::{AllocError, Global};
 
+/// The most bytes of a branch: the magic cookie, 16 hexadecimal digits, and two numbers, each behind a `.`.
+const LONGEST_BRANCH: usize = 55;
+
+/// The most bytes of a Via of this server's besides its host and its branch.
+const REST_OF_VIA: usize = 26;
+
 /// The branch of this server's Via to a target of the request that the datagram with this number brought, of the run of
 /// the server that began with this boot word (RFC 3261 8.1.1.7, 16.6 step 8). `AllocError` is the only refusal.
 pub fn branch_text(alloc: Global, boot: u64, number: u64, target: u32) -> Result<Bytes, AllocError>
     ensures { IfOk result (λ branch. branch ≡ OwnVia.branch_text boot number target) }
 {
-    let mut branch = Bytes::joined(alloc, b"z9hG4bK", hex_text(boot).as_slice())?;
+    let mut branch = Bytes::with_room(alloc, LONGEST_BRANCH)?;
+    branch.extend(b"z9hG4bK")?;
+    branch.extend(hex_text(boot).as_slice())?;
     branch.extend(b".")?;
     branch.push_decimal(number)?;
     branch.extend(b".")?;
@@ -24,7 +32,11 @@ pub fn branch_text(alloc: Global, boot: u64, number: u64, target: u32) -> Result
 pub fn own_via_value(alloc: Global, own: &Own, branch: &[u8]) -> Result<Bytes, AllocError>
     ensures { IfOk result (λ value. value ≡ OwnVia.own_via own.now branch.now) }
 {
-    let mut value = Bytes::joined(alloc, b"SIP/2.0/UDP ", own.host.as_slice())?;
+    let host = own.host.as_slice();
+    let room = host.len().saturating_add(branch.len());
+    let mut value = Bytes::with_room(alloc, room.saturating_add(REST_OF_VIA))?;
+    value.extend(b"SIP/2.0/UDP ")?;
+    value.extend(host)?;
     value.extend(b":")?;
     value.push_decimal(u64::from(own.port))?;
     value.extend(b";branch=")?;

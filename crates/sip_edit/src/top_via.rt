@@ -7,6 +7,9 @@ use sip_credentials::host::{Addr, ip_text};
 use sip_text::{Bytes, first_part, same_no_case, without_blanks};
 use std::alloc::{AllocError, Global};
 
+/// The most bytes that a Via gets from its source: the port of an `rport`, and a `received`.
+const SOURCE_BYTES: usize = 31;
+
 /// How many bytes stand before the first `=`.
 fn length_before_equals(piece: &[u8]) -> usize
     ensures { result ≡ length (TopVia.before_equals piece.now) }
@@ -68,7 +71,8 @@ fn with_source(alloc: Global, value: &[u8], host: &[u8], from: Addr) -> Result<B
     ensures { IfOk result (λ edited. edited ≡ TopVia.with_source host.now from (parts_at 59 value.now)) }
 {
     let (sent_by, mut rest) = first_part(value, b';');
-    let mut out = Bytes::copy(alloc, sent_by)?;
+    let mut out = Bytes::with_room(alloc, value.len().saturating_add(SOURCE_BYTES))?;
+    out.extend(sent_by)?;
     let mut asks = false;
     while let Some(text) = rest {
         let (piece, behind) = first_part(text, b';');

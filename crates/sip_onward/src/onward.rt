@@ -17,6 +17,9 @@ use std::alloc::{AllocError, Global};
 /// The most fields that a request gets on its way: this server's Via and Record-Route, and a Max-Forwards.
 const ADDED_FIELDS: usize = 3;
 
+/// The most digits of a Max-Forwards.
+const HOPS_DIGITS: usize = 3;
+
 /// A SIP or SIPS URI with its scheme in lower case; another as it is.
 fn written_uri(alloc: Global, uri: &[u8]) -> Result<Bytes, AllocError>
     ensures { IfOk result (λ text. text ≡ Spec.written_uri uri.now) }
@@ -69,7 +72,7 @@ fn with_number<'v>(
     ensures { IfOk result (λ edited. edited ≡ record field.now { value = decimal number }) }
 {
     let name = field.name().lent()?;
-    let mut value = Bytes::new(alloc);
+    let mut value = Bytes::with_room(alloc, HOPS_DIGITS)?;
     value.push_decimal(u64::from(number))?;
     Ok(ViewField::new(name, Value::of_bytes(value)))
 }

@@ -7,11 +7,17 @@ use sip_edit::text::Bytes;
 use sip_edit::way::Own;
 use std::alloc::{AllocError, Global};
 
+/// The most bytes of this server's Record-Route besides its host.
+const REST_OF_RECORD_ROUTE: usize = 15;
+
 /// The value of this server's Record-Route.
 fn record_route_value(alloc: Global, own: &Own) -> Result<Bytes, AllocError>
     ensures { IfOk result (λ value. value ≡ (Spec.record_route_field own.now).value) }
 {
-    let mut value = Bytes::joined(alloc, b"<sip:", own.host.as_slice())?;
+    let host = own.host.as_slice();
+    let mut value = Bytes::with_room(alloc, host.len().saturating_add(REST_OF_RECORD_ROUTE))?;
+    value.extend(b"<sip:")?;
+    value.extend(host)?;
     value.extend(b":")?;
     value.push_decimal(u64::from(own.port))?;
     value.extend(b";lr>")?;

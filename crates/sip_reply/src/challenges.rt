@@ -6,6 +6,9 @@ use sip_digest::Algorithm;
 use sip_uri::text::Bytes;
 use std::alloc::{AllocError, Global};
 
+/// The most bytes of a challenge besides its realm and its nonce.
+const REST_OF_CHALLENGE: usize = 68;
+
 /// What says that only the nonce was wrong.
 fn stale_part(stale: bool) -> &'static [u8]
     ensures { result.now ≡ Challenges.stale_part stale }
@@ -35,7 +38,9 @@ pub fn challenge(
 ) -> Result<Bytes, AllocError>
     ensures { IfOk result (λ value. value ≡ Challenges.challenge algorithm realm.now nonce.now stale) }
 {
-    let mut value = Bytes::copy(alloc, b"Digest realm=\"")?;
+    let room = realm.len().saturating_add(nonce.len());
+    let mut value = Bytes::with_room(alloc, room.saturating_add(REST_OF_CHALLENGE))?;
+    value.extend(b"Digest realm=\"")?;
     value.extend(realm)?;
     value.extend(b"\", nonce=\"")?;
     value.extend(nonce)?;

@@ -6,13 +6,18 @@ use sip_uri::text::Bytes;
 use sip_way::Own;
 use std::alloc::{AllocError, Global};
 
+/// The most bytes of that Warning besides this server's host.
+const REST_OF_WARNING: usize = 29;
+
 /// The Warning of a 403, which names the rule that denies (RFC 3261 20.43, in this project's profile). `AllocError` is
 /// the only refusal.
 pub fn denial_warning(alloc: Global, own: &Own, rule: u32) -> Result<Field, AllocError>
     ensures { IfOk result (λ field. field ≡ Definitions.denial_warning own.now rule) }
 {
-    let mut value = Bytes::copy(alloc, b"399 ")?;
-    value.extend(own.host.as_slice())?;
+    let host = own.host.as_slice();
+    let mut value = Bytes::with_room(alloc, host.len().saturating_add(REST_OF_WARNING))?;
+    value.extend(b"399 ")?;
+    value.extend(host)?;
     value.extend(b" \"policy rule ")?;
     value.push_decimal(u64::from(rule))?;
     value.extend(b"\"")?;

@@ -55,7 +55,10 @@ fn answered_to<'v>(
     if !lacks_tag(alloc, to)? {
         return Ok(Value::of_part(to));
     }
-    let mut value = Bytes::joined(alloc, to, b";tag=")?;
+    let room = to.len().saturating_add(b";tag=".len());
+    let mut value = Bytes::with_room(alloc, room.saturating_add(tag.len()))?;
+    value.extend(to)?;
+    value.extend(b";tag=")?;
     value.extend(tag)?;
     Ok(Value::of_bytes(value))
 }
