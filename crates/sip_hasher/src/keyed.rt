@@ -1,20 +1,21 @@
 ghost use Rattle.std.specs.Prelude.{◌≡◌};
 ghost use Rattle.sip_hasher.specs.Keyed.{fed_first};
 
-use std::hash::{BuildHasher, DefaultHasher, Hasher};
+use crate::word_hasher::WordHasher;
+use std::hash::{BuildHasher, Hasher};
 use std::marker::Model;
 
 /// Makes the hashers of a map whose keys peers choose. Each was fed a secret first, so a peer that doesn't
 /// know it can't choose keys that collide cheaply. Seen as the hasher that it makes.
 #[derive(Drop)]
 pub struct Keyed {
-    initial: DefaultHasher,
+    initial: WordHasher,
 }
 
 impl Model for Keyed {
-    ghost use Rattle.std.specs.declared.hash.DefaultHasher.{DefaultHasher};
+    ghost use Rattle.sip_hasher.specs.declared.word_hasher.WordHasher.{WordHasher};
 
-    ghost Value = { DefaultHasher };
+    ghost Value = { WordHasher };
 
     ghost view = { λ k. k.initial };
 }
@@ -24,18 +25,18 @@ impl Keyed {
     pub fn new(keys: u128) -> Self
         ensures { result ≡ fed_first keys }
     {
-        let mut initial = DefaultHasher::new();
+        let mut initial = WordHasher::new();
         initial.write_u128(keys);
         Keyed { initial }
     }
 }
 
 impl BuildHasher for Keyed {
-    type Hasher = DefaultHasher;
+    type Hasher = WordHasher;
 
     ghost build_hasher = { λ initial. initial };
 
-    fn build_hasher(&self) -> DefaultHasher {
+    fn build_hasher(&self) -> WordHasher {
         self.initial
     }
 }

@@ -2,5 +2,7 @@
 #![tactic(auto)]
 
 mod keyed;
+mod word_hasher;
 
 pub use keyed::Keyed;
+pub use word_hasher::WordHasher;

@@ -1,8 +1,8 @@
 -- A key as a number, which nobody can foresee who doesn't know the secret.
 use Rattle.std.specs.Prelude.{ℕ, List, [], ◌∷◌, ◌++◌, length, fold}
 use Rattle.std.specs.Hash as fed
-use Rattle.std.specs.Hash.DefaultHasher as sip
-use Rattle.std.specs.declared.hash.DefaultHasher.{DefaultHasher}
+use Rattle.sip_hasher.specs.WordHasher as sip
+use Rattle.sip_hasher.specs.declared.word_hasher.WordHasher.{WordHasher}
 use Rattle.sip_key.specs.declared.key.Key.{Key}
 
 -- a text, after its length
@@ -11,8 +11,8 @@ text_fed text = fed.usize (length text) ++ text ∷ []
 
 -- the parts of a key
 abbrev pub key_fed : Key → List (List ℕ)
-key_fed key = text_fed key.branch ++ text_fed key.host ++ fed.u16 key.port ++ text_fed key.method
+key_fed key = text_fed key.branch ++ text_fed key.host ++ fed.u64 key.port ++ text_fed key.method
 
 -- the hash of a key by a hasher that was fed a secret
-unfoldable pub digest_of : DefaultHasher → Key → ℕ
+unfoldable pub digest_of : WordHasher → Key → ℕ
 digest_of secret key = sip.finish (fold sip.write secret (key_fed key))

@@ -2,12 +2,12 @@
 use Rattle.std.specs.Prelude.{ℕ, ◌+◌, List, nat_eq}
 use Rattle.std.specs.Option.{option_map_or}
 use Rattle.std.specs.Map.{lookup}
-use Rattle.std.specs.declared.hash.DefaultHasher.{DefaultHasher}
+use Rattle.sip_hasher.specs.declared.word_hasher.WordHasher.{WordHasher}
 use Rattle.sip_table.specs.declared.keys.Hint.{Hint}
 
 -- What a file of keys shows: its secret, what it holds by digest, and how many more keys it takes with no memory.
 pub record Filed : Type 0 where
-  pub secret : DefaultHasher
+  pub secret : WordHasher
   pub entries : List (ℕ × Hint)
   pub room : ℕ
 

@@ -1,13 +1,13 @@
 ghost use Rattle.std.specs.Prelude.{◌≡◌, fold};
-ghost use Rattle.std.specs.Hash.DefaultHasher as sip;
+ghost use Rattle.sip_hasher.specs.WordHasher as sip;
 ghost use Rattle.sip_table.specs.Digest.{text_fed, digest_of};
 
-use sip_hasher::Keyed;
+use sip_hasher::{Keyed, WordHasher};
 use sip_key::Key;
-use std::hash::{BuildHasher, DefaultHasher, Hasher};
+use std::hash::{BuildHasher, Hasher};
 
 /// Feeds a text after its length, so that no text runs into the next one.
-fn feed(state: &mut DefaultHasher, text: &[u8])
+fn feed(state: &mut WordHasher, text: &[u8])
     ensures { state.new ≡ fold sip.write state.old (text_fed text.now) }
 {
     state.write_usize(text.len());
@@ -22,7 +22,7 @@ pub(crate) fn digest_of(secret: &Keyed, key: &Key) -> u64
     let mut state = secret.build_hasher();
     feed(&mut state, key.branch.as_slice());
     feed(&mut state, key.host.as_slice());
-    state.write_u16(key.port);
+    state.write_u64(u64::from(key.port));
     feed(&mut state, key.method.as_slice());
     state.finish()
 }
