@@ -29,7 +29,7 @@ pub use via::{Via, via_of};
 
 /// Of `sip_text`.
 pub mod text {
-    pub use sip_text::{Bytes, Items, lower_case};
+    pub use sip_text::{Bytes, Items, lower_case, same_bytes};
 }
 
 /// Of `sip_host`.

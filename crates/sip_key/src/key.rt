@@ -1,7 +1,8 @@
 ghost use Rattle.std.specs.Prelude.{◌≡◌, ◌↔◌, IsTrue, IfOk};
+ghost use Rattle.std.specs.Str.{bytes_eq};
 ghost use Rattle.sip_key.specs.Key.{key_method, key_from, same_key};
 
-use sip_header::text::{Bytes, lower_case};
+use sip_header::text::{Bytes, lower_case, same_bytes};
 use sip_header::{Via, branch_of};
 use std::alloc::{AllocError, Global};
 
@@ -33,7 +34,7 @@ impl Drop for Key {
 fn method_in_key(method: &[u8]) -> &[u8]
     ensures { result.now ≡ key_method method.now }
 {
-    if method == b"ACK".as_slice() {
+    if same_bytes(method, b"ACK") {
         b"INVITE"
     } else {
         method
@@ -80,6 +81,13 @@ impl Key {
             None => Ok(None),
         }
     }
+
+    /// Whether the method is this one, byte by byte. Takes no memory.
+    pub fn is_method(&self, method: &[u8]) -> bool
+        ensures { result ≡ bytes_eq self.now.method method.now }
+    {
+        same_bytes(self.method.as_slice(), method)
+    }
 }
 
 /// Whether two keys are the same.
@@ -90,11 +98,11 @@ pub fn same_key(left: &Key, right: &Key) -> bool
     if left.port != right.port {
         return false;
     }
-    if left.branch.as_slice() != right.branch.as_slice() {
+    if !same_bytes(left.branch.as_slice(), right.branch.as_slice()) {
         return false;
     }
-    if left.host.as_slice() != right.host.as_slice() {
+    if !same_bytes(left.host.as_slice(), right.host.as_slice()) {
         return false;
     }
-    left.method.as_slice() == right.method.as_slice()
+    left.is_method(right.method.as_slice())
 }
