@@ -4,3 +4,4 @@ pub mod OrderLaws
 pub mod ParameterLaws
 pub mod WalkLaws
 pub mod HeaderLaws
+pub mod PlainLaws
