@@ -53,7 +53,7 @@ pub fn challenges_to(
 {
     let config = &server.config;
     let name = challenge_name(&question.operation);
-    let with_sha256 = offers_sha256(config.users.as_slice());
+    let with_sha256 = offers_sha256(&config.users);
     let realm = config.realm.as_slice();
     let nonce = nonce_text(word);
     let stale = question.proof.is_stale();

@@ -1,4 +1,4 @@
-ghost use Rattle.std.specs.Prelude.{◌≡◌, ◌⊎◌, ◌++◌, [], ◌∷◌, true, false, map, find, IfOk, IfErr, OnOk};
+ghost use Rattle.std.specs.Prelude.{◌≡◌, ◌⊎◌, ◌++◌, [], ◌∷◌, true, false, map, find, is_some, IfOk, IfErr, OnOk};
 ghost use Rattle.std.specs.List.{list_any};
 ghost use Rattle.std.specs.Option.{option_copied};
 ghost use Rattle.std.specs.Str.{bytes_eq};
@@ -20,17 +20,24 @@ pub struct Users {
     list: Items<User>,
     /// Their names, each at the place of its user.
     names: IndexSet<Vec<u8>>,
+    /// Whether some user has an H(A1) by SHA-256, which each challenge asks.
+    has_sha256: bool,
 }
 
 /// Written out, so that it is proved once and not wherever they are dropped.
 impl Drop for Users {
     fn drop(self) {
-        let Users { list: _, names: _ } = self;
+        let Users {
+            list: _,
+            names: _,
+            has_sha256: _,
+        } = self;
     }
 }
 
 impl Model for Users {
-    ghost use Rattle.std.specs.Prelude.{List, map};
+    ghost use Rattle.std.specs.Prelude.{◌≡◌, List, map, is_some};
+    ghost use Rattle.std.specs.List.{list_any};
     ghost use Rattle.sip_users.specs.declared.user.User.{User};
     ghost use Rattle.sip_users.specs.Users.{AreNamed};
 
@@ -38,7 +45,7 @@ impl Model for Users {
 
     ghost view = { λ u. u.list };
 
-    ghost invariant = { λ u. AreNamed (map (λ name. name.items) u.names.keys) u.list };
+    ghost invariant = { λ u. AreNamed (map (λ name. name.items) u.names.keys) u.list × (u.has_sha256 ≡ list_any (λ user. is_some user.a1_sha256) u.list) };
 }
 
 impl Clone for Users {
@@ -64,7 +71,12 @@ impl Users {
         ensures refused { IfErr result (λ e. (e ≡ NoMemory) ⊎ ((e ≡ NameTwice) × (have_own_names users ≡ false))) }
     {
         let names = index_names(alloc, users.as_slice())?;
-        Ok(Users { list: users, names })
+        let has_sha256 = any_has_sha256(users.as_slice());
+        Ok(Users {
+            list: users,
+            names,
+            has_sha256,
+        })
     }
 
     /// The users, in their order.
@@ -89,6 +101,13 @@ impl Users {
         self.find(name).is_some()
     }
 
+    /// Whether some user has an H(A1) by SHA-256. Takes constant time and no memory.
+    pub fn any_has_sha256(&self) -> bool
+        ensures { result ≡ list_any (λ user. is_some user.a1_sha256) self.now }
+    {
+        self.has_sha256
+    }
+
     /// Whether the user of a name is in a group. Takes the time of the user's groups, and no memory.
     pub fn is_in_group(&self, name: &[u8], group: &[u8]) -> bool
         ensures { result ≡ Definitions.is_in_group self.now name.now group.now }
@@ -107,6 +126,13 @@ fn user_named<'a>(names: &IndexSet<Vec<u8>>, users: &'a [User], name: &[u8]) -> 
 {
     let place = names.get_index_of(name)?;
     users.get(place)
+}
+
+/// Whether some user has an H(A1) by SHA-256.
+fn any_has_sha256(users: &[User]) -> bool
+    ensures { result ≡ list_any (λ user. is_some user.a1_sha256) users.now }
+{
+    users.iter().any(|user| user.a1_sha256.is_some())
 }
 
 /// The names of users, in their order.
