@@ -1,7 +1,8 @@
 -- IPv4 addresses and ports as text.
-use Rattle.std.specs.Prelude.{ℕ, ◌&&◌, ◌==◌, nat_le, not, if◌then◌else◌, List, [], ◌∷◌, ◌++◌, length, slice_index, decimal, codes, Option, Some, None, option_map}
+use Rattle.std.specs.Prelude.{ℕ, ◌+◌, ◌*◌, ◌&&◌, ◌==◌, nat_le, not, if◌then◌else◌, List, [], ◌∷◌, ◌++◌, length, slice_index, decimal, codes, Option, Some, None, option_map}
 use Rattle.std.specs.Option.{option_and_then}
 use Rattle.std.specs.Str.{byte}
+use Rattle.std.specs.Char.{is_ascii_digit, digit_value}
 use Rattle.sip_text.specs.Words.{decimal_of}
 use Rattle.sip_text.specs.Lists.{onto}
 use Rattle.sip_text.specs.Splits.{split_at_byte}
@@ -31,6 +32,22 @@ ip_numbers (piece ∷ pieces) = option_and_then (λ n. option_map (λ ns. n ∷ 
 -- the address that a text writes: four numbers between dots (RFC 3261 25.1, IPv4address, without leading zeros in this project's profile)
 abbrev pub ip_of : List ℕ → Option (List ℕ)
 ip_of text = option_and_then (λ ip. if length ip == 4 then Some ip else None) (ip_numbers (between_dots text))
+
+-- ---- the same number by number
+
+-- a number of an address with one more digit behind it
+abbrev pub one_more : Option ℕ → ℕ → Option ℕ
+one_more None b = if is_ascii_digit b then Some (digit_value b) else None
+one_more (Some n) b = if is_ascii_digit b && not (n == 0) && nat_le (n * 10 + digit_value b) 255 then Some (n * 10 + digit_value b) else None
+
+-- the number before a text's first dot, and what follows the dot
+abbrev pub number_before : List ℕ → Option (List ℕ × List ℕ) → Option (ℕ × Option (List ℕ))
+number_before text None = option_map (λ n. (n, None)) (ip_number text)
+number_before text (Some parts) = option_map (λ n. (n, Some parts.1)) (ip_number parts.0)
+
+-- the number at the front of a text, up to its first dot, and what follows that dot, if there is one
+abbrev pub number_at : List ℕ → Option (ℕ × Option (List ℕ))
+number_at text = number_before text (split_at_byte (byte ".") text)
 
 -- ---- an address with a port
 

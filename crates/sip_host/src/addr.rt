@@ -1,7 +1,8 @@
-ghost use Rattle.std.specs.Prelude.{◌≡◌, ◌∷◌, [], length, IfOk, OnOk, MatchOption, codes, decimal, ◌++◌};
+ghost use Rattle.std.specs.Prelude.{◌≡◌, IfOk, OnOk, codes, decimal, ◌++◌, option_map};
+ghost use Rattle.std.specs.Option.{option_and_then};
 ghost use Rattle.sip_host.specs.Addresses;
 
-use sip_text::{Bytes, decimal, has_leading_zero, plain_port, split_once};
+use sip_text::{Bytes, plain_port, split_once};
 use std::alloc::{AllocError, Global};
 
 /// Where datagrams come from and go to: an IPv4 address and a UDP port.
@@ -11,6 +12,12 @@ pub struct Addr {
     pub port: u16,
 }
 
+/// The room for the longest text of an IPv4 address.
+const IP_ROOM: usize = 15;
+
+/// The room for the longest text `IP:PORT`.
+const ADDR_ROOM: usize = 21;
+
 /// Adds a `.` and a number in decimal.
 fn push_part(text: &mut Bytes, part: u8) -> Result<(), AllocError>
     ensures { OnOk result (text.new ≡ text.old ++ codes "." ++ decimal part) }
@@ -19,63 +26,83 @@ fn push_part(text: &mut Bytes, part: u8) -> Result<(), AllocError>
     text.push_decimal(u64::from(part))
 }
 
+/// Adds the dotted text of an IPv4 address.
+fn push_ip(text: &mut Bytes, ip: [u8; 4]) -> Result<(), AllocError>
+    ensures { OnOk result (text.new ≡ text.old ++ Addresses.ip_text ip) }
+{
+    text.push_decimal(u64::from(ip[0]))?;
+    push_part(text, ip[1])?;
+    push_part(text, ip[2])?;
+    push_part(text, ip[3])
+}
+
 /// The dotted text of an IPv4 address (RFC 3261 25.1, `IPv4address`). `AllocError` is the only refusal.
 pub fn ip_text(alloc: Global, ip: [u8; 4]) -> Result<Bytes, AllocError>
     ensures { IfOk result (λ text. text ≡ Addresses.ip_text ip) }
 {
-    let mut text = Bytes::new(alloc);
-    text.push_decimal(u64::from(ip[0]))?;
-    push_part(&mut text, ip[1])?;
-    push_part(&mut text, ip[2])?;
-    push_part(&mut text, ip[3])?;
+    let mut text = Bytes::with_room(alloc, IP_ROOM)?;
+    push_ip(&mut text, ip)?;
     Ok(text)
 }
 
-/// A number of an address: 0 to 255, without leading zeros.
-fn ip_number(digits: &[u8]) -> Option<u8>
-    ensures { result ≡ Addresses.ip_number digits.now }
+/// A number of an address with one more digit: 0 to 255, without leading zeros.
+fn one_more(number: Option<u8>, byte: u8) -> Option<u8>
+    ensures { result ≡ Addresses.one_more number byte }
 {
-    let number = decimal(digits)?;
-    if number <= 255 && !has_leading_zero(digits) {
-        Some(number as u8)
-    } else {
-        None
+    if !byte.is_ascii_digit() {
+        return None;
+    }
+    let digit = byte - b'0';
+    match number {
+        None => Some(digit),
+        Some(0) => None,
+        Some(number) => number.checked_mul(10)?.checked_add(digit),
     }
 }
 
-/// What stands between the dots of a text, if there are three of them.
-#[tactic(auto, using(crate::proofs::Dots::cut_there, crate::proofs::Dots::cut_nowhere))]
-fn four_parts(text: &[u8]) -> Option<(&[u8], &[u8], &[u8], &[u8])>
-    ensures { MatchOption result (¬ (length (Addresses.between_dots text.now) ≡ 4)) (λ x. Addresses.between_dots text.now ≡ x.0.now ∷ x.1.now ∷ x.2.now ∷ x.3.now ∷ []) }
+/// The number at the front of a text, up to its first dot, and what follows that dot, if there is one.
+#[tactic(auto, using(crate::proofs::Dots::number_at_is, std::proofs::lemmas::List::at_drop_more, std::proofs::lemmas::List::drop_all))]
+fn number_at(text: &[u8]) -> Option<(u8, Option<&[u8]>)>
+    ensures { option_map (λ x. (x.0, option_map (λ rest. rest.now) x.1)) result ≡ Addresses.number_at text.now }
 {
-    let (first, rest) = split_once(text, b'.')?;
-    let (second, rest) = split_once(rest, b'.')?;
-    let (third, fourth) = split_once(rest, b'.')?;
-    match split_once(fourth, b'.') {
-        Some(_) => None,
-        None => Some((first, second, third, fourth)),
+    let mut number = None;
+    for at in 0..text.len() {
+        if text[at] == b'.' {
+            return Some((number?, Some(&text[at + 1..])));
+        }
+        number = Some(one_more(number, text[at])?);
     }
+    Some((number?, None))
+}
+
+/// The number behind a dot, if one was there.
+fn next_number(rest: Option<&[u8]>) -> Option<(u8, Option<&[u8]>)>
+    ensures { option_map (λ x. (x.0, option_map (λ rest. rest.now) x.1)) result ≡ option_and_then Addresses.number_at (option_map (λ text. text.now) rest.entry) }
+{
+    number_at(rest?)
 }
 
 /// The IPv4 address that a dotted text writes: four numbers up to 255 without leading zeros (RFC 3261 25.1,
 /// `IPv4address`). Takes no memory.
-#[tactic(auto, using(crate::proofs::Dots::ip_is, crate::proofs::Dots::not_four))]
+#[tactic(auto, using(crate::proofs::Dots::none_at_all))]
 pub fn ip_of(text: &[u8]) -> Option<[u8; 4]>
     ensures { result ≡ Addresses.ip_of text.now }
 {
-    let (first, second, third, fourth) = four_parts(text)?;
-    let first = ip_number(first)?;
-    let second = ip_number(second)?;
-    let third = ip_number(third)?;
-    let fourth = ip_number(fourth)?;
-    Some([first, second, third, fourth])
+    let (first, rest) = number_at(text)?;
+    let (second, rest) = next_number(rest)?;
+    let (third, rest) = next_number(rest)?;
+    match next_number(rest)? {
+        (fourth, None) => Some([first, second, third, fourth]),
+        (_, Some(_)) => None,
+    }
 }
 
 /// The text `IP:PORT` of an address. `AllocError` is the only refusal.
 pub fn addr_text(alloc: Global, addr: Addr) -> Result<Bytes, AllocError>
     ensures { IfOk result (λ text. text ≡ Addresses.addr_text addr) }
 {
-    let mut text = ip_text(alloc, addr.ip)?;
+    let mut text = Bytes::with_room(alloc, ADDR_ROOM)?;
+    push_ip(&mut text, addr.ip)?;
     text.push(b':')?;
     text.push_decimal(u64::from(addr.port))?;
     Ok(text)
