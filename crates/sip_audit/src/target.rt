@@ -69,7 +69,7 @@ pub(crate) fn target_of(word: &[u8]) -> Option<(&[u8], &[u8])>
 fn is_written(alloc: Global, user: &[u8], text: &[u8]) -> Result<bool, AllocError>
     ensures { IfOk result (λ same. same ≡ bytes_eq (flat_map user_byte_text user.now) text.now) }
 {
-    let mut written = Bytes::new(alloc);
+    let mut written = Bytes::with_room(alloc, text.len())?;
     push_user(&mut written, user)?;
     Ok(same_bytes(written.as_slice(), text))
 }

@@ -10,6 +10,9 @@ use crate::target::push_target;
 use sip_text::Bytes;
 use std::alloc::{AllocError, Global};
 
+/// The room for most lines, so that few grow.
+const LINE_ROOM: usize = 160;
+
 /// Adds a word and the space behind it.
 fn push_word(line: &mut Bytes, word: &[u8]) -> Result<(), AllocError>
     ensures { OnOk result (line.new ≡ line.old ++ word.now ++ codes " ") }
@@ -70,7 +73,7 @@ pub fn line_of(alloc: Global, record: &Record) -> Result<Bytes, AuditError>
     ensures line { IfOk result (λ line. line ≡ Definitions.line_of «record».now) }
     ensures refused { IfErr result (λ e. e ≡ NoMemory) }
 {
-    let mut line = Bytes::new(alloc);
+    let mut line = Bytes::with_room(alloc, LINE_ROOM)?;
     push_request(&mut line, record)?;
     push_decision(&mut line, record)?;
     Ok(line)
