@@ -18,6 +18,9 @@ use std::alloc::Global;
 /// refused as too long, whatever its bytes are.
 const KEPT: usize = 65_508;
 
+/// The room for most datagrams, so that few grow while they are read.
+const DATAGRAM_ROOM: usize = 1000;
+
 /// The next event of a script; `None` at its end.
 pub fn next_event<R: TellingReader>(
     alloc: Global,
@@ -69,7 +72,7 @@ fn datagram_bytes<R: TellingReader>(
     ensures asked { later lines.new.asks (R.asked reader.new) ≡ later lines.old.asks (R.asked reader.old) }
     ensures less { lines.new.asks ≤ lines.old.asks }
 {
-    let mut bytes = Bytes::new(alloc);
+    let mut bytes = Bytes::with_room(alloc, DATAGRAM_ROOM)?;
     while lines.next(reader, line)? {
         if is_dot(line) {
             return Ok(bytes);

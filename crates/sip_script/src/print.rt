@@ -3,15 +3,19 @@ ghost use Rattle.std.specs.List.{flat_map};
 ghost use Rattle.std.specs.Io.KnownBytes.{Appends};
 ghost use Rattle.sip_script.specs.Devices.{GaveUp, PrintStops, WritesFront};
 ghost use Rattle.sip_script.specs.Print;
+ghost use Rattle.sip_host.specs.Addresses.{addr_text};
 
 use crate::device::TellingWriter;
 use crate::stop::Stop;
 use crate::writing::put_three;
 use sip_audit::{Record, line_of};
 use sip_event::{Packet, StepOut};
-use sip_host::addr_text;
+use sip_host::Addr;
 use sip_text::Bytes;
 use std::alloc::{AllocError, Global};
+
+/// The room for the longest head line, so that none grows.
+const HEAD_ROOM: usize = 109;
 
 /// The word of a packet that is sent for the first time, or again.
 fn mark_of(again: bool) -> &'static [u8]
@@ -28,17 +32,26 @@ fn put_number(text: &mut Bytes, front: &[u8], number: u64) -> Result<(), AllocEr
     text.push_decimal(number)
 }
 
-/// What stands behind the address: the ticket, the mark and the length.
-fn tail_text(alloc: Global, packet: &Packet) -> Result<Bytes, AllocError>
-    ensures { IfOk result (λ text. text ≡ Print.tail_text packet.now) }
+/// Adds an address as `IP:PORT`.
+fn put_addr(text: &mut Bytes, addr: Addr) -> Result<(), AllocError>
+    ensures { OnOk result (text.new ≡ text.old ++ addr_text addr) }
 {
-    let mut text = Bytes::new(alloc);
-    put_number(&mut text, b" ", packet.ticket.datagram)?;
-    put_number(&mut text, b"/", u64::from(packet.ticket.branch))?;
+    text.push_decimal(u64::from(addr.ip[0]))?;
+    put_number(text, b".", u64::from(addr.ip[1]))?;
+    put_number(text, b".", u64::from(addr.ip[2]))?;
+    put_number(text, b".", u64::from(addr.ip[3]))?;
+    put_number(text, b":", u64::from(addr.port))
+}
+
+/// Adds what stands behind the address: the ticket, the mark, the length and LF.
+fn put_tail(text: &mut Bytes, packet: &Packet) -> Result<(), AllocError>
+    ensures { OnOk result (text.new ≡ text.old ++ Print.tail_text packet.now) }
+{
+    put_number(text, b" ", packet.ticket.datagram)?;
+    put_number(text, b"/", u64::from(packet.ticket.branch))?;
     text.extend(mark_of(packet.again))?;
-    put_number(&mut text, b" ", packet.bytes.as_slice().len() as u64)?;
-    text.extend(b"\n")?;
-    Ok(text)
+    put_number(text, b" ", packet.bytes.as_slice().len() as u64)?;
+    text.push(b'\n')
 }
 
 /// The line before a packet's bytes: `packet AT IP:PORT D/K first LEN`, or `again`, and LF; AT is the
@@ -46,11 +59,11 @@ fn tail_text(alloc: Global, packet: &Packet) -> Result<Bytes, AllocError>
 pub fn head_text(alloc: Global, at: u64, packet: &Packet) -> Result<Bytes, AllocError>
     ensures { IfOk result (λ text. text ≡ Print.head_text at packet.now) }
 {
-    let mut text = Bytes::new(alloc);
+    let mut text = Bytes::with_room(alloc, HEAD_ROOM)?;
     put_number(&mut text, b"packet ", at)?;
-    text.extend(b" ")?;
-    text.extend(addr_text(alloc, packet.to)?.as_slice())?;
-    text.extend(tail_text(alloc, packet)?.as_slice())?;
+    text.push(b' ')?;
+    put_addr(&mut text, packet.to)?;
+    put_tail(&mut text, packet)?;
     Ok(text)
 }
 

@@ -30,7 +30,7 @@ loop-bytes-preserved g c =
 
 pub returns-in_err-next-clause-stopped : goal.returns-in_err-next-clause-stopped
 returns-in_err-next-clause-stopped g c =
-    let p = err_from_is_err_and c.from_residual.result c.from_residual.ensures.1 in
+    let p = err_from_is_err_and c.from_residual-in_err-next.result c.from_residual-in_err-next.ensures.1 in
     rw (p.1, p.2) (datagram_stops (IsSpent (g.R.TellingReader.has_failed c.next.new.reader) c.next.new.self.asks) c.args.lines.now c.loop-bytes.lines (g.R.TellingReader.remaining c.args.reader.now) (g.R.TellingReader.remaining c.loop-bytes.reader)
     c.loop-bytes.bytes c.in_err-next.field-0.0 c.loop-bytes.invariant.2 c.in_err-next.ensures.stopped)
 
