@@ -10,4 +10,4 @@ overflow_mul-number c =
 pub overflow_add-number : goal.overflow_add-number
 overflow_add-number c =
     let room = fits c.loop-digit.number c.loop-digit.digit-index c.loop-digit.invariant.below (omega arith) in
-    omega (arith, room, c.in_ok-value.ensures.value.0, c.in_ok-value.ensures.value.1, c.from-in-loop-digit.ensures)
+    omega (arith, room, c.in_ok-value.ensures.0, c.from.ensures)
