@@ -88,11 +88,67 @@ fn write_rest(out: &mut Bytes, uri: &Uri) -> Result<(), AllocError>
     write_headers(out, uri.headers.as_slice())
 }
 
+/// The bytes of a text behind a byte, if there is one.
+fn room_behind(text: &Option<Bytes>) -> usize {
+    match text {
+        Some(text) => text.as_slice().len().saturating_add(1),
+        None => 0,
+    }
+}
+
+fn userinfo_room(userinfo: &Option<UserInfo>) -> usize {
+    match userinfo {
+        Some(userinfo) => userinfo
+            .user
+            .as_slice()
+            .len()
+            .saturating_add(room_behind(&userinfo.password))
+            .saturating_add(1),
+        None => 0,
+    }
+}
+
+fn parameters_room(parameters: &[Parameter]) -> usize {
+    let mut room = 0usize;
+    for parameter in parameters {
+        room = room
+            .saturating_add(parameter.name.as_slice().len())
+            .saturating_add(room_behind(&parameter.value))
+            .saturating_add(1);
+    }
+    room
+}
+
+fn headers_room(headers: &[UriHeader]) -> usize {
+    let mut room = 0usize;
+    for header in headers {
+        room = room
+            .saturating_add(header.name.as_slice().len())
+            .saturating_add(header.value.as_slice().len())
+            .saturating_add(2);
+    }
+    room
+}
+
+/// The bytes that the text of a URI takes, so that it is written without growing.
+fn room_for(uri: &Uri) -> usize {
+    uri.scheme
+        .text()
+        .len()
+        .saturating_add(userinfo_room(&uri.userinfo))
+        .saturating_add(uri.host.as_slice().len())
+        .saturating_add(room_behind(&uri.port))
+        .saturating_add(parameters_room(uri.parameters.as_slice()))
+        .saturating_add(headers_room(uri.headers.as_slice()))
+        .saturating_add(1)
+}
+
 /// The text of a URI: its scheme in lower case, all else as it is kept (RFC 3261 19.1.1).
 pub fn write_uri(alloc: Global, uri: &Uri) -> Result<Bytes, AllocError>
     ensures { IfOk result (λ text. text ≡ text_of uri.now) }
 {
-    let mut out = Bytes::copy(alloc, uri.scheme.text())?;
+    let mut out = Bytes::with_room(alloc, room_for(uri))?;
+    out.extend(uri.scheme.text())?;
     out.push(b':')?;
     write_rest(&mut out, uri)?;
     Ok(out)
