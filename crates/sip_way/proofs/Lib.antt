@@ -2,3 +2,4 @@ pub mod Address
 pub mod Last
 pub mod Left
 pub mod Kept
+pub mod Front

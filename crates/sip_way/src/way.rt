@@ -1,4 +1,5 @@
-ghost use Rattle.std.specs.Prelude.{◌≡◌, IfOk, [], Some, map};
+ghost use Rattle.std.specs.Prelude.{◌≡◌, ◌&&◌, IfOk, MatchOption, [], Some, map, true, false, take, drop, length, codes};
+ghost use Rattle.sip_uri.specs.text.Words.{is_same_text};
 ghost use Rattle.sip_header.specs.form.ViewStart.{start_seen};
 ghost use Rattle.sip_header.specs.NameAddr.{sip_uri};
 ghost use Rattle.sip_way.specs.Way as Ways;
@@ -9,7 +10,7 @@ use crate::routes::{last_route, others_left, routes_left};
 use sip_equality::{same, says_same_no_case};
 use sip_header::form::{FieldName, Value, View, ViewStart};
 use sip_header::{AnyUri, NameAddr, route_of};
-use sip_uri::text::{Items, Text};
+use sip_uri::text::{Items, Text, same_no_case, split_once};
 use sip_uri::{Uri, UriError, parse_uri};
 use std::alloc::{AllocError, Global};
 
@@ -89,10 +90,47 @@ fn is_record_route(alloc: Global, own: &Own, uri: &Uri) -> Result<bool, AllocErr
     Ok(same(uri, &route))
 }
 
-/// Whether a Request-URI is one that this server put into Record-Route.
+/// What stands behind a text's front, if the text begins with that, in any case.
+fn behind_front<'a>(text: &'a [u8], front: &[u8]) -> Option<&'a [u8]>
+    ensures { MatchOption result (is_same_text (take (length front.now) text.now) front.now ≡ false) (λ rest. (rest.now ≡ drop (length front.now) text.now) × (is_same_text (take (length front.now) text.now) front.now ≡ true)) }
+{
+    let (begin, rest) = text.split_at_checked(front.len())?;
+    if same_no_case(begin, front) {
+        Some(rest)
+    } else {
+        None
+    }
+}
+
+/// Whether a text begins as this server's Record-Route does: `sip:` and its host, in any case.
+fn begins_as_own(own: &Own, uri: &[u8]) -> bool
+    ensures { result ≡ (is_same_text (take 4 uri.now) (codes "sip:") && is_same_text (take (length own.now.host) (drop 4 uri.now)) own.now.host) }
+{
+    match behind_front(uri, b"sip:") {
+        Some(rest) => behind_front(rest, own.host.as_slice()).is_some(),
+        None => false,
+    }
+}
+
+/// Whether a Request-URI may be one that this server put into Record-Route. A host is compared by what it says, so one
+/// with a `%`, which no configuration has, says nothing of how that begins.
+fn may_be_own(own: &Own, uri: &[u8]) -> bool
+    ensures { result ≡ false → Ways.came_strictly own.now uri.now ≡ false }
+{
+    if begins_as_own(own, uri) {
+        return true;
+    }
+    split_once(own.host.as_slice(), b'%').is_some()
+}
+
+/// Whether a Request-URI is one that this server put into Record-Route. Only one that may be is parsed, since a long
+/// one costs much to parse.
 fn came_strictly(alloc: Global, own: &Own, uri: &[u8]) -> Result<bool, AllocError>
     ensures { IfOk result (λ is_own. is_own ≡ Ways.came_strictly own.now uri.now) }
 {
+    if !may_be_own(own, uri) {
+        return Ok(false);
+    }
     match parse_uri(alloc, uri) {
         Ok(uri) => is_record_route(alloc, own, &uri),
         Err(UriError::NoMemory) => Err(AllocError),
