@@ -1,7 +1,8 @@
 -- Where a binding goes among others.
-use Rattle.std.proofs.Common.{◌≡◌, ℕ, suc, ◌+◌, ◌≤◌, List, [], ◌∷◌, length, Bool, true, false, refl, ◌∙◌, ap, arith}
-use Rattle.std.specs.Prelude.{insert}
-use Rattle.std.specs.List.{position_or_len}
+use Rattle.std.proofs.Common.{◌≡◌, ℕ, suc, ◌+◌, ◌≤◌, List, [], ◌∷◌, length, Bool, true, false, refl, sym, ◌∙◌, ap, arith}
+use Rattle.std.specs.Prelude.{◌<◌, ◌-◌, ◌++◌, ◌||◌, take, drop, set, insert}
+use Rattle.std.proofs.lemmas.List.{length-drop}
+use Rattle.std.specs.List.{list_any, position_or_len}
 use Rattle.sip_equality.specs.uri.declared.uri.Uri.{Uri}
 use Rattle.sip_equality.specs.Equality.{same}
 use Rattle.sip_location.specs.declared.binding.Binding.{Binding}
@@ -31,3 +32,49 @@ put_is binding (b ∷ bs) = by_test (same b.uri binding.uri) refl (put_is bindin
       → insert (without_contact binding.uri (b ∷ bs)) (place binding.uri (b ∷ bs)) binding ≡ put binding (b ∷ bs)
   by_test true e more = rw e refl
   by_test false e more = rw e (insert_behind binding b (without_contact binding.uri bs) (place binding.uri bs) ∙ ap (λ rest. b ∷ rest) more)
+
+-- a binding to which none is equal goes last
+pub put_last : (binding : Binding) (bs : List Binding) → length bs ≤ place binding.uri bs → bs ++ binding ∷ [] ≡ put binding bs
+put_last binding [] none = refl
+put_last binding (b ∷ bs) none = by_test (same b.uri binding.uri) refl (put_last binding bs) where
+  by_test : (t : Bool) → same b.uri binding.uri ≡ t → (length bs ≤ place binding.uri bs → bs ++ binding ∷ [] ≡ put binding bs) → (b ∷ bs) ++ binding ∷ [] ≡ put binding (b ∷ bs)
+  by_test true e more = let here : place binding.uri (b ∷ bs) ≡ 0 = rw e refl in absurd (omega (arith, here, none))
+  by_test false e more =
+      let behind : place binding.uri (b ∷ bs) ≡ 1 + place binding.uri bs = rw e refl in
+      rw e (ap (λ (rest : List Binding). b ∷ rest) (more (omega (arith, behind, none))))
+
+-- where none is equal, none goes
+none_goes : (uri : Uri) (bs : List Binding) → list_any (λ b. same b.uri uri) bs ≡ false → without_contact uri bs ≡ bs
+none_goes uri [] none = refl
+none_goes uri (b ∷ bs) none = by_test (same b.uri uri) refl none (none_goes uri bs) where
+  by_test : (t : Bool) → same b.uri uri ≡ t → (t || list_any (λ b. same b.uri uri) bs) ≡ false → (list_any (λ b. same b.uri uri) bs ≡ false → without_contact uri bs ≡ bs)
+      → without_contact uri (b ∷ bs) ≡ b ∷ bs
+  by_test true e none more = absurd cc
+  by_test false e none more = rw e (ap (λ (rest : List Binding). b ∷ rest) (more none))
+
+all_taken : (bs : List Binding) → take (length bs) bs ≡ bs
+all_taken [] = refl
+all_taken (b ∷ bs) = ap (λ (rest : List Binding). b ∷ rest) (all_taken bs)
+
+-- the bindings behind a place, as a slice to the end has them
+pub rest_taken : (n : ℕ) (bs : List Binding) → take (length bs - n) (drop n bs) ≡ drop n bs
+rest_taken n bs = ap (λ (m : ℕ). take m (drop n bs)) (sym (length-drop n bs)) ∙ all_taken (drop n bs)
+
+-- a binding takes the place of the one that is equal to it, where there is one alone
+pub put_over : (binding : Binding) (bs : List Binding) → place binding.uri bs < length bs → list_any (λ b. same b.uri binding.uri) (drop (place binding.uri bs + 1) bs) ≡ false
+    → set bs (place binding.uri bs) binding ≡ put binding bs
+put_over binding [] within none = absurd (omega (arith, within))
+put_over binding (b ∷ bs) within none = by_test (same b.uri binding.uri) refl (put_over binding bs) where
+  by_test : (t : Bool) → same b.uri binding.uri ≡ t
+      → (place binding.uri bs < length bs → list_any (λ b. same b.uri binding.uri) (drop (place binding.uri bs + 1) bs) ≡ false → set bs (place binding.uri bs) binding ≡ put binding bs)
+      → set (b ∷ bs) (place binding.uri (b ∷ bs)) binding ≡ put binding (b ∷ bs)
+  by_test true e more =
+      let here : place binding.uri (b ∷ bs) ≡ 0 = rw e refl in
+      let behind : list_any (λ b. same b.uri binding.uri) bs ≡ false = sym (ap (λ (n : ℕ). list_any (λ b. same b.uri binding.uri) (drop (n + 1) (b ∷ bs))) here) ∙ none in
+      ap (λ (n : ℕ). set (b ∷ bs) n binding) here ∙ rw e (ap (λ (rest : List Binding). binding ∷ rest) (sym (none_goes binding.uri bs behind)))
+  by_test false e more =
+      let there : place binding.uri (b ∷ bs) ≡ suc (place binding.uri bs) = rw e (omega arith) in
+      let further : suc (place binding.uri bs) + 1 ≡ suc (place binding.uri bs + 1) = omega arith in
+      let behind : list_any (λ b. same b.uri binding.uri) (drop (place binding.uri bs + 1) bs) ≡ false =
+      sym (ap (λ (n : ℕ). list_any (λ b. same b.uri binding.uri) (drop n (b ∷ bs))) (ap (λ (n : ℕ). n + 1) there ∙ further)) ∙ none in
+      ap (λ (n : ℕ). set (b ∷ bs) n binding) there ∙ rw e (ap (λ (rest : List Binding). b ∷ rest) (more (omega (arith, there, within)) behind))

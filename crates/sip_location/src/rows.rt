@@ -1,5 +1,5 @@
-ghost use Rattle.std.specs.Prelude.{◌≡◌, [], not, length, IfOk, OnOk};
-ghost use Rattle.std.specs.List.{position_or_len};
+ghost use Rattle.std.specs.Prelude.{◌≡◌, ◌<◌, [], not, length, IfOk, OnOk};
+ghost use Rattle.std.specs.List.{list_any, position_or_len};
 ghost use Rattle.sip_equality.specs.Equality as Equality;
 ghost use Rattle.sip_location.specs.Binding.{is_live, live, without_contact, put};
 
@@ -115,11 +115,37 @@ fn place_of(bindings: &[Binding], uri: &Uri) -> usize
     bindings.len()
 }
 
+/// Whether a binding among some has a contact that is equal to a URI.
+fn any_is_equal(bindings: &[Binding], uri: &Uri) -> bool
+    ensures { result ≡ list_any (λ b. Equality.same b.uri uri.now) bindings.now }
+{
+    bindings.iter().any(|binding| same(&binding.uri, uri))
+}
+
+/// Puts a binding into the place of the first whose contact is equal to its own; the others that are equal go, but
+/// mostly there is none.
+fn put_at(list: &mut Vec<Binding>, place: usize, binding: Binding) -> Result<(), AllocError>
+    requires first { place ≡ position_or_len (λ b. Equality.same b.uri binding.uri) list.old.items }
+    requires within { place < length list.old.items }
+    ensures { OnOk result (list.new.items ≡ put binding list.old.items) }
+{
+    if any_is_equal(&list[place + 1..], &binding.uri) {
+        remove_equal(list, &binding.uri);
+        list.insert(place, binding)?;
+        return Ok(());
+    }
+    list[place] = binding;
+    Ok(())
+}
+
+/// Puts a binding among others, each of which is compared with it once, unless several are equal to it.
 fn put_in_place(list: &mut Vec<Binding>, binding: Binding) -> Result<(), AllocError>
     ensures { OnOk result (list.new.items ≡ put binding list.old.items) }
 {
     let place = place_of(list, &binding.uri);
-    remove_equal(list, &binding.uri);
-    list.insert(place, binding)?;
+    if place < list.len() {
+        return put_at(list, place, binding);
+    }
+    list.push(binding)?;
     Ok(())
 }
