@@ -5,18 +5,49 @@ ghost use Rattle.sip_host.specs.Host.{place_of, host_port_of};
 
 use crate::port::{port_behind, port_value};
 
+/// The flag of a byte that may stand in a host name.
+const IN_NAME: u8 = 1;
+
+/// The flag of a byte that may stand in an address in brackets.
+const IN_ADDRESS: u8 = 2;
+
+/// For each byte a digit whose low bits are these flags.
+static HOST_CLASSES: [u8; 256] = *b"\
+    00000000000000000000000000000000\
+    00000000000001303333333333200000\
+    03333331111111111111111111100001\
+    03333331111111111111111111100000\
+    00000000000000000000000000000000\
+    00000000000000000000000000000000\
+    00000000000000000000000000000000\
+    00000000000000000000000000000000";
+
+/// Whether a byte may stand in a host name.
+#[inline]
+fn is_host_byte(byte: u8) -> bool
+    ensures { result ≡ Host.is_host_byte byte }
+{
+    HOST_CLASSES[byte as usize] & IN_NAME != 0
+}
+
+/// Whether a byte may stand in an address in brackets.
+#[inline]
+fn is_address_byte(byte: u8) -> bool
+    ensures { result ≡ Host.is_address_byte byte }
+{
+    HOST_CLASSES[byte as usize] & IN_ADDRESS != 0
+}
+
 /// Whether all bytes may stand in a host name.
 fn are_host_bytes(bytes: &[u8]) -> bool
     ensures { result ≡ list_all Host.is_host_byte bytes.now }
 {
-    bytes.iter().all(|byte| byte.is_ascii_alphanumeric() || matches!(byte, b'-' | b'.' | b'_'))
-}
-
-/// Whether a byte may stand in an address in brackets.
-fn is_address_byte(byte: u8) -> bool
-    ensures { result ≡ Host.is_address_byte byte }
-{
-    byte.is_ascii_hexdigit() || matches!(byte, b':' | b'.')
+    for byte in bytes {
+        if !is_host_byte(*byte) {
+            return false;
+        }
+    }
+    true
 }
 
 /// Whether bytes are the rest of an address behind its opening bracket.
@@ -63,7 +94,12 @@ fn count_before(mark: u8, text: &[u8]) -> usize
     ensures value { result ≡ prefix_len (Host.is_not mark) text.now }
     ensures within { result ≤ length text.now }
 {
-    text.iter().take_while(|byte| !(**byte == mark)).count()
+    for at in 0..text.len() {
+        if text[at] == mark {
+            return at;
+        }
+    }
+    text.len()
 }
 
 /// How long the host at the front of a text is.
