@@ -104,6 +104,7 @@ def talking(script, count):
 
 
 OTHERS = [f"user{place:03}" for place in range(255)]
+MANY_USERS = ["help", *[f"user{place:04}" for place in range(4000)]]
 # the tables: users, rules, what is set up, and whether what is done comes at one moment
 TABLES = {
     "alone": (["help"], 4, lambda s: None, False),
@@ -112,6 +113,7 @@ TABLES = {
     "4,081 bindings": (["help", *OTHERS], 4, lambda s: bound(s, OTHERS), False),
     "1,024 rules": (["help"], 1024, lambda s: None, False),
     "4,090 dialogs": (["help"], 4, lambda s: talking(s, 4090), False),
+    "4,001 users": (MANY_USERS, 4, lambda s: None, False),
 }
 
 
@@ -249,7 +251,7 @@ def main():
         if "again" in KINDS:
             tell_repeated(folder)
         if "growth" in KINDS:
-            tell(["4,081 bindings", "4,090 dialogs"], folder, counter)
+            tell(["4,081 bindings", "4,090 dialogs", "4,001 users"], folder, counter)
 
 
 if __name__ == "__main__":
