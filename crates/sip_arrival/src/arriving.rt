@@ -57,7 +57,7 @@ fn refusal_verdict<'v>(alloc: Global, status: u16, items: &[u8]) -> Result<Verdi
 fn names_dialog(core: &CoreFields<'_>) -> bool
     ensures { result ≡ is_some (id_of core.now) }
 {
-    match tag_of(core.to.parameters.as_slice()) {
+    match tag_of(&core.to.parameters) {
         Some(_) => true,
         None => false,
     }

@@ -11,7 +11,7 @@ ghost use Rattle.sip_arrival.specs.Within.{GoesOn};
 use sip_judge::Judge;
 use sip_judge::dialog::{DialogId, Dialogs};
 use sip_judge::form::View;
-use sip_judge::header::{CoreFields, Parameter, tag_of};
+use sip_judge::header::{CoreFields, tag_of};
 use sip_judge::host::Addr;
 use sip_judge::policy::Rules;
 use sip_judge::text::Bytes;
@@ -19,11 +19,11 @@ use sip_judge::validate::Checked;
 use sip_judge::way::Way;
 use std::alloc::{AllocError, Global};
 
-/// The tag among some parameters; it is empty where there is none.
-fn tag_or_empty<'v>(parameters: &[Parameter<'v>]) -> &'v [u8]
-    ensures { result.now ≡ unwrap_or (Parameters.tag_of parameters.now) [] }
+/// The tag of From; it is empty where there is none.
+fn from_tag<'v>(core: &CoreFields<'v>) -> &'v [u8]
+    ensures { result.now ≡ unwrap_or (Parameters.tag_of core.now.from.parameters) [] }
 {
-    match tag_of(parameters) {
+    match tag_of(&core.from.parameters) {
         Some(tag) => tag,
         None => b"",
     }
@@ -49,11 +49,10 @@ fn named(
 fn dialog_of(alloc: Global, core: &CoreFields<'_>) -> Result<Option<DialogId>, AllocError>
     ensures { IfOk result (λ id. id ≡ Names.id_of core.now) }
 {
-    let Some(to_tag) = tag_of(core.to.parameters.as_slice()) else {
+    let Some(to_tag) = tag_of(&core.to.parameters) else {
         return Ok(None);
     };
-    let from_tag = tag_or_empty(core.from.parameters.as_slice());
-    let id = named(alloc, core.call_id.as_slice(), from_tag, to_tag)?;
+    let id = named(alloc, core.call_id.as_slice(), from_tag(core), to_tag)?;
     Ok(Some(id))
 }
 

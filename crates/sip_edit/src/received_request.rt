@@ -25,7 +25,7 @@ pub fn with_top_via<'v>(
 fn response_port(via: &Via<'_>, from: Addr) -> u16
     ensures { result ≡ response_port via.now from }
 {
-    if parameter_of(via.parameters.as_slice(), b"rport").is_some() {
+    if parameter_of(&via.parameters, b"rport").is_some() {
         return from.port;
     }
     via.port.unwrap_or(5060)

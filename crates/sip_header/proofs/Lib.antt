@@ -5,3 +5,4 @@ pub mod Words
 pub mod NumberLaws
 pub mod ParameterLaws
 pub mod NameAddrLaws
+mod Lookup

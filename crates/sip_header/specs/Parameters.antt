@@ -1,6 +1,6 @@
 -- Header parameters (RFC 3261 20 and 25.1, generic-param).
 use Rattle.std.specs.Prelude.{◌≡◌, ◌++◌, ℕ, Bool, true, false, ◌||◌, is_some, if◌then◌else◌, List, [], ◌∷◌, codes, Option, Some, None, option_map}
-use Rattle.std.specs.Option.{option_and_then}
+use Rattle.std.specs.Option.{option_and_then, unwrap_or}
 use Rattle.std.specs.Str.{byte}
 use Rattle.sip_text.specs.Words.{is_token_text, is_same_text}
 use Rattle.sip_text.specs.Lists.{trimmed}
@@ -57,6 +57,10 @@ parameter_in text = parameter_by text (split_outside (byte "=") text)
 abbrev pub parameters_in : List (List ℕ) → Option (List Parameter)
 parameters_in [] = Some []
 parameters_in (text ∷ texts) = option_and_then (λ parameter. option_map (λ others. parameter ∷ others) (parameters_in texts)) (parameter_in text)
+
+-- the parameters that texts write; none where one of them writes none
+abbrev pub said_in : List (List ℕ) → List Parameter
+said_in texts = unwrap_or (parameters_in texts) []
 
 -- the first parameter of a name, without case
 abbrev pub parameter_of : List ℕ → List Parameter → Option Parameter

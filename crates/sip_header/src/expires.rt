@@ -60,7 +60,7 @@ pub fn contact_expires(item: &ContactItem<'_>) -> Expires
     let ContactItem::Address(address) = item else {
         return Expires::Absent;
     };
-    match parameter_of(address.parameters.as_slice(), b"expires") {
+    match parameter_of(&address.parameters, b"expires") {
         Some(parameter) => value_expires(&parameter.value),
         None => Expires::Absent,
     }

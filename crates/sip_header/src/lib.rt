@@ -23,7 +23,7 @@ pub use error::HeaderError;
 pub use expires::{Expires, contact_expires, expires_of};
 pub use max_forwards::{MaxForwards, max_forwards_of};
 pub use name_addr::{AnyUri, NameAddr, name_addr_of};
-pub use parameters::{Parameter, branch_of, parameter_of, tag_of, value_of};
+pub use parameters::{Parameter, Parameters, branch_of, parameter_of, tag_of, value_of};
 pub use route::route_of;
 pub use via::{Via, via_of};
 

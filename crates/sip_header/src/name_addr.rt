@@ -3,9 +3,9 @@ ghost use Rattle.std.specs.List.{list_all};
 ghost use Rattle.sip_text.specs.Cuts.{parts_at, split_outside};
 ghost use Rattle.sip_header.specs.NameAddr.{is_opaque_byte, is_opaque, other_of, any_uri_of, with_parameters, is_bare_byte, bare_in, is_word_byte, is_display, behind_bracket, bracketed_by, name_addr_of};
 
-use crate::parameters::{Parameter, parameters_from};
+use crate::parameters::{Parameters, parameters_from};
 use sip_form::view::Value;
-use sip_text::{Items, Text, first_part, is_quoted, split_outside, without_blanks};
+use sip_text::{Text, first_part, is_quoted, split_outside, without_blanks};
 use sip_uri::{Uri, UriError, parse_uri, write_uri};
 use std::alloc::{AllocError, Global};
 
@@ -46,7 +46,7 @@ impl<'a> AnyUri<'a> {
 /// A URI with header parameters. A display name is read and not kept.
 pub struct NameAddr<'a> {
     pub uri: AnyUri<'a>,
-    pub parameters: Items<Parameter<'a>>,
+    pub parameters: Parameters<'a>,
 }
 
 /// Written out, so that it is proved once and not wherever an address is dropped.
@@ -176,24 +176,21 @@ fn bare(alloc: Global, bytes: &[u8]) -> Result<Option<NameAddr<'_>>, AllocError>
     let Some(uri) = any_uri(alloc, without_blanks(uri))? else {
         return Ok(None);
     };
-    let Some(parameters) = parameters_from(alloc, behind)? else {
+    let Some(parameters) = parameters_from(behind) else {
         return Ok(None);
     };
     Ok(Some(NameAddr { uri, parameters }))
 }
 
 /// The parameters behind a `>`.
-fn parameters_behind_bracket(
-    alloc: Global,
-    bytes: &[u8],
-) -> Result<Option<Items<Parameter<'_>>>, AllocError>
-    ensures { IfOk result (λ parameters. parameters ≡ behind_bracket (parts_at 59 bytes.now)) }
+fn parameters_behind_bracket(bytes: &[u8]) -> Option<Parameters<'_>>
+    ensures { result ≡ behind_bracket (parts_at 59 bytes.now) }
 {
     let (gap, behind) = first_part(bytes, b';');
     if !without_blanks(gap).is_empty() {
-        return Ok(None);
+        return None;
     }
-    parameters_from(alloc, behind)
+    parameters_from(behind)
 }
 
 /// A URI up to its `>`, and parameters.
@@ -206,7 +203,7 @@ fn bracketed(alloc: Global, bytes: &[u8]) -> Result<Option<NameAddr<'_>>, AllocE
     let Some(uri) = any_uri(alloc, without_blanks(uri))? else {
         return Ok(None);
     };
-    let Some(parameters) = parameters_behind_bracket(alloc, behind)? else {
+    let Some(parameters) = parameters_behind_bracket(behind) else {
         return Ok(None);
     };
     Ok(Some(NameAddr { uri, parameters }))

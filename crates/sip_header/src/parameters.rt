@@ -1,14 +1,13 @@
-ghost use Rattle.std.specs.Prelude.{◌≡◌, IfOk, option_map, is_some};
-ghost use Rattle.sip_text.specs.Escapes.{unquoted};
+ghost use Rattle.std.specs.Prelude.{◌≡◌, true, option_map, is_some, Some};
 ghost use Rattle.sip_text.specs.Cuts.{parts_behind};
-ghost use Rattle.std.specs.Option.{option_copied};
-ghost use Rattle.sip_header.specs.Parameters.{is_value, needs_value, bare_parameter, valued_parameter, parameter_in, parameters_in, parameter_of, value_of, tag_of, branch_of};
+ghost use Rattle.sip_text.specs.Escapes.{unquoted};
+ghost use Rattle.sip_header.specs.Parameters.{is_value, needs_value, bare_parameter, valued_parameter, parameter_in, parameters_in, said_in, parameter_of, value_of, tag_of, branch_of};
 
 use sip_text::{
-    Items, Text, first_part, is_quoted, is_token, same_no_case, split_outside, without_blanks,
+    Text, first_part, is_quoted, is_token, same_no_case, split_outside, without_blanks,
 };
 use sip_uri::host::is_host;
-use std::alloc::{AllocError, Global};
+use std::marker::Model;
 
 /// A header parameter: its name, and its value as it was written, quotes included.
 #[derive(Drop)]
@@ -17,23 +16,70 @@ pub struct Parameter<'a> {
     pub value: Option<Text<'a>>,
 }
 
-/// The first parameter of a name, which is compared without case.
-pub fn parameter_of<'a, 'v>(
-    parameters: &'a [Parameter<'v>],
-    name: &[u8],
-) -> Option<&'a Parameter<'v>>
-    ensures { option_copied result ≡ parameter_of name.now parameters.now }
+/// The parameters of a value, each behind a `;`. They were read once, and are looked up where they stand.
+#[derive(Drop)]
+pub struct Parameters<'a> {
+    /// What follows the first `;`, if one stands there.
+    behind: Option<&'a [u8]>,
+}
+
+impl<'a> Model for Parameters<'a> {
+    ghost use Rattle.std.specs.Prelude.{◌≡◌, List, Some, option_map};
+    ghost use Rattle.sip_text.specs.Cuts.{parts_behind};
+    ghost use Rattle.sip_header.specs.Parameters.{parameters_in, said_in};
+    ghost use Rattle.sip_header.specs.declared.parameters.Parameter.{Parameter};
+
+    ghost Value = { List Parameter };
+
+    ghost view = { λ p. said_in (parts_behind 59 (option_map (λ x. x.now) p.behind)) };
+
+    ghost invariant = { λ p. parameters_in (parts_behind 59 (option_map (λ x. x.now) p.behind)) ≡ Some (said_in (parts_behind 59 (option_map (λ x. x.now) p.behind))) };
+}
+
+/// The parameter that a text of one writes.
+#[tactic(auto, using(crate::proofs::Lookup::assigned_is, crate::proofs::Lookup::bare_is))]
+fn said_by(text: &[u8]) -> Parameter<'_>
+    requires { is_some (parameter_in text.now) ≡ true }
+    ensures { parameter_in text.now ≡ Some result }
 {
-    for parameter in parameters {
+    match split_outside(text, b'=') {
+        Some((name, value)) => Parameter {
+            name: Text::new(without_blanks(name)),
+            value: Some(Text::new(without_blanks(value))),
+        },
+        None => Parameter {
+            name: Text::new(without_blanks(text)),
+            value: None,
+        },
+    }
+}
+
+/// The first parameter of a name among those that were read.
+fn first_named<'v>(behind: Option<&'v [u8]>, name: &[u8]) -> Option<Parameter<'v>>
+    requires { is_some (parameters_in (parts_behind 59 (option_map (λ x. x.now) behind))) ≡ true }
+    ensures { result ≡ parameter_of name.now (said_in (parts_behind 59 (option_map (λ x. x.now) behind.entry))) }
+{
+    let mut behind = behind;
+    while let Some(text) = behind {
+        let (part, rest) = first_part(text, b';');
+        let parameter = said_by(part);
         if same_no_case(parameter.name.as_slice(), name) {
             return Some(parameter);
         }
+        behind = rest;
     }
     None
 }
 
-/// The value of the first parameter of a name, if it has one.
-pub fn value_of<'v>(parameters: &[Parameter<'v>], name: &[u8]) -> Option<&'v [u8]>
+/// The first parameter of a name, which is compared without case. Takes no memory.
+pub fn parameter_of<'v>(parameters: &Parameters<'v>, name: &[u8]) -> Option<Parameter<'v>>
+    ensures { result ≡ parameter_of name.now parameters.now }
+{
+    first_named(parameters.behind, name)
+}
+
+/// The value of the first parameter of a name, if it has one. Takes no memory.
+pub fn value_of<'v>(parameters: &Parameters<'v>, name: &[u8]) -> Option<&'v [u8]>
     ensures { option_map (λ x. x.now) result ≡ value_of name.now parameters.now }
 {
     let parameter = parameter_of(parameters, name)?;
@@ -43,15 +89,15 @@ pub fn value_of<'v>(parameters: &[Parameter<'v>], name: &[u8]) -> Option<&'v [u8
     }
 }
 
-/// The tag, if there is one (RFC 3261 19.3).
-pub fn tag_of<'v>(parameters: &[Parameter<'v>]) -> Option<&'v [u8]>
+/// The tag, if there is one (RFC 3261 19.3). Takes no memory.
+pub fn tag_of<'v>(parameters: &Parameters<'v>) -> Option<&'v [u8]>
     ensures { option_map (λ x. x.now) result ≡ tag_of parameters.now }
 {
     value_of(parameters, b"tag")
 }
 
-/// The branch, if there is one (RFC 3261 8.1.1.7).
-pub fn branch_of<'v>(parameters: &[Parameter<'v>]) -> Option<&'v [u8]>
+/// The branch, if there is one (RFC 3261 8.1.1.7). Takes no memory.
+pub fn branch_of<'v>(parameters: &Parameters<'v>) -> Option<&'v [u8]>
     ensures { option_map (λ x. x.now) result ≡ branch_of parameters.now }
 {
     value_of(parameters, b"branch")
@@ -117,22 +163,28 @@ fn parameter_from(bytes: &[u8]) -> Option<Parameter<'_>>
     }
 }
 
-/// The parameters that the rest of a value writes, each behind a `;`.
-pub(crate) fn parameters_from<'v>(
-    alloc: Global,
-    behind: Option<&'v [u8]>,
-) -> Result<Option<Items<Parameter<'v>>>, AllocError>
-    ensures { IfOk result (λ parameters. parameters ≡ parameters_in (parts_behind 59 (option_map (λ x. x.now) behind.entry))) }
+/// Whether the rest of a value writes parameters, each behind a `;`.
+fn are_parameters(behind: Option<&[u8]>) -> bool
+    ensures { result ≡ is_some (parameters_in (parts_behind 59 (option_map (λ x. x.now) behind.entry))) }
 {
-    let mut parameters = Items::new(alloc);
     let mut behind = behind;
     while let Some(text) = behind {
         let (part, rest) = first_part(text, b';');
-        let Some(parameter) = parameter_from(part) else {
-            return Ok(None);
+        let Some(_) = parameter_from(part) else {
+            return false;
         };
-        parameters.push(parameter)?;
         behind = rest;
     }
-    Ok(Some(parameters))
+    true
+}
+
+/// The parameters that the rest of a value writes, each behind a `;`.
+#[tactic(auto, using(crate::proofs::Lookup::some_said, crate::proofs::Lookup::none_said))]
+pub(crate) fn parameters_from<'v>(behind: Option<&'v [u8]>) -> Option<Parameters<'v>>
+    ensures { result ≡ parameters_in (parts_behind 59 (option_map (λ x. x.now) behind.entry)) }
+{
+    if !are_parameters(behind) {
+        return None;
+    }
+    Some(Parameters { behind })
 }

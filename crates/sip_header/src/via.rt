@@ -1,9 +1,9 @@
 ghost use Rattle.std.specs.Prelude.{◌≡◌, IfOk};
 ghost use Rattle.sip_header.specs.Via.{sender_behind, versioned, sender_of, via_of};
 
-use crate::parameters::{Parameter, parameters_from};
+use crate::parameters::{Parameters, parameters_from};
 use sip_text::{
-    Items, Text, first_part, is_token, same_no_case, split_outside, split_word, without_blanks,
+    Text, first_part, is_token, same_no_case, split_outside, split_word, without_blanks,
 };
 use sip_uri::host::host_port;
 use std::alloc::{AllocError, Global};
@@ -15,7 +15,7 @@ pub struct Via<'a> {
     pub host: Text<'a>,
     /// The port of sent-by, if there is one.
     pub port: Option<u16>,
-    pub parameters: Items<Parameter<'a>>,
+    pub parameters: Parameters<'a>,
 }
 
 /// Written out, so that it is proved once and not wherever a Via is dropped.
@@ -82,14 +82,14 @@ fn sender_from(bytes: &[u8]) -> Option<Sender<'_>>
 
 /// What the value of a Via says: `SIP/2.0/transport`, sent-by and parameters (RFC 3261 20.42). None where it is
 /// malformed. `AllocError` is the only refusal.
-pub fn via_of(alloc: Global, value: &[u8]) -> Result<Option<Via<'_>>, AllocError>
+pub fn via_of(_alloc: Global, value: &[u8]) -> Result<Option<Via<'_>>, AllocError>
     ensures { IfOk result (λ via. via ≡ via_of value.now) }
 {
     let (sender, behind) = first_part(value, b';');
     let Some(sender) = sender_from(sender) else {
         return Ok(None);
     };
-    let Some(parameters) = parameters_from(alloc, behind)? else {
+    let Some(parameters) = parameters_from(behind) else {
         return Ok(None);
     };
     let Sender {

@@ -24,7 +24,7 @@ fn own_branch<'v>(own: &Own, via: &Via<'v>) -> Option<&'v [u8]>
     ensures { option_map (λ branch. branch.now) result ≡ (if is_own_via own.now via.now then Parameters.branch_of via.now.parameters else None) }
 {
     if own.is_own_via(via) {
-        return branch_of(via.parameters.as_slice());
+        return branch_of(&via.parameters);
     }
     None
 }

@@ -76,7 +76,7 @@ impl Key {
     ) -> Result<Option<Key>, AllocError>
         ensures { IfOk result (λ key. key ≡ via_key method.now via.now) }
     {
-        match branch_of(via.parameters.as_slice()) {
+        match branch_of(&via.parameters) {
             Some(branch) => key_from(alloc, method, via, branch),
             None => Ok(None),
         }

@@ -8,7 +8,7 @@ ghost use Rattle.sip_dialog.specs.DialogId as Names;
 ghost use Rattle.sip_state.specs.Dialogs as Dialogs;
 
 use sip_dialog::DialogId;
-use sip_header::{CoreFields, HeaderError, NameAddr, Parameter, core_of, name_addr_of, tag_of};
+use sip_header::{CoreFields, HeaderError, NameAddr, Parameters, core_of, name_addr_of, tag_of};
 use sip_state::OpenRequest;
 use sip_state::field::FieldName;
 use sip_state::form::View;
@@ -17,7 +17,7 @@ use sip_state::view::ViewFields;
 use std::alloc::{AllocError, Global};
 
 /// The tag, or an empty one.
-fn tag_or_empty<'v>(parameters: &[Parameter<'v>]) -> &'v [u8]
+fn tag_or_empty<'v>(parameters: &Parameters<'v>) -> &'v [u8]
     ensures { result.now ≡ unwrap_or (Tags.tag_of parameters.now) [] }
 {
     match tag_of(parameters) {
@@ -54,10 +54,10 @@ fn id_with(
 ) -> Result<Option<DialogId>, AllocError>
     ensures { IfOk result (λ id. id ≡ Names.id_with call_id.now from.now to.now) }
 {
-    let Some(to_tag) = tag_of(to.parameters.as_slice()) else {
+    let Some(to_tag) = tag_of(&to.parameters) else {
         return Ok(None);
     };
-    let from_tag = tag_or_empty(from.parameters.as_slice());
+    let from_tag = tag_or_empty(&from.parameters);
     Ok(Some(copied_id(alloc, call_id, from_tag, to_tag)?))
 }
 

@@ -35,7 +35,7 @@ fn lacks_tag(alloc: Global, to: &[u8]) -> Result<bool, AllocError>
     ensures { IfOk result (λ lacks. lacks ≡ Reply.lacks_tag (name_addr_of to.now)) }
 {
     match name_addr_of(alloc, to)? {
-        Some(to) => Ok(tag_of(to.parameters.as_slice()).is_none()),
+        Some(to) => Ok(tag_of(&to.parameters).is_none()),
         None => Ok(false),
     }
 }

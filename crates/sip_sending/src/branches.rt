@@ -22,7 +22,7 @@ fn names_dialog(alloc: Global, request: &View<'_>) -> Result<bool, AllocError>
     ensures { IfOk result (λ names. names ≡ is_some (dialog_of request.now)) }
 {
     match core_of(alloc, request) {
-        Ok(core) => Ok(tag_of(core.to.parameters.as_slice()).is_some()),
+        Ok(core) => Ok(tag_of(&core.to.parameters).is_some()),
         Err(HeaderError::NoMemory) => Err(AllocError),
         Err(_) => Ok(false),
     }
