@@ -1,2 +1,3 @@
 pub mod CredentialLaws
 pub mod Names
+pub mod UsualItems

@@ -1,5 +1,6 @@
 pub mod Credentials
 pub mod FirstField
+pub mod UsualItems
 pub use Rattle.sip_header.specs.field
 pub use Rattle.sip_header.specs.host
 pub use Rattle.sip_header.specs.uri
