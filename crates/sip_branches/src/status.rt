@@ -7,7 +7,7 @@ use sip_context::state::OpenRequest;
 pub fn is_invite(call: &OpenRequest) -> bool
     ensures { result ≡ States.is_invite call.now }
 {
-    call.key.get().method.as_slice() == b"INVITE".as_slice()
+    call.key.get().is_method(b"INVITE")
 }
 
 /// 1xx (RFC 3261 7.2).

@@ -13,7 +13,7 @@ fn is_sent(call: &OpenRequest, target: u32, method: &[u8], branch: &Branch) -> b
     if branch.is_cancel {
         return b"CANCEL".as_slice() == method;
     }
-    call.key.get().method.as_slice() == method
+    call.key.get().is_method(method)
 }
 
 /// The place of the first such branch.

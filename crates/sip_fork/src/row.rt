@@ -36,10 +36,10 @@ fn is_named_by(call: &OpenRequest, cancel: &Key) -> bool
     if key.port != cancel.port {
         return false;
     }
-    if key.method.as_slice() == b"CANCEL".as_slice() {
+    if key.is_method(b"CANCEL") {
         return false;
     }
-    if key.method.as_slice() == b"ACK".as_slice() {
+    if key.is_method(b"ACK") {
         return false;
     }
     true

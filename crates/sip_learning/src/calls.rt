@@ -10,14 +10,14 @@ use sip_state::{Branch, OpenRequest, Phase, Side};
 pub(crate) fn is_invite(call: &OpenRequest) -> bool
     ensures { result ≡ States.is_invite call.now }
 {
-    call.key.get().method.as_slice() == b"INVITE".as_slice()
+    call.key.get().is_method(b"INVITE")
 }
 
 /// Whether a request is a BYE.
 pub(crate) fn is_bye(call: &OpenRequest) -> bool
     ensures { result ≡ bytes_eq call.now.key.method (codes "BYE") }
 {
-    call.key.get().method.as_slice() == b"BYE".as_slice()
+    call.key.get().is_method(b"BYE")
 }
 
 /// 2xx.

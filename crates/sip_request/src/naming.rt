@@ -26,7 +26,7 @@ const BEHIND_FIRST_WAIT: u64 = 153_000;
 fn is_invite(call: &OpenRequest) -> bool
     ensures { result ≡ States.is_invite call.now }
 {
-    call.key.get().method.as_slice() == b"INVITE".as_slice()
+    call.key.get().is_method(b"INVITE")
 }
 
 /// Whether a status is a 2xx (RFC 3261 7.2).

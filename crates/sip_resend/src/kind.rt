@@ -7,7 +7,7 @@ use sip_retransmission::state::OpenRequest;
 pub(crate) fn is_invite(request: &OpenRequest) -> bool
     ensures { result ≡ State.is_invite request.now }
 {
-    request.key.get().method.as_slice() == b"INVITE".as_slice()
+    request.key.get().is_method(b"INVITE")
 }
 
 /// Whether a status is a 2xx (RFC 3261 7.2).

@@ -32,7 +32,7 @@ fn names_dialog(alloc: Global, request: &View<'_>) -> Result<bool, AllocError>
 fn is_invite(context: &OpenRequest) -> bool
     ensures { result ≡ is_invite context.now }
 {
-    context.key.get().method.as_slice() == b"INVITE".as_slice()
+    context.key.get().is_method(b"INVITE")
 }
 
 /// Whether an open request is an INVITE that begins a dialog: this is the request that it keeps.
