@@ -31,8 +31,8 @@ pub mod view {
 /// Of `sip_form`.
 pub mod form {
     pub use sip_header::form::{
-        Field, FieldName, Fields, Value, View, ViewField, ViewFields, ViewName, ViewStart,
-        write_view,
+        Field, FieldName, Fields, KnownName, Value, View, ViewField, ViewFields, ViewName,
+        ViewStart, write_view,
     };
 }
 

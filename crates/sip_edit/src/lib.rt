@@ -41,8 +41,8 @@ pub mod view {
 /// Of `sip_form`.
 pub mod form {
     pub use sip_credentials::form::{
-        Field, FieldName, Fields, Value, View, ViewField, ViewFields, ViewName, ViewStart,
-        write_view,
+        Field, FieldName, Fields, KnownName, Value, View, ViewField, ViewFields, ViewName,
+        ViewStart, write_view,
     };
 }
 

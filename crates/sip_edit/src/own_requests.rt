@@ -10,7 +10,9 @@ ghost use Rattle.sip_credentials.specs.FirstField.{first_of};
 ghost use Rattle.sip_edit.specs.Onward.{seventy};
 ghost use Rattle.sip_edit.specs.OwnRequests;
 
-use sip_credentials::form::{FieldName, Value, View, ViewField, ViewFields, ViewName, ViewStart};
+use sip_credentials::form::{
+    FieldName, KnownName, Value, View, ViewField, ViewFields, ViewName, ViewStart,
+};
 use sip_credentials::header::cseq_of;
 use sip_text::Bytes;
 use std::alloc::{AllocError, Global};
@@ -49,7 +51,7 @@ fn put_given<'v>(out: &mut ViewFields<'v>, field: Option<ViewField<'v>>) -> Resu
 fn put_seventy(out: &mut ViewFields<'_>) -> Result<(), AllocError>
     ensures { OnOk result (out.new ≡ out.old ++ seventy ∷ []) }
 {
-    let name = ViewName::of_name(FieldName::MaxForwards);
+    let name = ViewName::of_name(KnownName::MaxForwards);
     out.push(ViewField::new(name, Value::of_part(b"70")))
 }
 
@@ -80,7 +82,7 @@ fn put_cseq(
         return Ok(());
     };
     let text = cseq_text(alloc, cseq.number, method)?;
-    let name = ViewName::of_name(FieldName::CSeq);
+    let name = ViewName::of_name(KnownName::CSeq);
     out.push(ViewField::new(name, Value::of_bytes(text)))
 }
 
@@ -142,7 +144,7 @@ fn to_field(to: Option<&[u8]>) -> Option<ViewField<'_>>
     ensures { option_to_list result ≡ OwnRequests.to_field (option_map (λ value. value.now) to.entry) }
 {
     let value = to?;
-    Some(ViewField::new(ViewName::of_name(FieldName::To), Value::of_part(value)))
+    Some(ViewField::new(ViewName::of_name(KnownName::To), Value::of_part(value)))
 }
 
 /// The ACK of a final answer with this To, if that had one, to an INVITE that was sent (RFC 3261 17.1.1.3). No byte is

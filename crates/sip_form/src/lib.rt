@@ -33,7 +33,7 @@ pub mod text {
 
 /// Of `sip_field`.
 pub mod field {
-    pub use sip_view::field::{Field, FieldName, Fields};
+    pub use sip_view::field::{Field, FieldName, Fields, KnownName};
 }
 
 /// Of `sip_view`.

@@ -44,7 +44,7 @@ pub mod uri {
 
 /// Of `sip_form`.
 pub mod form {
-    pub use sip_form::field::{Field, FieldName, Fields};
+    pub use sip_form::field::{Field, FieldName, Fields, KnownName};
     pub use sip_form::view::{Value, ViewField, ViewFields, ViewName};
     pub use sip_form::{View, ViewStart, write_view};
 }

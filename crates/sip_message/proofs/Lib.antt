@@ -1,4 +1,5 @@
 pub mod Folds
+pub mod Begun
 pub mod Cuts
 pub mod Steps
 pub mod CutLaws

@@ -4,6 +4,7 @@ pub mod Field
 pub mod Body
 pub mod Says
 pub mod Reading
+pub mod Begins
 pub mod Seen
 pub mod Line
 pub mod Parts

@@ -14,7 +14,7 @@ use Rattle.sip_message.specs.Lines.{unfolded_after, lines_at, folds_of, folds_af
 -- the bytes of a line, where they stand
 abbrev pub line_piece : Line → Piece
 line_piece (Part part) = Whole.Part part
-line_piece (Unfolded bytes) = Joined bytes.items
+line_piece (Unfolded line) = Joined line.bytes.items
 
 -- the bytes of a line
 abbrev pub line_bytes : Line → List ℕ

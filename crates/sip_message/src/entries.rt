@@ -1,7 +1,8 @@
-ghost use Rattle.std.specs.Prelude.{◌≡◌, option_map, map, IfOk, IfSome};
+ghost use Rattle.std.specs.Prelude.{◌≡◌, true, length, take, option_map, map, IfOk, IfSome};
 ghost use Rattle.std.specs.List.{list_all};
 ghost use Rattle.std.specs.Option.{ok_or};
-ghost use Rattle.sip_text.specs.Lists.{trimmed};
+ghost use Rattle.sip_text.specs.Lists.{trimmed, end_trimmed};
+ghost use Rattle.sip_text.specs.Words.{is_token_text};
 ghost use Rattle.sip_text.specs.Splits.{split_at_byte};
 ghost use Rattle.sip_form.specs.view.declared.piece.Piece.TheVariants.{Part, Joined};
 ghost use Rattle.sip_form.specs.view.Slice.{IsCutFrom, IsPieceCutFrom};
@@ -12,6 +13,7 @@ ghost use Rattle.sip_message.specs.Reading.{Gives};
 ghost use Rattle.sip_message.specs.Seen.{seen_field};
 ghost use Rattle.sip_form.specs.declared.error.ReadError.TheVariants.{BadField};
 
+use crate::joined_line::JoinedLine;
 use crate::line::Line;
 use crate::part_field::PartField;
 use sip_form::view::{Piece, ViewName, slice_before, slice_from};
@@ -21,18 +23,35 @@ use sip_text::{
 };
 use std::alloc::{AllocError, Global};
 
+/// For each byte `1` if it may stand in a value, else `0`: one look-up is cheaper than the comparisons.
+static TEXT_BYTES: [u8; 256] = *b"\
+    00000000010000000000000000000000\
+    11111111111111111111111111111111\
+    11111111111111111111111111111111\
+    11111111111111111111111111111110\
+    11111111111111111111111111111111\
+    11111111111111111111111111111111\
+    11111111111111111111111111111111\
+    11111111111111111111111111111111";
+
 /// Whether a byte may stand in a value.
+#[inline]
 fn is_text_byte(byte: u8) -> bool
     ensures { result ≡ is_text byte }
 {
-    (32..=126).contains(&byte) || byte == b'\t' || byte >= 128
+    TEXT_BYTES[byte as usize] == b'1'
 }
 
 /// Whether bytes may be a value.
 fn is_text_value(bytes: &[u8]) -> bool
     ensures { result ≡ list_all is_text bytes.now }
 {
-    bytes.iter().all(|byte| is_text_byte(*byte))
+    for byte in bytes {
+        if !is_text_byte(*byte) {
+            return false;
+        }
+    }
+    true
 }
 
 /// What stands before the first of a byte, and what follows it, where they stand.
@@ -57,6 +76,7 @@ fn trimmed_slice(bytes: &[u8]) -> &[u8]
 /// The written name and the value of the field of what stands before its `:` and behind it.
 fn field_from_parts<'a>(front: &'a [u8], value: &'a [u8]) -> Option<(&'a [u8], &'a [u8])>
     ensures field { option_map (λ x. seen_field x.0.now x.1.now) result ≡ field_from front.now value.now }
+    ensures name { IfSome result (λ x. (is_token_text x.0.now ≡ true) × (x.0.now ≡ end_trimmed front.now)) }
     ensures cut { IfSome result (λ x. IsCutFrom value.entry x.1) }
 {
     let name = without_end_blanks(front);
@@ -72,20 +92,23 @@ fn field_from_parts<'a>(front: &'a [u8], value: &'a [u8]) -> Option<(&'a [u8], &
 /// The written name and the value of the field that a line writes.
 fn parts_of_line(line: &[u8]) -> Option<(&[u8], &[u8])>
     ensures field { option_map (λ x. seen_field x.0.now x.1.now) result ≡ field_of line.now }
+    ensures name { IfSome result (λ x. (is_token_text x.0.now ≡ true) × (take (length x.0.now) line.now ≡ x.0.now)) }
     ensures cut { IfSome result (λ x. IsCutFrom line.entry x.1) }
 {
     let (front, value) = halves(line, b':')?;
     field_from_parts(front, value)
 }
 
-/// The field with this name and value, which are copied.
-fn copied<'a>(alloc: Global, name: &[u8], value: &[u8]) -> Result<PartField<'a>, AllocError>
+/// The field with this name and this value, which is copied.
+fn copied<'a>(alloc: Global, name: &'a [u8], value: &[u8]) -> Result<PartField<'a>, AllocError>
     ensures field { IfOk result (λ field. field_seen field ≡ seen_field name.now value.now) }
     ensures joined { IfOk result (λ field. IsPieceCutFrom (Joined value.now) field.value) }
 {
-    let name = ViewName::copied(alloc, name)?;
     let value = Piece::Joined(Bytes::copy(alloc, value)?);
-    Ok(PartField { name, value })
+    Ok(PartField {
+        name: ViewName::of_part(name),
+        value,
+    })
 }
 
 /// The field that a line without folds writes. No byte is copied.
@@ -102,13 +125,13 @@ fn field_of_part<'a>(line: &'a [u8]) -> Result<PartField<'a>, ViewError<'a>>
     }
 }
 
-/// The field that a line with folds writes.
-fn field_of_bytes<'a>(alloc: Global, line: &[u8]) -> Result<PartField<'a>, ViewError<'a>>
-    ensures field { Gives field_seen result (ok_or (field_of line.now) BadField) }
-    ensures joined { IfOk result (λ field. IsPieceCutFrom (Joined line.now) field.value) }
+/// The field that a line with folds writes: of its value alone, bytes are copied.
+fn field_of_joined<'a>(alloc: Global, line: &JoinedLine<'a>) -> Result<PartField<'a>, ViewError<'a>>
+    ensures field { Gives field_seen result (ok_or (field_of line.now.bytes.items) BadField) }
+    ensures joined { IfOk result (λ field. IsPieceCutFrom (Joined line.now.bytes.items) field.value) }
 {
-    match parts_of_line(line) {
-        Some((name, value)) => Ok(copied(alloc, name, value)?),
+    match parts_of_line(line.as_slice()) {
+        Some((name, value)) => Ok(copied(alloc, line.front(name), value)?),
         None => Err(ViewError::new(ViewRefusal::BadField)),
     }
 }
@@ -120,7 +143,7 @@ fn field_of_line<'a>(alloc: Global, line: &Line<'a>) -> Result<PartField<'a>, Vi
 {
     match line {
         Line::Part(part) => field_of_part(part),
-        Line::Unfolded(bytes) => field_of_bytes(alloc, bytes.as_slice()),
+        Line::Unfolded(joined) => field_of_joined(alloc, joined),
     }
 }
 

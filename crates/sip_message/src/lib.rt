@@ -7,6 +7,7 @@ mod body;
 mod datagram_parts;
 mod entries;
 pub mod examples;
+mod joined_line;
 mod keeping;
 pub mod laws;
 mod line;

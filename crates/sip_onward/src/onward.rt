@@ -7,7 +7,9 @@ ghost use Rattle.sip_edit.specs.credentials.Credentials.{is_realm};
 
 use crate::record_route::record_route;
 use sip_edit::credentials::credentials_of;
-use sip_edit::form::{FieldName, Value, View, ViewField, ViewFields, ViewName, ViewStart};
+use sip_edit::form::{
+    FieldName, KnownName, Value, View, ViewField, ViewFields, ViewName, ViewStart,
+};
 use sip_edit::header::{MaxForwards, max_forwards_of};
 use sip_edit::text::Bytes;
 use sip_edit::uri::{UriError, parse_uri, write_uri};
@@ -139,7 +141,7 @@ fn put_default(out: &mut ViewFields<'_>, hops: MaxForwards) -> Result<(), AllocE
     if hops != MaxForwards::Absent {
         return Ok(());
     }
-    let name = ViewName::of_name(FieldName::MaxForwards);
+    let name = ViewName::of_name(KnownName::MaxForwards);
     out.push(ViewField::new(name, Value::of_part(b"70")))
 }
 
@@ -236,7 +238,7 @@ pub fn to_target<'v>(
 {
     let others = base.fields().as_slice();
     let mut fields = ViewFields::with_room(alloc, others.len().saturating_add(1))?;
-    let name = ViewName::of_name(FieldName::Via);
+    let name = ViewName::of_name(KnownName::Via);
     fields.push(ViewField::new(name, Value::of_bytes(via)))?;
     put_all(&mut fields, others)?;
     Ok(View::new(with_uri(base.start(), uri), fields, base.body()))

@@ -2,7 +2,7 @@ ghost use Rattle.std.specs.Prelude.{◌≡◌, ◌++◌, IfOk, OnOk};
 ghost use Rattle.sip_edit.specs.Onward as Spec;
 
 use crate::onward::put_all;
-use sip_edit::form::{FieldName, Value, View, ViewField, ViewFields, ViewName};
+use sip_edit::form::{KnownName, Value, View, ViewField, ViewFields, ViewName};
 use sip_edit::text::Bytes;
 use sip_edit::way::Own;
 use std::alloc::{AllocError, Global};
@@ -29,7 +29,7 @@ pub(crate) fn record_route<'v>(alloc: Global, own: &Own) -> Result<ViewField<'v>
     ensures { IfOk result (λ field. field ≡ Spec.record_route_field own.now) }
 {
     let value = record_route_value(alloc, own)?;
-    let name = ViewName::of_name(FieldName::RecordRoute);
+    let name = ViewName::of_name(KnownName::RecordRoute);
     Ok(ViewField::new(name, Value::of_bytes(value)))
 }
 

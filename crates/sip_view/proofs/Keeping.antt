@@ -1,14 +1,14 @@
 -- What stands in a store stays as it is where more is put behind it.
 use Rattle.std.proofs.Common.{◌≡◌, ℕ, suc, ◌+◌, ◌-◌, ◌<◌, List, [], ◌∷◌, ◌++◌, length, map, take, drop, get_or, Option, refl, sym, ap, subst, ◌∙◌, arith, length-append}
 use Rattle.std.specs.Prelude.{All}
-use Rattle.std.specs.Option.{unwrap_or}
 use Rattle.std.proofs.Math.Seq.{drop-append_seam}
 use Rattle.std.proofs.lemmas.List.{drop-append-le, take-append-le, take_all, length-drop, map-append, take_more}
 use Rattle.std.proofs.lemmas.List.Elements.{All-push}
 use Rattle.sip_field.specs.text.declared.span.Span.{Span}
 use Rattle.sip_field.specs.text.Span.{part, IsWithin}
 use Rattle.sip_field.specs.declared.field_name.FieldName.{FieldName}
-use Rattle.sip_field.specs.declared.field_name.FieldName.TheVariants.{Other}
+use Rattle.sip_field.specs.declared.known.KnownName.{KnownName}
+use Rattle.sip_field.specs.KnownName.{name_seen}
 use Rattle.sip_field.specs.declared.field.Field.{Field}
 use Rattle.sip_view.specs.declared.kept_field.KeptField.{KeptField}
 use Rattle.sip_view.specs.KeptField.{field_kept, IsStored, Keeps, IsPut, IsFieldPut, AreFieldsPut}
@@ -41,13 +41,13 @@ keeps_again a b c first second = record {
   bytes = λ span w. second.bytes span (first.within span w) ∙ first.bytes span w;
 }
 
-abbrev made : Option FieldName → List ℕ → List ℕ → Field
-made known written value = record { name = unwrap_or known (Other written); value = value }
+abbrev made : Option KnownName → List ℕ → List ℕ → Field
+made known written value = record { name = name_seen known written; value = value }
 
 abbrev whole : FieldName → List ℕ → Field
 whole name value = record { name = name; value = value }
 
-pub field_put : (old written middle new : List ℕ) (field : Field) (kept : KeptField) → unwrap_or kept.known (Other written) ≡ field.name → IsPut old written middle kept.spelling → IsPut middle field.value new kept.value → IsFieldPut old field new kept
+pub field_put : (old written middle new : List ℕ) (field : Field) (kept : KeptField) → name_seen kept.known written ≡ field.name → IsPut old written middle kept.spelling → IsPut middle field.value new kept.value → IsFieldPut old field new kept
 field_put old written middle new field kept name spelling value = record {
   same = ap (λ w. made kept.known w (part new kept.value)) (value.keeps.bytes kept.spelling spelling.within ∙ spelling.bytes)
       ∙ ap (λ w. made kept.known written w) value.bytes ∙ ap (λ n. whole n field.value) name;

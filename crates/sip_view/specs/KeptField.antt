@@ -1,15 +1,14 @@
 -- Fields whose bytes stand in one store.
 use Rattle.std.specs.Prelude.{◌≡◌, ℕ, List, map, All}
-use Rattle.std.specs.Option.{unwrap_or}
 use Rattle.sip_field.specs.text.declared.span.Span.{Span}
 use Rattle.sip_field.specs.text.Span.{part, IsWithin}
-use Rattle.sip_field.specs.declared.field_name.FieldName.TheVariants.{Other}
 use Rattle.sip_field.specs.declared.field.Field.{Field}
+use Rattle.sip_field.specs.KnownName.{name_seen}
 use Rattle.sip_view.specs.declared.kept_field.KeptField.{KeptField}
 
 -- the field that is kept so in a store
 abbrev pub field_kept : List ℕ → KeptField → Field
-field_kept bytes kept = record { name = unwrap_or kept.known (Other (part bytes kept.spelling)); value = part bytes kept.value }
+field_kept bytes kept = record { name = name_seen kept.known (part bytes kept.spelling); value = part bytes kept.value }
 
 -- its bytes lie in the store
 pub record IsStored (bytes : List ℕ) (kept : KeptField) : Type 0 where

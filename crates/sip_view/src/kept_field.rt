@@ -1,11 +1,11 @@
-use sip_field::FieldName;
+use sip_field::KnownName;
 use sip_field::text::Span;
 
 /// A field whose bytes stand in a store: a name that this project knows, or the span of its spelling, and the span
 /// of its value.
-#[derive(Drop)]
+#[derive(Clone, Copy)]
 pub struct KeptField {
-    pub known: Option<FieldName>,
+    pub known: Option<KnownName>,
     pub spelling: Span,
     pub value: Span,
 }

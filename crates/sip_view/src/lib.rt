@@ -29,5 +29,5 @@ pub mod text {
 
 /// Of `sip_field`.
 pub mod field {
-    pub use sip_field::{Field, FieldName, Fields};
+    pub use sip_field::{Field, FieldName, Fields, KnownName};
 }

@@ -26,6 +26,7 @@ impl<'a> Drop for Piece<'a> {
 
 impl<'a> Piece<'a> {
     /// The bytes, wherever they stand.
+    #[inline]
     pub fn as_slice(&self) -> &[u8]
         ensures { result.now ≡ bytes_of self.now }
     {

@@ -23,7 +23,7 @@ pub fn put(store: &mut Bytes, more: &[u8]) -> Result<Span, AllocError>
 fn put_field(store: &mut Bytes, field: &ViewField<'_>) -> Result<KeptField, AllocError>
     ensures { IfOk result (λ kept. IsFieldPut store.old field.now store.new kept) }
 {
-    let (known, written) = field.name().known_or_written()?;
+    let (known, written) = field.name().known_or_written();
     let spelling = put(store, written)?;
     let value = put(store, field.value().as_slice())?;
     Ok(KeptField {
@@ -50,23 +50,19 @@ pub fn put_fields(
 }
 
 /// The name that is kept so in a store.
-fn name_in<'k>(bytes: &'k [u8], kept: &'k KeptField) -> Result<ViewName<'k>, AllocError>
+fn name_in<'k>(bytes: &'k [u8], kept: &KeptField) -> ViewName<'k>
     requires { IsStored bytes.now kept.now }
-    ensures { IfOk result (λ name. name ≡ (field_kept bytes.now kept.now).name) }
+    ensures { result ≡ (field_kept bytes.now kept.now).name }
 {
-    match &kept.known {
-        Some(name) => ViewName::of_field_name(name),
-        None => Ok(ViewName::of_other(kept.spelling.of(bytes))),
-    }
+    ViewName::of_kept(kept.known, kept.spelling.of(bytes))
 }
 
 /// The field that is kept so in a store.
-fn field_in<'k>(bytes: &'k [u8], kept: &'k KeptField) -> Result<ViewField<'k>, AllocError>
+fn field_in<'k>(bytes: &'k [u8], kept: &KeptField) -> ViewField<'k>
     requires { IsStored bytes.now kept.now }
-    ensures { IfOk result (λ field. field ≡ field_kept bytes.now kept.now) }
+    ensures { result ≡ field_kept bytes.now kept.now }
 {
-    let name = name_in(bytes, kept)?;
-    Ok(ViewField::new(name, Value::of_part(kept.value.of(bytes))))
+    ViewField::new(name_in(bytes, kept), Value::of_part(kept.value.of(bytes)))
 }
 
 /// The fields that are kept so in a store, of which no byte is copied.
@@ -80,7 +76,7 @@ pub fn fields_in<'k>(
 {
     let mut fields = ViewFields::with_room(alloc, list.len())?;
     for kept in list {
-        fields.push(field_in(bytes, kept)?)?;
+        fields.push(field_in(bytes, kept))?;
     }
     Ok(fields)
 }

@@ -26,6 +26,7 @@ impl<'a> Value<'a> {
     ghost use Rattle.sip_view.specs.Piece.{bytes_of};
 
     /// A part of what was read. Takes no memory.
+    #[inline]
     pub fn of_part(part: &'a [u8]) -> Self
         ensures { result ≡ part.now }
     {
@@ -44,6 +45,7 @@ impl<'a> Value<'a> {
     }
 
     /// The bytes of a piece.
+    #[inline]
     pub fn of_piece(piece: Piece<'a>) -> Self
         ensures { result ≡ bytes_of piece.entry }
     {
@@ -51,6 +53,7 @@ impl<'a> Value<'a> {
     }
 
     /// The bytes, wherever they stand.
+    #[inline]
     pub fn as_slice(&self) -> &[u8]
         ensures { result.now ≡ self.now }
     {

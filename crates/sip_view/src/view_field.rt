@@ -23,6 +23,7 @@ impl<'a> Model for ViewField<'a> {
 
 impl<'a> ViewField<'a> {
     /// The field of this name with this value.
+    #[inline]
     pub fn new(name: ViewName<'a>, value: Value<'a>) -> Self
         ensures { result ≡ record { name = name.entry; value = value.entry } }
     {
@@ -33,11 +34,12 @@ impl<'a> ViewField<'a> {
     pub fn of_field(field: &'a Field) -> Result<Self, AllocError>
         ensures { IfOk result (λ view. view ≡ field.now) }
     {
-        let name = ViewName::of_field_name(&field.name)?;
+        let name = ViewName::of_field_name(&field.name);
         Ok(ViewField::new(name, Value::of_part(field.value.as_slice())))
     }
 
     /// The same field, of which no byte is copied.
+    #[inline]
     pub fn lent(&self) -> Result<ViewField<'_>, AllocError>
         ensures { IfOk result (λ view. view ≡ self.now) }
     {
@@ -46,6 +48,7 @@ impl<'a> ViewField<'a> {
     }
 
     /// Its name.
+    #[inline]
     pub fn name(&self) -> &ViewName<'a>
         ensures { result.now ≡ self.now.name }
     {
@@ -53,6 +56,7 @@ impl<'a> ViewField<'a> {
     }
 
     /// Its value.
+    #[inline]
     pub fn value(&self) -> &Value<'a>
         ensures { result.now ≡ self.now.value }
     {

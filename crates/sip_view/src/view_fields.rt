@@ -53,6 +53,7 @@ impl<'a> ViewFields<'a> {
     }
 
     /// Adds a field at the end. At an error the fields are as before.
+    #[inline]
     pub fn push(&mut self, field: ViewField<'a>) -> Result<(), AllocError>
         ensures ok { OnOk result (self.new ≡ self.old ++ field.entry ∷ []) }
         ensures err { OnErr result (self.new ≡ self.old) }
@@ -92,6 +93,7 @@ impl<'a> ViewFields<'a> {
     }
 
     /// The fields, in their order.
+    #[inline]
     pub fn as_slice(&self) -> &[ViewField<'a>]
         ensures { result.now ≡ self.now }
     {

@@ -1,11 +1,10 @@
 ghost use Rattle.std.specs.Prelude.{◌≡◌, IfOk};
-ghost use Rattle.std.specs.Option.{unwrap_or};
 ghost use Rattle.sip_field.specs.declared.field_name.FieldName.TheVariants.{Other};
 ghost use Rattle.sip_field.specs.FieldName.{spelling, name_of, is_length, is_list, is_same_name};
+ghost use Rattle.sip_field.specs.KnownName.{field_name_of, name_seen};
 
-use crate::value::Value;
 use sip_field::text::{Bytes, same_no_case};
-use sip_field::{FieldName, known_name};
+use sip_field::{FieldName, KnownName};
 use std::alloc::{AllocError, Global};
 use std::marker::Model;
 
@@ -13,99 +12,102 @@ use std::marker::Model;
 /// was read.
 #[derive(Clone, Drop)]
 pub struct ViewName<'a> {
-    known: Option<FieldName>,
-    spelling: Value<'a>,
+    known: Option<KnownName>,
+    spelling: &'a [u8],
 }
 
 impl<'a> Model for ViewName<'a> {
-    ghost use Rattle.std.specs.Option.{unwrap_or};
     ghost use Rattle.sip_field.specs.declared.field_name.FieldName.{FieldName};
-    ghost use Rattle.sip_field.specs.declared.field_name.FieldName.TheVariants.{Other};
+    ghost use Rattle.sip_field.specs.KnownName.{name_seen};
 
     ghost Value = { FieldName };
 
-    ghost view = { λ n. unwrap_or n.known (Other n.spelling) };
+    ghost view = { λ n. name_seen n.known n.spelling.now };
 }
 
 impl<'a> ViewName<'a> {
-    /// A name that was made.
-    pub fn of_name(name: FieldName) -> Self
-        ensures { result ≡ name }
+    /// A name that this project knows.
+    #[inline]
+    pub fn of_name(name: KnownName) -> Self
+        ensures { result ≡ field_name_of name }
     {
         ViewName {
             known: Some(name),
-            spelling: Value::of_part(b""),
+            spelling: b"",
         }
     }
 
-    /// The name that is written so (RFC 3261 7.3.1 and 7.3.3). Takes no memory.
+    /// The name that is written so (RFC 3261 7.3.1 and 7.3.3).
+    #[inline]
     pub fn of_part(name: &'a [u8]) -> Self
         ensures { result ≡ name_of name.now }
     {
         ViewName {
-            known: known_name(name),
-            spelling: Value::of_part(name),
+            known: KnownName::from_bytes(name),
+            spelling: name,
         }
     }
 
-    /// The name that is written so, which is copied if this project doesn't know it.
-    pub fn copied(alloc: Global, name: &[u8]) -> Result<Self, AllocError>
-        ensures { IfOk result (λ copy. copy ≡ name_of name.now) }
-    {
-        let name = FieldName::from_bytes(alloc, name)?;
-        Ok(ViewName::of_name(name))
-    }
-
     /// The name of a field that was made, of which no byte is copied.
-    pub fn of_field_name(name: &'a FieldName) -> Result<Self, AllocError>
-        ensures { IfOk result (λ view. view ≡ name.now) }
+    #[inline]
+    pub fn of_field_name(name: &'a FieldName) -> Self
+        ensures { result ≡ name.now }
     {
-        match name {
-            FieldName::Other(spelling) => Ok(ViewName {
-                known: None,
-                spelling: Value::of_part(spelling.as_slice()),
-            }),
-            _ => Ok(ViewName::of_name(name.clone()?)),
+        ViewName {
+            known: KnownName::of(name),
+            spelling: name.spelling(),
         }
     }
 
     /// A name that this project doesn't know.
+    #[inline]
     pub fn of_other(spelling: &'a [u8]) -> Self
         ensures { result ≡ Other spelling.now }
     {
         ViewName {
             known: None,
-            spelling: Value::of_part(spelling),
+            spelling,
         }
+    }
+
+    /// The name that was kept so.
+    #[inline]
+    pub(crate) fn of_kept(known: Option<KnownName>, spelling: &'a [u8]) -> Self
+        ensures { result ≡ name_seen known spelling.now }
+    {
+        ViewName { known, spelling }
     }
 
     /// The same name, of which no byte is copied.
+    #[inline]
     pub fn lent(&self) -> Result<ViewName<'_>, AllocError>
         ensures { IfOk result (λ view. view ≡ self.now) }
     {
-        match &self.known {
-            Some(name) => ViewName::of_field_name(name),
-            None => Ok(ViewName::of_other(self.spelling.as_slice())),
-        }
+        Ok(ViewName {
+            known: self.known,
+            spelling: self.spelling,
+        })
     }
 
     /// The name if this project knows it, and otherwise what was written.
-    pub(crate) fn known_or_written(&self) -> Result<(Option<FieldName>, &[u8]), AllocError>
-        ensures { IfOk result (λ x. unwrap_or x.0 (Other x.1.now) ≡ self.now) }
+    #[inline]
+    pub(crate) fn known_or_written(&self) -> (Option<KnownName>, &[u8])
+        ensures { name_seen result.0 result.1.now ≡ self.now }
     {
-        match &self.known {
-            Some(name) => Ok((Some(name.clone()?), b"")),
-            None => Ok((None, self.spelling.as_slice())),
+        match self.known {
+            Some(known) => (Some(known), b""),
+            None => (None, self.spelling),
         }
     }
 
     /// The name in its full spelling (RFC 3261 20); another name as it was written.
+    #[inline]
     pub fn spelling(&self) -> &[u8]
         ensures { result.now ≡ spelling self.now }
     {
-        match &self.known {
-            Some(name) => name.spelling(),
-            None => self.spelling.as_slice(),
+        match self.known {
+            Some(known) => known.spelling(),
+            None => self.spelling,
         }
     }
 
@@ -113,12 +115,25 @@ impl<'a> ViewName<'a> {
     pub fn to_name(&self, alloc: Global) -> Result<FieldName, AllocError>
         ensures { IfOk result (λ name. name ≡ self.now) }
     {
-        match &self.known {
-            Some(name) => name.clone(),
+        match self.known {
+            Some(known) => Ok(known.to_name()),
             None => {
-                let spelling = Bytes::copy(alloc, self.spelling.as_slice())?;
+                let spelling = Bytes::copy(alloc, self.spelling)?;
                 Ok(FieldName::Other(spelling))
             }
+        }
+    }
+
+    /// Whether it is a name, of which it is known whether this project knows it: only of other names the spelling is
+    /// compared.
+    #[inline]
+    pub(crate) fn is_named(&self, known: Option<KnownName>, name: &FieldName) -> bool
+        requires { name_seen known (spelling name.now) ≡ name.now }
+        ensures { result ≡ is_same_name self.now name.now }
+    {
+        match (self.known, known) {
+            (Some(left), Some(right)) => left.is_same(right),
+            _ => same_no_case(self.spelling(), name.spelling()),
         }
     }
 
@@ -126,28 +141,27 @@ impl<'a> ViewName<'a> {
     pub fn is_same(&self, other: &FieldName) -> bool
         ensures { result ≡ is_same_name self.now other.now }
     {
-        match &self.known {
-            Some(name) => name.is_same(other),
-            None => same_no_case(self.spelling.as_slice(), other.spelling()),
-        }
+        self.is_named(KnownName::of(other), other)
     }
 
     /// Whether it is Content-Length, which a message that was read doesn't keep as a field.
+    #[inline]
     pub fn is_content_length(&self) -> bool
         ensures { result ≡ is_length self.now }
     {
-        match &self.known {
-            Some(name) => name.is_content_length(),
+        match self.known {
+            Some(known) => known.is_content_length(),
             None => false,
         }
     }
 
     /// Whether values of this name are cut at their commas, so that each item is a field of its own.
+    #[inline]
     pub fn is_list(&self) -> bool
         ensures { result ≡ is_list self.now }
     {
-        match &self.known {
-            Some(name) => name.is_list(),
+        match self.known {
+            Some(known) => known.is_list(),
             None => false,
         }
     }

@@ -5,7 +5,7 @@ ghost use Rattle.sip_field.specs.Values.{values_of};
 
 use crate::view_field::ViewField;
 use crate::view_fields::ViewFields;
-use sip_field::{Field, FieldName, Fields};
+use sip_field::{Field, FieldName, Fields, KnownName};
 use std::alloc::{AllocError, Global};
 
 /// The first of some fields that has a name.
@@ -15,8 +15,9 @@ pub(crate) fn first_of<'f, 'a>(
 ) -> Option<&'f ViewField<'a>>
     ensures { option_map (λ field. field.now) result ≡ first_named name.now fields.now }
 {
+    let known = KnownName::of(name);
     for field in fields {
-        if field.name().is_same(name) {
+        if field.name().is_named(known, name) {
             return Some(field);
         }
     }
@@ -27,10 +28,14 @@ pub(crate) fn first_of<'f, 'a>(
 pub(crate) fn count_of(fields: &[ViewField<'_>], name: &FieldName) -> usize
     ensures { result ≡ count_by (λ field. is_same_name field.name name.now) fields.now }
 {
-    fields
-        .iter()
-        .filter(|field| field.name().is_same(name))
-        .count()
+    let known = KnownName::of(name);
+    let mut count = 0;
+    for field in fields {
+        if field.name().is_named(known, name) {
+            count += 1;
+        }
+    }
+    count
 }
 
 /// The values of those of some fields that have a name.
@@ -41,9 +46,10 @@ pub(crate) fn values_in<'f>(
 ) -> Result<Vec<&'f [u8]>, AllocError>
     ensures { IfOk result (λ found. map (λ value. value.now) found.items ≡ values_of name.now fields.now) }
 {
+    let known = KnownName::of(name);
     let mut found = Vec::new(alloc);
     for field in fields {
-        if field.name().is_same(name) {
+        if field.name().is_named(known, name) {
             found.push(field.value().as_slice())?;
         }
     }
@@ -65,7 +71,7 @@ pub(crate) fn fields_of(alloc: Global, fields: &[ViewField<'_>]) -> Result<Field
 pub(crate) fn views_of<'a>(alloc: Global, fields: &'a [Field]) -> Result<ViewFields<'a>, AllocError>
     ensures { IfOk result (λ views. views ≡ fields.now) }
 {
-    let mut views = ViewFields::new(alloc);
+    let mut views = ViewFields::with_room(alloc, fields.len())?;
     for field in fields {
         views.push(ViewField::of_field(field)?)?;
     }
