@@ -19,16 +19,10 @@ take_fold old new done last line o is n more =
     ap (λ (w : List (List ℕ)). unfolded_after w more) n ∙ last_goes_on done (joined last line) more ∙ ap (λ (w : List (List ℕ)). done ++ w) (sym one)
     ∙ sym (last_goes_on done last (line ∷ more)) ∙ ap (λ (w : List (List ℕ)). unfolded_after w (line ∷ more)) (sym o)
 
-two_last : (done : List (List ℕ)) (last line : List ℕ) (more : List (List ℕ)) → unfolded_after ((done ++ last ∷ []) ++ line ∷ []) more ≡ done ++ last ∷ unfolded_on line more
-two_last [] last line more = refl
-two_last (d ∷ []) last line more = refl
-two_last (d ∷ e ∷ done) last line more = ap (λ (w : List (List ℕ)). d ∷ w) (two_last (e ∷ done) last line more)
-
-pub take_next : (old new done : List (List ℕ)) (last line : List ℕ) → old ≡ done ++ last ∷ [] → is_fold line ≡ false → new ≡ (done ++ last ∷ []) ++ line ∷ [] → (more : List (List ℕ)) → unfolded_after new more ≡ unfolded_after old (line ∷ more)
-take_next old new done last line o is n more =
-    let one : unfolded_on last (line ∷ more) ≡ last ∷ unfolded_on line more = rw is refl in
-    ap (λ (w : List (List ℕ)). unfolded_after w more) n ∙ two_last done last line more ∙ ap (λ (w : List (List ℕ)). done ++ w) (sym one)
-    ∙ sym (last_goes_on done last (line ∷ more)) ∙ ap (λ (w : List (List ℕ)). unfolded_after w (line ∷ more)) (sym o)
+pub take_next : (done : List (List ℕ)) (line : List ℕ) (more : List (List ℕ)) → is_fold line ≡ false → unfolded_after (done ++ line ∷ []) more ≡ unfolded_after done (line ∷ more)
+take_next [] line more is = refl
+take_next (last ∷ []) line more is = rw is refl
+take_next (d ∷ last ∷ done) line more is = ap (λ (w : List (List ℕ)). d ∷ w) (take_next (last ∷ done) line more is)
 
 -- ---- lines, one at a time
 

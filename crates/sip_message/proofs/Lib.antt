@@ -1,5 +1,6 @@
 pub mod Folds
 pub mod Begun
+pub mod LineEnds
 pub mod Cuts
 pub mod Steps
 pub mod CutLaws

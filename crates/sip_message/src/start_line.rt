@@ -17,21 +17,36 @@ use std::alloc::Global;
 fn all_visible(bytes: &[u8]) -> bool
     ensures { result ≡ list_all is_visible bytes.now }
 {
-    bytes.iter().all(|byte| (b'!'..=b'~').contains(byte))
+    for byte in bytes {
+        if !(b'!'..=b'~').contains(byte) {
+            return false;
+        }
+    }
+    true
 }
 
 /// Whether each byte is a digit.
 fn all_digits(bytes: &[u8]) -> bool
     ensures { result ≡ list_all is_ascii_digit bytes.now }
 {
-    bytes.iter().all(|byte| byte.is_ascii_digit())
+    for byte in bytes {
+        if !byte.is_ascii_digit() {
+            return false;
+        }
+    }
+    true
 }
 
 /// Whether no byte is CR or LF.
 fn all_unbroken(bytes: &[u8]) -> bool
     ensures { result ≡ list_all is_unbroken bytes.now }
 {
-    bytes.iter().all(|byte| !(*byte == b'\r' || *byte == b'\n'))
+    for byte in bytes {
+        if *byte == b'\r' || *byte == b'\n' {
+            return false;
+        }
+    }
+    true
 }
 
 /// Whether bytes may stand as a Request-URI: one or more from `!` to `~`.
