@@ -14,3 +14,4 @@ pub mod PartLaws
 pub mod PlainDecimals
 pub mod Differing
 pub mod SmallDecimals
+pub mod OneItem

@@ -13,6 +13,7 @@ mod items;
 pub mod laws;
 mod lists;
 mod numbers;
+mod one_item;
 mod quotes;
 mod span;
 mod splits;
@@ -31,6 +32,7 @@ pub use lists::{
 pub use numbers::{
     has_leading_zero, hex_bytes, hex_text, plain_decimal, plain_decimal_below, plain_port,
 };
+pub use one_item::is_one_item;
 pub use quotes::{is_quoted, plain_quoted, unquote};
 pub use span::Span;
 pub use splits::split_once;

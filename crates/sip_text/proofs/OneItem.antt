@@ -1,0 +1,88 @@
+-- A value with no comma, no quote and at most one pair of brackets is one item.
+use Rattle.std.proofs.Common.{◌≡◌, ℕ, zero, suc, ◌+◌, ◌-◌, ◌<◌, ◌≤◌, Bool, true, false, List, [], ◌∷◌, length, take, drop, get_or, Option, Some, refl, sym, ap, subst, ◌∙◌, arith}
+use Rattle.std.specs.Prelude.{◌||◌, ◌==◌, option_map, reverse}
+use Rattle.std.specs.List.{take_while}
+use Rattle.std.proofs.lemmas.Bool.{eqb-true}
+use Rattle.std.proofs.lemmas.List.{length-drop, length-take, take_all}
+use Rattle.memchr.specs.Find.{NoneBefore, Nowhere, Passes, is_byte, is_byte3}
+use Rattle.sip_text.specs.declared.lists.Place.TheVariants.{Outside, Bracketed}
+use Rattle.sip_text.specs.Lists.{is_blank, is_nil, trimmed, onto, between_cuts, cut}
+
+none_of : (b : ℕ) → (is_byte3 44 34 60 b ≡ true → ⊥) → ((b == 44) ≡ false) × ((b == 34) ≡ false) × ((b == 60) ≡ false)
+none_of b none = by_tests (b == 44) (b == 34) (b == 60) none
+  where
+    by_tests : (s t u : Bool) → ((s || t || u) ≡ true → ⊥) → (s ≡ false) × (t ≡ false) × (u ≡ false)
+    by_tests true t u h = absurd (h refl)
+    by_tests false true u h = absurd (h refl)
+    by_tests false false true h = absurd (h refl)
+    by_tests false false false h = (refl, refl, refl)
+
+abbrev IsOne : List ℕ → Type 0
+IsOne bytes = between_cuts Outside bytes ≡ Some (bytes ∷ [])
+
+abbrev put : ℕ → Option (List (List ℕ)) → Option (List (List ℕ))
+put b o = option_map (λ items. onto (b ∷ []) items) o
+
+passed : (b : ℕ) (bs : List ℕ) → (is_byte3 44 34 60 b ≡ true → ⊥) → IsOne bs → IsOne (b ∷ bs)
+passed b bs none one =
+    let t : ((b == 44) ≡ false) × ((b == 34) ≡ false) × ((b == 60) ≡ false) = none_of b none in
+    rw (t.0, t.1, t.2) (ap (put b) one)
+
+front : (start : ℕ) (bytes : List ℕ) → start ≤ length bytes → ((k : ℕ) → k < start → is_byte3 44 34 60 (get_or bytes k 0) ≡ true → ⊥) → IsOne (drop start bytes) → IsOne bytes
+front zero bytes fits none one = one
+front (suc start) [] fits none one = absurd (omega arith)
+front (suc start) (b ∷ bs) fits none one = passed b bs (none 0 (omega arith)) (front start bs (omega arith) (λ k lt. none (suc k) (omega arith)) one)
+
+pub none_cuts : (bytes : List ℕ) → Nowhere (Passes (is_byte3 44 34 60) bytes) 0 (length bytes) → between_cuts Outside bytes ≡ Some (bytes ∷ [])
+none_cuts [] none = refl
+none_cuts (b ∷ bs) none = passed b bs (none 0 (omega arith) (omega arith)) (none_cuts bs (λ k low lt. none (suc k) (omega arith) (omega arith)))
+
+-- a bracket that has begun ends, and nothing behind it cuts
+bracketed : (end : ℕ) (bytes : List ℕ) → end < length bytes → ((k : ℕ) → k < end → is_byte 62 (get_or bytes k 0) ≡ true → ⊥) → is_byte 62 (get_or bytes end 0) ≡ true → IsOne (drop (suc end) bytes)
+    → between_cuts Bracketed bytes ≡ Some (bytes ∷ [])
+bracketed end [] lt none here one = absurd (omega arith)
+bracketed zero (b ∷ bs) lt none here one = rw here (ap (put b) one)
+bracketed (suc end) (b ∷ bs) lt none here one =
+    let other : (b == 62) ≡ false = not_so (b == 62) (none 0 (omega arith)) in
+    rw other (ap (put b) (bracketed end bs (omega arith) (λ k below. none (suc k) (omega arith)) here one))
+  where
+    not_so : (t : Bool) → (t ≡ true → ⊥) → t ≡ false
+    not_so true h = absurd (h refl)
+    not_so false h = refl
+
+pair : (end : ℕ) (bytes : List ℕ) → get_or bytes 0 0 ≡ 60 → end < length bytes → ((k : ℕ) → k < end → is_byte 62 (get_or bytes k 0) ≡ true → ⊥) → is_byte 62 (get_or bytes end 0) ≡ true → IsOne (drop (suc end) bytes)
+    → IsOne bytes
+pair end [] first lt none here one = absurd (omega arith)
+pair zero (b ∷ bs) first lt none here one =
+    let clash : (60 == 62) ≡ true = subst (λ (c : ℕ). (c == 62) ≡ true) first here in absurd cc
+pair (suc end) (b ∷ bs) first lt none here one = rw first (ap (put 60) (bracketed end bs (omega arith) (λ k below. none (suc k) (omega arith)) here one))
+
+pub one_bracket : (bracket rest : List ℕ) (end : ℕ) → get_or bracket 0 0 ≡ 60 → NoneBefore (Passes (is_byte 62) bracket) 0 (length bracket) end × Passes (is_byte 62) bracket end → rest ≡ drop (end + 1) bracket
+    → between_cuts Outside rest ≡ Some (rest ∷ []) → between_cuts Outside bracket ≡ Some (bracket ∷ [])
+one_bracket bracket rest end first q behind one =
+    let next : end + 1 ≡ suc end = omega arith in
+    let rest_is : rest ≡ drop (suc end) bracket = behind ∙ ap (λ (n : ℕ). drop n bracket) next in
+    pair end bracket first q.0.high (λ k lt. q.0.before k (omega arith) lt) q.1 (subst (λ (w : List ℕ). IsOne w) rest_is one)
+
+pub one_front : (value bracket : List ℕ) (start : ℕ) → NoneBefore (Passes (is_byte3 44 34 60) value) 0 (length value) start × Passes (is_byte3 44 34 60) value start → bracket ≡ drop start value
+    → between_cuts Outside bracket ≡ Some (bracket ∷ []) → between_cuts Outside value ≡ Some (value ∷ [])
+one_front value bracket start p is inner =
+    front start value (omega (arith, p.0.high)) (λ k lt. p.0.before k (omega arith) lt) (subst (λ (w : List ℕ). IsOne w) is inner)
+
+-- ---- as an item
+
+whole_drop : (b k : ℕ) (xs : List ℕ) → 0 < length xs → length (drop b (take k xs)) ≡ length xs → drop b (take k xs) ≡ xs
+whole_drop b k xs full e =
+    let none : b ≡ 0 = omega (arith, e, full, length-drop b (take k xs), length-take k xs) in
+    let all : length xs ≤ k = omega (arith, e, full, length-drop b (take k xs), length-take k xs) in
+    ap (λ (n : ℕ). drop n (take k xs)) none ∙ take_all k xs all
+
+pub one_item : (value short : List ℕ) → 0 < length value → short ≡ trimmed value → length short ≡ length value → between_cuts Outside value ≡ Some (value ∷ []) → cut value ≡ Some (value ∷ [])
+one_item value short full is same one =
+    let kept : trimmed value ≡ value = whole_drop (length (take_while is_blank value)) (length value - length (take_while is_blank (reverse value))) value full (sym (ap length is) ∙ same) in
+    let some : is_nil value ≡ false = not_nil value full in
+    rw one (rw kept (rw some refl))
+  where
+    not_nil : (xs : List ℕ) → 0 < length xs → is_nil xs ≡ false
+    not_nil [] lt = absurd (omega arith)
+    not_nil (x ∷ xs) lt = refl
