@@ -137,13 +137,21 @@ none_kept old field is =
       slices = λ source stands are. are;
     }
 
+one_piece : (old : List PartField) (field : PartField) (new : List PartField) → pieces (field_seen field) ≡ Some (field_seen field ∷ []) → new ≡ old ++ field ∷ [] → IsKept old field new
+one_piece old field new one n = record {
+  seen = ap (λ (w : Option (List Field)). option_map (λ items. fields_seen old ++ items) w) one ∙ ap (λ (w : List Field). Some w) (sym (seen_more old new field n));
+  folds = joined_more old new field n ∙ sym (ap (λ (w : Option (List Field)). joined_values old ++ map (λ (item : Field). is_joined field.value) (unwrap_or w [])) one);
+  slices = λ source stands are. stands_more source old new field n are stands;
+}
+
 pub one_kept : (old : List PartField) (field : PartField) (new : List PartField) → is_length field.name ≡ false → is_list field.name ≡ false → new ≡ old ++ field ∷ [] → IsKept old field new
-one_kept old field new not_length not_list n =
-    let one : pieces (field_seen field) ≡ Some (field_seen field ∷ []) = rw (not_length, not_list) refl in record {
-      seen = ap (λ (w : Option (List Field)). option_map (λ items. fields_seen old ++ items) w) one ∙ ap (λ (w : List Field). Some w) (sym (seen_more old new field n));
-      folds = joined_more old new field n ∙ sym (ap (λ (w : Option (List Field)). joined_values old ++ map (λ (item : Field). is_joined field.value) (unwrap_or w [])) one);
-      slices = λ source stands are. stands_more source old new field n are stands;
-    }
+one_kept old field new not_length not_list n = one_piece old field new (rw (not_length, not_list) refl) n
+
+pub item_kept : (old : List PartField) (field : PartField) (new : List PartField) (value : List ℕ) → is_length field.name ≡ false → is_list field.name ≡ true → value ≡ bytes_of field.value → cut value ≡ Some (value ∷ [])
+    → new ≡ old ++ field ∷ [] → IsKept old field new
+item_kept old field new value not_length listed is one n =
+    let whole : cut (bytes_of field.value) ≡ Some (bytes_of field.value ∷ []) = subst (λ (v : List ℕ). cut v ≡ Some (v ∷ [])) is one in
+    one_piece old field new (rw (not_length, listed, whole) refl) n
 
 -- ---- all that are kept
 

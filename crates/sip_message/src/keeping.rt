@@ -12,7 +12,7 @@ ghost use Rattle.sip_form.specs.declared.error.ReadError.TheVariants.{NoMemory, 
 
 use crate::part_field::PartField;
 use sip_form::{ViewError, ViewRefusal};
-use sip_text::{Span, TextError, cut_list};
+use sip_text::{Span, TextError, cut_list, is_one_item};
 use std::alloc::{AllocError, Global};
 
 /// The field with this part of its value.
@@ -87,6 +87,23 @@ fn keep_items<'a>(
     Ok(())
 }
 
+/// Keeps a list: one of one item as it is.
+fn keep_list<'a>(
+    alloc: Global,
+    fields: &mut Vec<PartField<'a>>,
+    field: PartField<'a>,
+) -> Result<(), ViewError<'a>>
+    requires not_length { is_length field.name ≡ false }
+    requires list { is_list field.name ≡ true }
+    ensures { MatchResult result (λ _. IsKept fields.old.items field.entry fields.new.items) (λ e. (e ≡ NoMemory) ⊎ ((e ≡ BadField) × (pieces (field_seen field.entry) ≡ None))) }
+{
+    if is_one_item(field.value.as_slice()) {
+        fields.push(field)?;
+        return Ok(());
+    }
+    keep_items(alloc, fields, &field)
+}
+
 /// Keeps what is kept of a field.
 fn keep<'a>(
     alloc: Global,
@@ -99,7 +116,7 @@ fn keep<'a>(
         return Ok(());
     }
     if field.name.is_list() {
-        return keep_items(alloc, fields, &field);
+        return keep_list(alloc, fields, field);
     }
     fields.push(field)?;
     Ok(())
