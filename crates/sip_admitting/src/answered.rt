@@ -12,7 +12,7 @@ use crate::taking::take_draft;
 use sip_event::StepOut;
 use sip_proxy::Proxy;
 use sip_proxy::field::Fields;
-use sip_proxy::form::Kept;
+use sip_proxy::heard::Heard;
 use sip_proxy::key::Key;
 use sip_proxy::opening::Arrival;
 use sip_proxy::shared::Shared;
@@ -31,7 +31,7 @@ pub fn take_answered<T: Timers>(
     proxy: &mut Proxy<T>,
     arrival: Arrival,
     key: Shared<Key>,
-    request: Shared<Kept>,
+    request: Shared<Heard>,
     status: u16,
     extras: &Fields,
 ) -> Result<StepOut, AllocError>

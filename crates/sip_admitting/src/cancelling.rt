@@ -18,8 +18,8 @@ use sip_proxy::event::Packet;
 use sip_proxy::field::Fields;
 use sip_proxy::fitting::events::opens_fitting;
 use sip_proxy::fork::Change;
-use sip_proxy::form::Kept;
 use sip_proxy::forwarding::Drafted;
+use sip_proxy::heard::Heard;
 use sip_proxy::hops::Hops;
 use sip_proxy::host::Addr;
 use sip_proxy::inputs::Input;
@@ -60,7 +60,7 @@ fn agree(
     server: &Server,
     arrival: Arrival,
     key: Shared<Key>,
-    request: Shared<Kept>,
+    request: Shared<Heard>,
 ) -> Result<Agreed, AllocError>
     requires key { key_of request ≡ Some key }
     requires now { arrival.now + 32000 < 2 ^ 64 }
@@ -123,7 +123,7 @@ fn cancel_at<T: Timers>(
     proxy: &mut Proxy<T>,
     arrival: Arrival,
     key: Shared<Key>,
-    request: Shared<Kept>,
+    request: Shared<Heard>,
     place: usize,
 ) -> Result<StepOut, AllocError>
     requires coming { IsComing proxy.old.state arrival }
@@ -160,7 +160,7 @@ pub fn take_cancel<T: Timers>(
     proxy: &mut Proxy<T>,
     arrival: Arrival,
     key: Shared<Key>,
-    request: Shared<Kept>,
+    request: Shared<Heard>,
 ) -> Result<StepOut, AllocError>
     requires coming { IsComing proxy.old.state arrival }
     requires key { key_of request ≡ Some key }

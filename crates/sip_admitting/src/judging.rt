@@ -17,7 +17,7 @@ use crate::taking::take_draft;
 use sip_event::StepOut;
 use sip_proxy::Proxy;
 use sip_proxy::arrival::Judged;
-use sip_proxy::form::Kept;
+use sip_proxy::heard::Heard;
 use sip_proxy::key::Key;
 use sip_proxy::opening::Arrival;
 use sip_proxy::shared::Shared;
@@ -36,7 +36,7 @@ pub fn take_judged<T: Timers>(
     proxy: &mut Proxy<T>,
     arrival: Arrival,
     key: Shared<Key>,
-    request: Shared<Kept>,
+    request: Shared<Heard>,
     judged: Judged<'_>,
 ) -> Result<StepOut, AllocError>
     requires coming { IsComing proxy.old.state arrival }

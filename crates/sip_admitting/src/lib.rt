@@ -44,6 +44,11 @@ pub mod form {
     pub use sip_proxy::form::{Kept, View};
 }
 
+/// Of `sip_heard`.
+pub mod heard {
+    pub use sip_proxy::heard::Heard;
+}
+
 /// Of `sip_hops`.
 pub mod hops {
     pub use sip_proxy::hops::Hops;

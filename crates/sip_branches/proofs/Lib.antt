@@ -1,2 +1,2 @@
-pub mod Heard
+pub mod EitherMoment
 pub mod Lists

@@ -7,6 +7,7 @@ pub use Rattle.sip_context.specs.host
 pub use Rattle.sip_context.specs.nonces
 pub use Rattle.sip_context.specs.uri
 pub use Rattle.sip_context.specs.form
+pub use Rattle.sip_context.specs.heard
 pub use Rattle.sip_context.specs.best
 pub use Rattle.sip_context.specs.event
 pub use Rattle.sip_context.specs.hops

@@ -25,7 +25,7 @@ fn heard_until(now: u64, status: u16, running: u64) -> u64
 
 /// The phase of a branch of an INVITE after a provisional response of a status at a moment: it is heard, and 101 to
 /// 199 set Timer C anew (RFC 3261 16.7 step 2, 16.8).
-#[tactic(auto, using(crate::proofs::Heard::heard_either))]
+#[tactic(auto, using(crate::proofs::EitherMoment::heard_either))]
 pub fn invite_heard(now: u64, status: u16, phase: Phase) -> Phase
     requires now { now + 185000 < 2 ^ 64 }
     requires early { IsEarly phase }

@@ -51,6 +51,11 @@ pub mod form {
     pub use sip_context::form::{Kept, View, ViewStart, write_view};
 }
 
+/// Of `sip_heard`.
+pub mod heard {
+    pub use sip_context::heard::{Heard, received_value};
+}
+
 /// Of `sip_best`.
 pub mod best {
     pub use sip_context::best::{Final, best};

@@ -12,6 +12,7 @@ pub use Rattle.sip_state.specs.host
 pub use Rattle.sip_state.specs.nonces
 pub use Rattle.sip_state.specs.uri
 pub use Rattle.sip_state.specs.form
+pub use Rattle.sip_state.specs.heard
 pub use Rattle.sip_state.specs.best
 pub use Rattle.sip_event.specs as event
 pub use Rattle.sip_state.specs.hops

@@ -41,6 +41,11 @@ pub mod form {
     pub use sip_state::form::{Kept, View, ViewStart, write_view};
 }
 
+/// Of `sip_heard`.
+pub mod heard {
+    pub use sip_state::heard::{Heard, received_value};
+}
+
 /// Of `sip_best`.
 pub mod best {
     pub use sip_state::best::{Final, best};

@@ -40,7 +40,7 @@ pub(crate) fn answer<T: Timers>(
     ensures unchanged { OnErr result (proxy.new.state ≡ proxy.old.state) }
     ensures timers { OnErr result (proxy.new.timers ≡ proxy.old.timers) }
 {
-    let kept = keep(alloc, key, message)?;
+    let kept = keep(alloc, key, message, arrival.from)?;
     let NewRequest { key, message } = kept;
     take_answered(alloc, server, proxy, arrival, key, message, status, extras)
 }
@@ -65,7 +65,7 @@ pub(crate) fn cancel<T: Timers>(
     ensures unchanged { OnErr result (proxy.new.state ≡ proxy.old.state) }
     ensures timers { OnErr result (proxy.new.timers ≡ proxy.old.timers) }
 {
-    let kept = keep(alloc, key, message)?;
+    let kept = keep(alloc, key, message, arrival.from)?;
     let NewRequest { key, message } = kept;
     take_cancel(alloc, server, hops, proxy, arrival, key, message)
 }

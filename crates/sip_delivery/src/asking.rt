@@ -48,7 +48,7 @@ fn answer_judged<T: Timers>(
     ensures unchanged { OnErr result (proxy.new.state ≡ proxy.old.state) }
     ensures timers { OnErr result (proxy.new.timers ≡ proxy.old.timers) }
 {
-    let kept = keep(alloc, key, message)?;
+    let kept = keep(alloc, key, message, arrival.from)?;
     let NewRequest { key, message } = kept;
     take_judged(alloc, server, proxy, arrival, key, message, judged)
 }

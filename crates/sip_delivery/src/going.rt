@@ -6,7 +6,7 @@ ghost use Rattle.sip_admitting.specs.proxy.verdict.Verdict as Definition;
 ghost use Rattle.sip_routing.specs.Routing.{are_somebody};
 ghost use Rattle.sip_delivery.specs.Delivery.{Takes};
 
-use crate::keeping::{NewRequest, keep};
+use crate::keeping::{NewRequest, keep_onward};
 use sip_admitting::arrival::Judged;
 use sip_admitting::dialog::DialogId;
 use sip_admitting::event::StepOut;
@@ -47,7 +47,7 @@ pub(crate) fn go_to<T: Timers>(
     ensures unchanged { OnErr result (proxy.new.state ≡ proxy.old.state) }
     ensures timers { OnErr result (proxy.new.timers ≡ proxy.old.timers) }
 {
-    let kept = keep(alloc, key, message)?;
+    let kept = keep_onward(alloc, key, message, arrival.from)?;
     let NewRequest { key, message } = kept;
     send_to(
         alloc, server, hops, proxy, arrival, key, message, judged, rule, targets,
@@ -76,7 +76,7 @@ pub(crate) fn go_within<T: Timers>(
     ensures unchanged { OnErr result (proxy.new.state ≡ proxy.old.state) }
     ensures timers { OnErr result (proxy.new.timers ≡ proxy.old.timers) }
 {
-    let kept = keep(alloc, key, message)?;
+    let kept = keep_onward(alloc, key, message, arrival.from)?;
     let NewRequest { key, message } = kept;
     send_within(
         alloc, server, hops, proxy, arrival, key, message, address, id,

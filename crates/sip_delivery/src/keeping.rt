@@ -1,6 +1,8 @@
 ghost use Rattle.std.specs.Prelude.{◌≡◌, IfOk};
 
-use sip_admitting::form::{Kept, View};
+use sip_admitting::form::View;
+use sip_admitting::heard::Heard;
+use sip_admitting::host::Addr;
 use sip_admitting::key::Key;
 use sip_admitting::shared::Shared;
 use std::alloc::{AllocError, Global};
@@ -9,23 +11,35 @@ use std::alloc::{AllocError, Global};
 #[derive(Drop)]
 pub(crate) struct NewRequest {
     pub(crate) key: Shared<Key>,
-    pub(crate) message: Shared<Kept>,
+    pub(crate) message: Shared<Heard>,
 }
 
-/// Copies a request out of its datagram. `AllocError` is the only refusal.
-fn copy_of(alloc: Global, message: &View<'_>) -> Result<Shared<Kept>, AllocError>
-    ensures { IfOk result (λ kept. kept ≡ message.now) }
-{
-    let kept = Kept::of(alloc, message)?;
-    Shared::new(alloc, kept)
-}
-
-/// Keeps a request with its key. `AllocError` is the only refusal.
-pub(crate) fn keep(alloc: Global, key: Key, message: &View<'_>) -> Result<NewRequest, AllocError>
+/// Keeps a request that came from an address and is answered here, with its key. `AllocError` is the only refusal.
+pub(crate) fn keep(
+    alloc: Global,
+    key: Key,
+    message: &View<'_>,
+    from: Addr,
+) -> Result<NewRequest, AllocError>
     ensures key { IfOk result (λ request. request.key ≡ key) }
     ensures message { IfOk result (λ request. request.message ≡ message.now) }
 {
     let key = Shared::new(alloc, key)?;
-    let message = copy_of(alloc, message)?;
+    let message = Shared::new(alloc, Heard::of(alloc, message, from)?)?;
+    Ok(NewRequest { key, message })
+}
+
+/// Keeps a request that came from an address and goes on, with its key. `AllocError` is the only refusal.
+pub(crate) fn keep_onward(
+    alloc: Global,
+    key: Key,
+    message: &View<'_>,
+    from: Addr,
+) -> Result<NewRequest, AllocError>
+    ensures key { IfOk result (λ request. request.key ≡ key) }
+    ensures message { IfOk result (λ request. request.message ≡ message.now) }
+{
+    let key = Shared::new(alloc, key)?;
+    let message = Shared::new(alloc, Heard::onward(alloc, message, from)?)?;
     Ok(NewRequest { key, message })
 }

@@ -14,7 +14,7 @@ use crate::renewing::renewing;
 use sip_learning::Lessons;
 use sip_opening::dialog::DialogId;
 use sip_opening::event::Packet;
-use sip_opening::form::Kept;
+use sip_opening::heard::Heard;
 use sip_opening::hops::Hops;
 use sip_opening::host::Addr;
 use sip_opening::key::Key;
@@ -80,7 +80,7 @@ pub fn forward_to(
     hops: &Hops,
     arrival: Arrival,
     key: Shared<Key>,
-    request: Shared<Kept>,
+    request: Shared<Heard>,
     targets: &Targets,
 ) -> Result<Forwarded, AllocError>
     requires key { key_of request ≡ Some key }
@@ -107,7 +107,7 @@ fn renewing_kept(
     alloc: Global,
     hops: &Hops,
     id: DialogId,
-    request: &Kept,
+    request: &Heard,
 ) -> Result<Lessons, AllocError>
     ensures told { IfOk result (λ lessons. Adds hops.now.addresses [] lessons (λ server now dialogs. after_request server now id request.now dialogs)) }
     ensures none_begins { IfOk result (λ lessons. beginnings lessons ≡ 0) }
@@ -126,7 +126,7 @@ pub fn forward_within(
     hops: &Hops,
     arrival: Arrival,
     key: Shared<Key>,
-    request: Shared<Kept>,
+    request: Shared<Heard>,
     address: Addr,
     id: DialogId,
 ) -> Result<Forwarded, AllocError>

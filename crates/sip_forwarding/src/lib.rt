@@ -52,6 +52,11 @@ pub mod form {
     pub use sip_opening::form::{Kept, View};
 }
 
+/// Of `sip_heard`.
+pub mod heard {
+    pub use sip_opening::heard::Heard;
+}
+
 /// Of `sip_policy`.
 pub mod policy {
     pub use sip_opening::policy::Rules;

@@ -47,7 +47,8 @@ impl Hops {
     }
 
     /// The address of a host and a port: a dotted IPv4 address is itself, any other host is looked up, without case.
-    fn address_at(&self, host: &[u8], port: u16) -> Option<Addr>
+    /// Takes no memory.
+    pub fn address_at(&self, host: &[u8], port: u16) -> Option<Addr>
         ensures { result ≡ Definitions.address_at self.now.addresses host.now port }
     {
         match ip_of(host) {

@@ -15,6 +15,7 @@ pub use error::HopsError;
 pub use hop::Hop;
 pub use hops::Hops;
 pub use host_address::HostAddress;
+pub use way::{is_by_udp, port_or_default};
 
 /// Of `sip_equality`.
 pub mod equality {

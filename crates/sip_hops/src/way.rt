@@ -37,15 +37,15 @@ fn some_leads_elsewhere(parameters: &[Parameter]) -> bool
         .any(|parameter| leads_elsewhere(parameter))
 }
 
-/// Whether a URI may have an address: it is a `sip` one, and asks for no other way than UDP to its host.
-pub(crate) fn is_by_udp(uri: &Uri) -> bool
+/// Whether a URI may have an address: it is a `sip` one, and asks for no other way than UDP to its host. Takes no memory.
+pub fn is_by_udp(uri: &Uri) -> bool
     ensures { result ≡ Definitions.is_by_udp uri.now }
 {
     uri.scheme == Scheme::Sip && !some_leads_elsewhere(uri.parameters.as_slice())
 }
 
-/// The number of a port, 5060 where none is written (RFC 3261 19.1.2).
-pub(crate) fn port_or_default(port: &Option<Bytes>) -> Option<u16>
+/// The number of a port, 5060 where none is written (RFC 3261 19.1.2). Takes no memory.
+pub fn port_or_default(port: &Option<Bytes>) -> Option<u16>
     ensures { result ≡ Definitions.port_or_default port.now }
 {
     match port {

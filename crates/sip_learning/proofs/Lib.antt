@@ -1,3 +1,4 @@
+pub mod Answered
 pub mod OneTo
 pub mod Order
 pub mod Told

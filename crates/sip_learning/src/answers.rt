@@ -12,7 +12,7 @@ ghost use Rattle.sip_learning.specs.Telling.{Does, DoesOr, is_early_or_success};
 use crate::calls::{is_bye, is_invite, is_success};
 use crate::given::{given_by, put_given};
 use crate::lesson::Lesson;
-use crate::naming::{answered_dialog, dialog_of};
+use crate::naming::answered_dialog;
 use sip_dialog::{DialogId, InviteAnswer};
 use sip_state::hops::Hops;
 use sip_state::host::Addr;
@@ -68,7 +68,9 @@ fn invite_addresses(
         ++ addresses_in (address_of hops.now.addresses) call.now.request.fields ++ addresses_in (address_of hops.now.addresses) up.now.message.fields) }
 {
     let mut addresses = both_ends(alloc, call, up)?;
-    put_given(alloc, hops, &mut addresses, call.request.get())?;
+    call.request
+        .get()
+        .put_addresses(alloc, hops, &mut addresses)?;
     put_given(alloc, hops, &mut addresses, up.message.get())?;
     Ok(addresses)
 }
@@ -146,8 +148,7 @@ fn first_lesson(
 fn dialog_of_call(alloc: Global, call: &OpenRequest) -> Result<Option<DialogId>, AllocError>
     ensures { IfOk result (λ id. id ≡ Dialogs.dialog_of call.now.request) }
 {
-    let request = call.request.get().view(alloc)?;
-    dialog_of(alloc, &request)
+    call.request.get().dialog(alloc)
 }
 
 /// What an answer that goes to the caller tells the dialogs, if it tells them anything.

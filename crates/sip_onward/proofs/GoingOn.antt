@@ -12,8 +12,8 @@ use Rattle.sip_edit.specs.way.declared.own.Own.{Own}
 use Rattle.sip_edit.specs.way.declared.routes_kept.RoutesKept.{RoutesKept}
 use Rattle.sip_edit.specs.way.RoutesKept.{stays, behind, fields_kept}
 use Rattle.sip_edit.specs.way.Way.{fields_left, request_uri}
-use Rattle.sip_edit.specs.Onward.{is_for_realm, without_credentials, lowered, onward_fields, with_value}
-use Rattle.sip_onward.specs.Lowering.{hops_left, default_hops, with_hops, lowered_field, hops_behind, fields_on}
+use Rattle.sip_edit.specs.Onward.{is_for_realm, without_credentials, lowered, onward_fields, with_value, record_route_field, onward_base}
+use Rattle.sip_onward.specs.Lowering.{hops_left, default_hops, with_hops, lowered_field, hops_behind, fields_on, fields_by}
 
 -- ---- field by field
 
@@ -60,8 +60,14 @@ lowered_is Absent fields = refl
 lowered_is (Hops n) fields = append-nil (lowered (Hops n) fields)
 lowered_is Malformed fields = append-nil fields
 
-pub fields_are : (own : Own) (realm : List ℕ) (m : Message) (routes : RoutesKept) → fields_kept routes m.fields ≡ fields_left own (request_uri m.start) m.fields →
-    fields_on (hops_left (max_forwards_of m.fields)) routes realm m.fields ++ default_hops (max_forwards_of m.fields) ≡ onward_fields own realm m
+fields_are : (own : Own) (realm : List ℕ) (m : Message) (routes : RoutesKept) → fields_kept routes m.fields ≡ fields_left own (request_uri m.start) m.fields →
+    fields_by routes realm m.fields ≡ onward_fields own realm m
 fields_are own realm m routes is =
     ap (λ (w : List Field). with_hops (hops_left (max_forwards_of m.fields)) (without_credentials realm w) ++ default_hops (max_forwards_of m.fields)) is
     ∙ lowered_is (max_forwards_of m.fields) (without_credentials realm (fields_left own (request_uri m.start) m.fields))
+
+pub base_is : (own : Own) (realm : List ℕ) (records_route : Bool) (m base : Message) (routes : RoutesKept) →
+    base ≡ record m { fields = cond records_route (record_route_field own ∷ fields_by routes realm m.fields) (fields_by routes realm m.fields) } →
+    fields_kept routes m.fields ≡ fields_left own (request_uri m.start) m.fields → base ≡ onward_base own realm records_route m
+base_is own realm records_route m base routes is left =
+    is ∙ ap (λ (w : List Field). record m { fields = cond records_route (record_route_field own ∷ w) w }) (fields_are own realm m routes left)

@@ -1,10 +1,11 @@
 -- The fields of a request that goes on, field by field.
-use Rattle.std.specs.Prelude.{ℕ, ◌-◌, if◌then◌else◌, List, [], ◌∷◌, decimal, Option, Some, None}
+use Rattle.std.specs.Prelude.{ℕ, ◌-◌, if◌then◌else◌, List, [], ◌∷◌, ◌++◌, decimal, Option, Some, None}
 use Rattle.sip_edit.specs.field.declared.field_name.FieldName.TheVariants as Name
 use Rattle.sip_edit.specs.field.declared.field.Field.{Field}
 use Rattle.sip_edit.specs.field.FieldName.{is_same_name}
 use Rattle.sip_edit.specs.header.declared.max_forwards.MaxForwards.{MaxForwards}
 use Rattle.sip_edit.specs.header.declared.max_forwards.MaxForwards.TheVariants.{Absent, Hops, Malformed}
+use Rattle.sip_edit.specs.header.MaxForwards.{max_forwards_of}
 use Rattle.sip_edit.specs.way.declared.routes_kept.RoutesKept.{RoutesKept}
 use Rattle.sip_edit.specs.way.RoutesKept.{fields_kept}
 use Rattle.sip_edit.specs.Onward.{seventy, with_value, without_credentials}
@@ -39,3 +40,7 @@ hops_behind (Some n) field = if is_same_name field.name Name.MaxForwards then No
 -- fields as they go on: the Routes that stay, no credentials for this realm, and the hops that are left
 abbrev pub fields_on : Option ℕ → RoutesKept → List ℕ → List Field → List Field
 fields_on hops routes realm fields = with_hops hops (without_credentials realm (fields_kept routes fields))
+
+-- the fields of a request as they go on, if these Routes are left
+abbrev pub fields_by : RoutesKept → List ℕ → List Field → List Field
+fields_by routes realm fields = fields_on (hops_left (max_forwards_of fields)) routes realm fields ++ default_hops (max_forwards_of fields)

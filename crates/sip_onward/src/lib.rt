@@ -6,8 +6,13 @@
 mod onward;
 mod record_route;
 
-pub use onward::{onward_base, onward_uri, to_target};
+pub use onward::{onward_base, onward_base_by, onward_uri, to_target};
 pub use record_route::push_record_route;
+
+/// Of `sip_way`.
+pub mod way {
+    pub use sip_edit::way::RoutesKept;
+}
 
 /// Of `sip_form`.
 pub mod form {

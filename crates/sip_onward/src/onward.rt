@@ -4,6 +4,8 @@ ghost use Rattle.sip_edit.specs.field.declared.field_name.FieldName.TheVariants 
 ghost use Rattle.sip_edit.specs.Onward as Spec;
 ghost use Rattle.sip_onward.specs.Lowering as Lowering;
 ghost use Rattle.sip_edit.specs.credentials.Credentials.{is_realm};
+ghost use Rattle.sip_edit.specs.way.RoutesKept.{fields_kept};
+ghost use Rattle.sip_edit.specs.way.Way.{fields_left, request_uri};
 
 use crate::record_route::record_route;
 use sip_edit::credentials::credentials_of;
@@ -145,18 +147,16 @@ fn put_default(out: &mut ViewFields<'_>, hops: MaxForwards) -> Result<(), AllocE
     out.push(ViewField::new(name, Value::of_part(b"70")))
 }
 
-/// Adds the fields of a request as they go on to any target.
-#[tactic(auto, using(crate::proofs::GoingOn::fields_are))]
+/// Adds the fields of a request as they go on to any target, if these Routes are left.
 fn put_onward_fields<'v>(
     alloc: Global,
     out: &mut ViewFields<'v>,
-    own: &Own,
     realm: &[u8],
+    routes: RoutesKept,
     request: &'v View<'_>,
 ) -> Result<(), AllocError>
-    ensures { OnOk result (out.new ≡ out.old ++ Spec.onward_fields own.now realm.now request.now) }
+    ensures { OnOk result (out.new ≡ out.old ++ Lowering.fields_by routes realm.now request.now.fields) }
 {
-    let routes = kept_routes(alloc, own, request)?;
     let hops = max_forwards_of(request.fields());
     put_onward(
         alloc,
@@ -167,6 +167,29 @@ fn put_onward_fields<'v>(
         request.fields().as_slice(),
     )?;
     put_default(out, hops)
+}
+
+/// What is the same of a request for each target to which it goes on, if these are the fields that are left of it without
+/// this server's own part of the way (RFC 3261 16.4, 16.6). `AllocError` is the only refusal.
+#[tactic(auto, using(crate::proofs::GoingOn::base_is))]
+pub fn onward_base_by<'v>(
+    alloc: Global,
+    own: &Own,
+    realm: &[u8],
+    records_route: bool,
+    routes: RoutesKept,
+    request: &'v View<'_>,
+) -> Result<View<'v>, AllocError>
+    ensures { IfOk result (λ base. fields_kept routes request.now.fields ≡ fields_left own.now (request_uri request.now.start) request.now.fields
+        → base ≡ Spec.onward_base own.now realm.now records_route request.now) }
+{
+    let room = request.fields().as_slice().len();
+    let mut fields = ViewFields::with_room(alloc, room.saturating_add(ADDED_FIELDS))?;
+    if records_route {
+        fields.push(record_route(alloc, own)?)?;
+    }
+    put_onward_fields(alloc, &mut fields, realm, routes, request)?;
+    Ok(request.with_fields(fields))
 }
 
 /// What is the same of a request for each target to which it goes on (RFC 3261 16.6): all but its Request-URI and this
@@ -182,13 +205,8 @@ pub fn onward_base<'v>(
 ) -> Result<View<'v>, AllocError>
     ensures { IfOk result (λ base. base ≡ Spec.onward_base own.now realm.now records_route request.now) }
 {
-    let room = request.fields().as_slice().len();
-    let mut fields = ViewFields::with_room(alloc, room.saturating_add(ADDED_FIELDS))?;
-    if records_route {
-        fields.push(record_route(alloc, own)?)?;
-    }
-    put_onward_fields(alloc, &mut fields, own, realm, request)?;
-    Ok(request.with_fields(fields))
+    let routes = kept_routes(alloc, own, request)?;
+    onward_base_by(alloc, own, realm, records_route, routes, request)
 }
 
 /// A first line with another Request-URI.

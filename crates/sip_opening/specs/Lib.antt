@@ -9,6 +9,7 @@ pub use Rattle.sip_branches.specs.nonces
 pub use Rattle.sip_branches.specs.uri
 pub use Rattle.sip_model.specs.audit
 pub use Rattle.sip_branches.specs.form
+pub use Rattle.sip_branches.specs.heard
 pub use Rattle.sip_model.specs.policy
 pub use Rattle.sip_branches.specs.best
 pub use Rattle.sip_branches.specs.event

@@ -10,11 +10,11 @@ use crate::arrival::Arrival;
 use sip_branches::edit::{branch_text, own_via_value, with_top_via};
 use sip_branches::event::{Packet, Ticket};
 use sip_branches::form::{View, write_view};
+use sip_branches::heard::received_value;
 use sip_branches::host::Addr;
 use sip_branches::state::Server;
 use sip_branches::text::Bytes;
 use sip_processing::onward::{onward_base, onward_uri, to_target};
-use sip_processing::sending::received_value;
 use std::alloc::{AllocError, Global};
 
 /// The value of this server's Via on a request that goes to one place.

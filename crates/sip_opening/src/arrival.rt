@@ -3,7 +3,7 @@ ghost use Rattle.sip_branches.specs.key.Key.{key_of};
 ghost use Rattle.sip_branches.specs.context.Opening as Definitions;
 ghost use Rattle.sip_opening.specs.Arrivals.{arrival_of};
 
-use sip_branches::form::Kept;
+use sip_branches::heard::Heard;
 use sip_branches::host::Addr;
 use sip_branches::key::Key;
 use sip_branches::shared::Shared;
@@ -31,7 +31,7 @@ pub fn arriving(
     alloc: Global,
     arrival: Arrival,
     key: Shared<Key>,
-    request: Shared<Kept>,
+    request: Shared<Heard>,
 ) -> OpenRequest
     requires key { key_of request ≡ Some key }
     requires now { arrival.now + 32000 < 2 ^ 64 }

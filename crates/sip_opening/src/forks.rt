@@ -7,7 +7,7 @@ ghost use Rattle.sip_opening.specs.Arrivals.{arrival_of};
 use crate::arrival::{Arrival, arriving};
 use crate::branches::{branches_to, dialog_branch};
 use sip_branches::best::Final;
-use sip_branches::form::Kept;
+use sip_branches::heard::Heard;
 use sip_branches::host::Addr;
 use sip_branches::key::Key;
 use sip_branches::shared::Shared;
@@ -37,7 +37,7 @@ pub fn forking(
     alloc: Global,
     arrival: Arrival,
     key: Shared<Key>,
-    request: Shared<Kept>,
+    request: Shared<Heard>,
     branches: Items<Branch>,
 ) -> Result<OpenRequest, AllocError>
     requires key { key_of request ≡ Some key }
@@ -56,7 +56,7 @@ pub fn fork_to(
     alloc: Global,
     arrival: Arrival,
     key: Shared<Key>,
-    request: Shared<Kept>,
+    request: Shared<Heard>,
     targets: &Targets,
 ) -> Result<OpenRequest, AllocError>
     requires key { key_of request ≡ Some key }
@@ -73,7 +73,7 @@ fn dialog_branches(
     alloc: Global,
     server: &Server,
     now: u64,
-    request: &Kept,
+    request: &Heard,
     address: Addr,
 ) -> Result<Items<Branch>, AllocError>
     requires { now + 32000 < 2 ^ 64 }
@@ -92,7 +92,7 @@ pub fn fork_within(
     server: &Server,
     arrival: Arrival,
     key: Shared<Key>,
-    request: Shared<Kept>,
+    request: Shared<Heard>,
     address: Addr,
 ) -> Result<OpenRequest, AllocError>
     requires key { key_of request ≡ Some key }

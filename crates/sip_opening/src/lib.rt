@@ -61,6 +61,11 @@ pub mod form {
     pub use sip_branches::form::{Kept, View, ViewStart};
 }
 
+/// Of `sip_heard`.
+pub mod heard {
+    pub use sip_branches::heard::Heard;
+}
+
 /// Of `sip_policy`.
 pub mod policy {
     pub use sip_model::policy::Rules;

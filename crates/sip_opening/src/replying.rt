@@ -8,7 +8,7 @@ ghost use Rattle.sip_opening.specs.Arrivals.{arrival_of};
 use crate::arrival::{Arrival, arriving};
 use sip_branches::event::Packet;
 use sip_branches::field::Fields;
-use sip_branches::form::Kept;
+use sip_branches::heard::Heard;
 use sip_branches::key::Key;
 use sip_branches::shared::Shared;
 use sip_branches::state::{LastAnswer, OpenRequest, Server, Side};
@@ -37,7 +37,7 @@ fn make(
     alloc: Global,
     server: &Server,
     arrival: Arrival,
-    request: &Kept,
+    request: &Heard,
     status: u16,
     extras: &Fields,
 ) -> Result<Made, AllocError>
@@ -45,18 +45,17 @@ fn make(
         (text_of (Sendings.made_answer server.now arrival.number request.now arrival.from status extras.now))) }
     ensures answer { IfOk result (λ made. made.answer ≡ record { status = status; text = text_of (Sendings.made_answer server.now arrival.number request.now arrival.from status extras.now) }) }
 {
-    let view = request.view(alloc)?;
     let text = made_answer(
         alloc,
         server,
         arrival.number,
-        &view,
+        request,
         arrival.from,
         status,
         extras,
     )?;
     let kept = Shared::new(alloc, text.clone()?)?;
-    let packet = answer_packet(alloc, false, arrival.number, &view, arrival.from, text)?;
+    let packet = answer_packet(alloc, false, arrival.number, request, arrival.from, text)?;
     let answer = LastAnswer { status, text: kept };
     Ok(Made { packet, answer })
 }
@@ -66,7 +65,7 @@ fn closing(
     alloc: Global,
     arrival: Arrival,
     key: Shared<Key>,
-    request: Shared<Kept>,
+    request: Shared<Heard>,
     answer: LastAnswer,
 ) -> OpenRequest
     requires key { key_of request ≡ Some key }
@@ -88,7 +87,7 @@ pub fn reply(
     server: &Server,
     arrival: Arrival,
     key: Shared<Key>,
-    request: Shared<Kept>,
+    request: Shared<Heard>,
     status: u16,
     extras: &Fields,
 ) -> Result<Replied, AllocError>

@@ -8,6 +8,7 @@ pub use Rattle.sip_branches.specs.host
 pub use Rattle.sip_branches.specs.nonces
 pub use Rattle.sip_branches.specs.uri
 pub use Rattle.sip_branches.specs.form
+pub use Rattle.sip_branches.specs.heard
 pub use Rattle.sip_branches.specs.best
 pub use Rattle.sip_branches.specs.event
 pub use Rattle.sip_branches.specs.hops

@@ -62,6 +62,6 @@ pub mod state {
 pub mod sending {
     pub use sip_sending::{
         ack_packets, answer_packet, answer_to, branch_packets, kept_answer, made_answer,
-        packets_of_branches, received_value,
+        packets_of_branches,
     };
 }

@@ -10,6 +10,7 @@ pub use Rattle.sip_forwarding.specs.uri
 pub use Rattle.sip_forwarding.specs.view
 pub use Rattle.sip_forwarding.specs.audit
 pub use Rattle.sip_forwarding.specs.form
+pub use Rattle.sip_forwarding.specs.heard
 pub use Rattle.sip_forwarding.specs.policy
 pub use Rattle.sip_forwarding.specs.best
 pub use Rattle.sip_forwarding.specs.event

@@ -48,6 +48,11 @@ pub mod form {
     pub use sip_forwarding::form::{Kept, View};
 }
 
+/// Of `sip_heard`.
+pub mod heard {
+    pub use sip_forwarding::heard::Heard;
+}
+
 /// Of `sip_policy`.
 pub mod policy {
     pub use sip_forwarding::policy::Rules;

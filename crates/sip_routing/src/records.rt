@@ -9,7 +9,7 @@ ghost use Rattle.sip_proxy.specs.verdict.Verdict.{minute_on};
 use sip_answering::record_of;
 use sip_proxy::arrival::Judged;
 use sip_proxy::audit::{Outcome, Record};
-use sip_proxy::form::Kept;
+use sip_proxy::heard::Heard;
 use sip_proxy::opening::Arrival;
 use sip_proxy::targets::Targets;
 use sip_proxy::text::Items;
@@ -30,7 +30,7 @@ fn count_of(targets: &Targets) -> Option<u32>
 fn recorded(
     alloc: Global,
     arrival: Arrival,
-    request: &Kept,
+    request: &Heard,
     judged: &Judged<'_>,
     outcome: Outcome,
 ) -> Result<Items<Record>, AllocError>
@@ -57,7 +57,7 @@ fn recorded(
 pub(crate) fn records_of(
     alloc: Global,
     arrival: Arrival,
-    request: &Kept,
+    request: &Heard,
     judged: &Judged<'_>,
     rule: u32,
     targets: &Targets,

@@ -13,8 +13,8 @@ use crate::taking::{take_credential, take_request};
 use sip_event::StepOut;
 use sip_proxy::Proxy;
 use sip_proxy::arrival::Judged;
-use sip_proxy::form::Kept;
 use sip_proxy::forwarding::forward_to;
+use sip_proxy::heard::Heard;
 use sip_proxy::hops::Hops;
 use sip_proxy::key::Key;
 use sip_proxy::opening::Arrival;
@@ -35,7 +35,7 @@ pub fn send_to<T: Timers>(
     proxy: &mut Proxy<T>,
     arrival: Arrival,
     key: Shared<Key>,
-    request: Shared<Kept>,
+    request: Shared<Heard>,
     judged: &Judged<'_>,
     rule: u32,
     targets: &Targets,

@@ -11,8 +11,8 @@ use crate::taking::take_request;
 use sip_event::StepOut;
 use sip_proxy::Proxy;
 use sip_proxy::dialog::DialogId;
-use sip_proxy::form::Kept;
 use sip_proxy::forwarding::forward_within;
+use sip_proxy::heard::Heard;
 use sip_proxy::hops::Hops;
 use sip_proxy::host::Addr;
 use sip_proxy::key::Key;
@@ -33,7 +33,7 @@ pub fn send_within<T: Timers>(
     proxy: &mut Proxy<T>,
     arrival: Arrival,
     key: Shared<Key>,
-    request: Shared<Kept>,
+    request: Shared<Heard>,
     address: Addr,
     id: DialogId,
 ) -> Result<StepOut, AllocError>

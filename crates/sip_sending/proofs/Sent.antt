@@ -1,14 +1,15 @@
 -- What is sent by what is the same of a request for all branches is what is to be sent.
-use Rattle.std.proofs.Common.{◌≡◌, ℕ, Bool, true, false, cond, List, [], ◌∷◌, ◌++◌, refl, sym, ap, subst, ◌∙◌, ◌&&◌, not, is_some, Option, Some, None, option_map}
+use Rattle.std.proofs.Common.{◌≡◌, ℕ, Bool, true, false, cond, List, [], ◌∷◌, ◌++◌, refl, sym, ap, subst, ◌∙◌, Option}
 use Rattle.std.specs.Prelude.{Result, OnOk}
 use Rattle.std.specs.List.{flat_map}
 use Rattle.sip_context.specs.field.declared.field.Field.{Field}
 use Rattle.sip_context.specs.field.declared.field_name.FieldName.TheVariants as Name
-use Rattle.sip_context.specs.field.Named.{first_named}
-use Rattle.sip_context.specs.field.FieldName.{is_same_name}
-use Rattle.sip_context.specs.field.Values.{first_value, with_first}
+use Rattle.sip_context.specs.field.Values.{with_first}
 use Rattle.sip_context.specs.form.declared.message.Message.{Message}
-use Rattle.sip_context.specs.host.declared.addr.Addr.{Addr}
+use Rattle.sip_context.specs.edit.way.declared.own.Own.{Own}
+use Rattle.sip_context.specs.edit.way.declared.routes_kept.RoutesKept.{RoutesKept}
+use Rattle.sip_context.specs.edit.way.RoutesKept.{fields_kept}
+use Rattle.sip_context.specs.edit.way.Way.{fields_left, request_uri}
 use Rattle.sip_context.specs.edit.Onward.{onward_of, with_record_route}
 use Rattle.sip_context.specs.edit.OwnVia.{branch_text}
 use Rattle.sip_context.specs.edit.OwnRequests.{ack_with, cancel_of}
@@ -17,28 +18,8 @@ use Rattle.sip_context.specs.event.declared.packet.Packet.{Packet}
 use Rattle.sip_context.specs.state.declared.server.Server.{Server}
 use Rattle.sip_context.specs.state.declared.branch.Branch.{Branch}
 use Rattle.sip_context.specs.state.declared.open_request.OpenRequest.{OpenRequest}
-use Rattle.sip_context.specs.state.State.{is_invite}
-use Rattle.sip_context.specs.state.Dialogs.{dialog_of}
 use Rattle.sip_context.specs.Sending.{begins_dialog, request_of, ticket_branch, branch_packets, ack_packets}
 use Rattle.sip_sending.specs.Base.{base_by, request_by, packet_to, packets_by, acks_by}
-
--- ---- without a Via
-
-none_by : (t : Bool) (value : List ℕ) (field : Field) (fields : List Field) → cond t (Some field) (first_named Name.Via fields) ≡ None → (first_named Name.Via fields ≡ None → with_first Name.Via value fields ≡ fields)
-    → cond t (record field { value = value } ∷ fields) (field ∷ with_first Name.Via value fields) ≡ field ∷ fields
-none_by true value field fields none rest = absurd cc
-none_by false value field fields none rest = ap (λ (w : List Field). field ∷ w) (rest none)
-
-none_named : (value : List ℕ) (fields : List Field) → first_named Name.Via fields ≡ None → with_first Name.Via value fields ≡ fields
-none_named value [] none = refl
-none_named value (field ∷ fields) none = none_by (is_same_name field.name Name.Via) value field fields none (none_named value fields)
-
-no_value : (found : Option Field) → option_map (λ (f : Field). f.value) found ≡ None → found ≡ None
-no_value None none = refl
-no_value (Some field) none = absurd cc
-
-pub none_edited : (value : List ℕ) (fields : List Field) → first_value Name.Via fields ≡ None → with_first Name.Via value fields ≡ fields
-none_edited value fields none = none_named value fields (no_value (first_named Name.Via fields) none)
 
 -- ---- the request of a branch
 
@@ -55,6 +36,14 @@ base_of server r = base_by server (begins_dialog r) (received r.request r.source
 is_request : (server : Server) (r : OpenRequest) (b : Branch) → request_by server r.number (base_of server r) b ≡ request_of server r b
 is_request server r b = base_with (begins_dialog r) server (received r.request r.source) r.number b
 
+-- ---- the fields that are left
+
+pub left_of : (own : Own) (routes : RoutesKept) (heard request : Message) (value : List ℕ) → request ≡ heard →
+    ((via : List ℕ) → fields_kept routes (with_first Name.Via via heard.fields) ≡ fields_left own (request_uri heard.start) (with_first Name.Via via heard.fields)) →
+    fields_kept routes (with_first Name.Via value request.fields) ≡ fields_left own (request_uri request.start) (with_first Name.Via value request.fields)
+left_of own routes heard request value is left =
+    subst (λ (m : Message). fields_kept routes (with_first Name.Via value m.fields) ≡ fields_left own (request_uri m.start) (with_first Name.Via value m.fields)) (sym is) (left value)
+
 -- ---- packets
 
 each_sent : (server : Server) (again : Bool) (r : OpenRequest) (b : Branch) → packets_by server again r.number (base_of server r) b ≡ branch_packets server again r b
@@ -67,39 +56,40 @@ same_all f g same [] = refl
 same_all f g same (b ∷ bs) = ap (λ (w : List Packet). w ++ flat_map f bs) (same b) ∙ ap (λ (w : List Packet). g b ++ w) (same_all f g same bs)
 
 -- the base that is made of the request that is kept, with the value that its top Via gets
-base_from : (server : Server) (r : OpenRequest) (request top base : Message) (begins : Bool) (via value : List ℕ) →
-    request ≡ r.request → begins ≡ (is_invite r && not (is_some (dialog_of request))) → with_first Name.Via via request.fields ≡ received_fields r.source request.fields → value ≡ via →
+base_from : (server : Server) (r : OpenRequest) (heard request top base : Message) (begins : Bool) (via value : List ℕ) →
+    heard ≡ r.request → request ≡ heard → begins ≡ begins_dialog r → with_first Name.Via via heard.fields ≡ received_fields r.source heard.fields → value ≡ via →
     top ≡ record request { fields = with_first Name.Via value request.fields } → base ≡ base_by server begins top → base ≡ base_of server r
-base_from server r request top base begins via value is_kept is_begun is_edited is_value is_top is_base =
-    is_base ∙ ap (λ (t : Bool). base_by server t top) (is_begun ∙ ap (λ (m : Message). is_invite r && not (is_some (dialog_of m))) is_kept)
+base_from server r heard request top base begins via value is_heard is_kept is_begun is_edited is_value is_top is_base =
+    is_base ∙ ap (λ (t : Bool). base_by server t top) is_begun
     ∙ ap (base_by server (begins_dialog r)) (
     is_top ∙ ap (λ (w : List ℕ). record request { fields = with_first Name.Via w request.fields }) is_value
-    ∙ ap (λ (w : List Field). record request { fields = w }) is_edited ∙ ap (λ (m : Message). received m r.source) is_kept
+    ∙ ap (λ (m : Message). record m { fields = with_first Name.Via via m.fields }) is_kept
+    ∙ ap (λ (w : List Field). record heard { fields = w }) is_edited ∙ ap (λ (m : Message). received m r.source) is_heard
     )
 
-pub one_from : (server : Server) (again : Bool) (r : OpenRequest) (b : Branch) (request top base : Message) (begins : Bool) (via value : List ℕ) →
-    request ≡ r.request → begins ≡ (is_invite r && not (is_some (dialog_of request))) → with_first Name.Via via request.fields ≡ received_fields r.source request.fields → value ≡ via →
+pub one_from : (server : Server) (again : Bool) (r : OpenRequest) (b : Branch) (heard request top base : Message) (begins : Bool) (via value : List ℕ) →
+    heard ≡ r.request → request ≡ heard → begins ≡ begins_dialog r → with_first Name.Via via heard.fields ≡ received_fields r.source heard.fields → value ≡ via →
     top ≡ record request { fields = with_first Name.Via value request.fields } → base ≡ base_by server begins top →
     packets_by server again r.number base b ≡ branch_packets server again r b
-one_from server again r b request top base begins via value is_kept is_begun is_edited is_value is_top is_base =
-    ap (λ (m : Message). packets_by server again r.number m b) (base_from server r request top base begins via value is_kept is_begun is_edited is_value is_top is_base)
+one_from server again r b heard request top base begins via value is_heard is_kept is_begun is_edited is_value is_top is_base =
+    ap (λ (m : Message). packets_by server again r.number m b) (base_from server r heard request top base begins via value is_heard is_kept is_begun is_edited is_value is_top is_base)
     ∙ each_sent server again r b
 
-pub all_from : (server : Server) (again : Bool) (r : OpenRequest) (bs : List Branch) (request top base : Message) (begins : Bool) (via value : List ℕ) →
-    request ≡ r.request → begins ≡ (is_invite r && not (is_some (dialog_of request))) → with_first Name.Via via request.fields ≡ received_fields r.source request.fields → value ≡ via →
+pub all_from : (server : Server) (again : Bool) (r : OpenRequest) (bs : List Branch) (heard request top base : Message) (begins : Bool) (via value : List ℕ) →
+    heard ≡ r.request → request ≡ heard → begins ≡ begins_dialog r → with_first Name.Via via heard.fields ≡ received_fields r.source heard.fields → value ≡ via →
     top ≡ record request { fields = with_first Name.Via value request.fields } → base ≡ base_by server begins top →
     flat_map (packets_by server again r.number base) bs ≡ flat_map (branch_packets server again r) bs
-all_from server again r bs request top base begins via value is_kept is_begun is_edited is_value is_top is_base =
-    ap (λ (m : Message). flat_map (packets_by server again r.number m) bs) (base_from server r request top base begins via value is_kept is_begun is_edited is_value is_top is_base)
+all_from server again r bs heard request top base begins via value is_heard is_kept is_begun is_edited is_value is_top is_base =
+    ap (λ (m : Message). flat_map (packets_by server again r.number m) bs) (base_from server r heard request top base begins via value is_heard is_kept is_begun is_edited is_value is_top is_base)
     ∙ same_all (packets_by server again r.number (base_of server r)) (branch_packets server again r) (each_sent server again r) bs
 
-pub ack_from : (server : Server) (again : Bool) (r : OpenRequest) (b : Branch) (to : Option (List ℕ)) (request top base : Message) (begins : Bool) (via value : List ℕ) →
-    request ≡ r.request → begins ≡ (is_invite r && not (is_some (dialog_of request))) → with_first Name.Via via request.fields ≡ received_fields r.source request.fields → value ≡ via →
+pub ack_from : (server : Server) (again : Bool) (r : OpenRequest) (b : Branch) (to : Option (List ℕ)) (heard request top base : Message) (begins : Bool) (via value : List ℕ) →
+    heard ≡ r.request → request ≡ heard → begins ≡ begins_dialog r → with_first Name.Via via heard.fields ≡ received_fields r.source heard.fields → value ≡ via →
     top ≡ record request { fields = with_first Name.Via value request.fields } → base ≡ base_by server begins top →
     acks_by server again r.number base b to ≡ ack_packets server again r b to
 unfolding acks_by
-ack_from server again r b to request top base begins via value is_kept is_begun is_edited is_value is_top is_base =
-    ap (λ (m : Message). acks_by server again r.number m b to) (base_from server r request top base begins via value is_kept is_begun is_edited is_value is_top is_base)
+ack_from server again r b to heard request top base begins via value is_heard is_kept is_begun is_edited is_value is_top is_base =
+    ap (λ (m : Message). acks_by server again r.number m b to) (base_from server r heard request top base begins via value is_heard is_kept is_begun is_edited is_value is_top is_base)
     ∙ ap (λ (m : Message). packet_to b r.number 0 again (ack_with to m)) (is_request server r b)
 
 -- ---- behind what stood
@@ -107,18 +97,18 @@ ack_from server again r b to request top base begins via value is_kept is_begun 
 pub behind : {T E : Type 0} (result : Result T E) (new old front other : List Packet) → front ≡ other → OnOk result (new ≡ old ++ front) → OnOk result (new ≡ old ++ other)
 behind {T = T} {E = E} result new old front other same sent = subst (λ (w : List Packet). OnOk {T = T} {E = E} result (new ≡ old ++ w)) same sent
 
-pub one_sent : {T E : Type 0} (result : Result T E) (new old : List Packet) (server : Server) (again : Bool) (r : OpenRequest) (b : Branch) (request top base : Message) (begins : Bool) (via value : List ℕ) →
-    request ≡ r.request → begins ≡ (is_invite r && not (is_some (dialog_of request))) → with_first Name.Via via request.fields ≡ received_fields r.source request.fields → value ≡ via →
+pub one_sent : {T E : Type 0} (result : Result T E) (new old : List Packet) (server : Server) (again : Bool) (r : OpenRequest) (b : Branch) (heard request top base : Message) (begins : Bool) (via value : List ℕ) →
+    heard ≡ r.request → request ≡ heard → begins ≡ begins_dialog r → with_first Name.Via via heard.fields ≡ received_fields r.source heard.fields → value ≡ via →
     top ≡ record request { fields = with_first Name.Via value request.fields } → base ≡ base_by server begins top →
     OnOk result (new ≡ old ++ packets_by server again r.number base b) → OnOk result (new ≡ old ++ branch_packets server again r b)
-one_sent result new old server again r b request top base begins via value is_kept is_begun is_edited is_value is_top is_base sent =
+one_sent result new old server again r b heard request top base begins via value is_heard is_kept is_begun is_edited is_value is_top is_base sent =
     behind result new old (packets_by server again r.number base b) (branch_packets server again r b)
-    (one_from server again r b request top base begins via value is_kept is_begun is_edited is_value is_top is_base) sent
+    (one_from server again r b heard request top base begins via value is_heard is_kept is_begun is_edited is_value is_top is_base) sent
 
-pub all_sent : {T E : Type 0} (result : Result T E) (new old : List Packet) (server : Server) (again : Bool) (r : OpenRequest) (bs : List Branch) (request top base : Message) (begins : Bool) (via value : List ℕ) →
-    request ≡ r.request → begins ≡ (is_invite r && not (is_some (dialog_of request))) → with_first Name.Via via request.fields ≡ received_fields r.source request.fields → value ≡ via →
+pub all_sent : {T E : Type 0} (result : Result T E) (new old : List Packet) (server : Server) (again : Bool) (r : OpenRequest) (bs : List Branch) (heard request top base : Message) (begins : Bool) (via value : List ℕ) →
+    heard ≡ r.request → request ≡ heard → begins ≡ begins_dialog r → with_first Name.Via via heard.fields ≡ received_fields r.source heard.fields → value ≡ via →
     top ≡ record request { fields = with_first Name.Via value request.fields } → base ≡ base_by server begins top →
     OnOk result (new ≡ old ++ flat_map (packets_by server again r.number base) bs) → OnOk result (new ≡ old ++ flat_map (branch_packets server again r) bs)
-all_sent result new old server again r bs request top base begins via value is_kept is_begun is_edited is_value is_top is_base sent =
+all_sent result new old server again r bs heard request top base begins via value is_heard is_kept is_begun is_edited is_value is_top is_base sent =
     behind result new old (flat_map (packets_by server again r.number base) bs) (flat_map (branch_packets server again r) bs)
-    (all_from server again r bs request top base begins via value is_kept is_begun is_edited is_value is_top is_base) sent
+    (all_from server again r bs heard request top base begins via value is_heard is_kept is_begun is_edited is_value is_top is_base) sent

@@ -1,31 +1,18 @@
 ghost use Rattle.std.specs.Prelude.{◌≡◌, [], IfOk};
 ghost use Rattle.sip_context.specs.form.Text.{text_of};
-ghost use Rattle.sip_context.specs.edit.ReceivedRequest.{response_address};
 ghost use Rattle.sip_context.specs.reply.Reply.{reply_of};
 ghost use Rattle.sip_context.specs.Sending as Spec;
 
-use crate::received::received_value;
 use sip_context::edit::with_top_via;
 use sip_context::event::{Packet, Ticket};
 use sip_context::form::Kept;
-use sip_context::header::via_of;
+use sip_context::heard::Heard;
 use sip_context::host::Addr;
 use sip_context::reply::{reply_view, respond, to_tag};
 use sip_context::state::{OpenRequest, Server};
 use sip_context::text::Bytes;
-use sip_onward::form::{FieldName, Fields, View, write_view};
+use sip_onward::form::{Fields, View};
 use std::alloc::{AllocError, Global};
-
-/// Where the answers to a request go that came from an address.
-fn response_address(alloc: Global, request: &View<'_>, from: Addr) -> Result<Addr, AllocError>
-    ensures { IfOk result (λ address. address ≡ response_address request.now from) }
-{
-    let Some(value) = request.fields().first(&FieldName::Via) else {
-        return Ok(from);
-    };
-    let via = via_of(alloc, value)?;
-    Ok(sip_context::edit::response_address(via.as_ref(), from))
-}
 
 /// The packet of an answer, of which this is the text, to a request that came from an address in the datagram of a number
 /// (RFC 3261 18.2.2). `AllocError` is the only refusal.
@@ -33,13 +20,13 @@ pub fn answer_packet(
     alloc: Global,
     again: bool,
     number: u64,
-    request: &View<'_>,
+    request: &Heard,
     from: Addr,
     text: Bytes,
 ) -> Result<Packet, AllocError>
     ensures { IfOk result (λ packet. packet ≡ Spec.answer_packet again number request.now from text) }
 {
-    let to = response_address(alloc, request, from)?;
+    let to = request.reply_to(alloc, from)?;
     Ok(Packet {
         to,
         bytes: text,
@@ -60,8 +47,8 @@ pub fn answer_to(
 ) -> Result<Packet, AllocError>
     ensures { IfOk result (λ packet. packet ≡ Spec.answer_to again context.now text) }
 {
-    let request = context.request.get().view(alloc)?;
-    answer_packet(alloc, again, context.number, &request, context.source, text)
+    let request = context.request.get();
+    answer_packet(alloc, again, context.number, request, context.source, text)
 }
 
 /// The text of an answer that is made here to a request that came from an address in the datagram of a number (RFC 3261
@@ -70,15 +57,16 @@ pub fn made_answer(
     alloc: Global,
     server: &Server,
     number: u64,
-    request: &View<'_>,
+    request: &Heard,
     from: Addr,
     status: u16,
     extras: &Fields,
 ) -> Result<Bytes, AllocError>
     ensures { IfOk result (λ text. text ≡ text_of (Spec.made_answer server.now number request.now from status extras.now)) }
 {
-    let via = received_value(alloc, request, from)?;
-    let received = with_top_via(alloc, request, via.as_slice())?;
+    let via = request.received_via(alloc, from)?;
+    let request = request.view(alloc)?;
+    let received = with_top_via(alloc, &request, via.as_slice())?;
     let tag = to_tag(alloc, server.word, number)?;
     respond(alloc, &received, status, tag.as_slice(), extras)
 }
@@ -107,8 +95,9 @@ pub fn kept_answer(
 ) -> Result<Kept, AllocError>
     ensures { IfOk result (λ kept. kept ≡ Spec.made_answer server.now context.now.number context.now.request context.now.source status []) }
 {
-    let request = context.request.get().view(alloc)?;
-    let via = received_value(alloc, &request, context.source)?;
+    let heard = context.request.get();
+    let request = heard.view(alloc)?;
+    let via = heard.received_via(alloc, context.source)?;
     let received = with_top_via(alloc, &request, via.as_slice())?;
     let tag = to_tag(alloc, server.word, context.number)?;
     kept_reply(alloc, &received, status, tag.as_slice())

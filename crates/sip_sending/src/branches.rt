@@ -1,32 +1,23 @@
-ghost use Rattle.std.specs.Prelude.{◌≡◌, ◌++◌, IfOk, OnOk, is_some, not, ◌&&◌, if◌then◌else◌, option_map};
+ghost use Rattle.std.specs.Prelude.{◌≡◌, ◌++◌, IfOk, OnOk, if◌then◌else◌, option_map};
 ghost use Rattle.std.specs.List.{flat_map};
+ghost use Rattle.sip_context.specs.field.declared.field_name.FieldName.TheVariants as Name;
+ghost use Rattle.sip_context.specs.field.Values.{with_first};
 ghost use Rattle.sip_context.specs.form.Text.{text_of};
+ghost use Rattle.sip_context.specs.edit.way.RoutesKept.{fields_kept};
+ghost use Rattle.sip_context.specs.edit.way.Way.{fields_left, request_uri};
 ghost use Rattle.sip_context.specs.edit.OwnRequests;
 ghost use Rattle.sip_context.specs.state.State.{is_invite};
-ghost use Rattle.sip_context.specs.state.Dialogs.{dialog_of};
 ghost use Rattle.sip_context.specs.Sending as Spec;
 ghost use Rattle.sip_sending.specs.Base;
 
-use crate::received::received_value;
 use sip_context::edit::{ack_with, branch_text, cancel_of, own_via_value, with_top_via};
 use sip_context::event::{Packet, Ticket};
-use sip_context::header::{HeaderError, core_of, tag_of};
 use sip_context::state::{Branch, OpenRequest, Server};
 use sip_context::text::{Bytes, Items};
 use sip_onward::form::{View, write_view};
-use sip_onward::{onward_base, to_target};
+use sip_onward::way::RoutesKept;
+use sip_onward::{onward_base_by, to_target};
 use std::alloc::{AllocError, Global};
-
-/// Whether a request names a dialog.
-fn names_dialog(alloc: Global, request: &View<'_>) -> Result<bool, AllocError>
-    ensures { IfOk result (λ names. names ≡ is_some (dialog_of request.now)) }
-{
-    match core_of(alloc, request) {
-        Ok(core) => Ok(tag_of(&core.to.parameters).is_some()),
-        Err(HeaderError::NoMemory) => Err(AllocError),
-        Err(_) => Ok(false),
-    }
-}
 
 /// Whether an open request is an INVITE.
 fn is_invite(context: &OpenRequest) -> bool
@@ -35,18 +26,14 @@ fn is_invite(context: &OpenRequest) -> bool
     context.key.get().is_method(b"INVITE")
 }
 
-/// Whether an open request is an INVITE that begins a dialog: this is the request that it keeps.
-fn begins_dialog(
-    alloc: Global,
-    context: &OpenRequest,
-    request: &View<'_>,
-) -> Result<bool, AllocError>
-    ensures { IfOk result (λ begins. begins ≡ (is_invite context.now && not (is_some (dialog_of request.now)))) }
+/// Whether an open request is an INVITE that begins a dialog.
+fn begins_dialog(alloc: Global, context: &OpenRequest) -> Result<bool, AllocError>
+    ensures { IfOk result (λ begins. begins ≡ Spec.begins_dialog context.now) }
 {
     if !is_invite(context) {
         return Ok(false);
     }
-    let names = names_dialog(alloc, request)?;
+    let names = context.request.get().names_dialog(alloc)?;
     Ok(!names)
 }
 
@@ -152,21 +139,25 @@ fn put_branches(
     Ok(())
 }
 
-/// What is the same of an open request for all branches, made of the request with the value that its top Via gets.
+/// What is the same of an open request for all branches, made of the request with the value that its top Via gets, of which
+/// these fields are left without this server's own part of the way.
 #[tactic(auto, unfolding(crate::specs::Base::base_by))]
 fn base_of<'v>(
     alloc: Global,
     server: &Server,
     begins_dialog: bool,
+    routes: RoutesKept,
     received: &'v View<'_>,
 ) -> Result<View<'v>, AllocError>
+    requires { fields_kept routes received.now.fields ≡ fields_left server.now.config.own (request_uri received.now.start) received.now.fields }
     ensures { IfOk result (λ base. base ≡ Base.base_by server.now begins_dialog received.now) }
 {
-    onward_base(
+    onward_base_by(
         alloc,
         &server.config.own,
         server.config.realm.as_slice(),
         begins_dialog,
+        routes,
         received,
     )
 }
@@ -179,14 +170,16 @@ fn put_received_branch(
     again: bool,
     number: u64,
     begins_dialog: bool,
+    routes: RoutesKept,
     request: &View<'_>,
     via: &[u8],
     branch: &Branch,
 ) -> Result<(), AllocError>
+    requires { fields_kept routes (with_first Name.Via via.now request.now.fields) ≡ fields_left server.now.config.own (request_uri request.now.start) (with_first Name.Via via.now request.now.fields) }
     ensures { OnOk result (out.new ≡ out.old ++ Base.packets_by server.now again number (Base.base_over server.now begins_dialog via.now request.now) branch.now) }
 {
     let received = with_top_via(alloc, request, via)?;
-    let base = base_of(alloc, server, begins_dialog, &received)?;
+    let base = base_of(alloc, server, begins_dialog, routes, &received)?;
     put_branch(alloc, out, server, again, number, &base, branch)
 }
 
@@ -202,9 +195,11 @@ pub fn branch_packets(
 ) -> Result<(), AllocError>
     ensures { OnOk result (out.new ≡ out.old ++ Spec.branch_packets server.now again context.now branch.now) }
 {
-    let request = context.request.get().view(alloc)?;
-    let begins = begins_dialog(alloc, context, &request)?;
-    let via = received_value(alloc, &request, context.source)?;
+    let heard = context.request.get();
+    let request = heard.view(alloc)?;
+    let begins = begins_dialog(alloc, context)?;
+    let routes = heard.routes_kept(alloc, &server.config.own)?;
+    let via = heard.received_via(alloc, context.source)?;
     put_received_branch(
         alloc,
         out,
@@ -212,6 +207,7 @@ pub fn branch_packets(
         again,
         context.number,
         begins,
+        routes,
         &request,
         via.as_slice(),
         branch,
@@ -226,14 +222,16 @@ fn put_received_branches(
     again: bool,
     number: u64,
     begins_dialog: bool,
+    routes: RoutesKept,
     request: &View<'_>,
     via: &[u8],
     branches: &[Branch],
 ) -> Result<(), AllocError>
+    requires { fields_kept routes (with_first Name.Via via.now request.now.fields) ≡ fields_left server.now.config.own (request_uri request.now.start) (with_first Name.Via via.now request.now.fields) }
     ensures { OnOk result (out.new ≡ out.old ++ flat_map (Base.packets_by server.now again number (Base.base_over server.now begins_dialog via.now request.now)) branches.now) }
 {
     let received = with_top_via(alloc, request, via)?;
-    let base = base_of(alloc, server, begins_dialog, &received)?;
+    let base = base_of(alloc, server, begins_dialog, routes, &received)?;
     put_branches(alloc, out, server, again, number, &base, branches)
 }
 
@@ -249,9 +247,11 @@ pub fn packets_of_branches(
 ) -> Result<(), AllocError>
     ensures { OnOk result (out.new ≡ out.old ++ flat_map (Spec.branch_packets server.now again context.now) branches.now) }
 {
-    let request = context.request.get().view(alloc)?;
-    let begins = begins_dialog(alloc, context, &request)?;
-    let via = received_value(alloc, &request, context.source)?;
+    let heard = context.request.get();
+    let request = heard.view(alloc)?;
+    let begins = begins_dialog(alloc, context)?;
+    let routes = heard.routes_kept(alloc, &server.config.own)?;
+    let via = heard.received_via(alloc, context.source)?;
     put_received_branches(
         alloc,
         out,
@@ -259,6 +259,7 @@ pub fn packets_of_branches(
         again,
         context.number,
         begins,
+        routes,
         &request,
         via.as_slice(),
         branches,
@@ -319,15 +320,17 @@ fn put_received_ack(
     again: bool,
     number: u64,
     begins_dialog: bool,
+    routes: RoutesKept,
     request: &View<'_>,
     via: &[u8],
     branch: &Branch,
     to: Option<&[u8]>,
 ) -> Result<(), AllocError>
+    requires { fields_kept routes (with_first Name.Via via.now request.now.fields) ≡ fields_left server.now.config.own (request_uri request.now.start) (with_first Name.Via via.now request.now.fields) }
     ensures { OnOk result (out.new ≡ out.old ++ Base.acks_by server.now again number (Base.base_over server.now begins_dialog via.now request.now) branch.now (option_map (λ value. value.now) to.entry)) }
 {
     let received = with_top_via(alloc, request, via)?;
-    let base = base_of(alloc, server, begins_dialog, &received)?;
+    let base = base_of(alloc, server, begins_dialog, routes, &received)?;
     put_ack(alloc, out, server, again, number, &base, branch, to)
 }
 
@@ -344,9 +347,11 @@ pub fn ack_packets(
 ) -> Result<(), AllocError>
     ensures { OnOk result (out.new ≡ out.old ++ Spec.ack_packets server.now again context.now branch.now (option_map (λ value. value.now) to.entry)) }
 {
-    let request = context.request.get().view(alloc)?;
-    let begins = begins_dialog(alloc, context, &request)?;
-    let via = received_value(alloc, &request, context.source)?;
+    let heard = context.request.get();
+    let request = heard.view(alloc)?;
+    let begins = begins_dialog(alloc, context)?;
+    let routes = heard.routes_kept(alloc, &server.config.own)?;
+    let via = heard.received_via(alloc, context.source)?;
     put_received_ack(
         alloc,
         out,
@@ -354,6 +359,7 @@ pub fn ack_packets(
         again,
         context.number,
         begins,
+        routes,
         &request,
         via.as_slice(),
         branch,

@@ -4,11 +4,9 @@
 
 mod answers;
 mod branches;
-mod received;
 
 pub use answers::{answer_packet, answer_to, kept_answer, made_answer};
 pub use branches::{ack_packets, branch_packets, packets_of_branches};
-pub use received::received_value;
 
 /// Of `sip_onward`.
 pub mod onward {

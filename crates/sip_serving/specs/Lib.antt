@@ -10,6 +10,7 @@ pub use Rattle.sip_opening.specs.uri
 pub use Rattle.sip_opening.specs.audit
 pub use Rattle.sip_learning.specs.view
 pub use Rattle.sip_opening.specs.form
+pub use Rattle.sip_opening.specs.heard
 pub use Rattle.sip_opening.specs.policy
 pub use Rattle.sip_opening.specs.best
 pub use Rattle.sip_opening.specs.event

@@ -11,7 +11,7 @@ use sip_learning::Lessons;
 use sip_moments::openings::answered_at_once;
 use sip_opening::audit::Record;
 use sip_opening::field::Fields;
-use sip_opening::form::Kept;
+use sip_opening::heard::Heard;
 use sip_opening::key::Key;
 use sip_opening::shared::Shared;
 use sip_opening::state::{OpenRequest, Server};
@@ -54,7 +54,7 @@ pub fn answer(
     server: &Server,
     arrival: Arrival,
     key: Shared<Key>,
-    request: Shared<Kept>,
+    request: Shared<Heard>,
     status: u16,
     extras: &Fields,
     records: Items<Record>,

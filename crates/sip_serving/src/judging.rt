@@ -29,7 +29,7 @@ use sip_arrival::{Judged, Outcome};
 use sip_opening::Arrival;
 use sip_opening::audit::Outcome as Recorded;
 use sip_opening::field::Fields;
-use sip_opening::form::Kept;
+use sip_opening::heard::Heard;
 use sip_opening::key::Key;
 use sip_opening::shared::Shared;
 use sip_opening::state::Server;
@@ -42,7 +42,7 @@ fn replied(
     server: &Server,
     arrival: Arrival,
     key: Shared<Key>,
-    request: Shared<Kept>,
+    request: Shared<Heard>,
     judged: &Judged<'_>,
     is_full: bool,
     outcome: Recorded,
@@ -68,7 +68,7 @@ fn challenged(
     server: &Server,
     arrival: Arrival,
     key: Shared<Key>,
-    request: Shared<Kept>,
+    request: Shared<Heard>,
     judged: &Judged<'_>,
     is_full: bool,
 ) -> Result<Draft, AllocError>
@@ -94,7 +94,7 @@ fn denied(
     server: &Server,
     arrival: Arrival,
     key: Shared<Key>,
-    request: Shared<Kept>,
+    request: Shared<Heard>,
     judged: &Judged<'_>,
     is_full: bool,
     rule: u32,
@@ -119,7 +119,7 @@ fn refused(
     server: &Server,
     arrival: Arrival,
     key: Shared<Key>,
-    request: Shared<Kept>,
+    request: Shared<Heard>,
     judged: &Judged<'_>,
     is_full: bool,
     rule: u32,
@@ -145,7 +145,7 @@ fn unsent(
     server: &Server,
     arrival: Arrival,
     key: Shared<Key>,
-    request: Shared<Kept>,
+    request: Shared<Heard>,
     judged: &Judged<'_>,
     is_full: bool,
     rule: u32,
@@ -172,7 +172,7 @@ fn bound(
     server: &Server,
     arrival: Arrival,
     key: Shared<Key>,
-    request: Shared<Kept>,
+    request: Shared<Heard>,
     judged: &Judged<'_>,
     is_full: bool,
     rule: u32,
@@ -198,7 +198,7 @@ fn registering(
     server: &Server,
     arrival: Arrival,
     key: Shared<Key>,
-    request: Shared<Kept>,
+    request: Shared<Heard>,
     judged: &Judged<'_>,
     is_full: bool,
     rule: u32,
@@ -232,7 +232,7 @@ pub fn judged(
     server: &Server,
     arrival: Arrival,
     key: Shared<Key>,
-    request: Shared<Kept>,
+    request: Shared<Heard>,
     judged: &Judged<'_>,
     is_full: bool,
 ) -> Result<Draft, AllocError>

@@ -8,7 +8,7 @@ use sip_answering::record_of;
 use sip_arrival::Judged;
 use sip_opening::Arrival;
 use sip_opening::audit::{Outcome, Record};
-use sip_opening::form::Kept;
+use sip_opening::heard::Heard;
 use sip_opening::text::Items;
 use std::alloc::{AllocError, Global};
 
@@ -16,7 +16,7 @@ use std::alloc::{AllocError, Global};
 pub(crate) fn records_of(
     alloc: Global,
     arrival: Arrival,
-    request: &Kept,
+    request: &Heard,
     judged: &Judged<'_>,
     outcome: Outcome,
 ) -> Result<Items<Record>, AllocError>

@@ -11,6 +11,7 @@ pub use Rattle.sip_dialog.specs.host
 pub use Rattle.sip_nonces.specs as nonces
 pub use Rattle.sip_dialog.specs.uri
 pub use Rattle.sip_best.specs.form
+pub use Rattle.sip_heard.specs as heard
 pub use Rattle.sip_best.specs as best
 pub use Rattle.sip_settings.specs.hops
 pub use Rattle.sip_dialog.specs.header

@@ -52,6 +52,11 @@ pub mod form {
     pub use sip_best::form::{Kept, View, ViewStart, write_view};
 }
 
+/// Of `sip_heard`.
+pub mod heard {
+    pub use sip_heard::{Heard, received_value};
+}
+
 /// Of `sip_best`.
 pub mod best {
     pub use sip_best::{Final, best};

@@ -5,6 +5,7 @@ use sip_best::form::Kept;
 use sip_best::shared::Shared;
 use sip_best::text::{Bytes, Items};
 use sip_dialog::host::Addr;
+use sip_heard::Heard;
 use sip_key::Key;
 
 /// How far the answering side of a request is, with its deadline in milliseconds.
@@ -32,7 +33,7 @@ pub struct LastAnswer {
 pub struct OpenRequest {
     pub key: Shared<Key>,
     /// The request as it came.
-    pub request: Shared<Kept>,
+    pub request: Shared<Heard>,
     /// Where it came from.
     pub source: Addr,
     /// The number of the datagram that brought it.

@@ -1,16 +1,20 @@
-use Rattle.std.proofs.Common.{◌∙◌, option_map, refl}
+use Rattle.std.proofs.Common.{option_map, refl}
 use Rattle.sip_context.specs.field.declared.field_name.FieldName.TheVariants as Name
 use Rattle.sip_context.specs.field.Values.{with_first}
 use Rattle.sip_sending.specs.Base.{acks_by, base_over}
 use Rattle.sip_context.specs.Sending.{ack_packets}
-use Rattle.sip_sending.proofs.Sent.{ack_from, behind}
+use Rattle.sip_sending.proofs.Sent.{left_of, ack_from, behind}
 use Rattle.sip_sending.proofs.branches.ack_packets.Goals as goal
+
+pub put_received_ack-requires : goal.put_received_ack-requires
+put_received_ack-requires c =
+    left_of c.args.server.now.config.own c.in_ok-routes.routes c.get-heard.result.now c.in_ok-request.request c.as_slice.result.now c.in_ok-request.ensures c.in_ok-routes.ensures
 
 pub returns : goal.returns
 returns c =
     behind c.put_received_ack.result c.put_received_ack.new.out c.args.out.now
     (acks_by c.args.server.now c.args.again c.args.context.now.number (base_over c.args.server.now c.in_ok-begins.begins c.as_slice.result.now c.in_ok-request.request) c.args.branch.now (option_map (λ value. value.now) c.args.to))
     (ack_packets c.args.server.now c.args.again c.args.context.now c.args.branch.now (option_map (λ value. value.now) c.args.to))
-    (ack_from c.args.server.now c.args.again c.args.context.now c.args.branch.now (option_map (λ value. value.now) c.args.to) c.in_ok-request.request (record c.in_ok-request.request { fields = with_first Name.Via c.as_slice.result.now c.in_ok-request.request.fields }) (base_over c.args.server.now c.in_ok-begins.begins c.as_slice.result.now c.in_ok-request.request) c.in_ok-begins.begins c.in_ok-via.via c.as_slice.result.now
-    (c.in_ok-request.ensures ∙ c.get.ensures) c.in_ok-begins.ensures c.in_ok-via.ensures c.as_slice.ensures refl refl)
+    (ack_from c.args.server.now c.args.again c.args.context.now c.args.branch.now (option_map (λ value. value.now) c.args.to) c.get-heard.result.now c.in_ok-request.request (record c.in_ok-request.request { fields = with_first Name.Via c.as_slice.result.now c.in_ok-request.request.fields }) (base_over c.args.server.now c.in_ok-begins.begins c.as_slice.result.now c.in_ok-request.request) c.in_ok-begins.begins c.in_ok-via.via c.as_slice.result.now
+    c.get-heard.ensures c.in_ok-request.ensures c.in_ok-begins.ensures c.in_ok-via.ensures c.as_slice.ensures refl refl)
     c.put_received_ack.ensures

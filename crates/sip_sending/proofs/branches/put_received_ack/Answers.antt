@@ -1,7 +1,13 @@
-use Rattle.std.proofs.Common.{◌≡◌, List, ◌++◌, ◌∙◌, ap, subst, OnOk, option_map}
+use Rattle.std.proofs.Common.{◌≡◌, List, ◌++◌, ◌∙◌, ap, sym, subst, OnOk, option_map}
 use Rattle.sip_context.specs.form.declared.message.Message.{Message}
+use Rattle.sip_context.specs.edit.way.RoutesKept.{fields_kept}
+use Rattle.sip_context.specs.edit.way.Way.{fields_left, request_uri}
 use Rattle.sip_sending.specs.Base.{base_by, acks_by}
 use Rattle.sip_sending.proofs.branches.put_received_ack.Goals as goal
+
+pub base_of-requires : goal.base_of-requires
+base_of-requires c =
+    subst (λ (m : Message). fields_kept c.args.routes m.fields ≡ fields_left c.args.server.now.config.own (request_uri m.start) m.fields) (sym c.in_ok-received.ensures) c.requires
 
 pub returns : goal.returns
 returns c =

@@ -1,0 +1,5 @@
+pub mod LastRoute
+pub mod KeptRoutes
+pub mod Addresses
+pub mod Received
+pub mod Told

@@ -1,0 +1,5 @@
+pub mod RouteFacts
+pub mod TopVia
+pub mod Names
+pub mod Given
+pub mod Heard

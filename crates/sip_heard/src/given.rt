@@ -1,0 +1,73 @@
+ghost use Rattle.std.specs.Prelude.{◌≡◌, IfOk};
+ghost use Rattle.sip_dialog.specs.Addresses as Given;
+ghost use Rattle.sip_heard.specs.Given as Spec;
+
+use crate::route_facts::Place;
+use sip_equality::text::{Bytes, Items};
+use sip_equality::uri::Uri;
+use sip_header::form::{FieldName, ViewField};
+use sip_header::{AnyUri, NameAddr, name_addr_of, route_of};
+use sip_hops::{is_by_udp, port_or_default};
+use std::alloc::{AllocError, Global};
+
+/// Where a URI leads that may have an address (RFC 3261 19.1.1).
+fn place_by_udp(alloc: Global, uri: &Uri) -> Result<Option<Place>, AllocError>
+    ensures { IfOk result (λ place. place ≡ Spec.place_by_udp uri.now) }
+{
+    if !is_by_udp(uri) {
+        return Ok(None);
+    }
+    let Some(port) = port_or_default(&uri.port) else {
+        return Ok(None);
+    };
+    Ok(Some(Place {
+        host: Bytes::copy(alloc, uri.host.as_slice())?,
+        port,
+    }))
+}
+
+/// The same of a URI of any scheme.
+fn place_by(alloc: Global, uri: &AnyUri<'_>) -> Result<Option<Place>, AllocError>
+    ensures { IfOk result (λ place. place ≡ Spec.place_by uri.now) }
+{
+    match uri {
+        AnyUri::Sip(uri) => place_by_udp(alloc, uri),
+        AnyUri::Other(_) => Ok(None),
+    }
+}
+
+/// What a Contact or a Record-Route says.
+fn item_in<'v>(alloc: Global, field: &'v ViewField<'_>) -> Result<Option<NameAddr<'v>>, AllocError>
+    ensures { IfOk result (λ item. item ≡ Given.item_in field.now) }
+{
+    if field.name().is_same(&FieldName::Contact) {
+        return name_addr_of(alloc, field.value().as_slice());
+    }
+    if field.name().is_same(&FieldName::RecordRoute) {
+        return route_of(alloc, field.value().as_slice());
+    }
+    Ok(None)
+}
+
+/// Where a Contact or a Record-Route leads, if it is one whose URI may have an address.
+fn place_in(alloc: Global, field: &ViewField<'_>) -> Result<Option<Place>, AllocError>
+    ensures { IfOk result (λ place. place ≡ Spec.place_in field.now) }
+{
+    match item_in(alloc, field)? {
+        Some(item) => place_by(alloc, &item.uri),
+        None => Ok(None),
+    }
+}
+
+/// Where Contact and Record-Route of some fields lead, in their order, each whose URI may have an address.
+pub(crate) fn places_in(alloc: Global, fields: &[ViewField<'_>]) -> Result<Items<Place>, AllocError>
+    ensures { IfOk result (λ places. places ≡ Spec.places_in fields.now) }
+{
+    let mut places = Items::new(alloc);
+    for field in fields {
+        if let Some(place) = place_in(alloc, field)? {
+            places.push(place)?;
+        }
+    }
+    Ok(places)
+}

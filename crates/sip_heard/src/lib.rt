@@ -1,0 +1,15 @@
+//! A request as it was heard: kept beyond its datagram, and beside its bytes what it says that is asked for again and
+//! again while it is open, read once. What is read depends on the request and its source alone, so that any server may
+//! ask.
+#![tactic(auto)]
+
+mod given;
+mod heard;
+mod names;
+mod onward;
+mod route_facts;
+mod top_via;
+
+pub use heard::Heard;
+pub use route_facts::{Place, RecordedPlace, RouteFacts};
+pub use top_via::received_value;

@@ -1,0 +1,74 @@
+ghost use Rattle.std.specs.Prelude.{◌≡◌, IfOk, true};
+ghost use Rattle.sip_header.specs.field.declared.field_name.FieldName.TheVariants as Name;
+ghost use Rattle.sip_header.specs.field.Values.{with_first};
+ghost use Rattle.sip_edit.specs.ReceivedRequest.{received_fields, response_address};
+ghost use Rattle.sip_heard.specs.TopVia.{IsTopVia};
+
+use sip_edit::{received_via, response_address};
+use sip_equality::host::Addr;
+use sip_equality::text::Bytes;
+use sip_header::form::{FieldName, View};
+use sip_header::via_of;
+use std::alloc::{AllocError, Global};
+
+/// What the top Via of a request says that came from an address.
+#[derive(Drop)]
+pub(crate) struct TopVia {
+    pub(crate) source: Addr,
+    /// The value that it gets; empty where there is no Via.
+    pub(crate) value: Bytes,
+    /// Where the answers go.
+    pub(crate) reply_to: Addr,
+}
+
+/// Whether two addresses are one.
+#[tactic(auto, using(crate::proofs::Addresses::same_is))]
+fn is_same(left: Addr, right: Addr) -> bool
+    ensures { result ≡ true → left ≡ right }
+{
+    left.ip.as_slice() == right.ip.as_slice() && left.port == right.port
+}
+
+/// The value that the top Via of a request gets, which came from an address (RFC 3261 18.2.1); empty where there is no
+/// Via. `AllocError` is the only refusal.
+#[tactic(auto, using(crate::proofs::Received::none_edited))]
+pub fn received_value(alloc: Global, request: &View<'_>, from: Addr) -> Result<Bytes, AllocError>
+    ensures { IfOk result (λ value. with_first Name.Via value request.now.fields ≡ received_fields from request.now.fields) }
+{
+    let Some(value) = request.fields().first(&FieldName::Via) else {
+        return Ok(Bytes::new(alloc));
+    };
+    let via = via_of(alloc, value)?;
+    received_via(alloc, via.as_ref(), value, from)
+}
+
+impl TopVia {
+    /// What the top Via of a request says that came from an address.
+    #[tactic(auto, using(crate::proofs::Received::none_edited))]
+    pub(crate) fn of(alloc: Global, request: &View<'_>, from: Addr) -> Result<Self, AllocError>
+        ensures via { IfOk result (λ via. IsTopVia request.now via) }
+        ensures source { IfOk result (λ via. via.source ≡ from) }
+    {
+        let Some(value) = request.fields().first(&FieldName::Via) else {
+            return Ok(TopVia {
+                source: from,
+                value: Bytes::new(alloc),
+                reply_to: from,
+            });
+        };
+        let via = via_of(alloc, value)?;
+        let reply_to = response_address(via.as_ref(), from);
+        Ok(TopVia {
+            source: from,
+            value: received_via(alloc, via.as_ref(), value, from)?,
+            reply_to,
+        })
+    }
+
+    /// Whether it is of a request that came from this address.
+    pub(crate) fn is_from(&self, from: Addr) -> bool
+        ensures { result ≡ true → self.now.source ≡ from }
+    {
+        is_same(self.source, from)
+    }
+}
