@@ -15,5 +15,5 @@ pub use known::KnownName;
 
 /// Of `sip_text`.
 pub mod text {
-    pub use sip_text::{Bytes, Items, Span, Text, same_no_case};
+    pub use sip_text::{Buffer, Bytes, Items, Span, Text, same_no_case};
 }

@@ -3,7 +3,7 @@ ghost use Rattle.sip_view.specs.KeptField.{field_kept, IsStored};
 
 use crate::kept_start::{KeptStart, put_start, start_in};
 use crate::message_view::View;
-use sip_view::text::{Bytes, Span};
+use sip_view::text::{Buffer, Span};
 use sip_view::{KeptField, ViewFields, fields_in, put, put_fields};
 use std::alloc::{AllocError, Global};
 use std::marker::Model;
@@ -12,7 +12,7 @@ use std::marker::Model;
 /// name its first line, its fields and its body.
 #[derive(Drop)]
 pub struct Kept {
-    store: Bytes,
+    store: Buffer,
     start: KeptStart,
     list: Vec<KeptField>,
     body: Span,
@@ -35,7 +35,7 @@ impl Kept {
     pub fn of(alloc: Global, view: &View<'_>) -> Result<Self, AllocError>
         ensures { IfOk result (λ kept. kept ≡ view.now) }
     {
-        let mut store = Bytes::with_room(alloc, view.written_length())?;
+        let mut store = Buffer::with_room(alloc, view.written_length())?;
         let start = put_start(&mut store, view.start())?;
         let body = put(&mut store, view.body())?;
         let list = put_fields(alloc, &mut store, view.fields().as_slice())?;

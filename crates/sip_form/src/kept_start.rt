@@ -4,7 +4,7 @@ ghost use Rattle.sip_form.specs.KeptStart.{start_kept, IsStartStored, IsStartPut
 
 use crate::message::Start;
 use crate::view_start::ViewStart;
-use sip_view::text::{Bytes, Span};
+use sip_view::text::{Buffer, Span};
 use sip_view::{Value, put};
 use std::alloc::AllocError;
 
@@ -20,7 +20,7 @@ pub(crate) struct KeptStart {
 
 /// Puts a request line into a store.
 fn put_request(
-    store: &mut Bytes,
+    store: &mut Buffer,
     method: &[u8],
     uri: &[u8],
     version: &[u8],
@@ -39,7 +39,7 @@ fn put_request(
 }
 
 /// Puts a status line into a store.
-fn put_status(store: &mut Bytes, code: u16, reason: &[u8]) -> Result<KeptStart, AllocError>
+fn put_status(store: &mut Buffer, code: u16, reason: &[u8]) -> Result<KeptStart, AllocError>
     ensures { IfOk result (λ kept. IsStartPut store.old (Start.Status code reason.now) store.new kept) }
 {
     let first = put(store, reason)?;
@@ -52,7 +52,7 @@ fn put_status(store: &mut Bytes, code: u16, reason: &[u8]) -> Result<KeptStart, 
 }
 
 /// Puts a first line into a store. What stood in it stays where it is.
-pub(crate) fn put_start(store: &mut Bytes, start: &ViewStart<'_>) -> Result<KeptStart, AllocError>
+pub(crate) fn put_start(store: &mut Buffer, start: &ViewStart<'_>) -> Result<KeptStart, AllocError>
     ensures { IfOk result (λ kept. IsStartPut store.old (start_seen start.now) store.new kept) }
 {
     match start {

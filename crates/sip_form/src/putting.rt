@@ -2,12 +2,12 @@ ghost use Rattle.std.specs.Prelude.{◌≡◌, ◌++◌, length, codes, decimal,
 ghost use Rattle.sip_form.specs.declared.message.Start.TheVariants.{Request, Status};
 ghost use Rattle.sip_form.specs.Text.{start_text};
 
-use sip_view::text::Bytes;
+use sip_view::text::Buffer;
 use std::alloc::AllocError;
 
 /// Puts a request line of these parts without its CRLF.
 pub(crate) fn put_request_line(
-    out: &mut Bytes,
+    out: &mut Buffer,
     method: &[u8],
     uri: &[u8],
     version: &[u8],
@@ -22,7 +22,7 @@ pub(crate) fn put_request_line(
 }
 
 /// Puts a status line of these parts without its CRLF.
-pub(crate) fn put_status_line(out: &mut Bytes, code: u16, reason: &[u8]) -> Result<(), AllocError>
+pub(crate) fn put_status_line(out: &mut Buffer, code: u16, reason: &[u8]) -> Result<(), AllocError>
     ensures { OnOk result (out.new ≡ out.old ++ start_text (Status code reason.now)) }
 {
     out.extend(b"SIP/2.0 ")?;
@@ -32,7 +32,7 @@ pub(crate) fn put_status_line(out: &mut Bytes, code: u16, reason: &[u8]) -> Resu
 }
 
 /// Puts a field of these parts with its CRLF.
-pub(crate) fn put_line(out: &mut Bytes, name: &[u8], value: &[u8]) -> Result<(), AllocError>
+pub(crate) fn put_line(out: &mut Buffer, name: &[u8], value: &[u8]) -> Result<(), AllocError>
     ensures { OnOk result (out.new ≡ out.old ++ name.now ++ codes ": " ++ value.now ++ codes "\r\n") }
 {
     out.extend(name)?;
@@ -42,7 +42,7 @@ pub(crate) fn put_line(out: &mut Bytes, name: &[u8], value: &[u8]) -> Result<(),
 }
 
 /// Puts what stands behind the fields of a message: the length of its body, the empty line, and the body.
-pub(crate) fn put_body(out: &mut Bytes, body: &[u8]) -> Result<(), AllocError>
+pub(crate) fn put_body(out: &mut Buffer, body: &[u8]) -> Result<(), AllocError>
     ensures { OnOk result (out.new ≡ out.old ++ codes "Content-Length: " ++ decimal (length body.now) ++ codes "\r\n\r\n" ++ body.now) }
 {
     out.extend(b"Content-Length: ")?;

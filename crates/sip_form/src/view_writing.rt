@@ -7,11 +7,11 @@ use crate::message_view::View;
 use crate::putting::{put_body, put_line, put_request_line, put_status_line};
 use crate::view_start::ViewStart;
 use sip_view::ViewField;
-use sip_view::text::Bytes;
+use sip_view::text::{Buffer, Bytes};
 use std::alloc::{AllocError, Global};
 
 /// Puts a start line without its CRLF.
-fn put_start(out: &mut Bytes, start: &ViewStart<'_>) -> Result<(), AllocError>
+fn put_start(out: &mut Buffer, start: &ViewStart<'_>) -> Result<(), AllocError>
     ensures { OnOk result (out.new ≡ out.old ++ start_text (start_seen start.now)) }
 {
     match start {
@@ -25,14 +25,14 @@ fn put_start(out: &mut Bytes, start: &ViewStart<'_>) -> Result<(), AllocError>
 }
 
 /// Puts a field with its CRLF.
-fn put_field(out: &mut Bytes, field: &ViewField<'_>) -> Result<(), AllocError>
+fn put_field(out: &mut Buffer, field: &ViewField<'_>) -> Result<(), AllocError>
     ensures { OnOk result (out.new ≡ out.old ++ field_text field.now) }
 {
     put_line(out, field.name().spelling(), field.value().as_slice())
 }
 
 /// Puts each field with its CRLF.
-fn put_fields(out: &mut Bytes, fields: &[ViewField<'_>]) -> Result<(), AllocError>
+fn put_fields(out: &mut Buffer, fields: &[ViewField<'_>]) -> Result<(), AllocError>
     ensures { OnOk result (out.new ≡ out.old ++ flat_map field_text fields.now) }
 {
     for field in fields {
@@ -42,7 +42,7 @@ fn put_fields(out: &mut Bytes, fields: &[ViewField<'_>]) -> Result<(), AllocErro
 }
 
 /// Puts the written form of a view.
-fn put_view(out: &mut Bytes, view: &View<'_>) -> Result<(), AllocError>
+fn put_view(out: &mut Buffer, view: &View<'_>) -> Result<(), AllocError>
     ensures { OnOk result (out.new ≡ out.old ++ text_of view.now) }
 {
     put_start(out, view.start())?;
@@ -56,7 +56,7 @@ fn put_view(out: &mut Bytes, view: &View<'_>) -> Result<(), AllocError>
 pub fn write_view(alloc: Global, view: &View<'_>) -> Result<Bytes, AllocError>
     ensures { IfOk result (λ written. written ≡ text_of view.now) }
 {
-    let mut out = Bytes::with_room(alloc, view.written_length())?;
+    let mut out = Buffer::with_room(alloc, view.written_length())?;
     put_view(&mut out, view)?;
-    Ok(out)
+    Ok(out.into_bytes())
 }

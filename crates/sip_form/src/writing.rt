@@ -6,11 +6,11 @@ use crate::lengths::{line_length, request_length, status_length, whole_length};
 use crate::message::{Message, Start};
 use crate::putting::{put_body, put_line, put_request_line, put_status_line};
 use sip_view::field::Field;
-use sip_view::text::Bytes;
+use sip_view::text::{Buffer, Bytes};
 use std::alloc::{AllocError, Global};
 
 /// Puts a start line without its CRLF.
-fn put_start(out: &mut Bytes, start: &Start) -> Result<(), AllocError>
+fn put_start(out: &mut Buffer, start: &Start) -> Result<(), AllocError>
     ensures { OnOk result (out.new ≡ out.old ++ start_text start.now) }
 {
     match start {
@@ -24,14 +24,14 @@ fn put_start(out: &mut Bytes, start: &Start) -> Result<(), AllocError>
 }
 
 /// Puts a field with its CRLF.
-fn put_field(out: &mut Bytes, field: &Field) -> Result<(), AllocError>
+fn put_field(out: &mut Buffer, field: &Field) -> Result<(), AllocError>
     ensures { OnOk result (out.new ≡ out.old ++ field_text field.now) }
 {
     put_line(out, field.name.spelling(), field.value.as_slice())
 }
 
 /// Puts each field with its CRLF.
-fn put_fields(out: &mut Bytes, fields: &[Field]) -> Result<(), AllocError>
+fn put_fields(out: &mut Buffer, fields: &[Field]) -> Result<(), AllocError>
     ensures { OnOk result (out.new ≡ out.old ++ flat_map field_text fields.now) }
 {
     for field in fields {
@@ -41,7 +41,7 @@ fn put_fields(out: &mut Bytes, fields: &[Field]) -> Result<(), AllocError>
 }
 
 /// Puts the written form of a message.
-fn put_message(out: &mut Bytes, message: &Message) -> Result<(), AllocError>
+fn put_message(out: &mut Buffer, message: &Message) -> Result<(), AllocError>
     ensures { OnOk result (out.new ≡ out.old ++ text_of message.now) }
 {
     put_start(out, &message.start)?;
@@ -56,9 +56,9 @@ fn put_message(out: &mut Bytes, message: &Message) -> Result<(), AllocError>
 pub fn write(alloc: Global, message: &Message) -> Result<Bytes, AllocError>
     ensures { IfOk result (λ written. written ≡ text_of message.now) }
 {
-    let mut out = Bytes::with_room(alloc, written_length(message))?;
+    let mut out = Buffer::with_room(alloc, written_length(message))?;
     put_message(&mut out, message)?;
-    Ok(out)
+    Ok(out.into_bytes())
 }
 
 /// The length of a start line without its CRLF, or the greatest `usize` where it is longer.

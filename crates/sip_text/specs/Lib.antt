@@ -12,3 +12,4 @@ pub mod Cuts
 pub mod Numbers
 pub mod TextError
 pub mod Items
+pub mod Store

@@ -1,13 +1,13 @@
-ghost use Rattle.std.specs.Prelude.{◌≡◌, ◌+◌, ◌%◌, ◌++◌, [], ◌∷◌, IfOk, OnOk, OnErr, decimal};
+ghost use Rattle.std.specs.Prelude.{◌≡◌, ◌++◌, [], ◌∷◌, IfOk, OnOk, OnErr, decimal};
 
-use itoa::Buffer;
+use crate::store::Store;
 use std::alloc::{AllocError, Global};
 use std::marker::Model;
 
-/// Bytes of its own, seen as the list of them.
-#[derive(Clone, Debug, Drop)]
+/// Bytes of its own, seen as the list of them. A few of them, 16 at most, take no memory beside the value itself.
+#[derive(Debug, Drop)]
 pub struct Bytes {
-    bytes: Vec<u8>,
+    store: Store,
 }
 
 impl Model for Bytes {
@@ -15,7 +15,18 @@ impl Model for Bytes {
 
     ghost Value = { List ℕ };
 
-    ghost view = { λ b. b.bytes.items };
+    ghost use Rattle.sip_text.specs.Store.{stored};
+
+    ghost view = { λ b. stored b.store };
+}
+
+/// Written out, so that a copy is known to be equal.
+impl Clone for Bytes {
+    ghost is_clone = { λ bytes copy. copy ≡ bytes };
+
+    fn clone(&self) -> Result<Bytes, AllocError> {
+        Bytes::copy(self.store.allocator(), self.as_slice())
+    }
 }
 
 impl Bytes {
@@ -25,7 +36,7 @@ impl Bytes {
         ensures { result ≡ [] }
     {
         Bytes {
-            bytes: Vec::new(alloc),
+            store: Store::new(alloc),
         }
     }
 
@@ -35,7 +46,7 @@ impl Bytes {
         ensures { IfOk result (λ bytes. bytes ≡ []) }
     {
         Ok(Bytes {
-            bytes: Vec::with_capacity(alloc, room)?,
+            store: Store::with_room(alloc, room)?,
         })
     }
 
@@ -44,18 +55,29 @@ impl Bytes {
     pub fn copy(alloc: Global, bytes: &[u8]) -> Result<Self, AllocError>
         ensures { IfOk result (λ copy. copy ≡ bytes.now) }
     {
-        let bytes = Vec::from_slice(alloc, bytes)?;
-        Ok(Bytes { bytes })
+        Ok(Bytes {
+            store: Store::copy(alloc, bytes)?,
+        })
+    }
+
+    /// The bytes of a block of memory, which stay there.
+    #[inline]
+    pub(crate) fn of_block(block: Vec<u8>) -> Self
+        ensures { result ≡ block.items }
+    {
+        Bytes {
+            store: Store::Outside(block),
+        }
     }
 
     /// Two texts, one behind the other.
     pub fn joined(alloc: Global, front: &[u8], back: &[u8]) -> Result<Self, AllocError>
         ensures { IfOk result (λ both. both ≡ front.now ++ back.now) }
     {
-        let mut bytes = Vec::with_capacity(alloc, front.len().saturating_add(back.len()))?;
-        bytes.extend_from_slice(front)?;
-        bytes.extend_from_slice(back)?;
-        Ok(Bytes { bytes })
+        let mut both = Bytes::with_room(alloc, front.len().saturating_add(back.len()))?;
+        both.extend(front)?;
+        both.extend(back)?;
+        Ok(both)
     }
 
     /// Adds a byte at the end.
@@ -64,8 +86,7 @@ impl Bytes {
         ensures ok { OnOk result (self.new ≡ self.old ++ byte ∷ []) }
         ensures err { OnErr result (self.new ≡ self.old) }
     {
-        self.bytes.push(byte)?;
-        Ok(())
+        self.store.push(byte)
     }
 
     /// Adds bytes at the end.
@@ -74,32 +95,16 @@ impl Bytes {
         ensures ok { OnOk result (self.new ≡ self.old ++ more.now) }
         ensures err { OnErr result (self.new ≡ self.old) }
     {
-        self.bytes.extend_from_slice(more)
+        self.store.extend(more)
     }
 
-    /// Adds a number in decimal at the end. Most numbers of SIP have few digits, which cost less than `itoa`.
-    #[tactic(auto, using(crate::proofs::SmallDecimals::one_digit, crate::proofs::SmallDecimals::two_digits, crate::proofs::SmallDecimals::three_digits))]
+    /// Adds a number in decimal at the end.
+    #[inline]
     pub fn push_decimal(&mut self, number: u64) -> Result<(), AllocError>
         ensures ok { OnOk result (self.new ≡ self.old ++ decimal number) }
         ensures err { OnErr result (self.new ≡ self.old) }
     {
-        if number < 10 {
-            return self.push(last_digit(number));
-        }
-        if number < 100 {
-            return self.extend([last_digit(number / 10), last_digit(number)].as_slice());
-        }
-        if number < 1000 {
-            let digits = [
-                last_digit(number / 100),
-                last_digit(number / 10),
-                last_digit(number),
-            ];
-            return self.extend(digits.as_slice());
-        }
-        let mut buffer = Buffer::new();
-        self.bytes
-            .extend_from_slice(buffer.format(number).as_bytes())
+        self.store.push_decimal(number)
     }
 
     /// The bytes.
@@ -107,14 +112,6 @@ impl Bytes {
     pub fn as_slice(&self) -> &[u8]
         ensures { result.now ≡ self.now }
     {
-        self.bytes.as_slice()
+        self.store.as_slice()
     }
-}
-
-/// The last digit of a number in decimal.
-#[inline]
-fn last_digit(number: u64) -> u8
-    ensures { result ≡ 48 + number % 10 }
-{
-    b'0' + (number % 10) as u8
 }

@@ -3,6 +3,7 @@
 //! bytes that a value owns, texts that it borrows, and lists of items. Every crate that reads or writes text stands on this one.
 #![tactic(auto)]
 
+mod buffer;
 mod bytes;
 mod cuts;
 mod distinct;
@@ -17,9 +18,11 @@ mod one_item;
 mod quotes;
 mod span;
 mod splits;
+mod store;
 mod text;
 mod words;
 
+pub use buffer::Buffer;
 pub use bytes::Bytes;
 pub use cuts::{Quoting, first_part, split_outside, split_word};
 pub use distinct::{FEW_TEXTS, all_differ, compare_no_case};

@@ -24,7 +24,7 @@ pub use view_name::ViewName;
 
 /// Of `sip_text`.
 pub mod text {
-    pub use sip_field::text::{Bytes, Items, Span, Text};
+    pub use sip_field::text::{Buffer, Bytes, Items, Span, Text};
 }
 
 /// Of `sip_field`.

@@ -6,11 +6,11 @@ use crate::value::Value;
 use crate::view_field::ViewField;
 use crate::view_fields::ViewFields;
 use crate::view_name::ViewName;
-use sip_field::text::{Bytes, Span};
+use sip_field::text::{Buffer, Span};
 use std::alloc::{AllocError, Global};
 
 /// Puts bytes at the end of a store. What stood in it stays where it is.
-pub fn put(store: &mut Bytes, more: &[u8]) -> Result<Span, AllocError>
+pub fn put(store: &mut Buffer, more: &[u8]) -> Result<Span, AllocError>
     ensures { IfOk result (λ span. IsPut store.old more.now store.new span) }
 {
     let start = store.as_slice().len();
@@ -20,7 +20,7 @@ pub fn put(store: &mut Bytes, more: &[u8]) -> Result<Span, AllocError>
 }
 
 /// Puts a field at the end of a store.
-fn put_field(store: &mut Bytes, field: &ViewField<'_>) -> Result<KeptField, AllocError>
+fn put_field(store: &mut Buffer, field: &ViewField<'_>) -> Result<KeptField, AllocError>
     ensures { IfOk result (λ kept. IsFieldPut store.old field.now store.new kept) }
 {
     let (known, written) = field.name().known_or_written();
@@ -36,7 +36,7 @@ fn put_field(store: &mut Bytes, field: &ViewField<'_>) -> Result<KeptField, Allo
 /// Puts fields at the end of a store. What stood in it stays where it is.
 pub fn put_fields(
     alloc: Global,
-    store: &mut Bytes,
+    store: &mut Buffer,
     fields: &[ViewField<'_>],
 ) -> Result<Vec<KeptField>, AllocError>
     ensures { IfOk result (λ list. AreFieldsPut store.old fields.now store.new list.items) }
