@@ -17,3 +17,4 @@ pub mod Keeps
 pub mod Standing
 pub mod Halves
 pub mod Limits
+pub mod TextBytes

@@ -16,6 +16,7 @@ ghost use Rattle.sip_form.specs.declared.error.ReadError.TheVariants.{BadField};
 use crate::joined_line::JoinedLine;
 use crate::line::Line;
 use crate::part_field::PartField;
+use httparse::is_header_value;
 use sip_form::view::{Piece, ViewName, slice_before, slice_from};
 use sip_form::{ViewError, ViewRefusal};
 use sip_text::{
@@ -23,35 +24,13 @@ use sip_text::{
 };
 use std::alloc::{AllocError, Global};
 
-/// For each byte `1` if it may stand in a value, else `0`: one look-up is cheaper than the comparisons.
-static TEXT_BYTES: [u8; 256] = *b"\
-    00000000010000000000000000000000\
-    11111111111111111111111111111111\
-    11111111111111111111111111111111\
-    11111111111111111111111111111110\
-    11111111111111111111111111111111\
-    11111111111111111111111111111111\
-    11111111111111111111111111111111\
-    11111111111111111111111111111111";
-
-/// Whether a byte may stand in a value.
-#[inline]
-fn is_text_byte(byte: u8) -> bool
-    ensures { result ≡ is_text byte }
-{
-    TEXT_BYTES[byte as usize] == b'1'
-}
-
-/// Whether bytes may be a value.
+/// Whether bytes may be a value: those that may stand in one of HTTP are the same, so that `httparse` looks at sixteen
+/// at a time.
+#[tactic(auto, using(crate::proofs::TextBytes::same_values))]
 fn is_text_value(bytes: &[u8]) -> bool
     ensures { result ≡ list_all is_text bytes.now }
 {
-    for byte in bytes {
-        if !is_text_byte(*byte) {
-            return false;
-        }
-    }
-    true
+    is_header_value(bytes)
 }
 
 /// What stands before the first of a byte, and what follows it, where they stand.
