@@ -1,2 +1,3 @@
 pub mod Dotted
 pub mod Dots
+pub mod Places

@@ -1,9 +1,11 @@
 ghost use Rattle.std.specs.Prelude.{◌≡◌, ◌≤◌, false, length, take, drop, option_map};
 ghost use Rattle.std.specs.List.{list_all, prefix_len};
+ghost use Rattle.std.specs.Option.{option_and_then};
 ghost use Rattle.sip_host.specs.Host;
 ghost use Rattle.sip_host.specs.Host.{place_of, host_port_of};
+ghost use Rattle.sip_host.specs.Port.{port_of};
 
-use crate::port::{port_behind, port_value};
+use crate::port::port_behind;
 
 /// The flag of a byte that may stand in a host name.
 const IN_NAME: u8 = 1;
@@ -122,17 +124,66 @@ fn cut_host(text: &[u8]) -> (&[u8], &[u8])
     text.split_at(end)
 }
 
-/// The host that a text writes, and the digits of the port behind it, if one is written there (RFC 3261 25.1,
-/// `hostport`). None of any other text. Takes no memory.
-pub fn place_in(text: &[u8]) -> Option<(&[u8], Option<&[u8]>)>
-    ensures { option_map (λ x. (x.0.now, option_map (λ digits. digits.now) x.1)) result ≡ place_of text.now }
+/// The host at the front of a text, an address in brackets, and what follows it.
+#[tactic(auto, using(crate::proofs::Places::host_here, crate::proofs::Places::no_host))]
+fn cut_address(text: &[u8]) -> Option<(&[u8], &[u8])>
+    ensures { option_and_then (λ x. option_map (λ port. (x.0.now, port)) (port_of x.1.now)) result ≡ place_of text.now }
 {
     let (host, rest) = cut_host(text);
     if !is_host(host) {
         return None;
     }
-    let port = port_behind(rest)?;
-    Some((host, port))
+    Some((host, rest))
+}
+
+/// How many bytes of a host name stand at the front of a text.
+fn name_length(text: &[u8]) -> usize
+    ensures value { result ≡ prefix_len Host.is_host_byte text.now }
+    ensures within { result ≤ length text.now }
+{
+    for at in 0..text.len() {
+        if !is_host_byte(text[at]) {
+            return at;
+        }
+    }
+    text.len()
+}
+
+/// The host name at the front of a text, and what follows it, which is a port or nothing where the text is of the
+/// grammar: so each byte is read once.
+#[tactic(auto, using(crate::proofs::Places::name_here, crate::proofs::Places::no_name))]
+fn cut_name(text: &[u8]) -> Option<(&[u8], &[u8])>
+    requires { Host.begins_bracket text.now ≡ false }
+    ensures { option_and_then (λ x. option_map (λ port. (x.0.now, port)) (port_of x.1.now)) result ≡ place_of text.now }
+{
+    let (host, rest) = text.split_at(name_length(text));
+    if host.is_empty() {
+        return None;
+    }
+    Some((host, rest))
+}
+
+/// The host at the front of a text, and what follows it.
+fn cut_place(text: &[u8]) -> Option<(&[u8], &[u8])>
+    ensures { option_and_then (λ x. option_map (λ port. (x.0.now, port)) (port_of x.1.now)) result ≡ place_of text.now }
+{
+    if begins_bracket(text) {
+        cut_address(text)
+    } else {
+        cut_name(text)
+    }
+}
+
+/// The host that a text writes, and the digits of the port behind it, if one is written there (RFC 3261 25.1,
+/// `hostport`). None of any other text. Takes no memory.
+pub fn place_in(text: &[u8]) -> Option<(&[u8], Option<&[u8]>)>
+    ensures { option_map (λ x. (x.0.now, option_map (λ digits. digits.now) x.1)) result ≡ place_of text.now }
+{
+    let (host, rest) = cut_place(text)?;
+    match port_behind(rest)? {
+        Some((digits, _)) => Some((host, Some(digits))),
+        None => Some((host, None)),
+    }
 }
 
 /// The host that a text writes, and the number of the port behind it, if one is written there (RFC 3261 25.1,
@@ -140,9 +191,9 @@ pub fn place_in(text: &[u8]) -> Option<(&[u8], Option<&[u8]>)>
 pub fn host_port(text: &[u8]) -> Option<(&[u8], Option<u16>)>
     ensures { option_map (λ x. (x.0.now, x.1)) result ≡ host_port_of text.now }
 {
-    let (host, port) = place_in(text)?;
-    match port {
-        Some(digits) => Some((host, port_value(digits))),
+    let (host, rest) = cut_place(text)?;
+    match port_behind(rest)? {
+        Some((_, number)) => Some((host, Some(number))),
         None => Some((host, None)),
     }
 }

@@ -1,4 +1,4 @@
-ghost use Rattle.std.specs.Prelude.{◌≡◌, option_map};
+ghost use Rattle.std.specs.Prelude.{◌≡◌, Some, option_map, IfSome};
 ghost use Rattle.sip_host.specs.Port;
 
 use sip_text::decimal;
@@ -16,9 +16,11 @@ pub fn port_value(digits: &[u8]) -> Option<u16>
     }
 }
 
-/// The digits of the port behind a host, if one is written there and nothing else.
-pub(crate) fn port_behind(rest: &[u8]) -> Option<Option<&[u8]>>
-    ensures { option_map (λ port. option_map (λ digits. digits.now) port) result ≡ Port.port_of rest.now }
+/// The digits of the port behind a host and their number, if one is written there and nothing else.
+#[inline]
+pub(crate) fn port_behind(rest: &[u8]) -> Option<Option<(&[u8], u16)>>
+    ensures digits { option_map (λ port. option_map (λ x. x.0.now) port) result ≡ Port.port_of rest.now }
+    ensures number { IfSome result (λ port. IfSome port (λ x. Port.port_value x.0.now ≡ Some x.1)) }
 {
     let Some((first, digits)) = rest.split_first() else {
         return Some(None);
@@ -26,8 +28,6 @@ pub(crate) fn port_behind(rest: &[u8]) -> Option<Option<&[u8]>>
     if *first != b':' {
         return None;
     }
-    if port_value(digits).is_none() {
-        return None;
-    }
-    Some(Some(digits))
+    let number = port_value(digits)?;
+    Some(Some((digits, number)))
 }

@@ -1,7 +1,7 @@
 -- Cutting bytes at the first of a byte.
 use Rattle.std.proofs.Common.{◌≡◌, ℕ, zero, suc, ◌+◌, ◌<◌, ◌≤◌, true, false, List, [], ◌∷◌, ◌++◌, length, take, drop, get_or, Option, Some, None, refl, sym, ap, ◌∙◌, append_assoc, arith}
 use Rattle.std.specs.Prelude.{◌==◌}
-use Rattle.std.proofs.lemmas.List.{append-nil, drop_more, drop_all}
+use Rattle.std.proofs.lemmas.List.{append-nil, take_more, drop_more, drop_all}
 use Rattle.memchr.specs.Find.{NoneBefore, Nowhere, Passes, is_byte}
 use Rattle.sip_text.specs.Splits.{in_front, split_at_byte}
 
@@ -37,3 +37,28 @@ split_found mark k bytes rest first p e =
 pub split_none : (mark : ℕ) (bytes : List ℕ) → Nowhere (Passes (is_byte mark) bytes) 0 (length bytes) → None ≡ split_at_byte mark bytes
 split_none mark bytes none =
     sym (run_on mark (length bytes) bytes (omega arith) (λ i lt. none i (omega arith) lt) ∙ ap (λ (w : List ℕ). in_front (take (length bytes) bytes) (split_at_byte mark w)) (drop_all (length bytes) bytes (omega arith)))
+
+-- ---- byte by byte
+
+pub split_begins : (mark : ℕ) (bytes : List ℕ) → in_front [] (split_at_byte mark bytes) ≡ split_at_byte mark bytes
+split_begins mark bytes = in_front-nil (split_at_byte mark bytes)
+
+pub split_ends : (mark : ℕ) (bytes : List ℕ) (i : ℕ) (total : Option (List ℕ × List ℕ)) → i < length bytes → (get_or bytes i 0 == mark) ≡ true
+    → in_front (take i bytes) (split_at_byte mark (drop i bytes)) ≡ total → Some (take i bytes, drop (i + 1) bytes) ≡ total
+split_ends mark bytes i total lt is so_far =
+    let here : split_at_byte mark (drop i bytes) ≡ Some ([], drop (i + 1) bytes) = ap (split_at_byte mark) (drop_more bytes i 0 lt) ∙ rw is refl in
+    ap (λ (w : List ℕ). Some (w, drop (i + 1) bytes)) (sym (append-nil (take i bytes))) ∙ sym (ap (in_front (take i bytes)) here) ∙ so_far
+
+pub split_goes_on : (mark : ℕ) (bytes : List ℕ) (i : ℕ) (total : Option (List ℕ × List ℕ)) → i < length bytes → (get_or bytes i 0 == mark) ≡ false
+    → in_front (take i bytes) (split_at_byte mark (drop i bytes)) ≡ total → in_front (take (i + 1) bytes) (split_at_byte mark (drop (i + 1) bytes)) ≡ total
+split_goes_on mark bytes i total lt is so_far =
+    let rest : Option (List ℕ × List ℕ) = split_at_byte mark (drop (i + 1) bytes) in
+    let here : split_at_byte mark (drop i bytes) ≡ in_front (get_or bytes i 0 ∷ []) rest = ap (split_at_byte mark) (drop_more bytes i 0 lt) ∙ one_on mark (get_or bytes i 0) (drop (i + 1) bytes) is in
+    ap (λ (w : List ℕ). in_front w rest) (take_more bytes i 0 lt)
+    ∙ sym (in_front-twice (take i bytes) (get_or bytes i 0 ∷ []) rest)
+    ∙ sym (ap (in_front (take i bytes)) here) ∙ so_far
+
+pub split_nowhere : (mark : ℕ) (bytes : List ℕ) (i : ℕ) (total : Option (List ℕ × List ℕ)) → length bytes ≤ i
+    → in_front (take i bytes) (split_at_byte mark (drop i bytes)) ≡ total → None ≡ total
+split_nowhere mark bytes i total le so_far =
+    sym (ap (λ (w : List ℕ). in_front (take i bytes) (split_at_byte mark w)) (drop_all i bytes le)) ∙ so_far

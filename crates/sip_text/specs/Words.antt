@@ -1,5 +1,5 @@
 -- Tokens and numbers (RFC 3261 25.1), and text without case (RFC 3261 7.3.1).
-use Rattle.std.specs.Prelude.{ℕ, ◌^◌, Bool, false, ◌&&◌, ◌||◌, ◌==◌, nat_lt, if◌then◌else◌, List, [], ◌∷◌, map, Option, Some, None}
+use Rattle.std.specs.Prelude.{ℕ, ◌^◌, Bool, false, ◌&&◌, ◌||◌, ◌==◌, nat_lt, if◌then◌else◌, List, [], ◌∷◌, length, drop, take_while, map, Option, Some, None}
 use Rattle.std.specs.List.{list_all, list_any}
 use Rattle.std.specs.Str.{bytes_eq}
 use Rattle.std.specs.Prelude.{codes}
@@ -14,6 +14,14 @@ is_token_byte b = is_ascii_alphanumeric b || list_any (λ c. b == c) (codes "-.!
 abbrev pub is_token_text : List ℕ → Bool
 is_token_text [] = false
 is_token_text (b ∷ bs) = list_all is_token_byte (b ∷ bs)
+
+-- the bytes of a token at the front of a text, as many as there are
+abbrev pub token_at : List ℕ → List ℕ
+token_at text = take_while is_token_byte text
+
+-- what follows them
+abbrev pub behind_token : List ℕ → List ℕ
+behind_token text = drop (length (token_at text)) text
 
 -- the number that one or more decimal digits write, below 2 ^ 64 (RFC 3261 25.1, 1*DIGIT; the limit is
 -- this project's profile)

@@ -40,4 +40,4 @@ pub use quotes::{is_quoted, plain_quoted, unquote};
 pub use span::Span;
 pub use splits::split_once;
 pub use text::Text;
-pub use words::{decimal, is_token, lower_case, same_bytes, same_no_case};
+pub use words::{decimal, is_token, lower_case, same_bytes, same_no_case, split_token};

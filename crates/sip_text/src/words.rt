@@ -1,8 +1,8 @@
-ghost use Rattle.std.specs.Prelude.{◌≡◌, ◌↔◌, ◌==◌, IsTrue, IfOk};
+ghost use Rattle.std.specs.Prelude.{◌≡◌, ◌↔◌, ◌==◌, length, take_while, IsTrue, IfOk};
 ghost use Rattle.std.specs.Char.{to_ascii_lowercase};
 ghost use Rattle.std.specs.Str.{bytes_eq};
 ghost use Rattle.std.specs.List.{list_all};
-ghost use Rattle.sip_text.specs.Words.{is_token_text, decimal_of, without_case, is_same_text};
+ghost use Rattle.sip_text.specs.Words.{is_token_text, token_at, behind_token, decimal_of, without_case, is_same_text};
 
 use crate::bytes::Bytes;
 use std::alloc::{AllocError, Global};
@@ -45,6 +45,26 @@ pub fn is_token(bytes: &[u8]) -> bool
         return false;
     }
     all_token_bytes(bytes)
+}
+
+/// How many bytes of a token stand at the front of a text.
+fn token_length(bytes: &[u8]) -> usize
+    ensures { result ≡ length (take_while Rattle.sip_text.specs.Words.is_token_byte bytes.now) }
+{
+    for at in 0..bytes.len() {
+        if !is_token_byte(bytes[at]) {
+            return at;
+        }
+    }
+    bytes.len()
+}
+
+/// The bytes of a token at the front of a text, which may be none, and what follows them. Takes no memory.
+pub fn split_token(bytes: &[u8]) -> (&[u8], &[u8])
+    ensures token { result.0.now ≡ token_at bytes.now }
+    ensures rest { result.1.now ≡ behind_token bytes.now }
+{
+    bytes.split_at(token_length(bytes))
 }
 
 /// The number that one or more decimal digits write (RFC 3261 25.1, `1*DIGIT`), if it is below 2^64;

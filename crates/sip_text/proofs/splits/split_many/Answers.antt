@@ -1,6 +1,6 @@
 use Rattle.std.proofs.Common.{sym, ◌∙◌, ap, Some, List, ℕ}
 use Rattle.sip_text.proofs.Splitting.{split_found, split_none}
-use Rattle.sip_text.proofs.splits.split_once.Goals as goal
+use Rattle.sip_text.proofs.splits.split_many.Goals as goal
 
 pub returns-in_err-at : goal.returns-in_err-at
 returns-in_err-at c = rw c.from_residual.ensures (split_none c.args.mark c.args.bytes.now c.in_err-at.ensures)
