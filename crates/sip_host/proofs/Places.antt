@@ -1,16 +1,16 @@
 -- A host and its port, by the host name at the front.
-use Rattle.std.proofs.Common.{◌≡◌, ℕ, zero, suc, ◌+◌, Bool, true, false, cond, List, [], ◌∷◌, length, take, drop, Option, Some, None, refl, sym, ap, subst, ◌∙◌, arith}
+use Rattle.std.proofs.Common.{◌≡◌, ℕ, zero, suc, ◌+◌, Bool, true, false, cond, List, [], ◌∷◌, length, take, drop, Option, Some, None, refl, sym, ap, ◌∙◌, arith}
 use Rattle.std.specs.Prelude.{◌==◌, option_map}
 use Rattle.std.specs.Option.{option_and_then}
 use Rattle.std.specs.List.{list_all, prefix_len}
-use Rattle.sip_host.specs.Host.{is_host_byte, is_host, begins_bracket, is_not, host_length, host_of, place_of}
+use Rattle.sip_host.specs.Host.{is_host_byte, is_host, begins_bracket, is_not, host_length, place_of}
 use Rattle.sip_host.specs.Port.{port_of}
 
 -- a host with the port that is written behind it
 abbrev with_port : List ℕ → List ℕ → Option (List ℕ × Option (List ℕ))
 with_port host rest = option_map (λ port. (host, port)) (port_of rest)
 
-by_test : (host rest : List ℕ) (t : Bool) → is_host host ≡ t → option_and_then (λ x. with_port x.0 x.1) (cond t (Some (host, rest)) None) ≡ cond t (with_port host rest) None
+by_test : (host rest : List ℕ) (t : Bool) → is_host host ≡ t → option_and_then {T = List ℕ × List ℕ} (λ x. with_port x.0 x.1) (cond t (Some (host, rest)) None) ≡ cond t (with_port host rest) None
 by_test host rest true is = refl
 by_test host rest false is = refl
 
@@ -99,7 +99,7 @@ not_name (b ∷ bs) (suc n) plain all = rw plain all
 
 empty_host : (text : List ℕ) → (length text == 0) ≡ true → is_host text ≡ false
 empty_host [] e = refl
-empty_host (b ∷ bs) e = absurd cc
+empty_host (b ∷ bs) e = absurd (grind arith)
 
 to_colon : (text : List ℕ) → begins_bracket text ≡ false → host_length text ≡ prefix_len (is_not 58) text
 to_colon text plain = rw plain refl

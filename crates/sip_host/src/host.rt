@@ -151,7 +151,7 @@ fn name_length(text: &[u8]) -> usize
 
 /// The host name at the front of a text, and what follows it, which is a port or nothing where the text is of the
 /// grammar: so each byte is read once.
-#[tactic(auto, using(crate::proofs::Places::name_here, crate::proofs::Places::no_name))]
+#[tactic(auto, using(crate::proofs::Places::no_name))]
 fn cut_name(text: &[u8]) -> Option<(&[u8], &[u8])>
     requires { Host.begins_bracket text.now ≡ false }
     ensures { option_and_then (λ x. option_map (λ port. (x.0.now, port)) (port_of x.1.now)) result ≡ place_of text.now }
