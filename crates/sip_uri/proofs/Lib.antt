@@ -7,3 +7,4 @@ pub mod Escapes
 pub mod Names
 pub mod TableLemmas
 pub use Rattle.sip_host.proofs as of_host
+pub mod Rests

@@ -7,6 +7,7 @@ use Rattle.sip_host.specs.text.Words.{is_same_text}
 use Rattle.sip_uri.specs.declared.error.UriError.{UriError}
 use Rattle.sip_uri.specs.declared.error.UriError.TheVariants.{Syntax}
 use Rattle.sip_uri.specs.declared.scheme.Scheme.{Scheme}
+use Rattle.sip_uri.specs.declared.scheme.Scheme.TheVariants.{Sip}
 use Rattle.sip_uri.specs.declared.user.UserInfo.{UserInfo}
 use Rattle.sip_uri.specs.declared.parameters.Parameter.{Parameter}
 use Rattle.sip_uri.specs.declared.headers.UriHeader.{UriHeader}
@@ -191,3 +192,9 @@ valid_again u valid = reading_is (text_of u) u (record { scheme = scheme_text u.
 -- what is written of a URI that was read, too
 pub again : (bytes : List ℕ) (u : Uri) → reading_of bytes ≡ Ok u → reading_of (text_of u) ≡ Ok u
 again bytes u e = valid_again u (is_written bytes u e).valid
+
+-- ---- a text that begins with `sip:`
+
+pub behind_sip : (text : List ℕ) → reading_of (115 ∷ 105 ∷ 112 ∷ 58 ∷ text) ≡ rest_of Sip text
+unfolding reading_of
+behind_sip text = refl

@@ -1,5 +1,5 @@
 -- The URI that bytes write, or why they write none.
-use Rattle.std.specs.Prelude.{◌≡◌, ◌⊎◌, ℕ, ◌==◌, List, [], ◌∷◌, Option, Some, None, option_map, Result, Ok, Err, if◌then◌else◌}
+use Rattle.std.specs.Prelude.{◌≡◌, ◌⊎◌, ℕ, Bool, ◌&&◌, ◌==◌, not, List, [], ◌∷◌, Option, Some, None, option_map, Result, Ok, Err, if◌then◌else◌}
 use Rattle.std.specs.Option.{ok_or, option_and_then}
 use Rattle.std.specs.Str.{byte}
 use Rattle.sip_host.specs.text.Lists.{onto}
@@ -128,6 +128,10 @@ headers_behind None = Some []
 headers_behind (Some text) = headers_of text
 
 -- ---- the whole
+
+-- neither a `;` nor a `?`, which end host and port
+abbrev pub is_of_place : ℕ → Bool
+is_of_place b = not (b == byte ";") && not (b == byte "?")
 
 -- host, port and parameters: what stands behind a user, up to a first `?`
 abbrev pub before_headers : List ℕ → List ℕ

@@ -5,9 +5,9 @@ ghost use Rattle.sip_uri.specs.Reading.{Gives, rest_of, reading_of};
 use crate::error::UriError;
 use crate::headers::read_headers;
 use crate::parameters::read_parameters;
-use crate::parts::part_before;
+use crate::parts::cut_rest;
 use crate::place::read_place;
-use crate::scheme::{Scheme, scheme_named};
+use crate::scheme::{Scheme, behind_sip, scheme_named};
 use crate::uri::Uri;
 use crate::user::user_before;
 use sip_host::text::split_once;
@@ -19,8 +19,7 @@ fn read_rest(alloc: Global, scheme: Scheme, text: &[u8]) -> Result<Uri, UriError
     ensures { Gives (λ uri. uri) result (rest_of scheme text.now) }
 {
     let (userinfo, rest) = user_before(alloc, text)?;
-    let (front, headers) = part_before(rest, b'?');
-    let (place, parameters) = part_before(front, b';');
+    let (place, parameters, headers) = cut_rest(rest);
     let (host, port) = read_place(alloc, place)?;
     let parameters = read_parameters(alloc, parameters)?;
     let headers = read_headers(alloc, headers)?;
@@ -34,13 +33,24 @@ fn read_rest(alloc: Global, scheme: Scheme, text: &[u8]) -> Result<Uri, UriError
     })
 }
 
+/// The URI of a scheme that is looked for up to its `:`.
 #[tactic(auto, unfolding(crate::specs::Reading::reading_of))]
-fn read_uri(alloc: Global, text: &[u8]) -> Result<Uri, UriError>
+fn read_named(alloc: Global, text: &[u8]) -> Result<Uri, UriError>
     ensures { Gives (λ uri. uri) result (reading_of text.now) }
 {
     let (name, rest) = split_once(text, b':').ok_or(UriError::Syntax)?;
     let scheme = scheme_named(name)?;
     read_rest(alloc, scheme, rest)
+}
+
+/// The same, where most URIs begin with `sip:`.
+fn read_uri(alloc: Global, text: &[u8]) -> Result<Uri, UriError>
+    ensures { Gives (λ uri. uri) result (reading_of text.now) }
+{
+    match behind_sip(text) {
+        Some(rest) => read_rest(alloc, Scheme::Sip, rest),
+        None => read_named(alloc, text),
+    }
 }
 
 /// The URI that bytes write (RFC 3261 19.1.1). Another scheme than `sip` and `sips` is refused as

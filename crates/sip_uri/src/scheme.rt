@@ -1,4 +1,4 @@
-ghost use Rattle.std.specs.Prelude.{◌≡◌};
+ghost use Rattle.std.specs.Prelude.{◌≡◌, ◌++◌, codes, IfSome};
 ghost use Rattle.std.specs.List.{list_all};
 ghost use Rattle.sip_uri.specs.Scheme as Definitions;
 
@@ -59,4 +59,24 @@ pub(crate) fn scheme_named(name: &[u8]) -> Result<Scheme, UriError>
         return Err(UriError::Scheme);
     }
     Err(UriError::Syntax)
+}
+
+/// What follows a `sip:` at the front of a text, if one stands there so.
+#[inline]
+pub(crate) fn behind_sip(text: &[u8]) -> Option<&[u8]>
+    ensures { IfSome result (λ rest. text.now ≡ codes "sip:" ++ rest.now) }
+{
+    let Some((b's', rest)) = text.split_first() else {
+        return None;
+    };
+    let Some((b'i', rest)) = rest.split_first() else {
+        return None;
+    };
+    let Some((b'p', rest)) = rest.split_first() else {
+        return None;
+    };
+    let Some((b':', rest)) = rest.split_first() else {
+        return None;
+    };
+    Some(rest)
 }
