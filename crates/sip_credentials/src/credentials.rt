@@ -47,7 +47,7 @@ fn value_from(alloc: Global, bytes: &[u8]) -> Result<Option<Value<'_>>, AllocErr
         return Ok(Some(Value::of_part(part)));
     }
     match unquote(alloc, bytes) {
-        Ok(value) => Ok(Some(Value::of_bytes(value))),
+        Ok(value) => Ok(Some(Value::of_bytes(alloc, value)?)),
         Err(TextError::NoMemory) => Err(AllocError),
         Err(_) => Ok(None),
     }

@@ -83,7 +83,7 @@ fn put_cseq(
     };
     let text = cseq_text(alloc, cseq.number, method)?;
     let name = ViewName::of_name(KnownName::CSeq);
-    out.push(ViewField::new(name, Value::of_bytes(text)))
+    out.push(ViewField::new(name, Value::of_bytes(alloc, text)?))
 }
 
 /// The fields of a request that belongs to one that was sent, with a To.

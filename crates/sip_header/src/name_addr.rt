@@ -37,7 +37,7 @@ impl<'a> AnyUri<'a> {
         ensures { IfOk result (λ text. text ≡ uri_text self.now) }
     {
         match self {
-            AnyUri::Sip(uri) => Ok(Value::of_bytes(write_uri(alloc, uri)?)),
+            AnyUri::Sip(uri) => Value::of_bytes(alloc, write_uri(alloc, uri)?),
             AnyUri::Other(text) => Ok(Value::of_part(text.as_slice())),
         }
     }

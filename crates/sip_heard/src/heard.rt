@@ -96,7 +96,7 @@ fn unread_via(alloc: Global, message: &Kept, from: Addr) -> Result<Value<'static
     ensures { IfOk result (λ value. with_first Name.Via value message.now.fields ≡ received_fields from message.now.fields) }
 {
     let request = message.view(alloc)?;
-    Ok(Value::of_bytes(received_value(alloc, &request, from)?))
+    Value::of_bytes(alloc, received_value(alloc, &request, from)?)
 }
 
 /// Where the answers to a message go that came from an address.

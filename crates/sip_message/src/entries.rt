@@ -20,7 +20,7 @@ use httparse::is_header_value;
 use sip_form::view::{Piece, ViewName, slice_before, slice_from};
 use sip_form::{ViewError, ViewRefusal};
 use sip_text::{
-    Bytes, is_token, split_once, without_blanks, without_end_blanks, without_front_blanks,
+    Buffer, is_token, split_once, without_blanks, without_end_blanks, without_front_blanks,
 };
 use std::alloc::{AllocError, Global};
 
@@ -83,7 +83,7 @@ fn copied<'a>(alloc: Global, name: &'a [u8], value: &[u8]) -> Result<PartField<'
     ensures field { IfOk result (λ field. field_seen field ≡ seen_field name.now value.now) }
     ensures joined { IfOk result (λ field. IsPieceCutFrom (Joined value.now) field.value) }
 {
-    let value = Piece::Joined(Bytes::copy(alloc, value)?);
+    let value = Piece::Joined(Buffer::copy(alloc, value)?);
     Ok(PartField {
         name: ViewName::of_part(name),
         value,

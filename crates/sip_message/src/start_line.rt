@@ -96,7 +96,8 @@ fn version_from<'a>(alloc: Global, word: &'a [u8]) -> Result<Value<'a>, ViewErro
     if same_bytes(name, b"SIP/") {
         return Ok(Value::of_part(word));
     }
-    Ok(Value::of_bytes(Bytes::joined(alloc, b"SIP/", numbers)?))
+    let version = Bytes::joined(alloc, b"SIP/", numbers)?;
+    Ok(Value::of_bytes(alloc, version)?)
 }
 
 /// A status line from its three digits and its reason (RFC 3261 7.2).

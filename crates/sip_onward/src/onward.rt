@@ -78,7 +78,7 @@ fn with_number<'v>(
     let name = field.name().lent()?;
     let mut value = Bytes::with_room(alloc, HOPS_DIGITS)?;
     value.push_decimal(u64::from(number))?;
-    Ok(ViewField::new(name, Value::of_bytes(value)))
+    Ok(ViewField::new(name, Value::of_bytes(alloc, value)?))
 }
 
 /// Adds a field: a Max-Forwards with the hops that are left, if they are still to be written, any other as it is.
@@ -257,7 +257,7 @@ pub fn to_target<'v>(
     let others = base.fields().as_slice();
     let mut fields = ViewFields::with_room(alloc, others.len().saturating_add(1))?;
     let name = ViewName::of_name(KnownName::Via);
-    fields.push(ViewField::new(name, Value::of_bytes(via)))?;
+    fields.push(ViewField::new(name, Value::of_bytes(alloc, via)?))?;
     put_all(&mut fields, others)?;
     Ok(View::new(with_uri(base.start(), uri), fields, base.body()))
 }

@@ -30,7 +30,7 @@ pub(crate) fn record_route<'v>(alloc: Global, own: &Own) -> Result<ViewField<'v>
 {
     let value = record_route_value(alloc, own)?;
     let name = ViewName::of_name(KnownName::RecordRoute);
-    Ok(ViewField::new(name, Value::of_bytes(value)))
+    Ok(ViewField::new(name, Value::of_bytes(alloc, value)?))
 }
 
 /// Adds some fields with a further one behind the first.

@@ -60,7 +60,7 @@ fn answered_to<'v>(
     value.extend(to)?;
     value.extend(b";tag=")?;
     value.extend(tag)?;
-    Ok(Value::of_bytes(value))
+    Value::of_bytes(alloc, value)
 }
 
 /// Adds the first To as it stands in a response, if there is one.

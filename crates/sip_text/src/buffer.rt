@@ -6,7 +6,7 @@ use std::alloc::{AllocError, Global};
 use std::marker::Model;
 
 /// What a longer text is written into, in one block of memory, seen as the bytes that it has.
-#[derive(Debug, Drop)]
+#[derive(Clone, Debug, Drop)]
 pub struct Buffer {
     block: Vec<u8>,
 }
@@ -28,6 +28,22 @@ impl Buffer {
         Ok(Buffer {
             block: Vec::with_capacity(alloc, room)?,
         })
+    }
+
+    /// These bytes, copied.
+    pub fn copy(alloc: Global, bytes: &[u8]) -> Result<Self, AllocError>
+        ensures { IfOk result (λ buffer. buffer ≡ bytes.now) }
+    {
+        let block = Vec::from_slice(alloc, bytes)?;
+        Ok(Buffer { block })
+    }
+
+    /// The bytes of a block of memory, which stay there.
+    #[inline]
+    pub(crate) fn of_block(block: Vec<u8>) -> Self
+        ensures { result ≡ block.items }
+    {
+        Buffer { block }
     }
 
     /// Adds bytes at the end.

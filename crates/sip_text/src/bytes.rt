@@ -1,5 +1,6 @@
 ghost use Rattle.std.specs.Prelude.{◌≡◌, ◌++◌, [], ◌∷◌, IfOk, OnOk, OnErr, decimal};
 
+use crate::buffer::Buffer;
 use crate::store::Store;
 use std::alloc::{AllocError, Global};
 use std::marker::Model;
@@ -67,6 +68,17 @@ impl Bytes {
     {
         Bytes {
             store: Store::Outside(block),
+        }
+    }
+
+    /// The bytes in a buffer: those in a block of memory stay there, a few are copied.
+    pub fn into_buffer(self, alloc: Global) -> Result<Buffer, AllocError>
+        ensures { IfOk result (λ buffer. buffer ≡ self) }
+    {
+        let Bytes { store } = self;
+        match store {
+            Store::Outside(block) => Ok(Buffer::of_block(block)),
+            Store::Inside(few) => Buffer::copy(alloc, few.as_slice()),
         }
     }
 

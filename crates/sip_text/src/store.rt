@@ -48,6 +48,29 @@ fn last_digit(number: u64) -> u8
     b'0' + (number % 10) as u8
 }
 
+/// Adds two bytes at the end of a block.
+fn put_two(block: &mut Vec<u8>, first: u8, second: u8) -> Result<(), AllocError>
+    ensures ok { OnOk result (block.new.items ≡ block.old.items ++ first ∷ second ∷ []) }
+    ensures err { OnErr result (block.new.items ≡ block.old.items) }
+{
+    block.reserve(2)?;
+    block.push_reserved(first);
+    block.push_reserved(second);
+    Ok(())
+}
+
+/// Adds three bytes at the end of a block.
+fn put_three(block: &mut Vec<u8>, first: u8, second: u8, third: u8) -> Result<(), AllocError>
+    ensures ok { OnOk result (block.new.items ≡ block.old.items ++ first ∷ second ∷ third ∷ []) }
+    ensures err { OnErr result (block.new.items ≡ block.old.items) }
+{
+    block.reserve(3)?;
+    block.push_reserved(first);
+    block.push_reserved(second);
+    block.push_reserved(third);
+    Ok(())
+}
+
 /// Adds a number in decimal at the end of a block. Most numbers of SIP have few digits, which cost less than `itoa`.
 #[tactic(auto, using(crate::proofs::SmallDecimals::one_digit, crate::proofs::SmallDecimals::two_digits, crate::proofs::SmallDecimals::three_digits))]
 pub(crate) fn put_decimal(block: &mut Vec<u8>, number: u64) -> Result<(), AllocError>
@@ -55,18 +78,19 @@ pub(crate) fn put_decimal(block: &mut Vec<u8>, number: u64) -> Result<(), AllocE
     ensures err { OnErr result (block.new.items ≡ block.old.items) }
 {
     if number < 10 {
-        return block.extend_from_slice([last_digit(number)].as_slice());
+        block.push(last_digit(number))?;
+        return Ok(());
     }
     if number < 100 {
-        return block.extend_from_slice([last_digit(number / 10), last_digit(number)].as_slice());
+        return put_two(block, last_digit(number / 10), last_digit(number));
     }
     if number < 1000 {
-        let digits = [
+        return put_three(
+            block,
             last_digit(number / 100),
             last_digit(number / 10),
             last_digit(number),
-        ];
-        return block.extend_from_slice(digits.as_slice());
+        );
     }
     let mut digits = Digits::new();
     block.extend_from_slice(digits.format(number).as_bytes())

@@ -4,14 +4,14 @@ ghost use Rattle.sip_view.specs.Piece.{bytes_of};
 ghost use Rattle.sip_view.specs.Slice.{IsPieceCutFrom};
 
 use crate::slices::slice_of;
-use sip_field::text::{Bytes, Span};
+use sip_field::text::{Buffer, Span};
 use std::alloc::{AllocError, Global};
 
 /// Bytes as a view has them: a part of what was read, or bytes of their own where no part is the same.
 #[derive(Clone)]
 pub enum Piece<'a> {
     Part(&'a [u8]),
-    Joined(Bytes),
+    Joined(Buffer),
 }
 
 /// Written out, so that it is proved once and not wherever a piece is dropped.
@@ -45,7 +45,7 @@ impl<'a> Piece<'a> {
         match self {
             Piece::Part(slice) => Ok(Piece::Part(slice_of(slice, span))),
             Piece::Joined(bytes) => {
-                let bytes = Bytes::copy(alloc, span.of(bytes.as_slice()))?;
+                let bytes = Buffer::copy(alloc, span.of(bytes.as_slice()))?;
                 Ok(Piece::Joined(bytes))
             }
         }

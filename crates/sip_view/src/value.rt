@@ -36,12 +36,13 @@ impl<'a> Value<'a> {
     }
 
     /// Bytes of its own.
-    pub fn of_bytes(bytes: Bytes) -> Self
-        ensures { result ≡ bytes }
+    pub fn of_bytes(alloc: Global, bytes: Bytes) -> Result<Self, AllocError>
+        ensures { IfOk result (λ value. value ≡ bytes) }
     {
-        Value {
-            piece: Piece::Joined(bytes),
-        }
+        let buffer = bytes.into_buffer(alloc)?;
+        Ok(Value {
+            piece: Piece::Joined(buffer),
+        })
     }
 
     /// The bytes of a piece.
