@@ -6,3 +6,4 @@ pub mod NumberLaws
 pub mod ParameterLaws
 pub mod NameAddrLaws
 mod Lookup
+pub mod Plain

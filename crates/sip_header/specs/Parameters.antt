@@ -1,11 +1,11 @@
 -- Header parameters (RFC 3261 20 and 25.1, generic-param).
-use Rattle.std.specs.Prelude.{◌≡◌, ◌++◌, ℕ, Bool, true, false, ◌||◌, is_some, if◌then◌else◌, List, [], ◌∷◌, codes, Option, Some, None, option_map}
+use Rattle.std.specs.Prelude.{◌≡◌, ◌++◌, ◌<◌, ℕ, Bool, length, true, false, ◌||◌, is_some, if◌then◌else◌, List, [], ◌∷◌, codes, Option, Some, None, option_map}
 use Rattle.std.specs.Option.{option_and_then, unwrap_or}
 use Rattle.std.specs.Str.{byte}
 use Rattle.sip_text.specs.Words.{is_token_text, is_same_text}
 use Rattle.sip_text.specs.Lists.{trimmed}
 use Rattle.sip_text.specs.Escapes.{unquoted}
-use Rattle.sip_text.specs.Cuts.{split_outside}
+use Rattle.sip_text.specs.Cuts.{split_outside, parts_at, parts_behind}
 use Rattle.sip_uri.specs.host.Host.{is_host}
 use Rattle.sip_header.specs.declared.parameters.Parameter.{Parameter}
 
@@ -61,6 +61,26 @@ parameters_in (text ∷ texts) = option_and_then (λ parameter. option_map (λ o
 -- the parameters that texts write; none where one of them writes none
 abbrev pub said_in : List (List ℕ) → List Parameter
 said_in texts = unwrap_or (parameters_in texts) []
+
+-- nothing, or a `;` and what follows it
+abbrev pub closing : Option (List ℕ) → List ℕ
+closing None = []
+closing (Some rest) = byte ";" ∷ rest
+
+-- less is left behind a parameter
+abbrev pub IsLess : List ℕ → Option (List ℕ) → Type 0
+IsLess text None = Unit {0}
+IsLess text (Some rest) = length rest < length text
+
+-- A text begins with a parameter: it says this one, and then what the rest behind its `;` says.
+pub record Begins (text : List ℕ) (parameter : Parameter) (behind : Option (List ℕ)) : Type 0 where
+  pub says : parameters_in (parts_at (byte ";") text) ≡ option_map (λ others. parameter ∷ others) (parameters_in (parts_behind (byte ";") behind))
+  pub less : IsLess text behind
+
+-- A text says parameters if what follows the first `;` does.
+pub record GoesOn (text : List ℕ) (behind : Option (List ℕ)) : Type 0 where
+  pub says : is_some (parameters_in (parts_at (byte ";") text)) ≡ is_some (parameters_in (parts_behind (byte ";") behind))
+  pub less : IsLess text behind
 
 -- the first parameter of a name, without case
 abbrev pub parameter_of : List ℕ → List Parameter → Option Parameter

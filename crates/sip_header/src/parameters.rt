@@ -1,10 +1,12 @@
-ghost use Rattle.std.specs.Prelude.{◌≡◌, true, option_map, is_some, Some};
-ghost use Rattle.sip_text.specs.Cuts.{parts_behind};
+ghost use Rattle.std.specs.Prelude.{◌≡◌, ◌++◌, ◌∷◌, true, false, option_map, is_some, Some, IfSome, MatchOption};
+ghost use Rattle.std.specs.Str.{byte};
+ghost use Rattle.sip_text.specs.Words.{is_token_text};
+ghost use Rattle.sip_text.specs.Cuts.{parts_at, parts_behind};
 ghost use Rattle.sip_text.specs.Escapes.{unquoted};
-ghost use Rattle.sip_header.specs.Parameters.{is_value, needs_value, bare_parameter, valued_parameter, parameter_in, parameters_in, said_in, parameter_of, value_of, tag_of, branch_of};
+ghost use Rattle.sip_header.specs.Parameters.{is_value, needs_value, bare_parameter, valued_parameter, parameter_in, parameters_in, said_in, closing, Begins, GoesOn, parameter_of, value_of, tag_of, branch_of};
 
 use sip_text::{
-    Text, first_part, is_quoted, is_token, same_no_case, split_outside, without_blanks,
+    Text, first_part, is_quoted, is_token, same_no_case, split_outside, split_token, without_blanks,
 };
 use sip_uri::host::is_host;
 use std::marker::Model;
@@ -54,15 +56,87 @@ fn said_by(text: &[u8]) -> Parameter<'_>
     }
 }
 
+/// What follows a parameter: nothing, or a `;` and the rest. None where something else follows.
+fn plain_end(rest: &[u8]) -> Option<Option<&[u8]>>
+    ensures { IfSome result (λ behind. rest.now ≡ closing (option_map (λ x. x.now) behind)) }
+{
+    match rest.split_first() {
+        Some((b';', behind)) => Some(Some(behind)),
+        Some(_) => None,
+        None => Some(None),
+    }
+}
+
+/// A parameter of a name without a value, and what follows it.
+fn plain_name<'v>(name: &'v [u8], rest: &'v [u8]) -> Option<(Parameter<'v>, Option<&'v [u8]>)>
+    requires { is_token_text name.now ≡ true }
+    ensures { IfSome result (λ x. Begins (name.now ++ rest.now) x.0 (option_map (λ y. y.now) x.1)) }
+{
+    let behind = plain_end(rest)?;
+    if wants_value(name) {
+        return None;
+    }
+    let parameter = Parameter {
+        name: Text::new(name),
+        value: None,
+    };
+    Some((parameter, behind))
+}
+
+/// A parameter of a name and the token behind its `=`, and what follows it.
+fn plain_value<'v>(name: &'v [u8], text: &'v [u8]) -> Option<(Parameter<'v>, Option<&'v [u8]>)>
+    requires { is_token_text name.now ≡ true }
+    ensures { IfSome result (λ x. Begins (name.now ++ byte "=" ∷ text.now) x.0 (option_map (λ y. y.now) x.1)) }
+{
+    let (value, rest) = split_token(text);
+    if value.is_empty() {
+        return None;
+    }
+    let behind = plain_end(rest)?;
+    let parameter = Parameter {
+        name: Text::new(name),
+        value: Some(Text::new(value)),
+    };
+    Some((parameter, behind))
+}
+
+/// The parameter at the front of a text, and what follows its `;`, where name and value are tokens with nothing round
+/// them, as those of most are: so each byte is read once. None says nothing.
+fn plain_parameter(text: &[u8]) -> Option<(Parameter<'_>, Option<&[u8]>)>
+    ensures { IfSome result (λ x. Begins text.now x.0 (option_map (λ y. y.now) x.1)) }
+{
+    let (name, rest) = split_token(text);
+    if name.is_empty() {
+        return None;
+    }
+    match rest.split_first() {
+        Some((b'=', value)) => plain_value(name, value),
+        _ => plain_name(name, rest),
+    }
+}
+
+/// The first of the parameters of a text that were read, and what follows it.
+#[tactic(auto, using(crate::proofs::Plain::part_begins))]
+fn first_said(text: &[u8]) -> (Parameter<'_>, Option<&[u8]>)
+    requires { is_some (parameters_in (parts_at 59 text.now)) ≡ true }
+    ensures { Begins text.now result.0 (option_map (λ y. y.now) result.1) }
+{
+    if let Some(first) = plain_parameter(text) {
+        return first;
+    }
+    let (part, rest) = first_part(text, b';');
+    (said_by(part), rest)
+}
+
 /// The first parameter of a name among those that were read.
+#[tactic(auto, using(crate::proofs::Plain::named_here, crate::proofs::Plain::named_later))]
 fn first_named<'v>(behind: Option<&'v [u8]>, name: &[u8]) -> Option<Parameter<'v>>
     requires { is_some (parameters_in (parts_behind 59 (option_map (λ x. x.now) behind))) ≡ true }
     ensures { result ≡ parameter_of name.now (said_in (parts_behind 59 (option_map (λ x. x.now) behind.entry))) }
 {
     let mut behind = behind;
     while let Some(text) = behind {
-        let (part, rest) = first_part(text, b';');
-        let parameter = said_by(part);
+        let (parameter, rest) = first_said(text);
         if same_no_case(parameter.name.as_slice(), name) {
             return Some(parameter);
         }
@@ -163,14 +237,28 @@ fn parameter_from(bytes: &[u8]) -> Option<Parameter<'_>>
     }
 }
 
+/// What follows the first of the parameters that a text writes. None where it writes none.
+#[tactic(auto, using(crate::proofs::Plain::goes_on))]
+fn behind_parameter(text: &[u8]) -> Option<Option<&[u8]>>
+    ensures { MatchOption result (is_some (parameters_in (parts_at 59 text.now)) ≡ false) (λ rest. GoesOn text.now (option_map (λ x. x.now) rest)) }
+{
+    if let Some((_, rest)) = plain_parameter(text) {
+        return Some(rest);
+    }
+    let (part, rest) = first_part(text, b';');
+    let Some(_) = parameter_from(part) else {
+        return None;
+    };
+    Some(rest)
+}
+
 /// Whether the rest of a value writes parameters, each behind a `;`.
 fn are_parameters(behind: Option<&[u8]>) -> bool
     ensures { result ≡ is_some (parameters_in (parts_behind 59 (option_map (λ x. x.now) behind.entry))) }
 {
     let mut behind = behind;
     while let Some(text) = behind {
-        let (part, rest) = first_part(text, b';');
-        let Some(_) = parameter_from(part) else {
+        let Some(rest) = behind_parameter(text) else {
             return false;
         };
         behind = rest;

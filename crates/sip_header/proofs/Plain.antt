@@ -1,0 +1,164 @@
+-- Parameters of tokens with nothing round them, read in one pass.
+use Rattle.std.proofs.Common.{◌≡◌, ℕ, ◌<◌, Bool, true, false, List, [], ◌∷◌, ◌++◌, length, take, drop, Option, Some, None, refl, sym, ap, subst, ◌∙◌, append_assoc, arith, length-append}
+use Rattle.std.specs.Prelude.{option_map, is_some, ◌==◌, ◌||◌, IfSome}
+use Rattle.std.specs.Option.{option_and_then}
+use Rattle.std.specs.List.{list_all}
+use Rattle.std.proofs.lemmas.Bool.{eqb-true}
+use Rattle.std.proofs.lemmas.List.{append-nil}
+use Rattle.sip_text.specs.Words.{is_token_byte, is_token_text, is_same_text, token_at, behind_token}
+use Rattle.sip_text.specs.Lists.{is_blank, trimmed}
+use Rattle.sip_text.specs.declared.cuts.Quoting.TheVariants.{Outside}
+use Rattle.sip_text.specs.Splits.{in_front}
+use Rattle.sip_text.specs.Cuts.{split_from, split_outside, parts_at, parts_behind}
+use Rattle.sip_text.proofs.CutsOutside.{parts_split, one_part}
+use Rattle.sip_text.proofs.Trims as Trims
+use Rattle.sip_header.specs.declared.parameters.Parameter.{Parameter}
+use Rattle.sip_header.specs.Parameters.{is_value, needs_value, IsAssigned, parameter_in, parameters_in, said_in, closing, IsLess, Begins, GoesOn, parameter_of}
+use Rattle.sip_header.proofs.Words.{AllPassing, IsSplit, split_of, front_is, rest_is, all_passing, all_weaker, token_is_full, not_blank}
+use Rattle.sip_header.proofs.ParameterLaws.{read_parameter}
+use Rattle.sip_header.proofs.Lookup.{some_said}
+
+-- ---- bytes none of which is a mark or a quote
+
+differs : (p : ℕ → Bool) (m b : ℕ) → p m ≡ false → p b ≡ true → (b == m) ≡ false
+differs p m b fails passes = by_test (b == m) refl
+  where
+    by_test : (t : Bool) → (b == m) ≡ t → t ≡ false
+    by_test false is = refl
+    by_test true is =
+        let same : b ≡ m = eqb-true b m is in
+        let both : p b ≡ false = ap p same ∙ fails in
+        cc
+
+same_byte : (n : ℕ) → (n == n) ≡ true
+same_byte n = grind arith
+
+through : (p : ℕ → Bool) (mark : ℕ) (left right : List ℕ) → p mark ≡ false → p 34 ≡ false → AllPassing p left → split_from Outside mark (left ++ mark ∷ right) ≡ Some (left, right)
+through p mark [] right fails quote all = rw (same_byte mark) refl
+through p mark (b ∷ left) right fails quote all = rw (differs p mark b fails all.0, differs p 34 b quote all.0) (ap (in_front (b ∷ [])) (through p mark left right fails quote all.1))
+
+nowhere : (p : ℕ → Bool) (mark : ℕ) (left : List ℕ) → p mark ≡ false → p 34 ≡ false → AllPassing p left → split_from Outside mark left ≡ None
+nowhere p mark [] fails quote all = refl
+nowhere p mark (b ∷ left) fails quote all = rw (differs p mark b fails all.0, differs p 34 b quote all.0) (ap (in_front (b ∷ [])) (nowhere p mark left fails quote all.1))
+
+parts_close : (p : ℕ → Bool) (front : List ℕ) (behind : Option (List ℕ)) → p 59 ≡ false → p 34 ≡ false → AllPassing p front → parts_at 59 (front ++ closing behind) ≡ front ∷ parts_behind 59 behind
+parts_close p front None fails quote all = ap (parts_at 59) (append-nil front) ∙ one_part 59 front (sym (nowhere p 59 front fails quote all))
+parts_close p front (Some rest) fails quote all = parts_split 59 (front ++ 59 ∷ rest) front rest (sym (through p 59 front rest fails quote all))
+
+less_close : (front : List ℕ) (behind : Option (List ℕ)) → IsLess (front ++ closing behind) behind
+less_close front None = tt
+less_close front (Some rest) = omega (arith, length-append front (59 ∷ rest))
+
+begins : (p : ℕ → Bool) (front : List ℕ) (parameter : Parameter) (behind : Option (List ℕ)) → p 59 ≡ false → p 34 ≡ false → AllPassing p front → parameter_in front ≡ Some parameter → Begins (front ++ closing behind) parameter behind
+begins p front parameter behind fails quote all is =
+    record {
+      says = ap parameters_in (parts_close p front behind fails quote all) ∙ ap (option_and_then (λ first. option_map (λ others. first ∷ others) (parameters_in (parts_behind 59 behind)))) is;
+      less = less_close front behind;
+    }
+
+-- ---- tokens
+
+token_bytes : (bytes : List ℕ) → is_token_text bytes ≡ true → list_all is_token_byte bytes ≡ true
+token_bytes [] e = absurd cc
+token_bytes (b ∷ bs) e = e
+
+tokens : (bytes : List ℕ) → is_token_text bytes ≡ true → AllPassing is_token_byte bytes
+tokens bytes e = all_passing is_token_byte bytes (token_bytes bytes e)
+
+token_not_blank : (b : ℕ) → is_token_byte b ≡ true → is_blank b ≡ false
+token_not_blank b e = not_blank b (token_is_full b e)
+
+ends : (b : ℕ) (bs : List ℕ) → AllPassing is_token_byte (b ∷ bs) → Trims.ends_full (b ∷ bs)
+ends b [] all = token_not_blank b all.0
+ends b (c ∷ bs) all = ends c bs all.1
+
+tight : (bytes : List ℕ) → AllPassing is_token_byte bytes → Trims.IsTight bytes
+tight [] all = tt
+tight (b ∷ bs) all = (token_not_blank b all.0, ends b bs all)
+
+trimmed_token : (bytes : List ℕ) → is_token_text bytes ≡ true → trimmed bytes ≡ bytes
+trimmed_token bytes e = Trims.tight_again bytes (tight bytes (tokens bytes e))
+
+list_passing : (bytes : List ℕ) → AllPassing is_token_byte bytes → list_all is_token_byte bytes ≡ true
+list_passing [] all = refl
+list_passing (b ∷ bs) all = rw all.0 (list_passing bs all.1)
+
+not_empty : (bytes : List ℕ) → (length bytes == 0) ≡ false → AllPassing is_token_byte bytes → is_token_text bytes ≡ true
+not_empty [] some all = absurd cc
+not_empty (b ∷ bs) some all = list_passing (b ∷ bs) all
+
+pub is_token_here : (text name : List ℕ) → name ≡ token_at text → (length name == 0) ≡ false → is_token_text name ≡ true
+is_token_here text name front some =
+    let s : IsSplit is_token_byte text = split_of is_token_byte text in
+    not_empty name some (subst (AllPassing is_token_byte) (sym (front ∙ front_is is_token_byte text s)) s.passing)
+
+pub token_whole : (text name rest : List ℕ) → name ≡ token_at text → rest ≡ behind_token text → text ≡ name ++ rest
+token_whole text name rest front behind =
+    let s : IsSplit is_token_byte text = split_of is_token_byte text in
+    rw (front ∙ front_is is_token_byte text s, behind ∙ rest_is is_token_byte text s) s.whole
+
+-- ---- a parameter of them
+
+abbrev is_marked : ℕ → Bool
+is_marked b = is_token_byte b || b == 61
+
+token_marked : (b : ℕ) → is_token_byte b ≡ true → is_marked b ≡ true
+token_marked b e = rw e refl
+
+marked : (name value : List ℕ) → AllPassing is_token_byte name → AllPassing is_token_byte value → AllPassing is_marked (name ++ 61 ∷ value)
+marked [] value n v = (refl, all_weaker is_token_byte is_marked value token_marked v)
+marked (b ∷ name) value n v = (token_marked b n.0, marked name value n.1 v)
+
+name_here : (name : List ℕ) (behind : Option (List ℕ)) → is_token_text name ≡ true → needs_value name ≡ false → Begins (name ++ closing behind) (record { name = name; value = None }) behind
+name_here name behind token none =
+    begins is_token_byte name (record { name = name; value = None }) behind refl refl (tokens name token) (read_parameter name (record { name = name; value = None }) (trimmed_token name token, token, none))
+
+pub name_begins : (name rest kept : List ℕ) (behind : Option (List ℕ)) → is_token_text name ≡ true → rest ≡ closing behind → needs_value name ≡ false → kept ≡ name → Begins (name ++ rest) (record { name = kept; value = None }) behind
+name_begins name rest kept behind token closed none same = rw (closed, same) (name_here name behind token none)
+
+value_here : (name value : List ℕ) (behind : Option (List ℕ)) → is_token_text name ≡ true → is_token_text value ≡ true → Begins ((name ++ 61 ∷ value) ++ closing behind) (record { name = name; value = Some value }) behind
+value_here name value behind token is =
+    let assigned : IsAssigned (name ++ 61 ∷ value) name value = record { left = name; right = value; whole = refl; is_name = trimmed_token name token; is_value = trimmed_token value is } in
+    let fits : is_value value ≡ true = rw is refl in
+    begins is_marked (name ++ 61 ∷ value) (record { name = name; value = Some value }) behind refl refl (marked name value (tokens name token) (tokens value is))
+    (read_parameter (name ++ 61 ∷ value) (record { name = name; value = Some value }) (assigned, token, fits))
+
+pub value_begins : (name text value rest kept given : List ℕ) (behind : Option (List ℕ)) → is_token_text name ≡ true → value ≡ token_at text → rest ≡ behind_token text → (length value == 0) ≡ false → rest ≡ closing behind
+    → kept ≡ name → given ≡ value → Begins (name ++ 61 ∷ text) (record { name = kept; value = Some given }) behind
+value_begins name text value rest kept given behind token front back some closed same is =
+    let whole : text ≡ value ++ closing behind = token_whole text value rest front back ∙ ap (λ (w : List ℕ). value ++ w) closed in
+    let parts : (name ++ 61 ∷ value) ++ closing behind ≡ name ++ 61 ∷ text = append_assoc name (61 ∷ value) (closing behind) ∙ ap (λ (w : List ℕ). name ++ 61 ∷ w) (sym whole) in
+    rw (same, is) (subst (λ (w : List ℕ). Begins w (record { name = name; value = Some value }) behind) parts (value_here name value behind token (is_token_here text value front some)))
+
+pub part_begins : (text part : List ℕ) (parameter : Parameter) (behind : Option (List ℕ)) → parts_at 59 text ≡ part ∷ parts_behind 59 behind → IsLess text behind → parameter_in part ≡ Some parameter → Begins text parameter behind
+part_begins text part parameter behind parted less is =
+    record {
+      says = ap parameters_in parted ∙ ap (option_and_then (λ first. option_map (λ others. first ∷ others) (parameters_in (parts_behind 59 behind)))) is;
+      less = less;
+    }
+
+-- ---- what a text that begins with one says
+
+some_by : {X : Type 0} (parameter : X) (o : Option (List X)) → is_some (option_map (λ others. parameter ∷ others) o) ≡ is_some o
+some_by parameter None = refl
+some_by parameter (Some ps) = refl
+
+pub goes_on : (text : List ℕ) (parameter : Parameter) (behind : Option (List ℕ)) → Begins text parameter behind → GoesOn text behind
+goes_on text parameter behind b = record { says = ap is_some b.says ∙ some_by parameter (parameters_in (parts_behind 59 behind)); less = b.less }
+
+pub some_behind : (text : List ℕ) (parameter : Parameter) (behind : Option (List ℕ)) → Begins text parameter behind → is_some (parameters_in (parts_at 59 text)) ≡ true → is_some (parameters_in (parts_behind 59 behind)) ≡ true
+some_behind text parameter behind b e = sym (goes_on text parameter behind b).says ∙ e
+
+said : (text : List ℕ) (parameter : Parameter) (behind : Option (List ℕ)) → Begins text parameter behind → is_some (parameters_in (parts_at 59 text)) ≡ true → said_in (parts_at 59 text) ≡ parameter ∷ said_in (parts_behind 59 behind)
+said text parameter behind b e =
+    let rest : parameters_in (parts_behind 59 behind) ≡ Some (said_in (parts_behind 59 behind)) = some_said (parts_behind 59 behind) (some_behind text parameter behind b e) in
+    let here : parameters_in (parts_at 59 text) ≡ Some (parameter ∷ said_in (parts_behind 59 behind)) = b.says ∙ ap (λ (o : Option (List Parameter)). option_map (λ others. parameter ∷ others) o) rest in
+    rw here refl
+
+pub named_here : (name text : List ℕ) (parameter : Parameter) (behind : Option (List ℕ)) → Begins text parameter behind → is_some (parameters_in (parts_at 59 text)) ≡ true → is_same_text parameter.name name ≡ true
+    → Some parameter ≡ parameter_of name (said_in (parts_at 59 text))
+named_here name text parameter behind b e same = rw (said text parameter behind b e, same) refl
+
+pub named_later : (name text : List ℕ) (parameter : Parameter) (behind : Option (List ℕ)) → Begins text parameter behind → is_some (parameters_in (parts_at 59 text)) ≡ true → is_same_text parameter.name name ≡ false
+    → parameter_of name (said_in (parts_at 59 text)) ≡ parameter_of name (said_in (parts_behind 59 behind))
+named_later name text parameter behind b e other = rw (said text parameter behind b e, other) refl
