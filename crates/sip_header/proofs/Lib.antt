@@ -7,3 +7,4 @@ pub mod ParameterLaws
 pub mod NameAddrLaws
 mod Lookup
 pub mod Plain
+pub mod Unread

@@ -1,4 +1,4 @@
-ghost use Rattle.std.specs.Prelude.{◌≡◌, IfOk, option_map, if◌then◌else◌, None};
+ghost use Rattle.std.specs.Prelude.{◌≡◌, IfOk, option_map, if◌then◌else◌, Some, None};
 ghost use Rattle.std.specs.List.{list_all};
 ghost use Rattle.sip_text.specs.Cuts.{parts_at, split_outside};
 ghost use Rattle.sip_header.specs.NameAddr.{is_opaque_byte, is_opaque, other_of, any_uri_of, with_parameters, is_bare_byte, bare_in, is_word_byte, is_display, behind_bracket, bracketed_by, name_addr_of};
@@ -143,14 +143,29 @@ fn other_uri(bytes: &[u8]) -> Option<AnyUri<'_>>
     Some(AnyUri::Other(Text::new(bytes)))
 }
 
-/// A URI of any scheme.
-fn any_uri(alloc: Global, bytes: &[u8]) -> Result<Option<AnyUri<'_>>, AllocError>
-    ensures { IfOk result (λ uri. uri ≡ any_uri_of bytes.now) }
+/// An address of a URI of another scheme, and of these parameters.
+fn other_address<'v>(bytes: &'v [u8], parameters: Parameters<'v>) -> Option<NameAddr<'v>>
+    ensures { result ≡ with_parameters (Some parameters.entry) (other_of bytes.now) }
+{
+    let uri = other_uri(bytes)?;
+    Some(NameAddr { uri, parameters })
+}
+
+/// An address of a URI of any scheme, and of these parameters, which are read before it, since it is the larger to move.
+fn addressed<'v>(
+    alloc: Global,
+    bytes: &'v [u8],
+    parameters: Parameters<'v>,
+) -> Result<Option<NameAddr<'v>>, AllocError>
+    ensures { IfOk result (λ found. found ≡ with_parameters (Some parameters.entry) (any_uri_of bytes.now)) }
 {
     match parse_uri(alloc, bytes) {
-        Ok(uri) => Ok(Some(AnyUri::Sip(uri))),
+        Ok(uri) => Ok(Some(NameAddr {
+            uri: AnyUri::Sip(uri),
+            parameters,
+        })),
         Err(UriError::NoMemory) => Err(AllocError),
-        Err(UriError::Scheme) => Ok(other_uri(bytes)),
+        Err(UriError::Scheme) => Ok(other_address(bytes, parameters)),
         Err(UriError::Syntax) => Ok(None),
     }
 }
@@ -166,6 +181,7 @@ fn is_display_name(bytes: &[u8]) -> bool
 }
 
 /// A URI without brackets, and parameters.
+#[tactic(auto, using(crate::proofs::Unread::no_parameters))]
 fn bare(alloc: Global, bytes: &[u8]) -> Result<Option<NameAddr<'_>>, AllocError>
     ensures { IfOk result (λ found. found ≡ bare_in (parts_at 59 bytes.now)) }
 {
@@ -173,13 +189,10 @@ fn bare(alloc: Global, bytes: &[u8]) -> Result<Option<NameAddr<'_>>, AllocError>
     if !all_bare_bytes(uri) {
         return Ok(None);
     }
-    let Some(uri) = any_uri(alloc, without_blanks(uri))? else {
-        return Ok(None);
-    };
     let Some(parameters) = parameters_from(behind) else {
         return Ok(None);
     };
-    Ok(Some(NameAddr { uri, parameters }))
+    addressed(alloc, without_blanks(uri), parameters)
 }
 
 /// The parameters behind a `>`.
@@ -194,19 +207,17 @@ fn parameters_behind_bracket(bytes: &[u8]) -> Option<Parameters<'_>>
 }
 
 /// A URI up to its `>`, and parameters.
+#[tactic(auto, using(crate::proofs::Unread::no_parameters))]
 fn bracketed(alloc: Global, bytes: &[u8]) -> Result<Option<NameAddr<'_>>, AllocError>
     ensures { IfOk result (λ found. found ≡ bracketed_by (split_outside 62 bytes.now)) }
 {
     let Some((uri, behind)) = split_outside(bytes, b'>') else {
         return Ok(None);
     };
-    let Some(uri) = any_uri(alloc, without_blanks(uri))? else {
-        return Ok(None);
-    };
     let Some(parameters) = parameters_behind_bracket(behind) else {
         return Ok(None);
     };
-    Ok(Some(NameAddr { uri, parameters }))
+    addressed(alloc, without_blanks(uri), parameters)
 }
 
 /// An address in brackets: what stands before its `<`, and what stands behind.

@@ -1,9 +1,9 @@
-ghost use Rattle.std.specs.Prelude.{◌≡◌, IfOk};
+ghost use Rattle.std.specs.Prelude.{◌≡◌, ◌++◌, codes, IfOk, IfSome};
 ghost use Rattle.sip_header.specs.Via.{sender_behind, versioned, sender_of, via_of};
 
 use crate::parameters::{Parameters, parameters_from};
 use sip_text::{
-    Text, first_part, is_token, same_no_case, split_outside, split_word, without_blanks,
+    Text, first_part, is_token, same_bytes, same_no_case, split_outside, split_word, without_blanks,
 };
 use sip_uri::host::host_port;
 use std::alloc::{AllocError, Global};
@@ -67,8 +67,8 @@ fn versioned_sender<'v>(protocol: &[u8], version: &[u8], rest: &'v [u8]) -> Opti
     sender_behind(rest)
 }
 
-/// A Via without its parameters.
-fn sender_from(bytes: &[u8]) -> Option<Sender<'_>>
+/// A Via without its parameters, whatever protocol it names.
+fn any_sender(bytes: &[u8]) -> Option<Sender<'_>>
     ensures { result ≡ sender_of bytes.now }
 {
     let (protocol, rest) = split_outside(bytes, b'/')?;
@@ -78,6 +78,31 @@ fn sender_from(bytes: &[u8]) -> Option<Sender<'_>>
         without_blanks(version),
         without_blanks(rest),
     )
+}
+
+/// What follows a `SIP/2.0/` at the front of bytes, where one stands there so.
+fn behind_version(bytes: &[u8]) -> Option<&[u8]>
+    ensures { IfSome result (λ rest. bytes.now ≡ codes "SIP/2.0/" ++ rest.now) }
+{
+    if bytes.len() < 8 {
+        return None;
+    }
+    let (front, rest) = bytes.split_at(8);
+    if same_bytes(front, b"SIP/2.0/") {
+        Some(rest)
+    } else {
+        None
+    }
+}
+
+/// A Via without its parameters, which mostly begins with `SIP/2.0/`.
+fn sender_from(bytes: &[u8]) -> Option<Sender<'_>>
+    ensures { result ≡ sender_of bytes.now }
+{
+    match behind_version(bytes) {
+        Some(rest) => sender_behind(without_blanks(rest)),
+        None => any_sender(bytes),
+    }
 }
 
 /// What the value of a Via says: `SIP/2.0/transport`, sent-by and parameters (RFC 3261 20.42). None where it is
