@@ -164,9 +164,16 @@ impl Store {
         ensures ok { OnOk result (stored self.new ≡ stored self.old ++ byte ∷ []) }
         ensures err { OnErr result (stored self.new ≡ stored self.old) }
     {
-        if let Store::Outside(block) = self {
-            block.push(byte)?;
-            return Ok(());
+        match self {
+            Store::Outside(block) => {
+                block.push(byte)?;
+                return Ok(());
+            }
+            Store::Inside(few) => {
+                if few.try_push(byte).is_ok() {
+                    return Ok(());
+                }
+            }
         }
         self.extend_few([byte].as_slice())
     }
