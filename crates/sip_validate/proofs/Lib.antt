@@ -1,3 +1,4 @@
 pub mod Serving
 pub mod Bad
 pub mod Rows
+pub mod Contacts

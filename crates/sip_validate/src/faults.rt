@@ -1,11 +1,15 @@
-ghost use Rattle.std.specs.Prelude.{◌≡◌, IfOk, is_some, is_ok, false};
-ghost use Rattle.std.specs.List.{list_all};
+ghost use Rattle.std.specs.Prelude.{◌≡◌, ◌&&◌, ◌||◌, not, IfOk, IfSome, is_some, is_ok, false};
+ghost use Rattle.std.specs.List.{list_all, list_any};
+ghost use Rattle.std.specs.Option.{option_map_or};
 ghost use Rattle.sip_view.specs.field.Values.{values_of};
+ghost use Rattle.sip_view.specs.field.declared.field_name.FieldName.TheVariants as Name;
 ghost use Rattle.sip_uri.specs.Reading.{reading_of};
 ghost use Rattle.sip_header.specs.Via as Vias;
 ghost use Rattle.sip_header.specs.Route as Routes;
 ghost use Rattle.sip_header.specs.ContactItem as Contacts;
+ghost use Rattle.sip_way.specs.Own as Owns;
 ghost use Rattle.sip_validate.specs.Faults as Definition;
+ghost use Rattle.sip_validate.specs.Refusal.{has_own_via};
 
 use crate::candidate::Candidate;
 use sip_header::{AnyUri, ContactItem, MaxForwards, contact_of, max_forwards_of, route_of, via_of};
@@ -13,6 +17,7 @@ use sip_uri::text::{same_bytes, same_no_case, split_once};
 use sip_uri::{UriError, parse_uri, write_uri};
 use sip_view::ViewField;
 use sip_view::field::FieldName;
+use sip_way::Own;
 use std::alloc::{AllocError, Global};
 
 /// The most bytes of a contact's URI.
@@ -39,11 +44,15 @@ fn is_uri(alloc: Global, uri: &[u8]) -> Result<bool, AllocError>
     }
 }
 
-/// Whether a value is a Via.
-fn is_via(alloc: Global, value: &[u8]) -> Result<bool, AllocError>
-    ensures { IfOk result (λ is_via. is_via ≡ is_some (Vias.via_of value.now)) }
+/// Whether a value is a Via of this server's; None where it can't be read.
+fn is_own_via(alloc: Global, own: &Own, value: &[u8]) -> Result<Option<bool>, AllocError>
+    ensures read { IfOk result (λ is_own. is_some is_own ≡ is_some (Vias.via_of value.now)) }
+    ensures own { IfOk result (λ is_own. IfSome is_own (λ t. t ≡ option_map_or (Owns.is_own_via own.now) (Vias.via_of value.now) false)) }
 {
-    Ok(via_of(alloc, value)?.is_some())
+    match via_of(alloc, value)? {
+        Some(via) => Ok(Some(own.is_own_via(&via))),
+        None => Ok(None),
+    }
 }
 
 /// Whether a value is an item of Route or Record-Route.
@@ -60,18 +69,26 @@ fn is_contact(alloc: Global, value: &[u8]) -> Result<bool, AllocError>
     Ok(contact_of(alloc, value)?.is_some())
 }
 
-/// Whether each value of a name is a Via.
-fn are_vias(alloc: Global, fields: &[ViewField<'_>], name: &FieldName) -> Result<bool, AllocError>
-    ensures { IfOk result (λ all. all ≡ list_all (λ value. is_some (Vias.via_of value)) (values_of name.now fields.now)) }
+/// Whether some value of a name is a Via of this server's; None where one can't be read. Each is read once.
+fn some_is_own_via(
+    alloc: Global,
+    own: &Own,
+    fields: &[ViewField<'_>],
+    name: &FieldName,
+) -> Result<Option<bool>, AllocError>
+    ensures read { IfOk result (λ some. is_some some ≡ list_all (λ value. is_some (Vias.via_of value)) (values_of name.now fields.now)) }
+    ensures own { IfOk result (λ some. IfSome some (λ t. t ≡ list_any (λ value. option_map_or (Owns.is_own_via own.now) (Vias.via_of value) false) (values_of name.now fields.now))) }
 {
+    let mut some = false;
     for field in fields {
         if field.name().is_same(name) {
-            if !is_via(alloc, field.value().as_slice())? {
-                return Ok(false);
-            }
+            let Some(is_own) = is_own_via(alloc, own, field.value().as_slice())? else {
+                return Ok(None);
+            };
+            some = some || is_own;
         }
     }
-    Ok(true)
+    Ok(Some(some))
 }
 
 /// Whether each value of a name is an item of Route or Record-Route.
@@ -129,12 +146,12 @@ fn may_be_bound(alloc: Global, uri: &AnyUri<'_>) -> Result<bool, AllocError>
     }
 }
 
-/// Whether a value of Contact is `*` or may be bound; what can't be read is a fault of its own.
+/// Whether a value is an item of Contact that is `*` or may be bound.
 fn is_bindable(alloc: Global, value: &[u8]) -> Result<bool, AllocError>
-    ensures { IfOk result (λ may. may ≡ Definition.is_bindable (Contacts.contact_of value.now)) }
+    ensures { IfOk result (λ may. may ≡ (is_some (Contacts.contact_of value.now) && Definition.is_bindable (Contacts.contact_of value.now))) }
 {
     let Some(contact) = contact_of(alloc, value)? else {
-        return Ok(true);
+        return Ok(false);
     };
     match &contact {
         ContactItem::Star => Ok(true),
@@ -142,13 +159,13 @@ fn is_bindable(alloc: Global, value: &[u8]) -> Result<bool, AllocError>
     }
 }
 
-/// Whether each value of a name may be bound.
+/// Whether each value of a name is an item of Contact that may be bound.
 fn are_bindable(
     alloc: Global,
     fields: &[ViewField<'_>],
     name: &FieldName,
 ) -> Result<bool, AllocError>
-    ensures { IfOk result (λ all. all ≡ list_all (λ value. Definition.is_bindable (Contacts.contact_of value)) (values_of name.now fields.now)) }
+    ensures { IfOk result (λ all. all ≡ list_all (λ value. is_some (Contacts.contact_of value) && Definition.is_bindable (Contacts.contact_of value)) (values_of name.now fields.now)) }
 {
     for field in fields {
         if field.name().is_same(name) {
@@ -197,23 +214,6 @@ impl<'a> Candidate<'a> {
         Ok(!is_uri(alloc, self.uri)?)
     }
 
-    /// Whether an item of Via, Route, Record-Route or Contact is malformed (RFC 3261 20.42, 20.34, 20.30, 20.10).
-    fn has_bad_item(&self, alloc: Global) -> Result<bool, AllocError>
-        ensures { IfOk result (λ bad. bad ≡ Definition.has_bad_item self.now) }
-    {
-        let fields = self.fields.as_slice();
-        if !are_vias(alloc, fields, &FieldName::Via)? {
-            return Ok(true);
-        }
-        if !are_routes(alloc, fields, &FieldName::Route)? {
-            return Ok(true);
-        }
-        if !are_routes(alloc, fields, &FieldName::RecordRoute)? {
-            return Ok(true);
-        }
-        Ok(!are_contacts(alloc, fields, &FieldName::Contact)?)
-    }
-
     /// Whether, in a REGISTER, To is neither a SIP nor a SIPS URI (RFC 3261 10.2, 10.3 step 5).
     fn registers_other_scheme(&self) -> bool
         ensures { result ≡ Definition.registers_other_scheme self.now }
@@ -221,40 +221,80 @@ impl<'a> Candidate<'a> {
         self.is_register() && !is_sip(&self.core.to.uri)
     }
 
-    /// Whether, in a REGISTER, a Contact is neither `*` nor a SIP or SIPS URI, or is longer than 512 bytes (RFC 3261
-    /// 10.2.1, 10.3 step 6).
-    fn binds_other_contact(&self, alloc: Global) -> Result<bool, AllocError>
-        ensures { IfOk result (λ binds. binds ≡ Definition.binds_other_contact self.now) }
+    /// Whether each Contact can be read (RFC 3261 20.10), and in a REGISTER is `*` or a SIP or SIPS URI that isn't longer
+    /// than 512 bytes (10.2.1, 10.3 step 6). Each is read once.
+    #[tactic(auto, using(crate::proofs::Contacts::of_register, crate::proofs::Contacts::of_other))]
+    fn has_good_contacts(&self, alloc: Global) -> Result<bool, AllocError>
+        ensures { IfOk result (λ good. good ≡ (list_all (λ value. is_some (Contacts.contact_of value)) (values_of Name.Contact self.now.fields) && not (Definition.binds_other_contact self.now))) }
     {
-        if !self.is_register() {
-            return Ok(false);
+        let fields = self.fields.as_slice();
+        if self.is_register() {
+            are_bindable(alloc, fields, &FieldName::Contact)
+        } else {
+            are_contacts(alloc, fields, &FieldName::Contact)
         }
-        Ok(!are_bindable(alloc, self.fields.as_slice(), &FieldName::Contact)?)
+    }
+
+    /// Whether a Via is this server's (RFC 3261 16.3 step 4); None where one can't be read (20.42). Each is read once.
+    fn own_via(&self, alloc: Global) -> Result<Option<bool>, AllocError>
+        ensures read { IfOk result (λ own. is_some own ≡ list_all (λ value. is_some (Vias.via_of value)) (values_of Name.Via self.now.fields)) }
+        ensures own { IfOk result (λ own. IfSome own (λ t. t ≡ has_own_via self.now)) }
+    {
+        some_is_own_via(alloc, self.own, self.fields.as_slice(), &FieldName::Via)
+    }
+
+    /// Whether a Via is this server's (RFC 3261 16.3 step 4); None where an item of Via, Route, Record-Route or Contact is
+    /// malformed (20.42, 20.34, 20.30, 20.10), or a Contact of a REGISTER may not be bound. Each Via is read once.
+    #[tactic(auto, using(crate::proofs::Bad::no_bad_item))]
+    fn own_via_among_items(&self, alloc: Global) -> Result<Option<bool>, AllocError>
+        ensures good { IfOk result (λ own. is_some own ≡ not (Definition.has_bad_item self.now || Definition.binds_other_contact self.now)) }
+        ensures own { IfOk result (λ own. IfSome own (λ t. t ≡ has_own_via self.now)) }
+    {
+        let fields = self.fields.as_slice();
+        let Some(own) = self.own_via(alloc)? else {
+            return Ok(None);
+        };
+        if !are_routes(alloc, fields, &FieldName::Route)? {
+            return Ok(None);
+        }
+        if !are_routes(alloc, fields, &FieldName::RecordRoute)? {
+            return Ok(None);
+        }
+        if !self.has_good_contacts(alloc)? {
+            return Ok(None);
+        }
+        Ok(Some(own))
+    }
+
+    /// Whether a Via is this server's (RFC 3261 16.3 step 4); None where it is a bad request (16.3 step 1, 21.4.1).
+    /// `AllocError` is the only refusal.
+    #[tactic(auto, using(crate::proofs::Bad::by_short, crate::proofs::Bad::by_method, crate::proofs::Bad::by_hops, crate::proofs::Bad::by_uri, crate::proofs::Bad::by_scheme, crate::proofs::Bad::by_items))]
+    pub(crate) fn own_via_unless_bad(&self, alloc: Global) -> Result<Option<bool>, AllocError>
+        ensures bad { IfOk result (λ own. Definition.is_bad self.now ≡ not (is_some own)) }
+        ensures own { IfOk result (λ own. IfSome own (λ t. t ≡ has_own_via self.now)) }
+    {
+        if self.has_short_body() {
+            return Ok(None);
+        }
+        if self.has_other_cseq_method() {
+            return Ok(None);
+        }
+        if self.has_bad_max_forwards() {
+            return Ok(None);
+        }
+        if self.has_bad_uri(alloc)? {
+            return Ok(None);
+        }
+        if self.registers_other_scheme() {
+            return Ok(None);
+        }
+        self.own_via_among_items(alloc)
     }
 
     /// Whether it is a bad request (RFC 3261 16.3 step 1, 21.4.1). `AllocError` is the only refusal.
-    #[tactic(auto, using(crate::proofs::Bad::by_short, crate::proofs::Bad::by_method, crate::proofs::Bad::by_hops, crate::proofs::Bad::by_uri, crate::proofs::Bad::by_item, crate::proofs::Bad::by_scheme, crate::proofs::Bad::by_contact))]
     pub(crate) fn is_bad(&self, alloc: Global) -> Result<bool, AllocError>
         ensures { IfOk result (λ bad. bad ≡ Definition.is_bad self.now) }
     {
-        if self.has_short_body() {
-            return Ok(true);
-        }
-        if self.has_other_cseq_method() {
-            return Ok(true);
-        }
-        if self.has_bad_max_forwards() {
-            return Ok(true);
-        }
-        if self.has_bad_uri(alloc)? {
-            return Ok(true);
-        }
-        if self.has_bad_item(alloc)? {
-            return Ok(true);
-        }
-        if self.registers_other_scheme() {
-            return Ok(true);
-        }
-        Ok(self.binds_other_contact(alloc)?)
+        Ok(self.own_via_unless_bad(alloc)?.is_none())
     }
 }

@@ -1,9 +1,5 @@
-ghost use Rattle.std.specs.Prelude.{◌≡◌, ◌++◌, IfOk, OnOk, codes, false, map, option_map};
-ghost use Rattle.std.specs.List.{list_any, flat_map, join_by};
-ghost use Rattle.std.specs.Option.{option_map_or};
-ghost use Rattle.sip_view.specs.field.Values.{values_of};
-ghost use Rattle.sip_header.specs.Via as Vias;
-ghost use Rattle.sip_way.specs.Own as Owns;
+ghost use Rattle.std.specs.Prelude.{◌≡◌, ◌++◌, IfOk, OnOk, codes, map, option_map};
+ghost use Rattle.std.specs.List.{flat_map, join_by};
 ghost use Rattle.sip_validate.specs.Candidate.{on_way};
 ghost use Rattle.sip_validate.specs.Refusal as Definition;
 ghost use Rattle.sip_validate.specs.Refused.{refused_with};
@@ -11,11 +7,10 @@ ghost use Rattle.sip_validate.specs.Refused.{refused_with};
 use crate::candidate::Candidate;
 use crate::faults::has_sip_scheme;
 use crate::refused::Refused;
-use sip_header::{MaxForwards, max_forwards_of, tag_of, via_of};
+use sip_header::{MaxForwards, max_forwards_of, tag_of};
 use sip_uri::text::{Bytes, same_bytes};
-use sip_view::ViewField;
 use sip_view::field::FieldName;
-use sip_way::{Own, Way};
+use sip_way::Way;
 use std::alloc::{AllocError, Global};
 
 /// Whether a Max-Forwards is 0.
@@ -26,35 +21,6 @@ fn is_zero(max_forwards: MaxForwards) -> bool
         MaxForwards::Hops(hops) => hops == 0,
         MaxForwards::Absent | MaxForwards::Malformed => false,
     }
-}
-
-/// Whether a Via is this server's; one that can't be read isn't.
-fn is_own_via(alloc: Global, own: &Own, value: &[u8]) -> Result<bool, AllocError>
-    ensures { IfOk result (λ is_own. is_own ≡ option_map_or (Owns.is_own_via own.now) (Vias.via_of value.now) false) }
-{
-    match via_of(alloc, value)? {
-        Some(via) => Ok(own.is_own_via(&via)),
-        None => Ok(false),
-    }
-}
-
-/// Whether some value of a name is a Via of this server's.
-fn some_is_own(
-    alloc: Global,
-    own: &Own,
-    fields: &[ViewField<'_>],
-    name: &FieldName,
-) -> Result<bool, AllocError>
-    ensures { IfOk result (λ some. some ≡ list_any (λ value. option_map_or (Owns.is_own_via own.now) (Vias.via_of value) false) (values_of name.now fields.now)) }
-{
-    for field in fields {
-        if field.name().is_same(name) {
-            if is_own_via(alloc, own, field.value().as_slice())? {
-                return Ok(true);
-            }
-        }
-    }
-    Ok(false)
 }
 
 /// Puts each of some items behind `, `.
@@ -93,13 +59,6 @@ impl<'a> Candidate<'a> {
         ensures { result ≡ Definition.has_no_hops self.now }
     {
         !self.is_register() && is_zero(max_forwards_of(self.fields))
-    }
-
-    /// Whether a Via is this server's (RFC 3261 16.3 step 4).
-    fn has_own_via(&self, alloc: Global) -> Result<bool, AllocError>
-        ensures { IfOk result (λ has. has ≡ Definition.has_own_via self.now) }
-    {
-        some_is_own(alloc, self.own, self.fields.as_slice(), &FieldName::Via)
     }
 
     /// The field that says which extensions it needs (RFC 3261 16.3 step 5, 8.2.2.3).
@@ -165,9 +124,9 @@ impl<'a> Candidate<'a> {
     ) -> Result<Option<Refused>, AllocError>
         ensures { IfOk result (λ refused. refused ≡ option_map refused_with (Definition.refusal (on_way way.now self.now))) }
     {
-        if self.is_bad(alloc)? {
+        let Some(has_own_via) = self.own_via_unless_bad(alloc)? else {
             return Ok(Some(Refused::of(alloc, 400)));
-        }
+        };
         if self.has_other_version() {
             return Ok(Some(Refused::of(alloc, 505)));
         }
@@ -177,7 +136,7 @@ impl<'a> Candidate<'a> {
         if self.has_no_hops() {
             return Ok(Some(Refused::of(alloc, 483)));
         }
-        if self.has_own_via(alloc)? {
+        if has_own_via {
             return Ok(Some(Refused::of(alloc, 482)));
         }
         if self.needs_extension() {
