@@ -3,3 +3,4 @@ pub mod KeptRoutes
 pub mod Addresses
 pub mod Received
 pub mod Told
+pub mod Unparted

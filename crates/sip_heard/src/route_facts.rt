@@ -1,6 +1,7 @@
 ghost use Rattle.std.specs.Prelude.{◌≡◌, IfOk, map, is_some, false, codes, Some, None, ◌∷◌, [], decimal};
 ghost use Rattle.std.specs.Option.{option_map_or};
 ghost use Rattle.sip_equality.specs.Equality.{both_or_none, says_same_no_case as SaysSame};
+ghost use Rattle.sip_equality.specs.text.Splits.{split_at_byte};
 ghost use Rattle.sip_header.specs.form.ViewStart.{start_seen};
 ghost use Rattle.sip_header.specs.field.declared.field_name.FieldName.TheVariants as Name;
 ghost use Rattle.sip_header.specs.field.Values.{values_of};
@@ -14,6 +15,7 @@ use sip_equality::{same, says_same_no_case};
 use sip_header::form::{FieldName, View, ViewStart};
 use sip_header::uri::{UriError, parse_uri};
 use sip_header::{AnyUri, route_of};
+use sip_uri::text::split_once;
 use sip_way::{Own, RoutesKept};
 use std::alloc::{AllocError, Global};
 
@@ -167,7 +169,15 @@ fn recorded_in(
     }))
 }
 
+/// Whether a Request-URI may have parameters. One without a `;` has none, also not `lr`.
+fn may_have_parameters(uri: &[u8]) -> bool
+    ensures { result ≡ is_some (split_at_byte 59 uri.now) }
+{
+    split_once(uri, b';').is_some()
+}
+
 /// The same of a Request-URI, where a last Route can take its place.
+#[tactic(auto, using(crate::proofs::Unparted::none_recorded))]
 fn recorded_of(
     alloc: Global,
     uri: &[u8],
@@ -175,6 +185,9 @@ fn recorded_of(
 ) -> Result<Option<RecordedPlace>, AllocError>
     ensures { IfOk result (λ place. place ≡ Facts.recorded_of uri.now (map (λ x. x.now) routes.now)) }
 {
+    if !may_have_parameters(uri) {
+        return Ok(None);
+    }
     if !can_replace(alloc, routes)? {
         return Ok(None);
     }
