@@ -2,3 +2,5 @@ pub mod Serving
 pub mod Bad
 pub mod Rows
 pub mod Contacts
+pub mod Routes
+pub mod Lengths

@@ -1,4 +1,4 @@
-ghost use Rattle.std.specs.Prelude.{◌≡◌, ◌&&◌, ◌||◌, not, IfOk, IfSome, is_some, is_ok, false};
+ghost use Rattle.std.specs.Prelude.{◌≡◌, ◌&&◌, ◌||◌, not, IfOk, IfSome, is_some, is_ok, true, false};
 ghost use Rattle.std.specs.List.{list_all, list_any};
 ghost use Rattle.std.specs.Option.{option_map_or};
 ghost use Rattle.sip_view.specs.field.Values.{values_of};
@@ -133,10 +133,14 @@ fn is_sip(uri: &AnyUri<'_>) -> bool
     }
 }
 
-/// Whether it is a SIP or SIPS URI of at most 512 bytes.
-fn may_be_bound(alloc: Global, uri: &AnyUri<'_>) -> Result<bool, AllocError>
+/// Whether it is a SIP or SIPS URI of at most 512 bytes. `short` says that it can't be longer.
+fn may_be_bound(alloc: Global, uri: &AnyUri<'_>, short: bool) -> Result<bool, AllocError>
+    requires { short ≡ true → Definition.may_be_bound uri.now ≡ Definition.is_sip uri.now }
     ensures { IfOk result (λ may. may ≡ Definition.may_be_bound uri.now) }
 {
+    if short {
+        return Ok(is_sip(uri));
+    }
     match uri {
         AnyUri::Sip(uri) => {
             let text = write_uri(alloc, uri)?;
@@ -146,7 +150,8 @@ fn may_be_bound(alloc: Global, uri: &AnyUri<'_>) -> Result<bool, AllocError>
     }
 }
 
-/// Whether a value is an item of Contact that is `*` or may be bound.
+/// Whether a value is an item of Contact that is `*` or may be bound. A URI isn't longer than the value that it stands in.
+#[tactic(auto, using(crate::proofs::Lengths::short_bound))]
 fn is_bindable(alloc: Global, value: &[u8]) -> Result<bool, AllocError>
     ensures { IfOk result (λ may. may ≡ (is_some (Contacts.contact_of value.now) && Definition.is_bindable (Contacts.contact_of value.now))) }
 {
@@ -155,7 +160,9 @@ fn is_bindable(alloc: Global, value: &[u8]) -> Result<bool, AllocError>
     };
     match &contact {
         ContactItem::Star => Ok(true),
-        ContactItem::Address(address) => may_be_bound(alloc, &address.uri),
+        ContactItem::Address(address) => {
+            may_be_bound(alloc, &address.uri, value.len() <= LONGEST_CONTACT)
+        }
     }
 }
 
@@ -243,21 +250,37 @@ impl<'a> Candidate<'a> {
         some_is_own_via(alloc, self.own, self.fields.as_slice(), &FieldName::Via)
     }
 
+    /// Whether each Route can be read (RFC 3261 20.34). `read` says that each was.
+    fn has_good_routes(&self, alloc: Global, read: bool) -> Result<bool, AllocError>
+        requires { read ≡ true → list_all (λ value. is_some (Routes.route_of value)) (values_of Name.Route self.now.fields) ≡ true }
+        ensures { IfOk result (λ good. good ≡ list_all (λ value. is_some (Routes.route_of value)) (values_of Name.Route self.now.fields)) }
+    {
+        if read {
+            return Ok(true);
+        }
+        are_routes(alloc, self.fields.as_slice(), &FieldName::Route)
+    }
+
     /// Whether a Via is this server's (RFC 3261 16.3 step 4); None where an item of Via, Route, Record-Route or Contact is
-    /// malformed (20.42, 20.34, 20.30, 20.10), or a Contact of a REGISTER may not be bound. Each Via is read once.
+    /// malformed (20.42, 20.34, 20.30, 20.10), or a Contact of a REGISTER may not be bound. Each Via is read once, and no
+    /// Route where each was read before.
     #[tactic(auto, using(crate::proofs::Bad::no_bad_item))]
-    fn own_via_among_items(&self, alloc: Global) -> Result<Option<bool>, AllocError>
+    fn own_via_among_items(
+        &self,
+        alloc: Global,
+        routes_read: bool,
+    ) -> Result<Option<bool>, AllocError>
+        requires { routes_read ≡ true → list_all (λ value. is_some (Routes.route_of value)) (values_of Name.Route self.now.fields) ≡ true }
         ensures good { IfOk result (λ own. is_some own ≡ not (Definition.has_bad_item self.now || Definition.binds_other_contact self.now)) }
         ensures own { IfOk result (λ own. IfSome own (λ t. t ≡ has_own_via self.now)) }
     {
-        let fields = self.fields.as_slice();
         let Some(own) = self.own_via(alloc)? else {
             return Ok(None);
         };
-        if !are_routes(alloc, fields, &FieldName::Route)? {
+        if !self.has_good_routes(alloc, routes_read)? {
             return Ok(None);
         }
-        if !are_routes(alloc, fields, &FieldName::RecordRoute)? {
+        if !are_routes(alloc, self.fields.as_slice(), &FieldName::RecordRoute)? {
             return Ok(None);
         }
         if !self.has_good_contacts(alloc)? {
@@ -267,9 +290,14 @@ impl<'a> Candidate<'a> {
     }
 
     /// Whether a Via is this server's (RFC 3261 16.3 step 4); None where it is a bad request (16.3 step 1, 21.4.1).
-    /// `AllocError` is the only refusal.
+    /// `routes_read` says that each Route was read. `AllocError` is the only refusal.
     #[tactic(auto, using(crate::proofs::Bad::by_short, crate::proofs::Bad::by_method, crate::proofs::Bad::by_hops, crate::proofs::Bad::by_uri, crate::proofs::Bad::by_scheme, crate::proofs::Bad::by_items))]
-    pub(crate) fn own_via_unless_bad(&self, alloc: Global) -> Result<Option<bool>, AllocError>
+    pub(crate) fn own_via_unless_bad(
+        &self,
+        alloc: Global,
+        routes_read: bool,
+    ) -> Result<Option<bool>, AllocError>
+        requires { routes_read ≡ true → list_all (λ value. is_some (Routes.route_of value)) (values_of Name.Route self.now.fields) ≡ true }
         ensures bad { IfOk result (λ own. Definition.is_bad self.now ≡ not (is_some own)) }
         ensures own { IfOk result (λ own. IfSome own (λ t. t ≡ has_own_via self.now)) }
     {
@@ -288,13 +316,13 @@ impl<'a> Candidate<'a> {
         if self.registers_other_scheme() {
             return Ok(None);
         }
-        self.own_via_among_items(alloc)
+        self.own_via_among_items(alloc, routes_read)
     }
 
     /// Whether it is a bad request (RFC 3261 16.3 step 1, 21.4.1). `AllocError` is the only refusal.
     pub(crate) fn is_bad(&self, alloc: Global) -> Result<bool, AllocError>
         ensures { IfOk result (λ bad. bad ≡ Definition.is_bad self.now) }
     {
-        Ok(self.own_via_unless_bad(alloc)?.is_none())
+        Ok(self.own_via_unless_bad(alloc, false)?.is_none())
     }
 }

@@ -1,5 +1,9 @@
-ghost use Rattle.std.specs.Prelude.{◌≡◌, ◌++◌, IfOk, OnOk, codes, map, option_map};
-ghost use Rattle.std.specs.List.{flat_map, join_by};
+ghost use Rattle.std.specs.Prelude.{◌≡◌, ◌++◌, IfOk, OnOk, codes, true, is_some, map, option_map};
+ghost use Rattle.std.specs.List.{flat_map, join_by, list_all};
+ghost use Rattle.sip_view.specs.field.declared.field_name.FieldName.TheVariants as Name;
+ghost use Rattle.sip_view.specs.field.Values.{values_of};
+ghost use Rattle.sip_header.specs.Route.{route_of};
+ghost use Rattle.sip_way.specs.Way.{way_from};
 ghost use Rattle.sip_validate.specs.Candidate.{on_way};
 ghost use Rattle.sip_validate.specs.Refusal as Definition;
 ghost use Rattle.sip_validate.specs.Refused.{refused_with};
@@ -114,7 +118,16 @@ impl<'a> Candidate<'a> {
         !way.routes.as_slice().is_empty()
     }
 
-    /// What refuses it on this way: the status of the first row of the table that applies, with the value of
+    /// Whether its way says that each Route was read: none is left of it.
+    #[tactic(auto, using(crate::proofs::Routes::all_read))]
+    fn has_read_routes(&self, way: &Way<'_>) -> bool
+        requires { way.now ≡ way_from self.now.own self.now.uri self.now.fields }
+        ensures { result ≡ true → list_all (λ value. is_some (route_of value)) (values_of Name.Route self.now.fields) ≡ true }
+    {
+        way.routes.as_slice().is_empty()
+    }
+
+    /// What refuses it on its way: the status of the first row of the table that applies, with the value of
     /// Unsupported in a 420. None where it may be served. `AllocError` is the only refusal of the call.
     #[tactic(auto, using(crate::proofs::Rows::bad, crate::proofs::Rows::other_version, crate::proofs::Rows::other_scheme, crate::proofs::Rows::no_hops, crate::proofs::Rows::own_via, crate::proofs::Rows::extension, crate::proofs::Rows::other_route, crate::proofs::Rows::no_row))]
     pub(crate) fn refusal(
@@ -122,9 +135,11 @@ impl<'a> Candidate<'a> {
         alloc: Global,
         way: &Way<'_>,
     ) -> Result<Option<Refused>, AllocError>
+        requires { way.now ≡ way_from self.now.own self.now.uri self.now.fields }
         ensures { IfOk result (λ refused. refused ≡ option_map refused_with (Definition.refusal (on_way way.now self.now))) }
     {
-        let Some(has_own_via) = self.own_via_unless_bad(alloc)? else {
+        let routes_read = self.has_read_routes(way);
+        let Some(has_own_via) = self.own_via_unless_bad(alloc, routes_read)? else {
             return Ok(Some(Refused::of(alloc, 400)));
         };
         if self.has_other_version() {

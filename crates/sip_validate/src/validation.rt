@@ -2,6 +2,7 @@ ghost use Rattle.std.specs.Prelude.{◌≡◌, IfOk, Some, None, false, option_m
 ghost use Rattle.std.specs.Result.{result_ok};
 ghost use Rattle.std.specs.Option.{option_map_or};
 ghost use Rattle.sip_header.specs.CoreFields as Cores;
+ghost use Rattle.sip_way.specs.Way as Ways;
 ghost use Rattle.sip_validate.specs.Candidate.{on_way, candidate_with, is_request};
 ghost use Rattle.sip_validate.specs.Faults;
 ghost use Rattle.sip_validate.specs.Refusal as Definition;
@@ -27,7 +28,8 @@ fn core_read<'v>(alloc: Global, message: &'v View<'_>) -> Result<Option<CoreFiel
     }
 }
 
-/// What refuses a message, if these are its core fields and its way; nothing refuses a response.
+/// What refuses a message, if these are its core fields; nothing refuses a response.
+#[tactic(auto, using(crate::proofs::Routes::of_candidate))]
 fn refusal(
     alloc: Global,
     message: &View<'_>,
@@ -36,6 +38,7 @@ fn refusal(
     core: &CoreFields<'_>,
     way: &Way<'_>,
 ) -> Result<Option<Refused>, AllocError>
+    requires { way.now ≡ Ways.way_of own.now message.now }
     ensures { IfOk result (λ refused. refused ≡ option_map refused_with (option_map_or (λ r. Definition.refusal (on_way way.now r)) (candidate_with (Some core.now) own.now message.now.fields short message.now.start) None)) }
 {
     match Candidate::of(own, message, short, core) {
