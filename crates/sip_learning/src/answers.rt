@@ -10,13 +10,15 @@ ghost use Rattle.sip_learning.specs.Lessons.{may_begin, begins};
 ghost use Rattle.sip_learning.specs.Telling.{Does, DoesOr, is_early_or_success};
 
 use crate::calls::{is_bye, is_invite, is_success};
-use crate::given::{given_by, put_given};
+use crate::given::{addresses_of, given_by, put_addresses};
 use crate::lesson::Lesson;
 use crate::naming::answered_dialog;
 use sip_dialog::{DialogId, InviteAnswer};
+use sip_state::form::View;
 use sip_state::hops::Hops;
 use sip_state::host::Addr;
 use sip_state::text::Items;
+use sip_state::view::ViewField;
 use sip_state::{OpenRequest, Upward};
 use std::alloc::{AllocError, Global};
 
@@ -57,35 +59,39 @@ fn both_ends(alloc: Global, call: &OpenRequest, up: &Upward) -> Result<Items<Add
     Ok(addresses)
 }
 
-/// The addresses that an answer to an INVITE tells the dialog that it begins.
+/// The addresses that an answer to an INVITE tells the dialog that it begins, by its fields.
 fn invite_addresses(
     alloc: Global,
     hops: &Hops,
     call: &OpenRequest,
     up: &Upward,
+    fields: &[ViewField<'_>],
 ) -> Result<Items<Addr>, AllocError>
     ensures { IfOk result (λ addresses. addresses ≡ call.now.source ∷ option_to_list up.now.target
-        ++ addresses_in (address_of hops.now.addresses) call.now.request.fields ++ addresses_in (address_of hops.now.addresses) up.now.message.fields) }
+        ++ addresses_in (address_of hops.now.addresses) call.now.request.fields ++ addresses_in (address_of hops.now.addresses) fields.now) }
 {
     let mut addresses = both_ends(alloc, call, up)?;
     call.request
         .get()
         .put_addresses(alloc, hops, &mut addresses)?;
-    put_given(alloc, hops, &mut addresses, up.message.get())?;
+    put_addresses(alloc, hops, &mut addresses, fields)?;
     Ok(addresses)
 }
 
-/// What an answer to an INVITE tells of the dialog that it names.
+/// What an answer to an INVITE, of which this is a view, tells of the dialog that it names.
 fn invite_answer(
     alloc: Global,
     hops: &Hops,
     call: &OpenRequest,
     up: &Upward,
+    answer: &View<'_>,
     id: DialogId,
 ) -> Result<InviteAnswer, AllocError>
+    requires { answer.now ≡ up.now.message }
     ensures { IfOk result (λ answer. (server : Server) → server.config.addresses ≡ hops.now.addresses → answer ≡ Dialogs.invite_answer server call.now up.now id) }
 {
-    let addresses = invite_addresses(alloc, hops, call, up)?;
+    let fields = answer.fields().as_slice();
+    let addresses = invite_addresses(alloc, hops, call, up, fields)?;
     Ok(InviteAnswer {
         id,
         number: call.number,
@@ -95,34 +101,44 @@ fn invite_answer(
     })
 }
 
-/// What an answer above 100 to an INVITE that begins a dialog tells of it (RFC 3261 12.1).
+/// What an answer above 100 to an INVITE, of which this is a view, tells of the dialog that it begins (RFC 3261 12.1).
 fn invite_lesson(
     alloc: Global,
     hops: &Hops,
     call: &OpenRequest,
     up: &Upward,
+    answer: &View<'_>,
     id: DialogId,
 ) -> Result<Lesson, AllocError>
+    requires { answer.now ≡ up.now.message }
     ensures does { IfOk result (λ lesson. Does hops.now.addresses lesson (λ server now dialogs. Dialogs.after_invite_answer server now call.now up.now id dialogs)) }
     ensures room { IfOk result (λ lesson. may_begin lesson ≡ true → nat_le up.now.status 299 ≡ true) }
 {
     if up.status <= 299 {
-        return Ok(Lesson::Learn(invite_answer(alloc, hops, call, up, id)?));
+        let learnt = invite_answer(alloc, hops, call, up, answer, id)?;
+        return Ok(Lesson::Learn(learnt));
     }
-    let addresses = given_by(alloc, hops, up.message.get())?;
+    let addresses = addresses_of(alloc, hops, answer)?;
     Ok(Lesson::Teach { id, addresses })
 }
 
-/// The dialog that an answer names for an open INVITE.
-fn answered_dialog_of(
+/// What an answer above 100 to an INVITE outside a dialog tells, of which this is a view.
+fn first_invite_lesson(
     alloc: Global,
+    hops: &Hops,
     call: &OpenRequest,
     up: &Upward,
-) -> Result<Option<DialogId>, AllocError>
-    ensures { IfOk result (λ id. id ≡ Dialogs.answered_dialog call.now up.now.message) }
+    answer: &View<'_>,
+) -> Result<Option<Lesson>, AllocError>
+    requires invite { States.is_invite call.now ≡ true }
+    requires view { answer.now ≡ up.now.message }
+    ensures does { IfOk result (λ lesson. DoesOr hops.now.addresses lesson (λ server now dialogs. Dialogs.after_first_answer server now call.now up.now dialogs)) }
+    ensures room { IfOk result (λ lesson. begins lesson ≡ true → nat_le up.now.status 299 ≡ true) }
 {
-    let answer = up.message.get().view(alloc)?;
-    answered_dialog(alloc, call, &answer)
+    match answered_dialog(alloc, call, answer)? {
+        Some(id) => Ok(Some(invite_lesson(alloc, hops, call, up, answer, id)?)),
+        None => Ok(None),
+    }
 }
 
 /// What an answer above 100 to a request outside a dialog tells.
@@ -138,10 +154,8 @@ fn first_lesson(
     if !is_invite(call) {
         return Ok(None);
     }
-    match answered_dialog_of(alloc, call, up)? {
-        Some(id) => Ok(Some(invite_lesson(alloc, hops, call, up, id)?)),
-        None => Ok(None),
-    }
+    let answer = up.message.get().view(alloc)?;
+    first_invite_lesson(alloc, hops, call, up, &answer)
 }
 
 /// The dialog that an open request names.

@@ -45,7 +45,7 @@ fn address_in(alloc: Global, hops: &Hops, field: &ViewField<'_>) -> Result<Optio
 }
 
 /// Adds the addresses that some fields give.
-fn put_addresses(
+pub(crate) fn put_addresses(
     alloc: Global,
     hops: &Hops,
     out: &mut Items<Addr>,
@@ -61,19 +61,6 @@ fn put_addresses(
     Ok(())
 }
 
-/// Adds the addresses that a message gives.
-pub(crate) fn put_given(
-    alloc: Global,
-    hops: &Hops,
-    out: &mut Items<Addr>,
-    message: &Kept,
-) -> Result<(), AllocError>
-    ensures { OnOk result (out.new ≡ out.old ++ Given.addresses_in (address_of hops.now.addresses) message.now.fields) }
-{
-    let fields = message.fields(alloc)?;
-    put_addresses(alloc, hops, out, fields.as_slice())
-}
-
 /// The addresses that a message gives, as kept.
 pub(crate) fn given_by(
     alloc: Global,
@@ -82,8 +69,9 @@ pub(crate) fn given_by(
 ) -> Result<Items<Addr>, AllocError>
     ensures { IfOk result (λ addresses. addresses ≡ Given.addresses_in (address_of hops.now.addresses) message.now.fields) }
 {
+    let fields = message.fields(alloc)?;
     let mut addresses = Items::new(alloc);
-    put_given(alloc, hops, &mut addresses, message)?;
+    put_addresses(alloc, hops, &mut addresses, fields.as_slice())?;
     Ok(addresses)
 }
 

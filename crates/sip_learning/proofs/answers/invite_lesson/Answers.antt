@@ -3,8 +3,8 @@ use Rattle.sip_learning.proofs.answers.invite_lesson.Goals as goal
 
 pub returns-then-up-le299-clause-does : goal.returns-then-up-le299-clause-does
 returns-then-up-le299-clause-does c = λ server now dialogs e.
-    learnt_by server now c.args.call.now c.args.up.now c.args.id c.in_ok-invite_answer.field-0 dialogs (c.in_ok-invite_answer.ensures server e) c.if-up-le299.true
+    learnt_by server now c.args.call.now c.args.up.now c.args.id c.in_ok-learnt.learnt dialogs (c.in_ok-learnt.ensures server e) c.if-up-le299.true
 
 pub returns-clause-does : goal.returns-clause-does
 returns-clause-does c = λ server now dialogs e.
-    taught_by server now c.args.call.now c.args.up.now c.args.id c.args.hops.now.addresses c.in_ok-addresses.addresses dialogs e (cc (c.in_ok-addresses.ensures, c.get.ensures)) c.if-up-le299.false
+    taught_by server now c.args.call.now c.args.up.now c.args.id c.args.hops.now.addresses c.in_ok-addresses.addresses dialogs e (cc (c.in_ok-addresses.ensures, c.requires)) c.if-up-le299.false
