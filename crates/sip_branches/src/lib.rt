@@ -109,6 +109,6 @@ pub mod targets {
 /// Of `sip_state`.
 pub mod state {
     pub use sip_context::state::{
-        Branch, LastAnswer, OpenRequest, Phase, Resend, Server, Side, Upward,
+        Branch, LastAnswer, OpenRequest, Phase, Resend, Server, Side, Upward, Written,
     };
 }

@@ -109,7 +109,9 @@ pub mod reply {
 
 /// Of `sip_state`.
 pub mod state {
-    pub use sip_state::{Branch, LastAnswer, OpenRequest, Phase, Resend, Server, Side, Upward};
+    pub use sip_state::{
+        Branch, LastAnswer, OpenRequest, Phase, Resend, Server, Side, Upward, Written,
+    };
 }
 
 /// Of `sip_audit`.

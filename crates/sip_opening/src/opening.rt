@@ -8,10 +8,9 @@ ghost use Rattle.sip_model.specs.Effect as Effects;
 
 use crate::packets::{change_packets, put_packets, upward_packet};
 use sip_branches::event::Packet;
-use sip_branches::shared::Shared;
 use sip_branches::state::{Branch, OpenRequest, Server, Upward};
 use sip_branches::text::Items;
-use sip_processing::sending::{kept_answer, packets_of_branches};
+use sip_processing::sending::{packets_of_branches, written_answer};
 use sip_processing::{Sent, answered, is_invite, settle_alone};
 use std::alloc::{AllocError, Global};
 
@@ -38,7 +37,7 @@ fn is_tried(call: &OpenRequest) -> bool
 fn trying(alloc: Global, server: &Server, call: &OpenRequest) -> Result<Upward, AllocError>
     ensures { IfOk result (λ up. up ≡ record { status = 100; message = Sendings.made_answer server.now call.now.number call.now.request call.now.source 100 []; target = None }) }
 {
-    let message = Shared::new(alloc, kept_answer(alloc, server, call, 100)?)?;
+    let message = written_answer(alloc, server, call, 100)?;
     Ok(Upward {
         status: 100,
         message,

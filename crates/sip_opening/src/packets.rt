@@ -6,7 +6,6 @@ ghost use Rattle.sip_model.specs.Effect as Effects;
 ghost use Rattle.sip_opening.specs.Moved.{emptied};
 
 use sip_branches::event::Packet;
-use sip_branches::form::write_view;
 use sip_branches::state::{OpenRequest, Upward};
 use sip_branches::text::{Bytes, Items};
 use sip_processing::Sent;
@@ -61,8 +60,7 @@ pub(crate) fn upward_packet(
 ) -> Result<Packet, AllocError>
     ensures { IfOk result (λ packet. packet ≡ Sendings.answer_to false call.now (text_of up.now.message)) }
 {
-    let view = up.message.get().view(alloc)?;
-    let text = write_view(alloc, &view)?;
+    let text = Bytes::copy(alloc, up.message.text().get().as_slice())?;
     answer_to(alloc, false, call, text)
 }
 

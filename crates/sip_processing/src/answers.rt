@@ -5,26 +5,25 @@ ghost use Rattle.sip_branches.specs.context.Branches as Contexts;
 
 use crate::side::{first_resend, is_answering, side_after};
 use sip_branches::best::{Final, best};
-use sip_branches::form::{Kept, write_view};
 use sip_branches::shared::Shared;
-use sip_branches::state::{LastAnswer, OpenRequest, Server, Upward};
+use sip_branches::state::{LastAnswer, OpenRequest, Server, Upward, Written};
 use sip_branches::text::{Bytes, Items};
 use sip_branches::{all_final, is_invite, is_provisional, is_success};
-use sip_sending::kept_answer;
+use sip_sending::written_answer;
 use std::alloc::{AllocError, Global};
 
-/// The message of an answer, which is made here if none came.
+/// The message of an answer with its text, which is made here if none came.
 fn message_of(
     alloc: Global,
     server: &Server,
     call: &OpenRequest,
     answer: Final,
-) -> Result<Shared<Kept>, AllocError>
+) -> Result<Written, AllocError>
     ensures { IfOk result (λ message. message ≡ (Contexts.upward_of server.now call.now answer).message) }
 {
     match answer.message {
-        Some(message) => Ok(message),
-        None => Shared::new(alloc, kept_answer(alloc, server, call, answer.status)?),
+        Some(message) => Written::of(alloc, message),
+        None => written_answer(alloc, server, call, answer.status),
     }
 }
 
@@ -73,14 +72,13 @@ pub(crate) fn best_upward(
 
 /// The bytes of an answer that are kept, to be sent again: none of a 2xx to an INVITE (RFC 3261 13.3.1.4, RFC 6026
 /// 7.1).
-fn kept_text(alloc: Global, call: &OpenRequest, up: &Upward) -> Result<Bytes, AllocError>
+fn kept_text(alloc: Global, call: &OpenRequest, up: &Upward) -> Result<Shared<Bytes>, AllocError>
     ensures { IfOk result (λ text. text ≡ (Contexts.last_answer call.now up.now.status (text_of up.now.message)).text) }
 {
     if is_invite(call) && is_success(up.status) {
-        return Ok(Bytes::new(alloc));
+        return Shared::new(alloc, Bytes::new(alloc));
     }
-    let view = up.message.get().view(alloc)?;
-    write_view(alloc, &view)
+    up.message.text().clone()
 }
 
 /// The answer that was sent last.
@@ -90,7 +88,7 @@ fn last_answer(alloc: Global, call: &OpenRequest, up: &Upward) -> Result<LastAns
     let text = kept_text(alloc, call, up)?;
     Ok(LastAnswer {
         status: up.status,
-        text: Shared::new(alloc, text)?,
+        text,
     })
 }
 

@@ -61,7 +61,7 @@ pub mod state {
 /// Of `sip_sending`.
 pub mod sending {
     pub use sip_sending::{
-        ack_packets, answer_packet, answer_to, branch_packets, kept_answer, made_answer,
-        packets_of_branches,
+        ack_packets, answer_packet, answer_to, branch_packets, made_answer, packets_of_branches,
+        written_answer,
     };
 }

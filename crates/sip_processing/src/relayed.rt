@@ -4,23 +4,32 @@ ghost use Rattle.sip_branches.specs.state.State as States;
 ghost use Rattle.sip_branches.specs.context.Branches as Contexts;
 
 use crate::side::{is_accepted, is_answering};
+use sip_branches::best::Final;
 use sip_branches::edit::pop_via;
 use sip_branches::form::{Kept, View};
 use sip_branches::shared::Shared;
-use sip_branches::state::{Branch, OpenRequest, Phase, Upward};
+use sip_branches::state::{Branch, OpenRequest, Phase, Upward, Written};
 use sip_branches::{is_final, is_invite, is_success};
 use std::alloc::{AllocError, Global};
 
-/// A response without its top Via, which is kept once however many have it.
-pub(crate) fn kept_response(alloc: Global, response: &View<'_>) -> Result<Shared<Kept>, AllocError>
+/// A response without its top Via, which is kept.
+fn kept_response(alloc: Global, response: &View<'_>) -> Result<Shared<Kept>, AllocError>
     ensures { IfOk result (λ answer. answer ≡ without_top_via response.now) }
 {
     let popped = pop_via(alloc, response)?;
     Shared::new(alloc, Kept::of(alloc, &popped)?)
 }
 
+/// A response without its top Via, which goes on at once: it is kept with its text.
+fn written_response(alloc: Global, response: &View<'_>) -> Result<Written, AllocError>
+    ensures { IfOk result (λ answer. answer ≡ without_top_via response.now) }
+{
+    let popped = pop_via(alloc, response)?;
+    Written::of_view(alloc, &popped)
+}
+
 /// An answer from a branch, as it goes to the caller (RFC 3261 16.7 step 3).
-fn relayed_from(branch: &Branch, status: u16, message: Shared<Kept>) -> Upward
+fn relayed_from(branch: &Branch, status: u16, message: Written) -> Upward
     ensures { result ≡ record { status = status; message = message; target = branch.now.address } }
 {
     Upward {
@@ -51,7 +60,7 @@ pub(crate) fn relayed_provisional(
     if !relays_provisional(call, branch, status) {
         return Ok(None);
     }
-    let message = kept_response(alloc, response)?;
+    let message = written_response(alloc, response)?;
     Ok(Some(relayed_from(branch, status, message)))
 }
 
@@ -61,22 +70,6 @@ fn relays_success(call: &OpenRequest, status: u16) -> bool
     ensures { result ≡ (States.is_success status && (States.is_answering call.now.side || Contexts.is_accepted call.now)) }
 {
     is_success(status) && (is_answering(call.side) || is_accepted(call))
-}
-
-/// The first final answer of a branch as it goes to the caller at once, if it does.
-pub(crate) fn relayed_answer(
-    call: &OpenRequest,
-    branch: &Branch,
-    status: u16,
-    answer: &Shared<Kept>,
-) -> Result<Option<Upward>, AllocError>
-    ensures { IfOk result (λ up. up ≡ (if States.is_success status && (States.is_answering call.now.side || Contexts.is_accepted call.now) then Some (record { status = status; message = answer.now; target = branch.now.address }) else None)) }
-{
-    if !relays_success(call, status) {
-        return Ok(None);
-    }
-    let message = answer.clone()?;
-    Ok(Some(relayed_from(branch, status, message)))
 }
 
 /// A 2xx from a branch as it goes to the caller, if it does.
@@ -92,8 +85,69 @@ fn relayed_success(
     if !relays_success(call, status) {
         return Ok(None);
     }
-    let message = kept_response(alloc, response)?;
+    let message = written_response(alloc, response)?;
     Ok(Some(relayed_from(branch, status, message)))
+}
+
+/// The first final answer of a branch: as it is kept, and as it goes to the caller at once, if it does.
+#[derive(Drop)]
+pub(crate) struct Taken {
+    pub answer: Final,
+    pub relayed: Option<Upward>,
+}
+
+/// The first final answer of a branch, of which nothing goes to the caller at once.
+fn kept_final(alloc: Global, status: u16, response: &View<'_>) -> Result<Taken, AllocError>
+    ensures answer { IfOk result (λ taken. taken.answer ≡ Contexts.final_of status response.now) }
+    ensures relayed { IfOk result (λ taken. taken.relayed ≡ None) }
+{
+    let message = kept_response(alloc, response)?;
+    Ok(Taken {
+        answer: Final {
+            status,
+            message: Some(message),
+        },
+        relayed: None,
+    })
+}
+
+/// The first final answer of a branch, which goes to the caller at once: its message has two owners.
+fn relayed_final(
+    alloc: Global,
+    branch: &Branch,
+    status: u16,
+    response: &View<'_>,
+) -> Result<Taken, AllocError>
+    ensures answer { IfOk result (λ taken. taken.answer ≡ Contexts.final_of status response.now) }
+    ensures relayed { IfOk result (λ taken. taken.relayed ≡ Some (Contexts.relayed_from branch.now status response.now)) }
+{
+    let written = written_response(alloc, response)?;
+    let message = written.message().clone()?;
+    Ok(Taken {
+        answer: Final {
+            status,
+            message: Some(message),
+        },
+        relayed: Some(relayed_from(branch, status, written)),
+    })
+}
+
+/// The first final answer of a branch, which is kept once.
+pub(crate) fn first_final(
+    alloc: Global,
+    call: &OpenRequest,
+    branch: &Branch,
+    status: u16,
+    response: &View<'_>,
+) -> Result<Taken, AllocError>
+    ensures answer { IfOk result (λ taken. taken.answer ≡ Contexts.final_of status response.now) }
+    ensures relayed { IfOk result (λ taken. taken.relayed ≡ Contexts.relayed_success call.now branch.now status response.now) }
+{
+    if relays_success(call, status) {
+        relayed_final(alloc, branch, status, response)
+    } else {
+        kept_final(alloc, status, response)
+    }
 }
 
 /// A further final response of a branch as it goes to the caller, if it does: a 2xx of an INVITE whose branch gave one

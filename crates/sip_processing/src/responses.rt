@@ -7,7 +7,7 @@ ghost use Rattle.sip_branches.specs.Early.{IsEarly};
 ghost use Rattle.sip_processing.specs.Sent.{change_of};
 
 use crate::finals::keep_final;
-use crate::relayed::{further, kept_response, relayed_answer, relayed_provisional};
+use crate::relayed::{first_final, further, relayed_provisional};
 use crate::sent::Sent;
 use crate::settling::{settle, settle_alone};
 use sip_branches::best::Final;
@@ -215,14 +215,9 @@ fn take_final(
     ensures relayed { IfOk result (λ up. up ≡ Contexts.relayed_success call.old branch.now status response.now) }
     ensures request { OnOk result (call.new ≡ Contexts.with_answer call.old branch.now now status response.now) }
 {
-    let message = kept_response(alloc, response)?;
-    let relayed = relayed_answer(call, branch, status, &message)?;
-    let answer = Final {
-        status,
-        message: Some(message),
-    };
-    finish(alloc, now, call, branch, answer, response)?;
-    Ok(relayed)
+    let taken = first_final(alloc, call, branch, status, response)?;
+    finish(alloc, now, call, branch, taken.answer, response)?;
+    Ok(taken.relayed)
 }
 
 /// The first final response came from a target.

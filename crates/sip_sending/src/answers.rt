@@ -5,11 +5,10 @@ ghost use Rattle.sip_context.specs.Sending as Spec;
 
 use sip_context::edit::with_top_via;
 use sip_context::event::{Packet, Ticket};
-use sip_context::form::Kept;
 use sip_context::heard::Heard;
 use sip_context::host::Addr;
 use sip_context::reply::{reply_view, respond, to_tag};
-use sip_context::state::{OpenRequest, Server};
+use sip_context::state::{OpenRequest, Server, Written};
 use sip_context::text::Bytes;
 use sip_onward::form::{Fields, View};
 use std::alloc::{AllocError, Global};
@@ -71,34 +70,34 @@ pub fn made_answer(
     respond(alloc, &received, status, tag.as_slice(), extras)
 }
 
-/// A response to a request without further fields, kept.
-fn kept_reply(
+/// A response to a request without further fields, kept with its text.
+fn written_reply(
     alloc: Global,
     request: &View<'_>,
     status: u16,
     to_tag: &[u8],
-) -> Result<Kept, AllocError>
-    ensures { IfOk result (λ kept. kept ≡ reply_of request.now status to_tag.now []) }
+) -> Result<Written, AllocError>
+    ensures { IfOk result (λ written. written ≡ reply_of request.now status to_tag.now []) }
 {
     let extras = Fields::new(alloc);
     let answer = reply_view(alloc, request, status, to_tag, &extras)?;
-    Kept::of(alloc, &answer)
+    Written::of_view(alloc, &answer)
 }
 
-/// The answer of a status that is made here to an open request, as a message that is kept. `AllocError` is the only
-/// refusal.
-pub fn kept_answer(
+/// The answer of a status that is made here to an open request, as a message that is kept with its text. `AllocError` is
+/// the only refusal.
+pub fn written_answer(
     alloc: Global,
     server: &Server,
     context: &OpenRequest,
     status: u16,
-) -> Result<Kept, AllocError>
-    ensures { IfOk result (λ kept. kept ≡ Spec.made_answer server.now context.now.number context.now.request context.now.source status []) }
+) -> Result<Written, AllocError>
+    ensures { IfOk result (λ written. written ≡ Spec.made_answer server.now context.now.number context.now.request context.now.source status []) }
 {
     let heard = context.request.get();
     let request = heard.view(alloc)?;
     let via = heard.received_via(alloc, context.source)?;
     let received = with_top_via(alloc, &request, via.as_slice())?;
     let tag = to_tag(alloc, server.word, context.number)?;
-    kept_reply(alloc, &received, status, tag.as_slice())
+    written_reply(alloc, &received, status, tag.as_slice())
 }

@@ -5,7 +5,7 @@
 mod answers;
 mod branches;
 
-pub use answers::{answer_packet, answer_to, kept_answer, made_answer};
+pub use answers::{answer_packet, answer_to, made_answer, written_answer};
 pub use branches::{ack_packets, branch_packets, packets_of_branches};
 
 /// Of `sip_onward`.

@@ -10,12 +10,14 @@ mod open_request;
 mod proxy_state;
 mod resend;
 mod server;
+mod written;
 
 pub use branch::{Branch, Phase};
 pub use open_request::{LastAnswer, OpenRequest, Side, Upward};
 pub use proxy_state::ProxyState;
 pub use resend::Resend;
 pub use server::Server;
+pub use written::Written;
 
 /// Of `sip_shared`.
 pub mod shared {

@@ -1,7 +1,7 @@
 use crate::branch::Branch;
 use crate::resend::Resend;
+use crate::written::Written;
 use sip_best::Final;
-use sip_best::form::Kept;
 use sip_best::shared::Shared;
 use sip_best::text::{Bytes, Items};
 use sip_dialog::host::Addr;
@@ -68,11 +68,11 @@ impl Drop for OpenRequest {
     }
 }
 
-/// An answer that goes to the caller: its status, the message, and the address of the branch that it came
+/// An answer that goes to the caller: its status, the message with its text, and the address of the branch that it came
 /// from, if it came from one.
 #[derive(Drop)]
 pub struct Upward {
     pub status: u16,
-    pub message: Shared<Kept>,
+    pub message: Written,
     pub target: Option<Addr>,
 }
