@@ -1,4 +1,5 @@
 pub mod Slots
+pub mod Likeness
 pub mod Near
 pub mod Walk
 pub mod Named

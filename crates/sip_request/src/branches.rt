@@ -1,10 +1,12 @@
-ghost use Rattle.std.specs.Prelude.{◌≡◌, ◌≤◌, ◌<◌, ◌+◌, ◌*◌, ◌^◌, ◌++◌, [], length, IfSome, MatchOption};
+ghost use Rattle.std.specs.Prelude.{◌≡◌, ◌≤◌, ◌<◌, ◌+◌, ◌*◌, ◌^◌, ◌++◌, [], true, length, IfSome, MatchOption};
 ghost use Rattle.sip_running.specs.Moves.{IsHeld, Moves};
 ghost use Rattle.sip_ties.specs.Ties.{branch_timers, branches_timers, owner_of, part_timers};
+ghost use Rattle.sip_request.specs.Likeness.{AreAlike};
 ghost use Rattle.sip_request.specs.Near.{AreBefore, IsNear};
 ghost use Rattle.sip_request.specs.Slots.{part_standing};
 ghost use Rattle.sip_request.specs.Walk.{left_timers};
 
+use crate::likeness::{are_alike, are_as_far};
 use crate::naming::branch_part;
 use crate::part::{NO_KEYS, Part, no_part, stop_part, sync_part};
 use sip_branches::state::{Branch, OpenRequest};
@@ -69,8 +71,8 @@ fn partner(was: &OpenRequest, keys: &[TimerKeys], place: usize, branch: &Branch)
     stood_at(was, keys, place)
 }
 
-/// Lets the timers of a branch stand, and no others of the branch at a place if that is the same one.
-fn sync_branch<T: Timers>(
+/// Lets the timers of a branch stand, and no others of the branch at a place if that is the same one: each is compared.
+fn change_branch<T: Timers>(
     timers: &mut T,
     was: &OpenRequest,
     was_keys: &[TimerKeys],
@@ -102,6 +104,63 @@ fn sync_branch<T: Timers>(
             }
         }
     }
+}
+
+/// The branch at a place, if it is this one and as far as it was: its timers stand as they are.
+fn kept_at(
+    was: &OpenRequest,
+    keys: &[TimerKeys],
+    place: usize,
+    next: &OpenRequest,
+    branch: &Branch,
+) -> Option<Synced>
+    requires { AreAlike was.now next.now }
+    ensures { IfSome result (λ s. left_timers was.now keys.now place ≡ part_timers next.now.number (owner_of branch.now) s.keys (branch_timers next.now branch.now) ++ left_timers was.now keys.now s.place) }
+{
+    if place >= keys.len() {
+        return None;
+    }
+    let branches = was.branches.as_slice();
+    if place >= branches.len() {
+        return None;
+    }
+    if !are_as_far(&branches[place], branch) {
+        return None;
+    }
+    Some(Synced {
+        keys: keys[place],
+        place: place + 1,
+    })
+}
+
+/// Lets the timers of a branch stand, and no others of the branch at a place if that is the same one. Where
+/// the requests are alike, a branch that is as far as it was keeps its timers, and none is worked out.
+fn sync_branch<T: Timers>(
+    timers: &mut T,
+    was: &OpenRequest,
+    was_keys: &[TimerKeys],
+    place: usize,
+    next: &OpenRequest,
+    branch: &Branch,
+    alike: bool,
+) -> Synced
+    requires alike { alike ≡ true → AreAlike was.now next.now }
+    requires held { IsHeld (T.pending timers.old) (left_timers was.now was_keys.now place) }
+    requires room { 3 ≤ T.room timers.old }
+    requires timed { IsNear (2 ^ 64) was.now }
+    requires moments { T.reached timers.old + 2 ^ 30 ≤ 2 ^ 64 }
+    requires near { AreBefore (T.reached timers.old + 2 ^ 30) (branch_timers next.now branch.now) }
+    ensures moves { Moves (T.pending timers.old) (left_timers was.now was_keys.now place) (T.pending timers.new)
+        (part_timers next.now.number (owner_of branch.now) result.keys (branch_timers next.now branch.now) ++ left_timers was.now was_keys.now result.place) }
+    ensures left { T.room timers.old ≤ T.room timers.new + 3 }
+    ensures still { T.reached timers.new ≡ T.reached timers.old }
+{
+    if alike {
+        if let Some(kept) = kept_at(was, was_keys, place, next, branch) {
+            return kept;
+        }
+    }
+    change_branch(timers, was, was_keys, place, next, branch)
 }
 
 /// Stops the timers of the branches from a place on.
@@ -144,10 +203,11 @@ pub(crate) fn sync_branches<T: Timers>(
     ensures left { T.room timers.old ≤ T.room timers.new + 3 * length next.now.branches }
     ensures still { T.reached timers.new ≡ T.reached timers.old }
 {
+    let alike = are_alike(was, next);
     let mut place = 0;
     let branches = next.branches.as_slice();
     for (i, branch) in branches.iter().enumerate() {
-        let synced = sync_branch(timers, was, was_keys, place, next, branch);
+        let synced = sync_branch(timers, was, was_keys, place, next, branch, alike);
         keys[i] = synced.keys;
         place = synced.place;
     }

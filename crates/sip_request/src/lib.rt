@@ -5,6 +5,7 @@
 #![tactic(auto)]
 
 mod branches;
+mod likeness;
 mod naming;
 mod near;
 mod part;

@@ -23,7 +23,7 @@ use sip_ties::transaction::Letter;
 const BEHIND_FIRST_WAIT: u64 = 153_000;
 
 /// Whether a request is an INVITE.
-fn is_invite(call: &OpenRequest) -> bool
+pub(crate) fn is_invite(call: &OpenRequest) -> bool
     ensures { result ≡ States.is_invite call.now }
 {
     call.key.get().is_method(b"INVITE")

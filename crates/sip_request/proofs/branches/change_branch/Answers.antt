@@ -1,5 +1,5 @@
 use Rattle.sip_request.proofs.Walking.{AreBefore-weaker, held_front, held_none, Moves-beside, Moves-matched, part_near}
-use Rattle.sip_request.proofs.branches.sync_branch.Goals as goal
+use Rattle.sip_request.proofs.branches.change_branch.Goals as goal
 
 pub branch_part-part-requires : goal.branch_part-part-requires
 branch_part-part-requires g c = AreBefore-weaker _ _ _ c.requires.moments c.requires.near

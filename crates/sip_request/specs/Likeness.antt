@@ -1,0 +1,17 @@
+-- Requests and branches that have the same timers.
+use Rattle.std.specs.Prelude.{◌≡◌}
+use Rattle.sip_branches.specs.state.declared.branch.Branch.{Branch}
+use Rattle.sip_branches.specs.state.declared.open_request.OpenRequest.{OpenRequest}
+use Rattle.sip_branches.specs.state.State.{is_invite}
+
+-- these requests give their branches timers alike: they have one number, and both are INVITEs or neither is
+pub record AreAlike (was next : OpenRequest) : Type 0 where
+  pub number : was.number ≡ next.number
+  pub method : is_invite was ≡ is_invite next
+
+-- these branches are one, which is as far as it was
+pub record AreAsFar (was next : Branch) : Type 0 where
+  pub number : was.number ≡ next.number
+  pub is_cancel : was.is_cancel ≡ next.is_cancel
+  pub phase : was.phase ≡ next.phase
+  pub again : was.again ≡ next.again

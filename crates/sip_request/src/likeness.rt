@@ -1,0 +1,49 @@
+ghost use Rattle.std.specs.Prelude.{◌≡◌, true};
+ghost use Rattle.sip_request.specs.Likeness.{AreAlike, AreAsFar};
+
+use crate::naming::is_invite;
+use sip_branches::state::{Branch, OpenRequest, Phase, Resend};
+
+/// Whether two open requests give their branches timers alike: they have one number, and both are INVITEs or neither is.
+pub(crate) fn are_alike(was: &OpenRequest, next: &OpenRequest) -> bool
+    ensures { result ≡ true → AreAlike was.now next.now }
+{
+    was.number == next.number && is_invite(was) == is_invite(next)
+}
+
+/// Whether two phases are the same, with their deadlines.
+fn is_phase(was: Phase, next: Phase) -> bool
+    ensures { result ≡ true → was ≡ next }
+{
+    match (was, next) {
+        (Phase::Unheard { until }, Phase::Unheard { until: other }) => until == other,
+        (Phase::Heard { until }, Phase::Heard { until: other }) => until == other,
+        (Phase::Cancelled { until }, Phase::Cancelled { until: other }) => until == other,
+        (
+            Phase::Done { until, status },
+            Phase::Done {
+                until: other,
+                status: another,
+            },
+        ) => until == other && status == another,
+        (Phase::Ended, Phase::Ended) => true,
+        _ => false,
+    }
+}
+
+/// Whether two branches go again at one moment, after one wait.
+fn is_resend(was: Resend, next: Resend) -> bool
+    ensures { result ≡ true → was ≡ next }
+{
+    was.due == next.due && was.wait == next.wait
+}
+
+/// Whether two branches are one, which is as far as it was.
+pub(crate) fn are_as_far(was: &Branch, next: &Branch) -> bool
+    ensures { result ≡ true → AreAsFar was.now next.now }
+{
+    was.number == next.number
+        && was.is_cancel == next.is_cancel
+        && is_phase(was.phase, next.phase)
+        && is_resend(was.again, next.again)
+}
