@@ -6,7 +6,7 @@ ghost use Rattle.sip_request.specs.Near.{AreBefore, IsNear};
 ghost use Rattle.sip_request.specs.Slots.{part_standing};
 ghost use Rattle.sip_request.specs.Walk.{left_timers};
 
-use crate::likeness::{are_alike, are_as_far};
+use crate::likeness::are_as_far;
 use crate::naming::branch_part;
 use crate::part::{NO_KEYS, Part, no_part, stop_part, sync_part};
 use sip_branches::state::{Branch, OpenRequest};
@@ -191,7 +191,9 @@ pub(crate) fn sync_branches<T: Timers>(
     was_keys: &[TimerKeys],
     next: &OpenRequest,
     keys: &mut [TimerKeys],
+    alike: bool,
 )
+    requires alike { alike ≡ true → AreAlike was.now next.now }
     requires held { IsHeld (T.pending timers.old) (branches_timers was.now was.now.branches was_keys.now) }
     requires keys { length keys.old ≡ length next.now.branches }
     requires room { 3 * length next.now.branches ≤ T.room timers.old }
@@ -203,7 +205,6 @@ pub(crate) fn sync_branches<T: Timers>(
     ensures left { T.room timers.old ≤ T.room timers.new + 3 * length next.now.branches }
     ensures still { T.reached timers.new ≡ T.reached timers.old }
 {
-    let alike = are_alike(was, next);
     let mut place = 0;
     let branches = next.branches.as_slice();
     for (i, branch) in branches.iter().enumerate() {

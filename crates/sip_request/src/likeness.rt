@@ -1,10 +1,10 @@
 ghost use Rattle.std.specs.Prelude.{◌≡◌, true};
-ghost use Rattle.sip_request.specs.Likeness.{AreAlike, AreAsFar};
+ghost use Rattle.sip_request.specs.Likeness.{AreAlike, AreAsFar, AreSidesAsFar};
 
-use crate::naming::is_invite;
-use sip_branches::state::{Branch, OpenRequest, Phase, Resend};
+use crate::naming::{is_invite, was_refused};
+use sip_branches::state::{Branch, OpenRequest, Phase, Resend, Side};
 
-/// Whether two open requests give their branches timers alike: they have one number, and both are INVITEs or neither is.
+/// Whether two open requests give their parts timers alike: they have one number, and both are INVITEs or neither is.
 pub(crate) fn are_alike(was: &OpenRequest, next: &OpenRequest) -> bool
     ensures { result ≡ true → AreAlike was.now next.now }
 {
@@ -31,7 +31,7 @@ fn is_phase(was: Phase, next: Phase) -> bool
     }
 }
 
-/// Whether two branches go again at one moment, after one wait.
+/// Whether two parts send again at one moment, after one wait.
 fn is_resend(was: Resend, next: Resend) -> bool
     ensures { result ≡ true → was ≡ next }
 {
@@ -46,4 +46,26 @@ pub(crate) fn are_as_far(was: &Branch, next: &Branch) -> bool
         && was.is_cancel == next.is_cancel
         && is_phase(was.phase, next.phase)
         && is_resend(was.again, next.again)
+}
+
+/// Whether two answering sides are as far, with their deadlines.
+fn is_side(was: Side, next: Side) -> bool
+    ensures { result ≡ true → was ≡ next }
+{
+    match (was, next) {
+        (Side::Answering, Side::Answering) => true,
+        (Side::Closing { until }, Side::Closing { until: other }) => until == other,
+        (Side::Acknowledged { until }, Side::Acknowledged { until: other }) => until == other,
+        (Side::Closed, Side::Closed) => true,
+        _ => false,
+    }
+}
+
+/// Whether the answering sides of two open requests are as far, and both refused or neither.
+pub(crate) fn are_sides_as_far(was: &OpenRequest, next: &OpenRequest) -> bool
+    ensures { result ≡ true → AreSidesAsFar was.now next.now }
+{
+    is_side(was.side, next.side)
+        && is_resend(was.again, next.again)
+        && was_refused(&was.answer) == was_refused(&next.answer)
 }

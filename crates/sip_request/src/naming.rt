@@ -37,7 +37,7 @@ fn is_success(status: u16) -> bool
 }
 
 /// Whether the answer that was sent last is one of 300 to 699.
-fn was_refused(answer: &Option<LastAnswer>) -> bool
+pub(crate) fn was_refused(answer: &Option<LastAnswer>) -> bool
     ensures { result ≡ Contexts.was_refused answer.now }
 {
     match answer {

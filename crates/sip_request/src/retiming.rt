@@ -1,15 +1,44 @@
-ghost use Rattle.std.specs.Prelude.{◌≡◌, ◌≤◌, ◌+◌, ◌^◌, [], length};
+ghost use Rattle.std.specs.Prelude.{◌≡◌, ◌≤◌, ◌+◌, ◌^◌, [], true, length};
 ghost use Rattle.sip_ties.specs.timers.Timers.{KeysDiffer};
 ghost use Rattle.sip_running.specs.Moves.{IsHeld, Moves};
-ghost use Rattle.sip_ties.specs.Ties.{timers_of};
-ghost use Rattle.sip_request.specs.Near.{IsNear, most_timers};
+ghost use Rattle.sip_ties.specs.timers.declared.timer.Owner.TheVariants as Of;
+ghost use Rattle.sip_ties.specs.Ties.{part_timers, side_timers, timers_of};
+ghost use Rattle.sip_request.specs.Likeness.{AreAlike};
+ghost use Rattle.sip_request.specs.Near.{AreBefore, IsNear, most_timers};
 
 use crate::branches::{stop_left, sync_branches};
+use crate::likeness::{are_alike, are_sides_as_far};
 use crate::naming::side_part;
 use crate::part::{NO_KEYS, no_part, stop_part, sync_part};
 use sip_branches::state::OpenRequest;
 use sip_ties::TimerKeys;
 use sip_ties::timers::Timers;
+
+/// Lets the timers of the answering side stand, and no others of those that it had before. Where the requests are alike, one
+/// that is as far as it was keeps its timers, and none is worked out. Gives the keys.
+fn retime_side<T: Timers>(
+    timers: &mut T,
+    was: &OpenRequest,
+    keys: TimerKeys,
+    next: &OpenRequest,
+    alike: bool,
+) -> TimerKeys
+    requires alike { alike ≡ true → AreAlike was.now next.now }
+    requires held { IsHeld (T.pending timers.old) (part_timers was.now.number Of.Server keys (side_timers was.now)) }
+    requires room { 3 ≤ T.room timers.old }
+    requires near { AreBefore (T.reached timers.old + 2 ^ 30) (side_timers next.now) }
+    ensures moves { Moves (T.pending timers.old) (part_timers was.now.number Of.Server keys (side_timers was.now)) (T.pending timers.new)
+        (part_timers next.now.number Of.Server result (side_timers next.now)) }
+    ensures left { T.room timers.old ≤ T.room timers.new + 3 }
+    ensures still { T.reached timers.new ≡ T.reached timers.old }
+{
+    if alike && are_sides_as_far(was, next) {
+        return keys;
+    }
+    let stood = side_part(was);
+    let part = side_part(next);
+    sync_part(timers, stood, keys, part)
+}
 
 /// Lets the timers of an open request stand, for which there is room, and no others of those that it named before. Gives
 /// the keys of its answering side, and fills in those of its branches.
@@ -31,10 +60,9 @@ pub(crate) fn retime<T: Timers>(
     ensures left { T.room timers.old ≤ T.room timers.new + most_timers next.now }
     ensures still { T.reached timers.new ≡ T.reached timers.old }
 {
-    let stood = side_part(was);
-    let part = side_part(next);
-    let side = sync_part(timers, stood, was_side, part);
-    sync_branches(timers, was, was_keys, next, keys);
+    let alike = are_alike(was, next);
+    let side = retime_side(timers, was, was_side, next, alike);
+    sync_branches(timers, was, was_keys, next, keys, alike);
     side
 }
 
@@ -55,7 +83,7 @@ pub(crate) fn begin<T: Timers>(
 {
     let part = side_part(next);
     let side = sync_part(timers, no_part(), NO_KEYS, part);
-    sync_branches(timers, next, &[], next, keys);
+    sync_branches(timers, next, &[], next, keys, false);
     side
 }
 
