@@ -8,3 +8,4 @@ pub mod NameAddrLaws
 mod Lookup
 pub mod Plain
 pub mod Unread
+pub mod PlainVias

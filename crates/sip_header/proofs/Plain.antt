@@ -41,7 +41,7 @@ nowhere : (p : ℕ → Bool) (mark : ℕ) (left : List ℕ) → p mark ≡ false
 nowhere p mark [] fails quote all = refl
 nowhere p mark (b ∷ left) fails quote all = rw (differs p mark b fails all.0, differs p 34 b quote all.0) (ap (in_front (b ∷ [])) (nowhere p mark left fails quote all.1))
 
-parts_close : (p : ℕ → Bool) (front : List ℕ) (behind : Option (List ℕ)) → p 59 ≡ false → p 34 ≡ false → AllPassing p front → parts_at 59 (front ++ closing behind) ≡ front ∷ parts_behind 59 behind
+pub parts_close : (p : ℕ → Bool) (front : List ℕ) (behind : Option (List ℕ)) → p 59 ≡ false → p 34 ≡ false → AllPassing p front → parts_at 59 (front ++ closing behind) ≡ front ∷ parts_behind 59 behind
 parts_close p front None fails quote all = ap (parts_at 59) (append-nil front) ∙ one_part 59 front (sym (nowhere p 59 front fails quote all))
 parts_close p front (Some rest) fails quote all = parts_split 59 (front ++ 59 ∷ rest) front rest (sym (through p 59 front rest fails quote all))
 
@@ -62,10 +62,10 @@ token_bytes : (bytes : List ℕ) → is_token_text bytes ≡ true → list_all i
 token_bytes [] e = absurd cc
 token_bytes (b ∷ bs) e = e
 
-tokens : (bytes : List ℕ) → is_token_text bytes ≡ true → AllPassing is_token_byte bytes
+pub tokens : (bytes : List ℕ) → is_token_text bytes ≡ true → AllPassing is_token_byte bytes
 tokens bytes e = all_passing is_token_byte bytes (token_bytes bytes e)
 
-token_not_blank : (b : ℕ) → is_token_byte b ≡ true → is_blank b ≡ false
+pub token_not_blank : (b : ℕ) → is_token_byte b ≡ true → is_blank b ≡ false
 token_not_blank b e = not_blank b (token_is_full b e)
 
 ends : (b : ℕ) (bs : List ℕ) → AllPassing is_token_byte (b ∷ bs) → Trims.ends_full (b ∷ bs)
@@ -79,13 +79,13 @@ tight (b ∷ bs) all = (token_not_blank b all.0, ends b bs all)
 trimmed_token : (bytes : List ℕ) → is_token_text bytes ≡ true → trimmed bytes ≡ bytes
 trimmed_token bytes e = Trims.tight_again bytes (tight bytes (tokens bytes e))
 
-list_passing : (bytes : List ℕ) → AllPassing is_token_byte bytes → list_all is_token_byte bytes ≡ true
-list_passing [] all = refl
-list_passing (b ∷ bs) all = rw all.0 (list_passing bs all.1)
+pub list_passing_by : (p : ℕ → Bool) (bytes : List ℕ) → AllPassing p bytes → list_all p bytes ≡ true
+list_passing_by p [] all = refl
+list_passing_by p (b ∷ bs) all = rw all.0 (list_passing_by p bs all.1)
 
 not_empty : (bytes : List ℕ) → (length bytes == 0) ≡ false → AllPassing is_token_byte bytes → is_token_text bytes ≡ true
 not_empty [] some all = absurd cc
-not_empty (b ∷ bs) some all = list_passing (b ∷ bs) all
+not_empty (b ∷ bs) some all = list_passing_by is_token_byte (b ∷ bs) all
 
 pub is_token_here : (text name : List ℕ) → name ≡ token_at text → (length name == 0) ≡ false → is_token_text name ≡ true
 is_token_here text name front some =

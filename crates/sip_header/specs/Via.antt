@@ -1,12 +1,12 @@
 -- Via (RFC 3261 20.42).
-use Rattle.std.specs.Prelude.{◌≡◌, ℕ, if◌then◌else◌, List, [], ◌∷◌, codes, Option, Some, None, option_map}
+use Rattle.std.specs.Prelude.{◌≡◌, ℕ, Bool, true, ◌||◌, ◌==◌, ◌++◌, if◌then◌else◌, List, [], ◌∷◌, codes, Option, Some, None, option_map}
 use Rattle.std.specs.Option.{option_and_then}
-use Rattle.std.specs.List.{AllZip}
+use Rattle.std.specs.List.{AllZip, list_all}
 use Rattle.std.specs.Str.{byte}
-use Rattle.sip_text.specs.Words.{is_token_text, is_same_text}
+use Rattle.sip_text.specs.Words.{is_token_byte, is_token_text, is_same_text}
 use Rattle.sip_text.specs.Lists.{trimmed}
 use Rattle.sip_text.specs.Cuts.{split_outside, parts_at, IsParted, word_at, behind_word}
-use Rattle.sip_uri.specs.host.Host.{host_port_of}
+use Rattle.sip_uri.specs.host.Host.{host_port_of, is_place_byte}
 use Rattle.sip_header.specs.Parameters.{parameters_in, IsParameter}
 use Rattle.sip_header.specs.declared.parameters.Parameter.{Parameter}
 use Rattle.sip_header.specs.declared.via.Sender.{Sender}
@@ -39,6 +39,17 @@ via_in (sender ∷ parameters) = option_and_then (λ s. option_map (λ p. via_fr
 -- what a Via says
 abbrev pub via_of : List ℕ → Option Via
 via_of value = via_in (parts_at (byte ";") value)
+
+-- a byte of a transport, the space behind it, or sent-by
+abbrev pub is_sender_byte : ℕ → Bool
+is_sender_byte b = is_token_byte b || is_place_byte b || b == byte " "
+
+-- A text begins with what stands behind the version of a Via, written by such bytes, and a rest follows it.
+pub record IsSenderAt (text : List ℕ) (sender : Sender) (rest : List ℕ) : Type 0 where
+  pub front : List ℕ
+  pub whole : text ≡ front ++ rest
+  pub plain : list_all is_sender_byte front ≡ true
+  pub is_sender : sender_behind (trimmed front) ≡ Some sender
 
 -- A value writes a Via: parts at `;`, of which the first writes protocol, transport and sent-by, and each other a parameter.
 pub record IsVia (value : List ℕ) (via : Via) : Type 0 where

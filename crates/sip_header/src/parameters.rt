@@ -57,7 +57,7 @@ fn said_by(text: &[u8]) -> Parameter<'_>
 }
 
 /// What follows a parameter: nothing, or a `;` and the rest. None where something else follows.
-fn plain_end(rest: &[u8]) -> Option<Option<&[u8]>>
+pub(crate) fn plain_end(rest: &[u8]) -> Option<Option<&[u8]>>
     ensures { IfSome result (λ behind. rest.now ≡ closing (option_map (λ x. x.now) behind)) }
 {
     match rest.split_first() {

@@ -1,11 +1,12 @@
-ghost use Rattle.std.specs.Prelude.{◌≡◌, ◌++◌, codes, IfOk, IfSome};
-ghost use Rattle.sip_header.specs.Via.{sender_behind, versioned, sender_of, via_of};
+ghost use Rattle.std.specs.Prelude.{◌≡◌, ◌++◌, codes, Some, option_map, IfOk, IfSome};
+ghost use Rattle.sip_header.specs.Via.{sender_behind, versioned, sender_of, via_of, IsSenderAt};
 
-use crate::parameters::{Parameters, parameters_from};
+use crate::parameters::{Parameters, parameters_from, plain_end};
 use sip_text::{
-    Text, first_part, is_token, same_bytes, same_no_case, split_outside, split_word, without_blanks,
+    Text, first_part, is_token, same_bytes, same_no_case, split_outside, split_token, split_word,
+    without_blanks,
 };
-use sip_uri::host::host_port;
+use sip_uri::host::{host_port, place_at};
 use std::alloc::{AllocError, Global};
 
 /// What a Via says.
@@ -67,8 +68,8 @@ fn versioned_sender<'v>(protocol: &[u8], version: &[u8], rest: &'v [u8]) -> Opti
     sender_behind(rest)
 }
 
-/// A Via without its parameters, whatever protocol it names.
-fn any_sender(bytes: &[u8]) -> Option<Sender<'_>>
+/// A Via without its parameters.
+fn sender_from(bytes: &[u8]) -> Option<Sender<'_>>
     ensures { result ≡ sender_of bytes.now }
 {
     let (protocol, rest) = split_outside(bytes, b'/')?;
@@ -95,14 +96,75 @@ fn behind_version(bytes: &[u8]) -> Option<&[u8]>
     }
 }
 
-/// A Via without its parameters, which mostly begins with `SIP/2.0/`.
-fn sender_from(bytes: &[u8]) -> Option<Sender<'_>>
-    ensures { result ≡ sender_of bytes.now }
+/// A Via of any form.
+fn any_via(value: &[u8]) -> Option<Via<'_>>
+    ensures { result ≡ via_of value.now }
 {
-    match behind_version(bytes) {
-        Some(rest) => sender_behind(without_blanks(rest)),
-        None => any_sender(bytes),
+    let (sender, behind) = first_part(value, b';');
+    let Sender {
+        transport,
+        host,
+        port,
+    } = sender_from(sender)?;
+    let parameters = parameters_from(behind)?;
+    Some(Via {
+        transport,
+        host,
+        port,
+        parameters,
+    })
+}
+
+/// The number of a port, if there is one.
+fn number_of(port: Option<(&[u8], u16)>) -> Option<u16>
+    ensures { result ≡ option_map (λ x. x.1) port.entry }
+{
+    match port {
+        Some((_, number)) => Some(number),
+        None => None,
     }
+}
+
+/// A token, one space and sent-by at the front of a text, and what follows them. None says nothing.
+fn plain_sender(text: &[u8]) -> Option<(Sender<'_>, &[u8])>
+    ensures { IfSome result (λ x. IsSenderAt text.now x.0 x.1.now) }
+{
+    let (transport, rest) = split_token(text);
+    if transport.is_empty() {
+        return None;
+    }
+    let Some((b' ', place)) = rest.split_first() else {
+        return None;
+    };
+    let (host, port, rest) = place_at(place)?;
+    let sender = Sender {
+        transport: Text::new(transport),
+        host: Text::new(host),
+        port: number_of(port),
+    };
+    Some((sender, rest))
+}
+
+/// A Via as most are written: `SIP/2.0/`, a token, one space and sent-by, each byte of which is read once. None says
+/// nothing.
+fn plain_via(value: &[u8]) -> Option<Via<'_>>
+    ensures { IfSome result (λ via. via_of value.now ≡ Some via) }
+{
+    let text = behind_version(value)?;
+    let (sender, rest) = plain_sender(text)?;
+    let behind = plain_end(rest)?;
+    let parameters = parameters_from(behind)?;
+    let Sender {
+        transport,
+        host,
+        port,
+    } = sender;
+    Some(Via {
+        transport,
+        host,
+        port,
+        parameters,
+    })
 }
 
 /// What the value of a Via says: `SIP/2.0/transport`, sent-by and parameters (RFC 3261 20.42). None where it is
@@ -110,22 +172,8 @@ fn sender_from(bytes: &[u8]) -> Option<Sender<'_>>
 pub fn via_of(_alloc: Global, value: &[u8]) -> Result<Option<Via<'_>>, AllocError>
     ensures { IfOk result (λ via. via ≡ via_of value.now) }
 {
-    let (sender, behind) = first_part(value, b';');
-    let Some(sender) = sender_from(sender) else {
-        return Ok(None);
-    };
-    let Some(parameters) = parameters_from(behind) else {
-        return Ok(None);
-    };
-    let Sender {
-        transport,
-        host,
-        port,
-    } = sender;
-    Ok(Some(Via {
-        transport,
-        host,
-        port,
-        parameters,
-    }))
+    match plain_via(value) {
+        Some(via) => Ok(Some(via)),
+        None => Ok(any_via(value)),
+    }
 }

@@ -1,10 +1,12 @@
 -- A host and its port, by the host name at the front.
-use Rattle.std.proofs.Common.{◌≡◌, ℕ, zero, suc, ◌+◌, Bool, true, false, cond, List, [], ◌∷◌, length, take, drop, Option, Some, None, refl, sym, ap, ◌∙◌, arith}
-use Rattle.std.specs.Prelude.{◌==◌, option_map}
+use Rattle.std.proofs.Common.{◌≡◌, ℕ, zero, suc, ◌+◌, Bool, true, false, cond, List, [], ◌∷◌, ◌++◌, length, take, drop, Option, Some, None, refl, sym, ap, ◌∙◌, append_assoc, arith}
+use Rattle.std.specs.Prelude.{◌==◌, ◌&&◌, ◌||◌, is_some, option_map}
+use Rattle.std.proofs.lemmas.Bool.{eqb-true}
+use Rattle.std.proofs.lemmas.List.{append-nil, take_at, drop_at, take-append-drop}
 use Rattle.std.specs.Option.{option_and_then}
 use Rattle.std.specs.List.{list_all, prefix_len}
-use Rattle.sip_host.specs.Host.{is_host_byte, is_host, begins_bracket, is_not, host_length, place_of}
-use Rattle.sip_host.specs.Port.{port_of}
+use Rattle.sip_host.specs.Host.{is_host_byte, is_host, begins_bracket, is_not, host_length, place_of, is_place_byte, IsPlaceAt}
+use Rattle.sip_host.specs.Port.{port_of, port_value}
 
 -- a host with the port that is written behind it
 abbrev with_port : List ℕ → List ℕ → Option (List ℕ × Option (List ℕ))
@@ -132,3 +134,89 @@ pub no_name : (text host : List ℕ) → begins_bracket text ≡ false → host 
 no_name text host plain front none =
     let is : is_host (take (prefix_len (is_not 58) text) text) ≡ false = no_name_by text (list_all is_host_byte (take (prefix_len (is_not 58) text) text)) refl plain (ap (λ (w : List ℕ). length w == 0) (sym front) ∙ none) in
     no_host text (take (host_length text) text) (drop (host_length text) text) refl refl (ap (λ (n : ℕ). is_host (take n text)) (to_colon text plain) ∙ is)
+
+-- ---- a place at the front
+
+and_both : (a b : Bool) → (a && b) ≡ true → (a ≡ true) × (b ≡ true)
+and_both true b e = (refl, e)
+and_both false b e = absurd cc
+
+run_step : (b : ℕ) (bs : List ℕ) (t : Bool) → is_host_byte b ≡ t → list_all is_host_byte (take (prefix_len is_host_byte bs) bs) ≡ true → list_all is_host_byte (take (prefix_len is_host_byte (b ∷ bs)) (b ∷ bs)) ≡ true
+run_step b bs true e later =
+    let long : prefix_len is_host_byte (b ∷ bs) ≡ 1 + prefix_len is_host_byte bs = rw e refl in
+    ap (λ (n : ℕ). list_all is_host_byte (take n (b ∷ bs))) long ∙ ap (list_all is_host_byte) (take_next (prefix_len is_host_byte bs) b bs) ∙ rw e later
+run_step b bs false e later =
+    let none : prefix_len is_host_byte (b ∷ bs) ≡ 0 = rw e refl in
+    ap (λ (n : ℕ). list_all is_host_byte (take n (b ∷ bs))) none
+
+-- the bytes so many are of a name
+run : (text : List ℕ) → list_all is_host_byte (take (prefix_len is_host_byte text) text) ≡ true
+run [] = refl
+run (b ∷ bs) = run_step b bs (is_host_byte b) refl (run bs)
+
+pub name_run : (n : ℕ) (text name : List ℕ) → n ≡ prefix_len is_host_byte text → name ≡ take n text → list_all is_host_byte name ≡ true
+name_run n text name long front = ap (list_all is_host_byte) (front ∙ ap (λ (k : ℕ). take k text) long) ∙ run text
+
+run_length : (name rest : List ℕ) → list_all is_host_byte name ≡ true → prefix_len is_host_byte rest ≡ 0 → prefix_len is_host_byte (name ++ rest) ≡ length name
+run_length [] rest all stops = stops
+run_length (b ∷ name) rest all stops =
+    let both = and_both (is_host_byte b) (list_all is_host_byte name) all in
+    rw (both.0, run_length name rest both.1 stops) (next (length name))
+
+no_opening : (b : ℕ) (t : Bool) → (b == 91) ≡ t → is_host_byte b ≡ true → t ≡ false
+no_opening b false is host = refl
+no_opening b true is host =
+    let same : b ≡ 91 = eqb-true b 91 is in
+    let never : true ≡ false = sym host ∙ ap is_host_byte same in
+    absurd cc
+
+no_bracket : (name rest : List ℕ) → list_all is_host_byte name ≡ true → (length name == 0) ≡ false → begins_bracket (name ++ rest) ≡ false
+no_bracket [] rest all some = absurd cc
+no_bracket (b ∷ name) rest all some = no_opening b (b == 91) refl (and_both (is_host_byte b) (list_all is_host_byte name) all).0
+
+place_there : (name rest : List ℕ) → list_all is_host_byte name ≡ true → (length name == 0) ≡ false → prefix_len is_host_byte rest ≡ 0 → option_map (λ port. (name, port)) (port_of rest) ≡ place_of (name ++ rest)
+place_there name rest all some stops =
+    let long : prefix_len is_host_byte (name ++ rest) ≡ length name = run_length name rest all stops in
+    name_here (name ++ rest) name rest (no_bracket name rest all some)
+    (sym (ap (λ (n : ℕ). take n (name ++ rest)) long ∙ take_at name rest (length name) refl))
+    (sym (ap (λ (n : ℕ). drop n (name ++ rest)) long ∙ drop_at name rest (length name) refl)) some
+
+name_plain : (name : List ℕ) → list_all is_host_byte name ≡ true → list_all is_place_byte name ≡ true
+name_plain [] all = refl
+name_plain (b ∷ name) all =
+    let both = and_both (is_host_byte b) (list_all is_host_byte name) all in
+    rw both.0 (name_plain name both.1)
+
+port_plain : (name digits : List ℕ) → list_all is_host_byte name ≡ true → list_all is_host_byte digits ≡ true → list_all is_place_byte (name ++ 58 ∷ digits) ≡ true
+port_plain [] digits all of_port = name_plain digits of_port
+port_plain (b ∷ name) digits all of_port =
+    let both = and_both (is_host_byte b) (list_all is_host_byte name) all in
+    rw both.0 (port_plain name digits both.1 of_port)
+
+pub host_at : (n : ℕ) (text name rest : List ℕ) → n ≡ prefix_len is_host_byte text → name ≡ take n text → rest ≡ drop n text → (length name == 0) ≡ false → IsPlaceAt text name None rest
+host_at n text name rest long front behind some =
+    let all : list_all is_host_byte name ≡ true = name_run n text name long front in
+    record {
+      front = name;
+      whole = sym (take-append-drop n text) ∙ ap (λ (w : List ℕ). w ++ drop n text) (sym front) ∙ ap (λ (w : List ℕ). name ++ w) (sym behind);
+      plain = name_plain name all;
+      is_place = sym (ap place_of (append-nil name)) ∙ sym (place_there name [] all some refl);
+    }
+
+port_is : (digits : List ℕ) (number : ℕ) → port_value digits ≡ Some number → port_of (58 ∷ digits) ≡ Some (Some digits)
+port_is digits number is = rw is refl
+
+pub port_at : (n k : ℕ) (text name rest after digits last : List ℕ) (number : ℕ) → n ≡ prefix_len is_host_byte text → name ≡ take n text → rest ≡ drop n text → (length name == 0) ≡ false → rest ≡ 58 ∷ after
+    → k ≡ prefix_len is_host_byte after → digits ≡ take k after → last ≡ drop k after → port_value digits ≡ Some number → IsPlaceAt text name (Some digits) last
+port_at n k text name rest after digits last number long front behind some colon long_port first back is =
+    let all : list_all is_host_byte name ≡ true = name_run n text name long front in
+    let of_port : list_all is_host_byte digits ≡ true = name_run k after digits long_port first in
+    let cut : after ≡ digits ++ last = sym (take-append-drop k after) ∙ ap (λ (w : List ℕ). w ++ drop k after) (sym first) ∙ ap (λ (w : List ℕ). digits ++ w) (sym back) in
+    record {
+      front = name ++ 58 ∷ digits;
+      whole =
+          sym (take-append-drop n text) ∙ ap (λ (w : List ℕ). w ++ drop n text) (sym front) ∙ ap (λ (w : List ℕ). name ++ w) (sym behind ∙ colon ∙ ap (λ (w : List ℕ). 58 ∷ w) cut)
+          ∙ sym (append_assoc name (58 ∷ digits) last);
+      plain = port_plain name digits all of_port;
+      is_place = sym (place_there name (58 ∷ digits) all some refl) ∙ ap (λ o. option_map (λ port. (name, port)) o) (port_is digits number is);
+    }

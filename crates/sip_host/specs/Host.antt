@@ -1,5 +1,5 @@
 -- Hosts, and the port behind one.
-use Rattle.std.specs.Prelude.{ℕ, ◌+◌, Bool, true, false, ◌||◌, ◌&&◌, ◌==◌, not, List, [], ◌∷◌, take, drop, codes, Option, Some, None, option_map, if◌then◌else◌}
+use Rattle.std.specs.Prelude.{◌≡◌, ℕ, ◌+◌, Bool, true, false, ◌||◌, ◌&&◌, ◌==◌, not, List, [], ◌∷◌, ◌++◌, take, drop, codes, Option, Some, None, option_map, if◌then◌else◌}
 use Rattle.std.specs.Option.{option_and_then}
 use Rattle.std.specs.List.{list_all, list_any, prefix_len}
 use Rattle.std.specs.Str.{byte}
@@ -53,3 +53,16 @@ place_of text = option_and_then (λ host. option_map (λ port. (host.0, port)) (
 -- the same with the port by its number
 abbrev pub host_port_of : List ℕ → Option (List ℕ × Option ℕ)
 host_port_of text = option_map (λ place. (place.0, port_number place.1)) (place_of text)
+
+-- ---- a place at the front of a text
+
+-- a byte of a host name, or the `:` before a port
+abbrev pub is_place_byte : ℕ → Bool
+is_place_byte b = is_host_byte b || b == byte ":"
+
+-- A text begins with a place, which is written by such bytes, and a rest follows it.
+pub record IsPlaceAt (text host : List ℕ) (port : Option (List ℕ)) (rest : List ℕ) : Type 0 where
+  pub front : List ℕ
+  pub whole : text ≡ front ++ rest
+  pub plain : list_all is_place_byte front ≡ true
+  pub is_place : place_of front ≡ Some (host, port)

@@ -1,11 +1,11 @@
-ghost use Rattle.std.specs.Prelude.{◌≡◌, ◌≤◌, false, length, take, drop, option_map};
+ghost use Rattle.std.specs.Prelude.{◌≡◌, ◌≤◌, false, length, take, drop, option_map, Some, IfSome};
 ghost use Rattle.std.specs.List.{list_all, prefix_len};
 ghost use Rattle.std.specs.Option.{option_and_then};
 ghost use Rattle.sip_host.specs.Host;
-ghost use Rattle.sip_host.specs.Host.{place_of, host_port_of};
-ghost use Rattle.sip_host.specs.Port.{port_of};
+ghost use Rattle.sip_host.specs.Host.{place_of, host_port_of, IsPlaceAt};
+ghost use Rattle.sip_host.specs.Port.{port_of, port_value};
 
-use crate::port::port_behind;
+use crate::port::{port_behind, port_value};
 
 /// The flag of a byte that may stand in a host name.
 const IN_NAME: u8 = 1;
@@ -196,4 +196,22 @@ pub fn host_port(text: &[u8]) -> Option<(&[u8], Option<u16>)>
         Some((_, number)) => Some((host, Some(number))),
         None => Some((host, None)),
     }
+}
+
+/// The host name at the front of a text, a port behind its `:`, by its digits and its number, and what follows both: so
+/// each byte is read once. None where neither stands there so, as of an address in brackets. Takes no memory.
+pub fn place_at(text: &[u8]) -> Option<(&[u8], Option<(&[u8], u16)>, &[u8])>
+    ensures place { IfSome result (λ x. IsPlaceAt text.now x.0.now (option_map (λ port. port.0.now) x.1) x.2.now) }
+    ensures number { IfSome result (λ x. IfSome x.1 (λ port. port_value port.0.now ≡ Some port.1)) }
+{
+    let (host, rest) = text.split_at(name_length(text));
+    if host.is_empty() {
+        return None;
+    }
+    let Some((b':', behind)) = rest.split_first() else {
+        return Some((host, None, rest));
+    };
+    let (digits, rest) = behind.split_at(name_length(behind));
+    let number = port_value(digits)?;
+    Some((host, Some((digits, number)), rest))
 }

@@ -9,7 +9,7 @@ pub mod laws;
 mod port;
 
 pub use addr::{Addr, addr_of, addr_text, ip_of, ip_text};
-pub use host::{host_port, is_host, place_in};
+pub use host::{host_port, is_host, place_at, place_in};
 pub use port::port_value;
 
 /// Of `sip_text`.

@@ -35,5 +35,5 @@ pub mod text {
 
 /// Of `sip_host`.
 pub mod host {
-    pub use sip_host::{Addr, host_port, ip_of, ip_text, is_host, port_value};
+    pub use sip_host::{Addr, host_port, ip_of, ip_text, is_host, place_at, port_value};
 }
