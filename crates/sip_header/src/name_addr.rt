@@ -152,6 +152,7 @@ fn other_address<'v>(bytes: &'v [u8], parameters: Parameters<'v>) -> Option<Name
 }
 
 /// An address of a URI of any scheme, and of these parameters, which are read before it, since it is the larger to move.
+#[inline(always)]
 fn addressed<'v>(
     alloc: Global,
     bytes: &'v [u8],

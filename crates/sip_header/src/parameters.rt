@@ -57,6 +57,7 @@ fn said_by(text: &[u8]) -> Parameter<'_>
 }
 
 /// What follows a parameter: nothing, or a `;` and the rest. None where something else follows.
+#[inline(always)]
 pub(crate) fn plain_end(rest: &[u8]) -> Option<Option<&[u8]>>
     ensures { IfSome result (λ behind. rest.now ≡ closing (option_map (λ x. x.now) behind)) }
 {
@@ -68,6 +69,7 @@ pub(crate) fn plain_end(rest: &[u8]) -> Option<Option<&[u8]>>
 }
 
 /// A parameter of a name without a value, and what follows it.
+#[inline(always)]
 fn plain_name<'v>(name: &'v [u8], rest: &'v [u8]) -> Option<(Parameter<'v>, Option<&'v [u8]>)>
     requires { is_token_text name.now ≡ true }
     ensures { IfSome result (λ x. Begins (name.now ++ rest.now) x.0 (option_map (λ y. y.now) x.1)) }
@@ -84,6 +86,7 @@ fn plain_name<'v>(name: &'v [u8], rest: &'v [u8]) -> Option<(Parameter<'v>, Opti
 }
 
 /// A parameter of a name and the token behind its `=`, and what follows it.
+#[inline(always)]
 fn plain_value<'v>(name: &'v [u8], text: &'v [u8]) -> Option<(Parameter<'v>, Option<&'v [u8]>)>
     requires { is_token_text name.now ≡ true }
     ensures { IfSome result (λ x. Begins (name.now ++ byte "=" ∷ text.now) x.0 (option_map (λ y. y.now) x.1)) }
@@ -102,6 +105,7 @@ fn plain_value<'v>(name: &'v [u8], text: &'v [u8]) -> Option<(Parameter<'v>, Opt
 
 /// The parameter at the front of a text, and what follows its `;`, where name and value are tokens with nothing round
 /// them, as those of most are: so each byte is read once. None says nothing.
+#[inline(always)]
 fn plain_parameter(text: &[u8]) -> Option<(Parameter<'_>, Option<&[u8]>)>
     ensures { IfSome result (λ x. Begins text.now x.0 (option_map (λ y. y.now) x.1)) }
 {

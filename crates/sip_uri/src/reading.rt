@@ -1,4 +1,4 @@
-ghost use Rattle.std.specs.Prelude.{IfOk, Ok};
+ghost use Rattle.std.specs.Prelude.{◌≡◌, IfOk, IfErr, Ok, Err};
 ghost use Rattle.sip_uri.specs.Uri.{IsWritten};
 ghost use Rattle.sip_uri.specs.Reading.{Gives, rest_of, reading_of};
 
@@ -33,24 +33,33 @@ fn read_rest(alloc: Global, scheme: Scheme, text: &[u8]) -> Result<Uri, UriError
     })
 }
 
-/// The URI of a scheme that is looked for up to its `:`.
+/// The scheme before the `:` of a text, and what follows.
 #[tactic(auto, unfolding(crate::specs::Reading::reading_of))]
-fn read_named(alloc: Global, text: &[u8]) -> Result<Uri, UriError>
-    ensures { Gives (λ uri. uri) result (reading_of text.now) }
+fn cut_named(text: &[u8]) -> Result<(Scheme, &[u8]), UriError>
+    ensures ok { IfOk result (λ x. reading_of text.now ≡ rest_of x.0 x.1.now) }
+    ensures err { IfErr result (λ e. reading_of text.now ≡ Err e) }
 {
     let (name, rest) = split_once(text, b':').ok_or(UriError::Syntax)?;
     let scheme = scheme_named(name)?;
-    read_rest(alloc, scheme, rest)
+    Ok((scheme, rest))
 }
 
 /// The same, where most URIs begin with `sip:`.
+fn cut_scheme(text: &[u8]) -> Result<(Scheme, &[u8]), UriError>
+    ensures ok { IfOk result (λ x. reading_of text.now ≡ rest_of x.0 x.1.now) }
+    ensures err { IfErr result (λ e. reading_of text.now ≡ Err e) }
+{
+    match behind_sip(text) {
+        Some(rest) => Ok((Scheme::Sip, rest)),
+        None => cut_named(text),
+    }
+}
+
 fn read_uri(alloc: Global, text: &[u8]) -> Result<Uri, UriError>
     ensures { Gives (λ uri. uri) result (reading_of text.now) }
 {
-    match behind_sip(text) {
-        Some(rest) => read_rest(alloc, Scheme::Sip, rest),
-        None => read_named(alloc, text),
-    }
+    let (scheme, rest) = cut_scheme(text)?;
+    read_rest(alloc, scheme, rest)
 }
 
 /// The URI that bytes write (RFC 3261 19.1.1). Another scheme than `sip` and `sips` is refused as
