@@ -1,5 +1,5 @@
 -- The front of a datagram that is kept.
-use Rattle.std.proofs.Common.{◌≡◌, ℕ, ◌+◌, ◌-◌, ◌≤◌, List, ◌++◌, length, take, sym, ◌∙◌, ap, arith, length-append}
+use Rattle.std.proofs.Common.{◌≡◌, ℕ, zero, suc, ◌+◌, ◌-◌, ◌≤◌, List, [], ◌∷◌, ◌++◌, length, take, refl, sym, ◌∙◌, ap, arith, append_assoc, length-append}
 use Rattle.std.proofs.lemmas.List.{take_all}
 use Rattle.std.proofs.Math.Seq.{take-append-add}
 
@@ -10,3 +10,20 @@ pub kept_front : (most : ℕ) (old part new : List ℕ) → length old ≤ most 
 kept_front most old part new le is =
     let sum : length old + (most - length old) ≡ most = omega arith in
     is ∙ sym (take-append-add old part (most - length old)) ∙ ap (λ n. take n (old ++ part)) sum
+
+-- the front of two texts, the first of which was cut
+pub front_of_both : (most : ℕ) (xs ys : List ℕ) → take most (take most xs ++ ys) ≡ take most (xs ++ ys)
+front_of_both zero xs ys = refl
+front_of_both (suc most) [] ys = refl
+front_of_both (suc most) (x ∷ xs) ys = ap (λ l. x ∷ l) (front_of_both most xs ys)
+
+-- two parts, each as far as it is kept
+pub kept_two : (most : ℕ) (old part more seen first new : List ℕ) → seen ≡ part → first ≡ take most (old ++ seen) → new ≡ take most (first ++ more) → new ≡ take most (old ++ (part ++ more))
+kept_two most old part more seen first new same is1 is2 =
+    is2 ∙ ap (λ l. take most (l ++ more)) is1 ∙ front_of_both most (old ++ seen) more ∙ ap (take most) (append_assoc old seen more) ∙ ap (λ l. take most (old ++ (l ++ more))) same
+
+-- and both, where there is room for them
+pub kept_both : (most : ℕ) (old part more seen first new : List ℕ) → seen ≡ part → length old + (length seen + length more) ≤ most → first ≡ old ++ seen → new ≡ first ++ more → new ≡ take most (old ++ (part ++ more))
+kept_both most old part more seen first new same fits is1 is2 =
+    is2 ∙ ap (λ l. l ++ more) is1 ∙ append_assoc old seen more
+    ∙ sym (take_all most (old ++ (seen ++ more)) (omega (arith, fits, length-append old (seen ++ more), length-append seen more))) ∙ ap (λ l. take most (old ++ (l ++ more))) same

@@ -46,6 +46,13 @@ range_rest xs start stop n le =
     let sizes : n + (stop - (start + n)) ≡ stop - start = omega arith in
     ap (take (stop - (start + n))) (sym (drop-drop n start xs)) ∙ sym (drop-take n (stop - (start + n)) (drop start xs)) ∙ ap (λ m. drop n (take m (drop start xs))) sizes
 
+-- a line is passed that stands in a part
+pub range_behind : (xs unread : List ℕ) (start stop count : ℕ) → slice_range xs start stop ≡ unread → start ≤ stop → count < length unread → slice_range xs (start + count + 1) stop ≡ drop (count + 1) unread
+range_behind xs unread start stop count is le lt =
+    let most : length (slice_range xs start stop) ≤ stop - start = omega (arith, length-take (stop - start) (drop start xs)) in
+    let same : start + count + 1 ≡ start + (count + 1) = omega arith in
+    ap (λ n. slice_range xs n stop) same ∙ range_rest xs start stop (count + 1) (omega (arith, most, ap length is, lt, le)) ∙ ap (drop (count + 1)) is
+
 -- a line ends in a part
 pub part_ends : (xs ys : List ℕ) (start stop asks number place : ℕ) (before after : List ℕ) → ys ≡ xs → EndsAt (slice_range ys start stop) place → after ≡ before ++ take place (slice_range ys start stop)
     → EndsLine (record { unread = slice_range xs start stop; asks = asks; number = number }) (record { unread = slice_range xs (start + (place + 1)) stop; asks = asks; number = number + 1 }) before after

@@ -111,6 +111,24 @@ pub record GivesDatagram (old new : Reading) (before after : Option (List ℕ)) 
   pub consumes : Consumes (pending old before) (pending new after) text
   pub number : new.number ≡ old.number + count_by is_end text
 
+-- a line of a datagram that stood whole among what was read is passed, and its bytes are kept
+pub record KeepsLine (old new : Reading) (before after : List ℕ) : Type 0 where
+  pub line : List ℕ
+  pub is_line : IsLine line
+  pub no_dot : is_dot line ≡ false
+  pub unread : old.unread ≡ ended line ++ new.unread
+  pub number : new.number ≡ old.number + 1
+  pub kept : after ≡ take 65508 (before ++ said line)
+
+-- and so are all that did, up to a dot
+pub record KeepsLines (old new : Reading) (before after : List ℕ) : Type 0 where
+  pub text : List ℕ
+  pub whole : List ℕ
+  pub says : SaysBytes text whole
+  pub unread : old.unread ≡ text ++ new.unread
+  pub number : new.number ≡ old.number + count_by is_end text
+  pub kept : after ≡ take 65508 (before ++ whole)
+
 -- why no datagram is given of what is still to come
 abbrev pub DatagramStops : Type 0 → Option (List ℕ) → Stop → Type 0
 DatagramStops spent script stops.NoMemory = ⊤

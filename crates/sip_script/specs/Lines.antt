@@ -23,6 +23,12 @@ pub record EndsAt (text : List ℕ) (place : ℕ) : Type 0 where
   pub single : count_by is_end (take place text) ≡ 0
   pub cut : text ≡ take place text ++ 10 ∷ drop (place + 1) text
 
+-- bytes begin with that line, whole, and its LF
+pub record BeginsWith (text line : List ℕ) : Type 0 where
+  pub rest : List ℕ
+  pub is_line : IsLine line
+  pub cut : text ≡ line ++ 10 ∷ rest
+
 -- what was read and not given yet, how often the reader may still be asked, and how many lines were given
 pub record Reading : Type 0 where
   pub unread : List ℕ

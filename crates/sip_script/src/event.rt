@@ -1,7 +1,7 @@
-ghost use Rattle.std.specs.Prelude.{◌≡◌, ◌≤◌, ◌<◌, ◌++◌, length, take, OnOk, IfOk, IfErr, IfSome, IfNone};
+ghost use Rattle.std.specs.Prelude.{◌≡◌, ◌≤◌, ◌<◌, ◌++◌, true, false, length, take, OnOk, IfOk, IfErr, IfSome, IfNone};
 ghost use Rattle.sip_script.specs.Devices.{later};
 ghost use Rattle.sip_script.specs.Events;
-ghost use Rattle.sip_script.specs.Events.{GivesEvent, GivesDatagram, EventStops, DatagramStops};
+ghost use Rattle.sip_script.specs.Events.{GivesEvent, GivesDatagram, KeepsLine, KeepsLines, EventStops, DatagramStops};
 ghost use Rattle.sip_script.specs.Lines.{left, pending, IsOver, IsSpent};
 ghost use Rattle.sip_script.specs.Script;
 ghost use Rattle.sip_script.specs.declared.stop.Stop.TheVariants.{NoMemory};
@@ -73,14 +73,53 @@ fn datagram_bytes<R: TellingReader>(
     ensures less { lines.new.asks ≤ lines.old.asks }
 {
     let mut bytes = Bytes::with_room(alloc, DATAGRAM_ROOM)?;
-    while lines.next(reader, line)? {
+    loop {
+        keep_lines(lines, &mut bytes)?;
+        if !lines.next(reader, line)? {
+            return Err(Stop::Script);
+        }
         if is_dot(line) {
             return Ok(bytes);
         }
-        keep(&mut bytes, unstuffed(line))?;
-        keep(&mut bytes, b"\r\n")?;
+        keep_line(&mut bytes, line)?;
     }
-    Err(Stop::Script)
+}
+
+/// Adds what the lines say that stand whole among the bytes that were read, up to a dot. Most lines do: only one
+/// that reaches past those bytes is gathered first.
+#[tactic(auto, using(crate::proofs::Datagrams::keeps_less))]
+fn keep_lines(lines: &mut Lines, bytes: &mut Bytes) -> Result<(), Stop>
+    requires { length bytes.old ≤ KEPT }
+    ensures kept { OnOk result (KeepsLines lines.old lines.new bytes.old bytes.new) }
+    ensures most { OnOk result (length bytes.new ≤ KEPT) }
+    ensures fewer { OnOk result (left lines.new ≤ left lines.old) }
+    ensures asks { lines.new.asks ≡ lines.old.asks }
+    ensures stopped { IfErr result (λ stop. stop ≡ NoMemory) }
+{
+    while keep_next(lines, bytes)? {}
+    Ok(())
+}
+
+/// Adds what the next line says, and passes it, if it stands whole among the bytes that were read and isn't the dot;
+/// whether it does.
+fn keep_next(lines: &mut Lines, bytes: &mut Bytes) -> Result<bool, Stop>
+    requires { length bytes.old ≤ KEPT }
+    ensures kept { IfOk result (λ more. more ≡ true → KeepsLine lines.old lines.new bytes.old bytes.new) }
+    ensures none { IfOk result (λ more. more ≡ false → (lines.new ≡ lines.old) × (bytes.new ≡ bytes.old)) }
+    ensures most { OnOk result (length bytes.new ≤ KEPT) }
+    ensures asks { lines.new.asks ≡ lines.old.asks }
+    ensures stopped { IfErr result (λ stop. stop ≡ NoMemory) }
+{
+    let Some(line) = lines.front() else {
+        return Ok(false);
+    };
+    if is_dot(line) {
+        return Ok(false);
+    }
+    keep_line(bytes, line)?;
+    let count = line.len();
+    lines.pass(count);
+    Ok(true)
 }
 
 /// Whether a line ends a datagram.
@@ -88,6 +127,24 @@ fn is_dot(line: &[u8]) -> bool
     ensures { result ≡ Events.is_dot line.now }
 {
     line == b".".as_slice()
+}
+
+/// Adds what a line says to a datagram, as far as it is kept.
+fn keep_line(bytes: &mut Bytes, line: &[u8]) -> Result<(), Stop>
+    requires { length bytes.old ≤ KEPT }
+    ensures kept { OnOk result (bytes.new ≡ take KEPT (bytes.old ++ Events.said line.now)) }
+    ensures most { OnOk result (length bytes.new ≤ KEPT) }
+    ensures stopped { IfErr result (λ stop. stop ≡ NoMemory) }
+{
+    let part = unstuffed(line);
+    let room = KEPT - bytes.as_slice().len();
+    if part.len() < room.saturating_sub(1) {
+        bytes.extend(part)?;
+        bytes.extend(b"\r\n")?;
+        return Ok(());
+    }
+    keep(bytes, part)?;
+    keep(bytes, b"\r\n")
 }
 
 /// Adds a part to a datagram, as far as it is kept.

@@ -1,7 +1,7 @@
-ghost use Rattle.std.specs.Prelude.{◌≡◌, ◌≢◌, ◌≤◌, ◌<◌, ◌*◌, ◌++◌, [], true, false, length, take, vec_len, count_by, IfOk, IfErr, OnOk, MatchOption};
+ghost use Rattle.std.specs.Prelude.{◌≡◌, ◌≢◌, ◌≤◌, ◌<◌, ◌+◌, ◌*◌, ◌++◌, [], true, false, length, take, drop, vec_len, count_by, IfOk, IfErr, OnOk, MatchOption};
 ghost use Rattle.std.specs.Io.KnownBytes.{Consumes, Keeps, IsAtEnd};
 ghost use Rattle.sip_script.specs.Devices.{later};
-ghost use Rattle.sip_script.specs.Lines.{is_end, pending, left, EndsAt, EndsLine, GoesOn, GivesLine, IsOver, IsSpent, LineStops, PartStops, PutStops};
+ghost use Rattle.sip_script.specs.Lines.{is_end, pending, left, BeginsWith, EndsAt, EndsLine, GoesOn, GivesLine, IsOver, IsSpent, LineStops, PartStops, PutStops};
 ghost use Rattle.sip_script.specs.declared.stop.Stop.TheVariants.{Read, Script};
 
 use crate::device::TellingReader;
@@ -85,6 +85,27 @@ impl Lines {
                 return Ok(true);
             }
         }
+    }
+
+    /// The next line, without its LF, where it stands whole among the unread bytes: so it can be used from there, and
+    /// is copied once. `pass` goes on behind it.
+    pub(crate) fn front(&self) -> Option<&[u8]>
+        ensures { MatchOption result (count_by is_end self.now.unread ≡ 0) (λ line. BeginsWith self.now.unread line.now) }
+    {
+        let unread = &self.buffer[self.start..self.end];
+        let place = end_of_line(unread)?;
+        Some(&unread[..place])
+    }
+
+    /// Goes on behind a line of so many bytes that stands whole among the unread bytes, and its LF.
+    pub(crate) fn pass(&mut self, count: usize)
+        requires { count < length self.old.unread }
+        ensures unread { self.new.unread ≡ drop (count + 1) self.old.unread }
+        ensures number { self.new.number ≡ self.old.number + 1 }
+        ensures asks { self.new.asks ≡ self.old.asks }
+    {
+        self.start = self.start + count + 1;
+        self.number += 1;
     }
 
     /// Whether there is an unread byte; if all were given, the reader is asked.

@@ -8,10 +8,10 @@ use Rattle.sip_script.proofs.event.datagram_bytes.Given as goal
 -- the bytes so far are what the lines so far say
 abbrev pub invariant-loop-bytes : goal.invariant-loop-bytes
 invariant-loop-bytes g l =
-    (length l.bytes ≤ KEPT) × (left l.lines ≤ left l.initial.lines)
-    × Gathers l.initial.lines l.lines (g.R.TellingReader.remaining l.initial.reader) (g.R.TellingReader.remaining l.reader) l.bytes
-    × (l.lines.asks ≤ l.initial.lines.asks)
-    × (later l.lines.asks (g.R.TellingReader.asked l.reader) ≡ later l.initial.lines.asks (g.R.TellingReader.asked l.initial.reader))
+    (length l.bytes ≤ KEPT) × (left l.lines ≤ left l.fn.lines)
+    × Gathers l.fn.lines l.lines (g.R.TellingReader.remaining l.fn.reader) (g.R.TellingReader.remaining l.reader) l.bytes
+    × (l.lines.asks ≤ l.fn.lines.asks)
+    × (later l.lines.asks (g.R.TellingReader.asked l.reader) ≡ later l.fn.lines.asks (g.R.TellingReader.asked l.fn.reader))
 
 abbrev pub decreases-loop-bytes : goal.decreases-loop-bytes
 decreases-loop-bytes g l = left l.lines
