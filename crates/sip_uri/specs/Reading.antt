@@ -149,6 +149,16 @@ before_parameters text = (part_before (byte ";") (before_headers text)).0
 abbrev pub parameter_text_of : List ℕ → Option (List ℕ)
 parameter_text_of text = (part_before (byte ";") (before_headers text)).1
 
+-- these are the texts of host and port, parameters and headers
+abbrev pub AreTexts : List ℕ → List ℕ → Option (List ℕ) → Option (List ℕ) → Type 0
+AreTexts text place parameters headers = (place ≡ before_parameters text) × (parameters ≡ parameter_text_of text) × (headers ≡ header_text_of text)
+
+-- A text begins with host and port, and has these parameters and headers behind them.
+pub record HasPlace (text host : List ℕ) (port parameters headers : Option (List ℕ)) : Type 0 where
+  pub place : Some (host, port) ≡ place_of (before_parameters text)
+  pub of_parameters : parameters ≡ parameter_text_of text
+  pub of_headers : headers ≡ header_text_of text
+
 -- the URI of a text behind its scheme (RFC 3261 25.1: SIP-URI)
 unfoldable pub rest_of : Scheme → List ℕ → Result Uri UriError
 rest_of scheme text = do

@@ -1,9 +1,11 @@
-ghost use Rattle.std.specs.Prelude.{◌≡◌, ◌≤◌, length, IfOk, option_map};
-ghost use Rattle.std.specs.List.{prefix_len};
+ghost use Rattle.std.specs.Prelude.{◌≡◌, ◌++◌, ◌≤◌, true, ℕ, List, length, IfOk, IfSome, option_map};
+ghost use Rattle.std.specs.List.{list_all, prefix_len};
+ghost use Rattle.sip_host.specs.Host.{place_of};
 ghost use Rattle.sip_uri.specs.Reading;
-ghost use Rattle.sip_uri.specs.Reading.{is_of_place, before_parameters, parameter_text_of, header_text_of};
+ghost use Rattle.sip_uri.specs.Reading.{is_of_place, before_parameters, parameter_text_of, header_text_of, AreTexts, HasPlace};
 
 use sip_host::text::{Bytes, split_once};
+use sip_host::{place_at, place_in};
 use std::alloc::{AllocError, Global};
 
 /// A text as a value's own, if there is one.
@@ -40,10 +42,8 @@ fn place_length(text: &[u8]) -> usize
     text.len()
 }
 
-/// Host and port, the parameters behind a `;` and the headers behind a `?`, each where it stands, of a text that each
-/// byte of is read once.
-#[inline]
-pub(crate) fn cut_rest(text: &[u8]) -> (&[u8], Option<&[u8]>, Option<&[u8]>)
+/// The texts of host and port, of the parameters behind a `;` and of the headers behind a `?`.
+fn cut_texts(text: &[u8]) -> (&[u8], Option<&[u8]>, Option<&[u8]>)
     ensures place { result.0.now ≡ before_parameters text.now }
     ensures parameters { option_map (λ x. x.now) result.1 ≡ parameter_text_of text.now }
     ensures headers { option_map (λ x. x.now) result.2 ≡ header_text_of text.now }
@@ -57,4 +57,64 @@ pub(crate) fn cut_rest(text: &[u8]) -> (&[u8], Option<&[u8]>, Option<&[u8]>)
     }
     let (parameters, headers) = part_before(behind, b'?');
     (place, Some(parameters), headers)
+}
+
+/// Host and port of a text, the parameters behind a `;` and the headers behind a `?`, of a text of any form.
+fn any_rest(text: &[u8]) -> (Option<(&[u8], Option<&[u8]>)>, Option<&[u8]>, Option<&[u8]>)
+    ensures place { option_map (λ x. (x.0.now, option_map (λ digits. digits.now) x.1)) result.0 ≡ place_of (before_parameters text.now) }
+    ensures parameters { option_map (λ x. x.now) result.1 ≡ parameter_text_of text.now }
+    ensures headers { option_map (λ x. x.now) result.2 ≡ header_text_of text.now }
+{
+    let (place, parameters, headers) = cut_texts(text);
+    (place_in(place), parameters, headers)
+}
+
+/// The parameters and the headers that a text writes which follows host and port. None where something else follows.
+fn behind_place(rest: &[u8]) -> Option<(Option<&[u8]>, Option<&[u8]>)>
+    ensures { IfSome result (λ x. (front : List ℕ) → list_all is_of_place front ≡ true → AreTexts (front ++ rest.now) front (option_map (λ y. y.now) x.0) (option_map (λ y. y.now) x.1)) }
+{
+    let Some((mark, behind)) = rest.split_first() else {
+        return Some((None, None));
+    };
+    if *mark == b'?' {
+        return Some((None, Some(behind)));
+    }
+    if *mark == b';' {
+        let (parameters, headers) = part_before(behind, b'?');
+        return Some((Some(parameters), headers));
+    }
+    None
+}
+
+/// The digits of a port, if there is one.
+fn digits_of(port: Option<(&[u8], u16)>) -> Option<&[u8]>
+    ensures { option_map (λ x. x.now) result ≡ option_map (λ x. x.0.now) port.entry }
+{
+    match port {
+        Some((digits, _)) => Some(digits),
+        None => None,
+    }
+}
+
+/// The same of a text with a host name, each byte of which is read once. None says nothing.
+fn plain_rest(text: &[u8]) -> Option<((&[u8], Option<&[u8]>), Option<&[u8]>, Option<&[u8]>)>
+    ensures { IfSome result (λ x. HasPlace text.now x.0.0.now (option_map (λ y. y.now) x.0.1) (option_map (λ y. y.now) x.1) (option_map (λ y. y.now) x.2)) }
+{
+    let (host, port, rest) = place_at(text)?;
+    let (parameters, headers) = behind_place(rest)?;
+    Some(((host, digits_of(port)), parameters, headers))
+}
+
+/// Host and port of a text, the parameters behind a `;` and the headers behind a `?`.
+pub(crate) fn cut_rest(
+    text: &[u8],
+) -> (Option<(&[u8], Option<&[u8]>)>, Option<&[u8]>, Option<&[u8]>)
+    ensures place { option_map (λ x. (x.0.now, option_map (λ digits. digits.now) x.1)) result.0 ≡ place_of (before_parameters text.now) }
+    ensures parameters { option_map (λ x. x.now) result.1 ≡ parameter_text_of text.now }
+    ensures headers { option_map (λ x. x.now) result.2 ≡ header_text_of text.now }
+{
+    match plain_rest(text) {
+        Some((place, parameters, headers)) => (Some(place), parameters, headers),
+        None => any_rest(text),
+    }
 }

@@ -1,19 +1,21 @@
+ghost use Rattle.std.specs.Prelude.{ℕ, List, Option, option_map};
 ghost use Rattle.std.specs.Option.{ok_or};
-ghost use Rattle.sip_host.specs.Host.{place_of};
 ghost use Rattle.sip_uri.specs.Reading.{Gives};
 ghost use Rattle.sip_uri.specs.declared.error.UriError.TheVariants.{Syntax};
 
 use crate::error::UriError;
 use crate::parts::copy_part;
-use sip_host::place_in;
 use sip_host::text::Bytes;
 use std::alloc::Global;
 
-/// The host that a text writes, and perhaps the digits of a port behind it, as a value's own.
-pub(crate) fn read_place(alloc: Global, text: &[u8]) -> Result<(Bytes, Option<Bytes>), UriError>
-    ensures { Gives (λ x. (x.0, x.1)) result (ok_or (place_of text.now) Syntax) }
+/// A host, and perhaps the digits of a port behind it, as a value's own, if there is one.
+pub(crate) fn read_place(
+    alloc: Global,
+    place: Option<(&[u8], Option<&[u8]>)>,
+) -> Result<(Bytes, Option<Bytes>), UriError>
+    ensures { Gives {Y = List ℕ × Option (List ℕ)} (λ x. (x.0, x.1)) result (ok_or (option_map (λ x. (x.0.now, option_map (λ digits. digits.now) x.1)) place.entry) Syntax) }
 {
-    let (host, port) = place_in(text).ok_or(UriError::Syntax)?;
+    let (host, port) = place.ok_or(UriError::Syntax)?;
     let host = Bytes::copy(alloc, host)?;
     let port = copy_part(alloc, port)?;
     Ok((host, port))

@@ -1,8 +1,9 @@
 use Rattle.std.proofs.Common.{ap, ◌∙◌, Some, None}
-use Rattle.sip_uri.proofs.Rests.{Are, nothing_behind, headers_behind_it, parameters_behind_it}
-use Rattle.sip_uri.proofs.parts.cut_rest.Goals as goal
+use Rattle.sip_uri.specs.Reading.{AreTexts}
+use Rattle.sip_uri.proofs.Rests.{ nothing_behind, headers_behind_it, parameters_behind_it}
+use Rattle.sip_uri.proofs.parts.cut_texts.Goals as goal
 
-at_end : (c : goal.In_default) → Are c.args.text.now c.split_at.result.0.now None None
+at_end : (c : goal.In_default) → AreTexts c.args.text.now c.split_at.result.0.now None None
 at_end c = nothing_behind c.place_length.result c.args.text.now c.split_at.result.0.now c.split_at.result.1.now c.place_length.ensures.value c.split_at.ensures.front c.split_at.ensures.back c.in_default.ensures.cases
 
 pub returns-in_default-clause-place : goal.returns-in_default-clause-place
@@ -14,7 +15,7 @@ returns-in_default-clause-parameters c = (at_end c).1
 pub returns-in_default-clause-headers : goal.returns-in_default-clause-headers
 returns-in_default-clause-headers c = (at_end c).2
 
-at_headers : (c : goal.Then-mark-eq63) → Are c.args.text.now c.split_at.result.0.now None (Some c.in-Some.behind.now)
+at_headers : (c : goal.Then-mark-eq63) → AreTexts c.args.text.now c.split_at.result.0.now None (Some c.in-Some.behind.now)
 at_headers c =
     headers_behind_it c.place_length.result c.args.text.now c.split_at.result.0.now c.split_at.result.1.now c.in-Some.behind.now c.in-Some.mark.now c.place_length.ensures.value c.split_at.ensures.front c.split_at.ensures.back c.in-Some.ensures.cases.0
     c.if-mark-eq63.true
