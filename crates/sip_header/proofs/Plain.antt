@@ -1,6 +1,6 @@
 -- Parameters of tokens with nothing round them, read in one pass.
-use Rattle.std.proofs.Common.{◌≡◌, ℕ, ◌<◌, Bool, true, false, List, [], ◌∷◌, ◌++◌, length, take, drop, Option, Some, None, refl, sym, ap, subst, ◌∙◌, append_assoc, arith, length-append}
-use Rattle.std.specs.Prelude.{option_map, is_some, ◌==◌, ◌||◌, IfSome}
+use Rattle.std.proofs.Common.{◌≡◌, ℕ, Bool, true, false, List, [], ◌∷◌, ◌++◌, length, Option, Some, None, refl, sym, ap, subst, ◌∙◌, append_assoc, arith, length-append}
+use Rattle.std.specs.Prelude.{option_map, is_some, ◌==◌, ◌||◌}
 use Rattle.std.specs.Option.{option_and_then}
 use Rattle.std.specs.List.{list_all}
 use Rattle.std.proofs.lemmas.Bool.{eqb-true}
@@ -9,7 +9,7 @@ use Rattle.sip_text.specs.Words.{is_token_byte, is_token_text, is_same_text, tok
 use Rattle.sip_text.specs.Lists.{is_blank, trimmed}
 use Rattle.sip_text.specs.declared.cuts.Quoting.TheVariants.{Outside}
 use Rattle.sip_text.specs.Splits.{in_front}
-use Rattle.sip_text.specs.Cuts.{split_from, split_outside, parts_at, parts_behind}
+use Rattle.sip_text.specs.Cuts.{split_from, parts_at, parts_behind}
 use Rattle.sip_text.proofs.CutsOutside.{parts_split, one_part}
 use Rattle.sip_text.proofs.Trims as Trims
 use Rattle.sip_header.specs.declared.parameters.Parameter.{Parameter}

@@ -2,19 +2,17 @@
 use Rattle.std.proofs.Common.{◌≡◌, ℕ, Bool, true, false, cond, List, [], ◌∷◌, ◌++◌, length, Option, Some, None, refl, sym, ap, ◌∙◌, append_assoc, arith}
 use Rattle.std.specs.Prelude.{option_map, codes, ◌==◌, ◌||◌, IfSome}
 use Rattle.std.specs.Option.{option_and_then}
-use Rattle.std.specs.List.{list_all}
 use Rattle.sip_text.specs.Words.{is_token_byte, is_token_text, token_at, behind_token}
 use Rattle.sip_text.specs.Lists.{is_blank, trimmed}
-use Rattle.sip_text.specs.Cuts.{is_full, word_at, behind_word, parts_at, parts_behind}
+use Rattle.sip_text.specs.Cuts.{is_full, behind_word, parts_at, parts_behind}
 use Rattle.sip_text.proofs.Trims as Trims
-use Rattle.sip_uri.specs.host.Host.{is_host_byte, is_place_byte, place_of, host_port_of, IsPlaceAt}
+use Rattle.sip_uri.specs.host.Host.{is_place_byte, place_of, host_port_of, IsPlaceAt}
 use Rattle.sip_uri.specs.host.Port.{port_number, port_value}
 use Rattle.sip_header.specs.declared.parameters.Parameter.{Parameter}
 use Rattle.sip_header.specs.declared.via.Sender.{Sender}
-use Rattle.sip_header.specs.declared.via.Via.{Via}
 use Rattle.sip_header.specs.Parameters.{parameters_in, closing}
 use Rattle.sip_header.specs.Via.{sender_behind, sender_of, via_from, via_in, via_of, is_sender_byte, IsSenderAt}
-use Rattle.sip_header.proofs.Words.{AllPassing, Stops, all_passing, all_weaker, token_is_full, not_blank, IsWordCut, word_cut}
+use Rattle.sip_header.proofs.Words.{AllPassing, all_passing, all_weaker, token_is_full, IsWordCut, word_cut}
 use Rattle.sip_header.proofs.Plain.{parts_close, tokens, is_token_here, token_whole, token_not_blank, list_passing_by}
 use Rattle.sip_header.proofs.Unread.{version_is}
 

@@ -4,7 +4,7 @@ use Rattle.std.specs.List.{list_all, prefix_len}
 use Rattle.std.proofs.lemmas.List.{append-nil}
 use Rattle.sip_host.specs.Host.{is_place_byte, place_of, IsPlaceAt}
 use Rattle.sip_host.specs.text.Splits.{split_at_byte}
-use Rattle.sip_uri.specs.Reading.{first_part, part_before, is_of_place, before_headers, header_text_of, before_parameters, parameter_text_of, AreTexts, HasPlace}
+use Rattle.sip_uri.specs.Reading.{first_part, part_before, is_of_place, before_headers, AreTexts, HasPlace}
 use Rattle.sip_uri.proofs.Tests.{and_both, differs, others, split_again, never_split, take_front, drop_front}
 
 -- nothing, or what begins with a `;` or a `?`
