@@ -1,4 +1,7 @@
-ghost use Rattle.std.specs.Prelude.{◌≡◌, ◌∷◌, ◌++◌, IfOk, OnOk, [], decimal, option_map};
+ghost use Rattle.std.specs.Prelude.{◌≡◌, ◌∷◌, ◌++◌, IfOk, OnOk, [], codes, decimal, false, option_map};
+ghost use Rattle.std.specs.Option.{option_map_or};
+ghost use Rattle.std.specs.Str.{bytes_eq};
+ghost use Rattle.sip_uri.specs.text.Splits.{split_at_byte};
 ghost use Rattle.sip_edit.specs.form.ViewStart.{start_seen};
 ghost use Rattle.sip_edit.specs.field.declared.field_name.FieldName.TheVariants as Name;
 ghost use Rattle.sip_edit.specs.Onward as Spec;
@@ -16,6 +19,7 @@ use sip_edit::header::{MaxForwards, max_forwards_of};
 use sip_edit::text::Bytes;
 use sip_edit::uri::{UriError, parse_uri, write_uri};
 use sip_edit::way::{Own, RoutesKept, kept_routes, way_of};
+use sip_uri::text::{same_bytes, split_once};
 use std::alloc::{AllocError, Global};
 
 /// The most fields that a request gets on its way: this server's Via and Record-Route, and a Max-Forwards.
@@ -24,10 +28,25 @@ const ADDED_FIELDS: usize = 3;
 /// The most digits of a Max-Forwards.
 const HOPS_DIGITS: usize = 3;
 
-/// A SIP or SIPS URI with its scheme in lower case; another as it is.
+/// Whether what stands before the first `:` is `sip` in lower case.
+fn has_plain_scheme(uri: &[u8]) -> bool
+    ensures { result ≡ option_map_or (λ x. bytes_eq x.0 (codes "sip")) (split_at_byte 58 uri.now) false }
+{
+    match split_once(uri, b':') {
+        Some((scheme, _)) => same_bytes(scheme, b"sip"),
+        None => false,
+    }
+}
+
+/// A SIP or SIPS URI with its scheme in lower case; another as it is. What has that scheme so is the same, whether it is a
+/// URI or not.
+#[tactic(auto, using(crate::proofs::Plain::stays))]
 fn written_uri(alloc: Global, uri: &[u8]) -> Result<Bytes, AllocError>
     ensures { IfOk result (λ text. text ≡ Spec.written_uri uri.now) }
 {
+    if has_plain_scheme(uri) {
+        return Bytes::copy(alloc, uri);
+    }
     match parse_uri(alloc, uri) {
         Ok(uri) => write_uri(alloc, &uri),
         Err(UriError::NoMemory) => Err(AllocError),
