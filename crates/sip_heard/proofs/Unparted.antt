@@ -1,5 +1,5 @@
 -- A URI in which no `;` stands has no parameters, so that no server put it into Record-Route.
-use Rattle.std.proofs.Common.{◌≡◌, ℕ, Bool, true, false, cond, List, [], ◌∷◌, ◌++◌, Option, Some, None, refl, sym, ap, ◌∙◌}
+use Rattle.std.proofs.Common.{◌≡◌, ℕ, Bool, true, false, cond, List, [], ◌∷◌, ◌++◌, length, map, Option, Some, None, refl, sym, ap, ◌∙◌, arith, Bor}
 use Rattle.std.specs.Prelude.{Result, Ok, Err, ◌==◌, is_some}
 use Rattle.std.specs.Option.{option_and_then}
 use Rattle.std.specs.Result.{result_ok}
@@ -13,7 +13,8 @@ use Rattle.sip_equality.specs.uri.Uri.{userinfo_text, port_text, parameter_text,
 use Rattle.sip_equality.specs.uri.Reading.{reading_of}
 use Rattle.sip_way.specs.Way.{last_route}
 use Rattle.sip_heard.specs.declared.route_facts.RecordedPlace.{RecordedPlace}
-use Rattle.sip_heard.specs.RouteFacts.{recorded_in, recorded_of}
+use Rattle.sip_way.specs.Routes.{all_but_last}
+use Rattle.sip_heard.specs.RouteFacts.{first_place, is_recorded, recorded_in, recorded_of}
 use Rattle.sip_uri.proofs.Tests.{and_both}
 use Rattle.sip_uri.proofs.ReadingLaws.{is_written}
 
@@ -68,3 +69,36 @@ pub none_recorded : (uri : List ℕ) (routes : List (List ℕ)) → is_some (spl
 none_recorded uri routes e =
     let bare : split_at_byte 59 uri ≡ None = none_there (split_at_byte 59 uri) e in
     none_either (is_some (last_route routes)) (option_and_then (recorded_in routes) (result_ok (reading_of uri))) (by_reading uri routes (reading_of uri) (unsplit uri bare) refl)
+
+-- ---- in another order: what a URI says before the Routes
+
+none_by : (recorded t : Bool) (o : Option RecordedPlace) → recorded ≡ false → None ≡ cond t (cond recorded o None) None
+none_by false true o e = refl
+none_by false false o e = refl
+none_by true t o e = absurd cc
+
+-- none is recorded in a URI that no server put into Record-Route
+pub none_in : (routes : List (List ℕ)) (u : Uri) → is_recorded u ≡ false → None ≡ cond (is_some (last_route routes)) (recorded_in routes u) None
+none_in routes u e =
+    none_by (is_recorded u) (is_some (last_route routes)) (Some (record { host = u.host; port = u.port; first = first_place (all_but_last routes) })) e
+
+some_by : (recorded t : Bool) (o : Option RecordedPlace) → recorded ≡ true → t ≡ true → o ≡ cond t (cond recorded o None) None
+some_by true true o r e = refl
+some_by true false o r e = absurd cc
+some_by false t o r e = absurd cc
+
+-- where it leads else
+pub some_in : (routes : List (List ℕ)) (u : Uri) (place : RecordedPlace) → place ≡ record { host = u.host; port = u.port; first = first_place (all_but_last routes) } → is_recorded u ≡ true → is_some (last_route routes) ≡ true
+    → Some place ≡ cond (is_some (last_route routes)) (recorded_in routes u) None
+some_in routes u place is recorded replaced =
+    ap (λ (p : RecordedPlace). Some p) is
+    ∙ some_by (is_recorded u) (is_some (last_route routes)) (Some (record { host = u.host; port = u.port; first = first_place (all_but_last routes) })) recorded replaced
+
+-- nor without a Route
+pub none_replaces : (uri : List ℕ) (routes : List (Bor (List ℕ))) → length routes ≡ 0 → None ≡ recorded_of uri (map (λ x. x.now) routes)
+none_replaces uri [] e = refl
+none_replaces uri (x ∷ xs) e = absurd (omega (arith, e))
+
+-- nor in what can't be read
+pub none_read : (uri : List ℕ) (routes : List (List ℕ)) → result_ok (reading_of uri) ≡ None → None ≡ recorded_of uri routes
+none_read uri routes e = sym (none_either (is_some (last_route routes)) (option_and_then (recorded_in routes) (result_ok (reading_of uri))) (ap (option_and_then (recorded_in routes)) e))

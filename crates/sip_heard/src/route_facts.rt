@@ -1,4 +1,4 @@
-ghost use Rattle.std.specs.Prelude.{◌≡◌, IfOk, map, is_some, false, codes, Some, None, ◌∷◌, [], decimal};
+ghost use Rattle.std.specs.Prelude.{◌≡◌, IfOk, map, is_some, if◌then◌else◌, false, codes, Some, None, ◌∷◌, [], decimal};
 ghost use Rattle.std.specs.Option.{option_map_or};
 ghost use Rattle.sip_equality.specs.Equality.{both_or_none, says_same_no_case as SaysSame};
 ghost use Rattle.sip_equality.specs.text.Splits.{split_at_byte};
@@ -151,22 +151,33 @@ fn is_recorded(alloc: Global, uri: &Uri) -> Result<bool, AllocError>
     Ok(same(uri, &route))
 }
 
-/// Where a URI leads that a server put into Record-Route.
+/// Where a URI leads, and where the first Route but the last one does.
+fn recorded_place(alloc: Global, uri: &Uri, routes: &[&[u8]]) -> Result<RecordedPlace, AllocError>
+    ensures { IfOk result (λ place. place ≡ record { host = uri.now.host; port = uri.now.port; first = Facts.first_place (all_but_last (map (λ x. x.now) routes.now)) }) }
+{
+    let host = uri.host.clone()?;
+    let port = uri.port.clone()?;
+    let first = first_of_others(alloc, routes)?;
+    Ok(RecordedPlace { host, port, first })
+}
+
+/// The same of a URI that a server put into Record-Route, where a last Route can take its place. That is read only for
+/// such a URI.
+#[tactic(auto, using(crate::proofs::Unparted::none_in, crate::proofs::Unparted::some_in))]
 fn recorded_in(
     alloc: Global,
     uri: &Uri,
     routes: &[&[u8]],
 ) -> Result<Option<RecordedPlace>, AllocError>
-    ensures { IfOk result (λ place. place ≡ Facts.recorded_in (map (λ x. x.now) routes.now) uri.now) }
+    ensures { IfOk result (λ place. place ≡ if is_some (Ways.last_route (map (λ x. x.now) routes.now)) then Facts.recorded_in (map (λ x. x.now) routes.now) uri.now else None) }
 {
     if !is_recorded(alloc, uri)? {
         return Ok(None);
     }
-    Ok(Some(RecordedPlace {
-        host: uri.host.clone()?,
-        port: uri.port.clone()?,
-        first: first_of_others(alloc, routes)?,
-    }))
+    if !can_replace(alloc, routes)? {
+        return Ok(None);
+    }
+    Ok(Some(recorded_place(alloc, uri, routes)?))
 }
 
 /// Whether a Request-URI may have parameters. One without a `;` has none, also not `lr`.
@@ -176,8 +187,8 @@ fn may_have_parameters(uri: &[u8]) -> bool
     split_once(uri, b';').is_some()
 }
 
-/// The same of a Request-URI, where a last Route can take its place.
-#[tactic(auto, using(crate::proofs::Unparted::none_recorded))]
+/// The same of a Request-URI.
+#[tactic(auto, using(crate::proofs::Unparted::none_recorded, crate::proofs::Unparted::none_replaces, crate::proofs::Unparted::none_read))]
 fn recorded_of(
     alloc: Global,
     uri: &[u8],
@@ -185,10 +196,10 @@ fn recorded_of(
 ) -> Result<Option<RecordedPlace>, AllocError>
     ensures { IfOk result (λ place. place ≡ Facts.recorded_of uri.now (map (λ x. x.now) routes.now)) }
 {
-    if !may_have_parameters(uri) {
+    if routes.is_empty() {
         return Ok(None);
     }
-    if !can_replace(alloc, routes)? {
+    if !may_have_parameters(uri) {
         return Ok(None);
     }
     match parse_uri(alloc, uri) {
