@@ -55,14 +55,31 @@ fn other_challenges<'a>(
     Ok(found)
 }
 
-/// A message with the challenges of the other answers behind its last field. This is the one copy.
-fn challenging(alloc: Global, choice: &Choice<'_>, message: &Kept) -> Result<Kept, AllocError>
-    ensures { IfOk result (λ up. up ≡ taking_along message.now (flat_map challenges_of (choice.now.before.now ++ choice.now.behind.now))) }
+/// A message with some challenges behind its last field. This is the one copy.
+fn challenging<'v>(
+    alloc: Global,
+    message: &'v Kept,
+    challenges: &'v [ViewField<'_>],
+) -> Result<Kept, AllocError>
+    ensures { IfOk result (λ up. up ≡ taking_along message.now challenges.now) }
 {
-    let challenges = other_challenges(alloc, choice)?;
-    let fields = fields_along(alloc, message, challenges.as_slice())?;
+    let fields = fields_along(alloc, message, challenges)?;
     let view = message.view(alloc)?;
     Kept::of(alloc, &view.with_fields(fields))
+}
+
+/// A message with some challenges behind its last field: it stays as it is where there are none.
+fn taking_along<'v>(
+    alloc: Global,
+    message: &'v Shared<Kept>,
+    challenges: &'v [ViewField<'_>],
+) -> Result<Shared<Kept>, AllocError>
+    ensures { IfOk result (λ up. up ≡ taking_along message.now challenges.now) }
+{
+    if challenges.is_empty() {
+        return message.clone();
+    }
+    Shared::new(alloc, challenging(alloc, message.get(), challenges)?)
 }
 
 /// The message of the chosen answer: the one that came, but that of a 401 or 407 takes along the challenges of the
@@ -77,7 +94,8 @@ fn message_up(
     if !is_challenge_status(choice.chosen.status) {
         return message.clone();
     }
-    Shared::new(alloc, challenging(alloc, choice, message.get())?)
+    let challenges = other_challenges(alloc, choice)?;
+    taking_along(alloc, message, challenges.as_slice())
 }
 
 /// The chosen answer as it goes up.
