@@ -11,7 +11,7 @@ use crate::lines::Lines;
 use crate::script::{DatagramHead, Line, line_of, unstuffed};
 use crate::stop::Stop;
 use sip_event::Event;
-use sip_text::Bytes;
+use sip_text::{Buffer, Bytes};
 use std::alloc::Global;
 
 /// One byte more than a datagram has. What comes behind isn't kept: a datagram over 65,507 bytes is
@@ -72,14 +72,14 @@ fn datagram_bytes<R: TellingReader>(
     ensures asked { later lines.new.asks (R.asked reader.new) ≡ later lines.old.asks (R.asked reader.old) }
     ensures less { lines.new.asks ≤ lines.old.asks }
 {
-    let mut bytes = Bytes::with_room(alloc, DATAGRAM_ROOM)?;
+    let mut bytes = Buffer::with_room(alloc, DATAGRAM_ROOM)?;
     loop {
         keep_lines(lines, &mut bytes)?;
         if !lines.next(reader, line)? {
             return Err(Stop::Script);
         }
         if is_dot(line) {
-            return Ok(bytes);
+            return Ok(bytes.into_bytes());
         }
         keep_line(&mut bytes, line)?;
     }
@@ -88,7 +88,7 @@ fn datagram_bytes<R: TellingReader>(
 /// Adds what the lines say that stand whole among the bytes that were read, up to a dot. Most lines do: only one
 /// that reaches past those bytes is gathered first.
 #[tactic(auto, using(crate::proofs::Datagrams::keeps_less))]
-fn keep_lines(lines: &mut Lines, bytes: &mut Bytes) -> Result<(), Stop>
+fn keep_lines(lines: &mut Lines, bytes: &mut Buffer) -> Result<(), Stop>
     requires { length bytes.old ≤ KEPT }
     ensures kept { OnOk result (KeepsLines lines.old lines.new bytes.old bytes.new) }
     ensures most { OnOk result (length bytes.new ≤ KEPT) }
@@ -102,7 +102,7 @@ fn keep_lines(lines: &mut Lines, bytes: &mut Bytes) -> Result<(), Stop>
 
 /// Adds what the next line says, and passes it, if it stands whole among the bytes that were read and isn't the dot;
 /// whether it does.
-fn keep_next(lines: &mut Lines, bytes: &mut Bytes) -> Result<bool, Stop>
+fn keep_next(lines: &mut Lines, bytes: &mut Buffer) -> Result<bool, Stop>
     requires { length bytes.old ≤ KEPT }
     ensures kept { IfOk result (λ more. more ≡ true → KeepsLine lines.old lines.new bytes.old bytes.new) }
     ensures none { IfOk result (λ more. more ≡ false → (lines.new ≡ lines.old) × (bytes.new ≡ bytes.old)) }
@@ -130,7 +130,7 @@ fn is_dot(line: &[u8]) -> bool
 }
 
 /// Adds what a line says to a datagram, as far as it is kept.
-fn keep_line(bytes: &mut Bytes, line: &[u8]) -> Result<(), Stop>
+fn keep_line(bytes: &mut Buffer, line: &[u8]) -> Result<(), Stop>
     requires { length bytes.old ≤ KEPT }
     ensures kept { OnOk result (bytes.new ≡ take KEPT (bytes.old ++ Events.said line.now)) }
     ensures most { OnOk result (length bytes.new ≤ KEPT) }
@@ -148,7 +148,7 @@ fn keep_line(bytes: &mut Bytes, line: &[u8]) -> Result<(), Stop>
 }
 
 /// Adds a part to a datagram, as far as it is kept.
-fn keep(bytes: &mut Bytes, part: &[u8]) -> Result<(), Stop>
+fn keep(bytes: &mut Buffer, part: &[u8]) -> Result<(), Stop>
     requires { length bytes.old ≤ KEPT }
     ensures kept { OnOk result (bytes.new ≡ take KEPT (bytes.old ++ part.now)) }
     ensures most { OnOk result (length bytes.new ≤ KEPT) }
