@@ -58,5 +58,5 @@ pub mod credentials {
 
 /// Of `sip_way`.
 pub mod way {
-    pub use sip_way::{Own, RoutesKept, kept_routes, way_of};
+    pub use sip_way::{Own, RoutesKept, kept_routes, uri_left};
 }

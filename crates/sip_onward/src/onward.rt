@@ -18,7 +18,7 @@ use sip_edit::form::{
 use sip_edit::header::{MaxForwards, max_forwards_of};
 use sip_edit::text::Bytes;
 use sip_edit::uri::{UriError, parse_uri, write_uri};
-use sip_edit::way::{Own, RoutesKept, kept_routes, way_of};
+use sip_edit::way::{Own, RoutesKept, kept_routes, uri_left};
 use sip_uri::text::{same_bytes, split_once};
 use std::alloc::{AllocError, Global};
 
@@ -59,8 +59,8 @@ fn written_uri(alloc: Global, uri: &[u8]) -> Result<Bytes, AllocError>
 pub fn onward_uri(alloc: Global, own: &Own, request: &View<'_>) -> Result<Bytes, AllocError>
     ensures { IfOk result (λ uri. uri ≡ Spec.onward_uri own.now request.now) }
 {
-    let way = way_of(alloc, own, request)?;
-    written_uri(alloc, way.uri.as_slice())
+    let uri = uri_left(alloc, own, request)?;
+    written_uri(alloc, uri.as_slice())
 }
 
 /// Whether a realm was named, and is this one.

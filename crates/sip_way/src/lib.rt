@@ -11,7 +11,7 @@ mod way;
 
 pub use own::Own;
 pub use routes_kept::{RoutesKept, kept_routes};
-pub use way::{Way, way_of};
+pub use way::{Way, uri_left, way_of};
 
 /// Of `sip_equality`.
 pub mod equality {

@@ -2,6 +2,8 @@ ghost use Rattle.std.specs.Prelude.{◌≡◌, ◌&&◌, IfOk, MatchOption, [], 
 ghost use Rattle.sip_uri.specs.text.Words.{is_same_text};
 ghost use Rattle.sip_header.specs.form.ViewStart.{start_seen};
 ghost use Rattle.sip_header.specs.NameAddr.{sip_uri};
+ghost use Rattle.sip_header.specs.field.declared.field_name.FieldName.TheVariants as Name;
+ghost use Rattle.sip_header.specs.field.Values.{values_of};
 ghost use Rattle.sip_way.specs.Way as Ways;
 ghost use Rattle.sip_way.specs.Routes.{way_with, way_by};
 
@@ -206,4 +208,31 @@ pub fn way_of<'v>(alloc: Global, own: &Own, message: &'v View<'_>) -> Result<Way
 {
     let routes = message.fields().values(alloc, &FieldName::Route)?;
     way_by(alloc, own, request_uri(message.start()), routes.as_slice())
+}
+
+/// The last Route of a request, if it can be read.
+fn last_of<'v>(alloc: Global, message: &'v View<'_>) -> Result<Option<NameAddr<'v>>, AllocError>
+    ensures { IfOk result (λ route. route ≡ Ways.last_route (values_of Name.Route message.now.fields)) }
+{
+    let routes = message.fields().values(alloc, &FieldName::Route)?;
+    last_route(alloc, routes.as_slice())
+}
+
+/// The Request-URI of a request once this server's own part of its way is taken off (RFC 3261 16.4), alone: a Route is
+/// read only where the last one takes its place. `AllocError` is the only refusal.
+pub fn uri_left<'v>(
+    alloc: Global,
+    own: &Own,
+    message: &'v View<'_>,
+) -> Result<Value<'v>, AllocError>
+    ensures { IfOk result (λ uri. uri ≡ Ways.uri_left own.now (Ways.request_uri message.now.start) message.now.fields) }
+{
+    let uri = request_uri(message.start());
+    if !came_strictly(alloc, own, uri)? {
+        return Ok(Value::of_part(uri));
+    }
+    match last_of(alloc, message)? {
+        Some(route) => route.uri.text(alloc),
+        None => Ok(Value::of_part(uri)),
+    }
 }
