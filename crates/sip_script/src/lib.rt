@@ -5,6 +5,7 @@
 mod device;
 mod event;
 pub mod examples;
+mod head_line;
 pub mod laws;
 mod lines;
 mod print;
@@ -14,6 +15,7 @@ mod writing;
 
 pub use device::{TellingReader, TellingWriter};
 pub use event::next_event;
+pub use head_line::HeadLine;
 pub use lines::Lines;
 pub use print::{head_text, print_step};
 pub use script::{DatagramHead, Line, line_of};

@@ -1,0 +1,41 @@
+-- A number whose digits are put in front, the last one first.
+use Rattle.std.proofs.Common.{◌≡◌, ℕ, ◌+◌, ◌/◌, ◌%◌, ◌^◌, ◌<◌, ◌≤◌, List, [], ◌∷◌, ◌++◌, length, decimal, sym, ap, ◌∙◌, arith, append_assoc, length-append}
+use Rattle.std.proofs.lemmas.Fmt.{decimal_digit, decimal_step, decimal_by_steps, length-decimal-le}
+
+-- the last digit of more than one
+pub digit_more : (n : ℕ) (behind all : List ℕ) → 10 ≤ n → n < 2 ^ 64 → decimal n ++ behind ≡ all → decimal (n / 10) ++ (48 + n % 10) ∷ behind ≡ all
+digit_more n behind all some lt is =
+    sym (append_assoc (decimal (n / 10)) ((48 + n % 10) ∷ []) behind) ∙ ap (λ l. l ++ behind) (sym (decimal_step n some lt)) ∙ is
+
+-- the only digit
+pub digit_only : (n : ℕ) (behind all : List ℕ) → n < 10 → decimal n ++ behind ≡ all → (48 + n) ∷ behind ≡ all
+digit_only n behind all lt is = ap (λ l. l ++ behind) (sym (decimal_digit n lt)) ∙ is
+
+some_digit : (n : ℕ) → n < 2 ^ 64 → 1 ≤ length (decimal n)
+some_digit n lt =
+    decimal_by_steps (λ _ ds. 1 ≤ length ds) (λ k small. omega arith) (λ k ds some least. omega (arith, least, length-append ds ((48 + k % 10) ∷ []))) n lt
+
+-- the digits that are left have room
+pub digits_fit : (n number : ℕ) (behind before : List ℕ) → n < 2 ^ 64 → number < 2 ^ 64 → decimal n ++ behind ≡ decimal number ++ before → length behind + 1 ≤ length before + 20
+digits_fit n number behind before lt small is =
+    let most : length (decimal number) ≤ 20 = length-decimal-le 20 number (omega arith) (omega (arith, small)) small in
+    let least : 1 ≤ length (decimal n) = some_digit n lt in
+    omega (arith, most, least, ap length is, length-append (decimal n) behind, length-append (decimal number) before)
+
+-- a part that was put in front stands behind what was put in front of it
+pub behind_front : (front part behind mid all : List ℕ) → mid ≡ part ++ behind → all ≡ front ++ mid → all ≡ (front ++ part) ++ behind
+behind_front front part behind mid all is h = h ∙ ap (λ l. front ++ l) is ∙ sym (append_assoc front part behind)
+
+-- four numbers joined by dots, and a port, put in front one after the other
+pub address_first : (a b c d e t t1 t2 t3 t4 t5 t6 t7 t8 t9 : List ℕ) → t1 ≡ e ++ t → t2 ≡ 58 ∷ t1 → t3 ≡ d ++ t2 → t4 ≡ 46 ∷ t3 → t5 ≡ c ++ t4 → t6 ≡ 46 ∷ t5 → t7 ≡ b ++ t6 → t8 ≡ 46 ∷ t7 → t9 ≡ a ++ t8
+    → t9 ≡ (((((((((a ++ (46 ∷ [])) ++ b) ++ (46 ∷ [])) ++ c) ++ (46 ∷ [])) ++ d) ++ (58 ∷ [])) ++ e) ++ t)
+address_first a b c d e t t1 t2 t3 t4 t5 t6 t7 t8 t9 is1 is2 is3 is4 is5 is6 is7 is8 is9 =
+    let dot : List ℕ = 46 ∷ [] in
+    let s8 : t9 ≡ (a ++ dot) ++ t7 = behind_front a dot t7 t8 t9 is8 is9 in
+    let s7 : t9 ≡ ((a ++ dot) ++ b) ++ t6 = behind_front (a ++ dot) b t6 t7 t9 is7 s8 in
+    let s6 : t9 ≡ (((a ++ dot) ++ b) ++ dot) ++ t5 = behind_front ((a ++ dot) ++ b) dot t5 t6 t9 is6 s7 in
+    let s5 : t9 ≡ ((((a ++ dot) ++ b) ++ dot) ++ c) ++ t4 = behind_front (((a ++ dot) ++ b) ++ dot) c t4 t5 t9 is5 s6 in
+    let s4 : t9 ≡ (((((a ++ dot) ++ b) ++ dot) ++ c) ++ dot) ++ t3 = behind_front ((((a ++ dot) ++ b) ++ dot) ++ c) dot t3 t4 t9 is4 s5 in
+    let s3 : t9 ≡ ((((((a ++ dot) ++ b) ++ dot) ++ c) ++ dot) ++ d) ++ t2 = behind_front (((((a ++ dot) ++ b) ++ dot) ++ c) ++ dot) d t2 t3 t9 is3 s4 in
+    let s2 : t9 ≡ (((((((a ++ dot) ++ b) ++ dot) ++ c) ++ dot) ++ d) ++ (58 ∷ [])) ++ t1 = behind_front ((((((a ++ dot) ++ b) ++ dot) ++ c) ++ dot) ++ d) (58 ∷ []) t1 t2 t9 is2 s3 in
+    behind_front (((((((a ++ dot) ++ b) ++ dot) ++ c) ++ dot) ++ d) ++ (58 ∷ [])) e t t1 t9 is1 s2

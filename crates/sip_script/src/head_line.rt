@@ -1,0 +1,83 @@
+ghost use Rattle.std.specs.Prelude.{◌≡◌, ◌≤◌, ◌<◌, ◌+◌, ◌++◌, ◌∷◌, [], decimal, length};
+
+use std::marker::Model;
+
+/// The room for a head line: nine numbers, each as if it had 20 digits, and what stands between them.
+const ROOM: usize = 208;
+
+/// A head line, made from its last byte to its first in room of its own: so it takes no memory, and of a number the
+/// last digit is known first.
+#[derive(Drop)]
+pub struct HeadLine {
+    room: [u8; 208],
+    start: usize,
+}
+
+impl Model for HeadLine {
+    ghost use Rattle.std.specs.Prelude.{ℕ, List, ◌≤◌, drop};
+
+    ghost Value = { List ℕ };
+
+    ghost view = { λ h. drop h.start h.room };
+
+    ghost invariant = { λ h. h.start ≤ 208 };
+}
+
+impl HeadLine {
+    /// Nothing yet.
+    #[tactic(auto, using(std::proofs::lemmas::List::drop_all))]
+    pub(crate) fn new() -> Self
+        ensures { result ≡ [] }
+    {
+        HeadLine {
+            room: [0; 208],
+            start: ROOM,
+        }
+    }
+
+    /// Puts a byte in front.
+    #[inline]
+    pub(crate) fn put(&mut self, byte: u8)
+        requires { length self.old < 208 }
+        ensures text { self.new ≡ byte ∷ self.old }
+        ensures size { length self.new ≡ length self.old + 1 }
+    {
+        self.start -= 1;
+        self.room[self.start] = byte;
+    }
+
+    /// Puts a word in front.
+    pub(crate) fn put_word(&mut self, word: &[u8])
+        requires { length self.old + length word.now ≤ 208 }
+        ensures text { self.new ≡ word.now ++ self.old }
+        ensures size { length self.new ≡ length self.old + length word.now }
+    {
+        let mut left = word.len();
+        while left > 0 {
+            left -= 1;
+            self.put(word[left]);
+        }
+    }
+
+    /// Puts a number in decimal in front.
+    #[tactic(auto, using(crate::proofs::HeadLines::digit_more, crate::proofs::HeadLines::digits_fit))]
+    pub(crate) fn put_number(&mut self, number: u64)
+        requires { length self.old + 20 ≤ 208 }
+        ensures text { self.new ≡ decimal number ++ self.old }
+        ensures size { length self.new ≤ length self.old + 20 }
+    {
+        let mut left = number;
+        while left >= 10 {
+            self.put(b'0' + (left % 10) as u8);
+            left /= 10;
+        }
+        self.put(b'0' + left as u8);
+    }
+
+    /// Its bytes.
+    pub fn as_slice(&self) -> &[u8]
+        ensures { result.now ≡ self.now }
+    {
+        &self.room[self.start..]
+    }
+}
