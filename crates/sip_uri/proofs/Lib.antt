@@ -8,3 +8,4 @@ pub mod Names
 pub mod TableLemmas
 pub use Rattle.sip_host.proofs as of_host
 pub mod Rests
+pub mod Users

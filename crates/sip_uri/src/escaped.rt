@@ -32,7 +32,9 @@ static CLASSES: [u8; 256] = *b"\
     @@@@@@@@@@@@@@@@@@@@@@@@@@@@@@@@\
     @@@@@@@@@@@@@@@@@@@@@@@@@@@@@@@@";
 
-fn is_user_byte(byte: u8) -> bool
+/// Whether a byte needs no escape in a user.
+#[inline]
+pub(crate) fn is_user_byte(byte: u8) -> bool
     ensures { result ≡ Parts.is_user_byte byte }
 {
     CLASSES[byte as usize] & USER != 0
