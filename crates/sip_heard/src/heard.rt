@@ -27,6 +27,7 @@ use sip_equality::text::Items;
 use sip_form::{Kept, View};
 use sip_header::form::Value;
 use sip_hops::Hops;
+use sip_shared::Shared;
 use sip_way::{Own, RoutesKept};
 use std::alloc::{AllocError, Global};
 use std::marker::Model;
@@ -36,8 +37,8 @@ use std::marker::Model;
 pub struct Heard {
     message: Kept,
     via: TopVia,
-    /// Of a request that goes on.
-    onward: Option<Onward>,
+    /// Of a request that goes on, in a block of its own: one that is answered here has none.
+    onward: Option<Shared<Onward>>,
 }
 
 impl Model for Heard {
@@ -159,7 +160,7 @@ impl Heard {
         Ok(Heard {
             message,
             via,
-            onward: Some(onward),
+            onward: Some(Shared::new(alloc, onward)?),
         })
     }
 
@@ -199,7 +200,7 @@ impl Heard {
             ≡ fields_left own.now (request_uri self.now.start) (with_first Name.Via via self.now.fields)) }
     {
         match &self.onward {
-            Some(onward) => onward.routes.kept(alloc, own),
+            Some(onward) => onward.get().routes.kept(alloc, own),
             None => unread_routes(alloc, &self.message, own),
         }
     }
@@ -210,7 +211,7 @@ impl Heard {
         ensures { IfOk result (λ names. names ≡ is_some (option_and_then (λ core. id_of core) (result_ok (core_of self.now)))) }
     {
         match &self.onward {
-            Some(onward) => Ok(names_dialog(&onward.names)),
+            Some(onward) => Ok(names_dialog(&onward.get().names)),
             None => unread_names_dialog(alloc, &self.message),
         }
     }
@@ -222,7 +223,7 @@ impl Heard {
         ensures { IfOk result (λ id. id ≡ option_and_then (λ core. id_of core) (result_ok (core_of self.now))) }
     {
         match &self.onward {
-            Some(onward) => dialog_by(alloc, &onward.names),
+            Some(onward) => dialog_by(alloc, &onward.get().names),
             None => unread_dialog(alloc, &self.message),
         }
     }
@@ -233,7 +234,7 @@ impl Heard {
         ensures { IfOk result (λ id. id ≡ Spec.dialog_to to_tag.now (Spec.names_in self.now)) }
     {
         match &self.onward {
-            Some(onward) => dialog_to(alloc, &onward.names, to_tag),
+            Some(onward) => dialog_to(alloc, &onward.get().names, to_tag),
             None => unread_dialog_to(alloc, &self.message, to_tag),
         }
     }
@@ -250,7 +251,7 @@ impl Heard {
         ensures { OnOk result (out.new ≡ out.old ++ addresses_in (address_of hops.now.addresses) self.now.fields) }
     {
         if let Some(onward) = &self.onward {
-            if let Some(places) = &onward.given {
+            if let Some(places) = &onward.get().given {
                 return put_addresses(out, hops, places.as_slice());
             }
         }
