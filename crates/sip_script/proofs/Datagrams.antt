@@ -130,11 +130,11 @@ keeps_more old mid new before middle after all one = record {
   says = says_more all.text all.whole one.line all.says one.is_line one.no_dot;
   unread = all.unread ∙ ap (λ l. all.text ++ l) one.unread ∙ sym (append_assoc all.text (ended one.line) new.unread);
   number =
-    let first : mid.number ≡ old.number + count_by is_end all.text = all.number in
-    let next : new.number ≡ mid.number + 1 = one.number in
-    let single : count_by is_end (ended one.line) ≡ 1 = one_end one.line one.is_line in
-    let sum : count_by is_end (all.text ++ ended one.line) ≡ count_by is_end all.text + count_by is_end (ended one.line) = ends_add all.text (ended one.line) in
-    omega (arith, first, next, single, sum);
+      let first : mid.number ≡ old.number + count_by is_end all.text = all.number in
+      let next : new.number ≡ mid.number + 1 = one.number in
+      let single : count_by is_end (ended one.line) ≡ 1 = one_end one.line one.is_line in
+      let sum : count_by is_end (all.text ++ ended one.line) ≡ count_by is_end all.text + count_by is_end (ended one.line) = ends_add all.text (ended one.line) in
+      omega (arith, first, next, single, sum);
   kept = kept_more (before ++ all.whole) (said one.line) middle after all.kept one.kept ∙ ap (take 65508) (append_assoc before all.whole (said one.line));
 }
 
@@ -159,10 +159,10 @@ gathers_lines old mid new before middle bytes kept g more = record {
   says = says_both g.text g.whole more.text more.whole g.says more.says;
   consumes = Consumes-trans (pending old before) (pending mid middle) (pending new middle) g.text more.text g.consumes (unread_passed mid new middle more.text more.unread);
   number =
-    let first : mid.number ≡ old.number + count_by is_end g.text = g.number in
-    let next : new.number ≡ mid.number + count_by is_end more.text = more.number in
-    let sum : count_by is_end (g.text ++ more.text) ≡ count_by is_end g.text + count_by is_end more.text = ends_add g.text more.text in
-    omega (arith, first, next, sum);
+      let first : mid.number ≡ old.number + count_by is_end g.text = g.number in
+      let next : new.number ≡ mid.number + count_by is_end more.text = more.number in
+      let sum : count_by is_end (g.text ++ more.text) ≡ count_by is_end g.text + count_by is_end more.text = ends_add g.text more.text in
+      omega (arith, first, next, sum);
   kept = kept_more g.whole more.whole bytes kept g.kept more.kept;
 }
 

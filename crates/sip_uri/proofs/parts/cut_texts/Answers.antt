@@ -1,6 +1,6 @@
 use Rattle.std.proofs.Common.{ap, ◌∙◌, Some, None}
 use Rattle.sip_uri.specs.Reading.{AreTexts}
-use Rattle.sip_uri.proofs.Rests.{ nothing_behind, headers_behind_it, parameters_behind_it}
+use Rattle.sip_uri.proofs.Rests.{nothing_behind, headers_behind_it, parameters_behind_it}
 use Rattle.sip_uri.proofs.parts.cut_texts.Goals as goal
 
 at_end : (c : goal.In_default) → AreTexts c.args.text.now c.split_at.result.0.now None None
