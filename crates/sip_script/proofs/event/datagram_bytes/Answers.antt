@@ -1,18 +1,19 @@
-use Rattle.std.proofs.Common.{sym, ◌∙◌, ap, ◌++◌, take, arith}
+use Rattle.std.proofs.Common.{ℕ, List, sym, subst, ◌∙◌, ap, ◌++◌, take, arith}
 use Rattle.std.proofs.lemmas.Result.{err_from_is_err_and}
 use Rattle.sip_script.specs.Devices.{later}
 use Rattle.sip_script.specs.Lines.{GivesLine, IsSpent}
-use Rattle.sip_script.specs.Events.{is_dot, said}
+use Rattle.sip_script.specs.Events.{is_dot, said, GivesDatagram}
 use Rattle.sip_script.proofs.Datagrams.{gathers_lines, gathers_more, gathers_all, datagram_stops, datagram_over}
 use Rattle.sip_script.proofs.event.datagram_bytes.Goals as goal
 
 pub returns-then-is_dot-clause-given : goal.returns-then-is_dot-clause-given
 returns-then-is_dot-clause-given g c =
-    gathers_all c.args.lines.now c.keep_lines.new.lines c.next.new.self (g.R.TellingReader.remaining c.args.reader.now) (g.R.TellingReader.remaining c.loop-bytes.reader) (g.R.TellingReader.remaining c.next.new.reader)
+    subst (λ (bytes : List ℕ). GivesDatagram c.args.lines.now c.next.new.self (g.R.TellingReader.remaining c.args.reader.now) (g.R.TellingReader.remaining c.next.new.reader) bytes) (sym c.into_bytes.ensures)
+    (gathers_all c.args.lines.now c.keep_lines.new.lines c.next.new.self (g.R.TellingReader.remaining c.args.reader.now) (g.R.TellingReader.remaining c.loop-bytes.reader) (g.R.TellingReader.remaining c.next.new.reader)
     c.keep_lines.new.bytes c.next.new.line.items
     (gathers_lines c.args.lines.now c.loop-bytes.lines c.keep_lines.new.lines (g.R.TellingReader.remaining c.args.reader.now) (g.R.TellingReader.remaining c.loop-bytes.reader) c.loop-bytes.bytes c.keep_lines.new.bytes c.loop-bytes.invariant.2 c.in_ok-keep_lines.ensures.kept)
     (c.in_ok-next.ensures.given c.if-not-branch.false)
-    (ap is_dot (sym c.deref.ensures.value) ∙ sym c.is_dot.ensures ∙ c.if-is_dot.true)
+    (ap is_dot (sym c.deref.ensures.value) ∙ sym c.is_dot.ensures ∙ c.if-is_dot.true))
 
 pub loop-bytes-preserved : goal.loop-bytes-preserved
 loop-bytes-preserved g c =
