@@ -11,7 +11,13 @@ use std::alloc::{AllocError, Global};
 fn cancellable_count(branches: &[Branch]) -> usize
     ensures { result ≡ count_by Contexts.is_cancellable branches.now }
 {
-    branches.iter().filter(|b| is_cancellable(b)).count()
+    let mut count = 0;
+    for branch in branches {
+        if is_cancellable(branch) {
+            count += 1;
+        }
+    }
+    count
 }
 
 /// The CANCELs of the branches that are sent one now. `AllocError` is the only refusal; where there is none, no memory
