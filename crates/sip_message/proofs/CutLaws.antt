@@ -5,7 +5,7 @@ use Rattle.std.specs.List.{AllByRecursion}
 use Rattle.sip_message.specs.Lines.{is_crlf, after_blanks, line_at, lines_at, IsOneLine, IsLine, as_lines, IsCut}
 use Rattle.sip_text.specs.Splits.{in_front}
 use Rattle.sip_message.proofs.Cuts.{crlf_is}
-use Rattle.sip_message.proofs.Folds.{by_line, line_first, by_first_line, shorter}
+use Rattle.sip_message.proofs.Rows.{by_line, line_first, by_first_line, shorter}
 
 pub some_is : {A : Type 0} (x y : A) → Some x ≡ Some y → x ≡ y
 some_is x y e = cc

@@ -1,8 +1,9 @@
 -- A line writes a field where it is a name, blanks, `:` and a value.
-use Rattle.std.proofs.Common.{◌≡◌, ℕ, Bool, true, false, cond, List, [], ◌∷◌, ◌++◌, Option, Some, None, refl, ap, subst, ◌∙◌}
+use Rattle.std.proofs.Common.{◌≡◌, ℕ, Bool, true, false, cond, List, [], ◌∷◌, ◌++◌, length, take, Option, Some, None, refl, sym, ap, subst, ◌∙◌}
 use Rattle.std.specs.Prelude.{option_map}
 use Rattle.std.specs.Option.{option_and_then}
 use Rattle.std.specs.List.{list_all, AllByRecursion, AllZip}
+use Rattle.std.proofs.lemmas.List.{append-nil, take_at}
 use Rattle.sip_text.specs.Words.{is_token_byte, is_token_text}
 use Rattle.sip_text.specs.Lists.{is_blank, trimmed, end_trimmed}
 use Rattle.sip_text.proofs.Trims.{EndSplit, end_split, end_without, ends_full}
@@ -10,6 +11,7 @@ use Rattle.sip_form.specs.field.declared.field.Field.{Field}
 use Rattle.sip_text.specs.Splits.{split_at_byte}
 use Rattle.sip_form.specs.field.FieldName.{name_of}
 use Rattle.sip_message.specs.Field.{is_text, field_from, field_of, entries_of, IsField}
+use Rattle.sip_message.specs.Named.{IsNamed}
 use Rattle.sip_message.proofs.CutLaws.{some_is}
 use Rattle.sip_message.proofs.FieldsAgain.{all_join, differs, is_other, others, split_again, split_is, token_bytes, full_end}
 
@@ -75,3 +77,24 @@ zip_entries [] [] are = refl
 zip_entries [] (f ∷ fields) are = absurd are
 zip_entries (line ∷ lines) [] are = absurd are
 zip_entries (line ∷ lines) (f ∷ fields) are = rw (field_found line f are.0, zip_entries lines fields are.1) refl
+
+-- ---- a line that begins with a name
+
+pub named_cut : (line name value : List ℕ) → IsNamed line name value → split_at_byte 58 line ≡ Some (name, value)
+named_cut line name value is = ap (split_at_byte 58) is.whole ∙ split_again 58 name value (others is_token_byte 58 refl name (token_bytes name is.is_token)) refl
+
+named_end : (name : List ℕ) → is_token_text name ≡ true → end_trimmed name ≡ name
+named_end name token = ap end_trimmed (sym (append-nil name)) ∙ end_without name [] (token_full name token) tt
+
+pub named_field : (line name value : List ℕ) → IsNamed line name value → list_all is_text value ≡ true → field_of line ≡ Some (record { name = name_of name; value = trimmed value })
+named_field line name value is text =
+    let from : field_from name value ≡ Some (record { name = name_of name; value = trimmed value }) = rw (named_end name is.is_token, is.is_token, text) refl in
+    ap (option_and_then (λ x. field_from x.0 x.1)) (named_cut line name value is) ∙ from
+
+pub named_bad : (line name value : List ℕ) → IsNamed line name value → list_all is_text value ≡ false → field_of line ≡ None
+named_bad line name value is text =
+    let from : field_from name value ≡ None = rw (named_end name is.is_token, is.is_token, text) refl in
+    ap (option_and_then (λ x. field_from x.0 x.1)) (named_cut line name value is) ∙ from
+
+pub named_front : (line name value : List ℕ) → IsNamed line name value → take (length name) line ≡ name
+named_front line name value is = ap (take (length name)) is.whole ∙ take_at name (58 ∷ value) (length name) refl

@@ -1,11 +1,13 @@
 -- Slices cut at a byte, and trimmed, by their lengths.
-use Rattle.std.proofs.Common.{◌≡◌, ℕ, zero, suc, ◌+◌, ◌-◌, ◌≤◌, List, [], ◌∷◌, ◌++◌, length, take, drop, Some, refl, sym, ap, ◌∙◌, arith, length-append}
-use Rattle.std.specs.Prelude.{reverse}
-use Rattle.std.specs.List.{take_while, prefix_len}
+use Rattle.std.proofs.Common.{◌≡◌, ℕ, zero, suc, ◌+◌, ◌-◌, ◌≤◌, Bool, true, false, List, [], ◌∷◌, ◌++◌, length, take, drop, Some, refl, sym, ap, ◌∙◌, arith, length-append}
+use Rattle.std.specs.Prelude.{reverse, ◌==◌}
+use Rattle.std.specs.List.{take_while, prefix_len, list_all}
 use Rattle.std.proofs.Math.Seq.{drop-append_seam}
-use Rattle.std.proofs.lemmas.List.{take-append-le, take_all, drop-drop, length-drop, length-take}
-use Rattle.sip_text.specs.Lists.{is_blank, trimmed, front_trimmed}
+use Rattle.std.proofs.lemmas.List.{take-append-le, take_all, drop-drop, length-drop, length-take, take-append-drop}
+use Rattle.sip_text.specs.Lists.{is_blank, trimmed, front_trimmed, end_trimmed}
+use Rattle.sip_text.specs.Words.{is_token_byte, is_token_text, token_at, behind_token}
 use Rattle.sip_text.specs.Splits.{split_at_byte}
+use Rattle.sip_message.specs.Named.{IsNamed}
 use Rattle.sip_message.proofs.FieldsAgain.{split_is}
 
 pub fits : (mark : ℕ) (bytes front back : List ℕ) → Some (front, back) ≡ split_at_byte mark bytes → length front + 1 ≤ length bytes
@@ -18,24 +20,65 @@ halves_are mark bytes front back a b e first second =
     let behind : b ≡ back = second ∙ sym (drop-drop 1 (length front) bytes) ∙ ap (λ (w : List ℕ). drop 1 (drop (length front) w)) whole ∙ ap (drop 1) (drop-append_seam front (mark ∷ back)) in
     ap (λ (w : List ℕ). Some (w, b)) before ∙ ap (λ (w : List ℕ). Some (front, w)) behind ∙ e
 
+none_of : (n : ℕ) → take {A = ℕ} n [] ≡ []
+none_of zero = refl
+none_of (suc n) = refl
+
 front_cut : (k : ℕ) (xs : List ℕ) → take k xs ≡ take (length (take k xs)) xs
 front_cut zero xs = refl
 front_cut (suc k) [] = refl
 front_cut (suc k) (x ∷ xs) = ap (λ (w : List ℕ). x ∷ w) (front_cut k xs)
 
-cut_cut : (b k : ℕ) (xs : List ℕ) → drop b (take k xs) ≡ take (length (drop b (take k xs))) (drop b xs)
-cut_cut zero k xs = front_cut k xs
-cut_cut (suc b) zero xs = refl
-cut_cut (suc b) (suc k) [] = refl
-cut_cut (suc b) (suc k) (x ∷ xs) = cut_cut b k xs
+cut_cut : (b k : ℕ) (xs : List ℕ) → take (k - b) (drop b xs) ≡ drop b (take k xs)
+cut_cut zero k xs =
+    let all : k - 0 ≡ k = omega arith in
+    ap (λ (n : ℕ). take n xs) all
+cut_cut (suc b) zero xs =
+    let none : 0 - suc b ≡ 0 = omega arith in
+    ap (λ (n : ℕ). take n (drop (suc b) xs)) none
+cut_cut (suc b) (suc k) [] = none_of (suc k - suc b)
+cut_cut (suc b) (suc k) (x ∷ xs) =
+    let less : suc k - suc b ≡ k - b = omega arith in
+    ap (λ (n : ℕ). take n (drop b xs)) less ∙ cut_cut b k xs
 
-pub trimmed_is : (bytes front whole middle result : List ℕ) → front ≡ front_trimmed bytes → whole ≡ trimmed bytes → middle ≡ drop (length bytes - length front) bytes → result ≡ take (length whole) middle → result ≡ trimmed bytes
-trimmed_is bytes front whole middle result f w m r =
+pub trimmed_is : (bytes front end middle result : List ℕ) → front ≡ front_trimmed bytes → end ≡ end_trimmed bytes → middle ≡ drop (length bytes - length front) bytes → result ≡ take (length end - (length bytes - length front)) middle → result ≡ trimmed bytes
+trimmed_is bytes front end middle result f e m r =
     let b : ℕ = length (take_while is_blank bytes) in
     let k : ℕ = length bytes - length (take_while is_blank (reverse bytes)) in
     let few : b ≤ length bytes = blanks_fit bytes in
     let start : length bytes - length front ≡ b = omega (arith, ap length f, length-drop b bytes, few) in
-    r ∙ ap (λ (v : List ℕ). take (length v) middle) w ∙ ap (take (length (trimmed bytes))) (m ∙ ap (λ (n : ℕ). drop n bytes) start) ∙ sym (cut_cut b k bytes)
+    let stop : length end ≡ k = omega (arith, ap length e, length-take k bytes) in
+    r ∙ ap (λ (n : ℕ). take (n - (length bytes - length front)) middle) stop ∙ ap (λ (n : ℕ). take (k - n) middle) start ∙ ap (take (k - b)) (m ∙ ap (λ (n : ℕ). drop n bytes) start) ∙ cut_cut b k bytes
   where
     blanks_fit : (xs : List ℕ) → length (take_while is_blank xs) ≤ length xs
     blanks_fit xs = omega (arith, length-take (prefix_len is_blank xs) xs)
+
+-- ---- a token at the front
+
+while_one : (p : ℕ → Bool) (x : ℕ) (xs : List ℕ) (t : Bool) → p x ≡ t → list_all p (take_while p xs) ≡ true → list_all p (take_while p (x ∷ xs)) ≡ true
+while_one p x xs true is rest =
+    let more : 1 + prefix_len p xs ≡ suc (prefix_len p xs) = omega arith in
+    let all : list_all p (x ∷ take_while p xs) ≡ true = rw is rest in
+    let here : take_while p (x ∷ xs) ≡ x ∷ take_while p xs = rw is (ap (λ (n : ℕ). take n (x ∷ xs)) more) in
+    ap (list_all p) here ∙ all
+while_one p x xs false is rest = rw is refl
+
+while_all : (p : ℕ → Bool) (xs : List ℕ) → list_all p (take_while p xs) ≡ true
+while_all p [] = refl
+while_all p (x ∷ xs) = while_one p x xs (p x) refl (while_all p xs)
+
+token_all : (name : List ℕ) → (length name == 0) ≡ false → list_all is_token_byte name ≡ true → is_token_text name ≡ true
+token_all [] some all = absurd cc
+token_all (b ∷ bs) some all = all
+
+-- a token, and a `:` at once behind it
+pub named_is : (line name rest first value back : List ℕ) → name ≡ token_at line → rest ≡ behind_token line → (length name == 0) ≡ false → rest ≡ 58 ∷ back → first ≡ take (length name) line → value ≡ drop (length name + 1) line → IsNamed line first value
+named_is line name rest first value back n r some b f v =
+    let token : is_token_text name ≡ true = token_all name some (ap (list_all is_token_byte) n ∙ while_all is_token_byte line) in
+    let front : take (length name) line ≡ name = ap (λ (w : List ℕ). take (length w) line) n ∙ sym (front_cut (prefix_len is_token_byte line) line) ∙ sym n in
+    let behind : drop (length name) line ≡ rest = ap (λ (w : List ℕ). drop (length w) line) n ∙ sym r in
+    let whole : line ≡ name ++ 58 ∷ back = sym (take-append-drop (length name) line) ∙ ap (λ (w : List ℕ). w ++ drop (length name) line) front ∙ ap (λ (w : List ℕ). name ++ w) (behind ∙ b) in
+    let last : value ≡ back = v ∙ sym (drop-drop 1 (length name) line) ∙ ap (drop 1) (behind ∙ b) in record {
+      whole = whole ∙ ap (λ (w : List ℕ). w ++ 58 ∷ back) (sym (f ∙ front)) ∙ ap (λ (w : List ℕ). first ++ 58 ∷ w) (sym last);
+      is_token = ap is_token_text (f ∙ front) ∙ token;
+    }

@@ -1,26 +1,26 @@
--- Fields with their places: of lines, and those that are kept.
-use Rattle.std.proofs.Common.{◌≡◌, ℕ, ◌+◌, ◌<◌, Bool, true, false, List, [], ◌∷◌, ◌++◌, length, map, take, get_or, Option, Some, None, Err, refl, sym, ap, subst, ◌∙◌, append_assoc, inl, inr, arith}
-use Rattle.std.specs.Prelude.{option_map, ◌⊎◌}
-use Rattle.std.specs.Option.{ok_or, unwrap_or}
-use Rattle.std.specs.List.{AllZip}
-use Rattle.std.proofs.lemmas.List.{append-nil, map-append, take_more}
+-- Fields with their places that are kept behind others.
+use Rattle.std.proofs.Common.{◌≡◌, ℕ, Bool, true, false, List, [], ◌∷◌, ◌++◌, map, Option, Some, refl, sym, ap, subst, ◌∙◌, append_assoc, inl, inr}
+use Rattle.std.specs.Prelude.{option_map}
+use Rattle.std.specs.Option.{unwrap_or}
+use Rattle.std.specs.List.{AllByRecursion}
+use Rattle.std.proofs.lemmas.List.{append-nil, map-append}
 use denote.Ref.{Bor}
 use Rattle.sip_text.specs.declared.span.Span.{Span}
 use Rattle.sip_text.specs.Span.{part}
 use Rattle.sip_text.specs.Lists.{cut}
 use Rattle.sip_form.specs.view.Piece.{bytes_of}
 use Rattle.sip_form.specs.view.Slice.{IsPieceOf, IsPieceCutFrom, is_joined}
-use Rattle.sip_form.specs.declared.error.ReadError.{ReadError}
-use Rattle.sip_form.specs.declared.error.ReadError.TheVariants.{NoMemory, BadField}
 use Rattle.sip_form.specs.field.declared.field.Field.{Field}
 use Rattle.sip_form.specs.field.FieldName.{is_length, is_list}
-use Rattle.sip_message.specs.declared.line.Line.{Line}
+use Rattle.sip_message.specs.declared.line_fault.LineFault.{LineFault}
 use Rattle.sip_message.specs.declared.part_field.PartField.{PartField}
-use Rattle.sip_message.specs.Field.{pieces, kept}
-use Rattle.sip_message.specs.Line.{line_piece, has_fold, AreLinesOf}
-use Rattle.sip_message.specs.Parts.{field_seen, fields_seen, joined_values, AreSlicesOf, folds_kept, IsKept, AreItemsKept, AreKept, AreFieldsOf}
-use Rattle.sip_message.proofs.Steps.{behind, kept_list, kept_step, map-map}
-use Rattle.sip_message.proofs.Taking.{all_join}
+use Rattle.sip_message.specs.HeadContent.{IsFault}
+use Rattle.sip_message.specs.Field.{pieces}
+use Rattle.sip_message.specs.Parts.{field_seen, fields_seen, joined_values, AreSlicesOf, IsKept, AreItemsKept}
+
+all_join : {X : Type 0} (P : X → Type 0) (xs ys : List X) → AllByRecursion P xs → AllByRecursion P ys → AllByRecursion P (xs ++ ys)
+all_join P [] ys are too = too
+all_join P (x ∷ xs) ys are too = (are.0, all_join P xs ys are.1 too)
 
 abbrev Stands : Bor (List ℕ) → PartField → Type 0
 Stands source field = IsPieceOf source field.value
@@ -38,36 +38,6 @@ joined_more done new field n = ap (λ (w : List PartField). joined_values w) n �
 
 stands_more : (source : Bor (List ℕ)) (done new : List PartField) (field : PartField) → new ≡ done ++ field ∷ [] → AreSlicesOf source done → IsPieceOf source field.value → AreSlicesOf source new
 stands_more source done new field n are is = subst (λ (w : List PartField). AreSlicesOf source w) (sym n) (all_join (Stands source) done (field ∷ []) are (is, tt))
-
--- ---- the fields of lines
-
-abbrev Writes : Line → PartField → Type 0
-Writes line field = IsPieceCutFrom (line_piece line) field.value
-
-zip_push : {X Y : Type 0} (R : X → Y → Type 0) (xs : List X) (ys : List Y) (x : X) (y : Y) → AllZip R xs ys → R x y → AllZip R (xs ++ x ∷ []) (ys ++ y ∷ [])
-zip_push R [] [] x y are is = (is, tt)
-zip_push R [] (z ∷ ys) x y are is = absurd are
-zip_push R (z ∷ xs) [] x y are is = absurd are
-zip_push R (z ∷ xs) (v ∷ ys) x y are is = (are.0, zip_push R xs ys x y are.1 is)
-
-pub fields_more : (lines : List Line) (i : ℕ) (line : Line) (done new : List PartField) (field : PartField) → i < length lines → line ≡ get_or lines i line → new ≡ done ++ field ∷ [] → AreFieldsOf (take i lines) done
-    → IsPieceCutFrom (line_piece line) field.value → AreFieldsOf (take (i + 1) lines) new
-fields_more lines i line done new field lt is n so_far here =
-    let more : take (i + 1) lines ≡ take i lines ++ line ∷ [] = take_more lines i line lt ∙ ap (λ (w : Line). take i lines ++ w ∷ []) (sym is) in
-    subst (λ (w : List PartField). AreFieldsOf (take (i + 1) lines) w) (sym n)
-    (subst (λ (w : List Line). AreFieldsOf w (done ++ field ∷ [])) (sym more) (zip_push Writes (take i lines) done line field so_far here))
-
-pub same_folds : (lines : List Line) (fields : List PartField) → AreFieldsOf lines fields → joined_values fields ≡ map has_fold lines
-same_folds [] [] are = refl
-same_folds [] (field ∷ fields) are = absurd are
-same_folds (line ∷ lines) [] are = absurd are
-same_folds (line ∷ lines) (field ∷ fields) are = ap (λ (w : Bool). w ∷ joined_values fields) are.0.joined ∙ ap (λ (w : List Bool). has_fold line ∷ w) (same_folds lines fields are.1)
-
-pub same_places : (source : Bor (List ℕ)) (lines : List Line) (fields : List PartField) → AreFieldsOf lines fields → AreLinesOf source lines → AreSlicesOf source fields
-same_places source [] [] are stand = tt
-same_places source [] (field ∷ fields) are stand = absurd are
-same_places source (line ∷ lines) [] are stand = absurd are
-same_places source (line ∷ lines) (field ∷ fields) are stand = (are.0.slice source stand.0, same_places source lines fields are.1 stand.1)
 
 -- ---- the items of a list
 
@@ -100,6 +70,16 @@ items_next old mid new field front span all so_far here more = record {
   slices = λ source stands are. here.slices source stands (so_far.slices source stands are);
 }
 
+map-map : {A B C : Type 0} (f : B → C) (g : A → B) (xs : List A) → map f (map g xs) ≡ map (λ x. f (g x)) xs
+map-map f g [] = refl
+map-map f g (x ∷ xs) = ap (λ ys. f (g x) ∷ ys) (map-map f g xs)
+
+kept_list : (done new : List Field) (field : Field) (spans : List Span) → is_length field.name ≡ false → is_list field.name ≡ true → cut field.value ≡ Some (map (part field.value) spans)
+    → new ≡ done ++ map (λ span. record field { value = part field.value span }) spans → option_map (λ items. done ++ items) (pieces field) ≡ Some new
+kept_list done new field spans not_length listed is_cut e =
+    let one : pieces field ≡ Some (map (λ item. record field { value = item }) (map (part field.value) spans)) = rw (not_length, listed, is_cut) refl in
+    ap (λ (o : Option (List Field)). option_map (λ items. done ++ items) o) one ∙ ap (λ (w : List Field). Some w) (ap (λ (w : List Field). done ++ w) (map-map (λ item. record field { value = item }) (part field.value) spans) ∙ sym e)
+
 abbrev as_item : Field → List ℕ → Field
 as_item field item = record field { value = item }
 
@@ -119,13 +99,9 @@ items_kept old field spans new not_length listed is_cut are =
       slices = are.slices;
     }
 
-pub list_fault : (e : ReadError) (field : Field) → is_length field.name ≡ false → is_list field.name ≡ true → (e ≡ NoMemory) ⊎ (ok_or (cut field.value) BadField ≡ Err e) → (e ≡ NoMemory) ⊎ ((e ≡ BadField) × (pieces field ≡ None))
+pub list_fault : (e : LineFault) (field : Field) → is_length field.name ≡ false → is_list field.name ≡ true → IsFault e (cut field.value) → IsFault e (pieces field)
 list_fault e field not_length listed (inl n) = inl n
-list_fault e field not_length listed (inr h) = by_cut (cut field.value) refl h
-  where
-    by_cut : (o : Option (List (List ℕ))) → cut field.value ≡ o → ok_or o BadField ≡ Err e → (e ≡ NoMemory) ⊎ ((e ≡ BadField) × (pieces field ≡ None))
-    by_cut None is k = inr (cc, rw (not_length, listed, is) refl)
-    by_cut (Some items) is k = absurd cc
+list_fault e field not_length listed (inr none) = inr (rw (not_length, listed, none) refl)
 
 -- ---- one field
 
@@ -152,41 +128,3 @@ pub item_kept : (old : List PartField) (field : PartField) (new : List PartField
 item_kept old field new value not_length listed is one n =
     let whole : cut (bytes_of field.value) ≡ Some (bytes_of field.value ∷ []) = subst (λ (v : List ℕ). cut v ≡ Some (v ∷ [])) is one in
     one_piece old field new (rw (not_length, listed, whole) refl) n
-
--- ---- all that are kept
-
-pub none_left : {X : Type 0} (xs : List X) → length xs ≡ 0 → xs ≡ []
-none_left [] e = refl
-none_left (x ∷ xs) e = absurd (omega arith)
-
--- the fields that were kept, and what is kept of the rest
-pub record IsKeptSoFar (entries done rest : List PartField) : Type 0 where
-  pub seen : behind (fields_seen done) (kept (fields_seen rest)) ≡ kept (fields_seen entries)
-  pub folds : joined_values done ++ folds_kept (fields_seen rest) (joined_values rest) ≡ folds_kept (fields_seen entries) (joined_values entries)
-  pub slices : (source : Bor (List ℕ)) → AreSlicesOf source entries → AreSlicesOf source done × AreSlicesOf source rest
-
-behind_none : (o : Option (List Field)) → behind [] o ≡ o
-behind_none None = refl
-behind_none (Some x) = refl
-
-pub none_yet : (entries : List PartField) → IsKeptSoFar entries [] entries
-none_yet entries = record { seen = behind_none (kept (fields_seen entries)); folds = refl; slices = λ source are. (tt, are) }
-
-pub kept_more : (entries done rest new : List PartField) (field : PartField) → IsKeptSoFar entries done (field ∷ rest) → IsKept done field new → IsKeptSoFar entries new rest
-kept_more entries done rest new field so_far here = record {
-  seen = kept_step (fields_seen done) (fields_seen new) (field_seen field) (fields_seen rest) (kept (fields_seen entries)) here.seen so_far.seen;
-  folds = ap (λ (w : List Bool). w ++ folds_kept (fields_seen rest) (joined_values rest)) here.folds
-      ∙ append_assoc (joined_values done) (map (λ (item : Field). is_joined field.value) (unwrap_or (pieces (field_seen field)) [])) (folds_kept (fields_seen rest) (joined_values rest))
-      ∙ so_far.folds;
-  slices = λ source are. (here.slices source (so_far.slices source are).1.0 (so_far.slices source are).0, (so_far.slices source are).1.1);
-}
-
-pub all_kept : (entries done rest : List PartField) → rest ≡ [] → IsKeptSoFar entries done rest → kept (fields_seen entries) ≡ Some (fields_seen done)
-all_kept entries done rest none so_far =
-    sym so_far.seen ∙ ap (λ (w : List PartField). behind (fields_seen done) (kept (fields_seen w))) none ∙ ap (λ (w : List Field). Some w) (append-nil (fields_seen done))
-
-pub are_kept : (entries done rest : List PartField) → rest ≡ [] → IsKeptSoFar entries done rest → AreKept entries done
-are_kept entries done rest none so_far = record {
-  folds = sym (append-nil (joined_values done)) ∙ sym (ap (λ (w : List PartField). joined_values done ++ folds_kept (fields_seen w) (joined_values w)) none) ∙ so_far.folds;
-  slices = λ source are. (so_far.slices source are).0;
-}

@@ -1,8 +1,9 @@
-pub mod Folds
+pub mod Rows
 pub mod Begun
 pub mod LineEnds
 pub mod Cuts
-pub mod Steps
+pub mod Wholes
+pub mod Behind
 pub mod CutLaws
 pub mod FieldLaws
 pub mod SaysLaws
@@ -11,8 +12,8 @@ pub mod StartAgain
 pub mod StartLaws
 pub mod Again
 pub mod FaultLaws
-pub mod Taking
-pub mod Heads
+pub mod HeadLines
+pub mod LineSteps
 pub mod Keeps
 pub mod Standing
 pub mod Halves

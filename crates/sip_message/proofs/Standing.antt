@@ -1,62 +1,55 @@
 -- Where the parts of a datagram stand, put together.
-use Rattle.std.proofs.Common.{◌≡◌, ℕ, ◌-◌, Bool, false, List, length, take, map, Option, Some, None, refl, sym, ap, ◌∙◌, arith}
-use Rattle.std.specs.Prelude.{option_map}
-use Rattle.std.specs.Option.{option_and_then}
+use Rattle.std.proofs.Common.{◌≡◌, ◌⊎◌, ℕ, Bool, List, Option, Some, Result, Ok, Err, refl, sym, ap, subst, ◌∙◌, inl, inr}
+use Rattle.std.specs.Option.{option_and_then, ok_or}
 use denote.Ref.{Bor}
 use Rattle.sip_form.specs.field.declared.field.Field.{Field}
+use Rattle.sip_form.specs.declared.message.Start.{Start}
+use Rattle.sip_form.specs.declared.message.Message.{Message}
+use Rattle.sip_form.specs.declared.error.ReadError.{ReadError}
+use Rattle.sip_form.specs.declared.error.ReadError.TheVariants.{NoMemory, NotSip, BadField}
 use Rattle.sip_form.specs.view.Slice.{IsSliceOf, IsCutFrom}
-use Rattle.std.proofs.lemmas.List.{take_all}
-use Rattle.sip_message.specs.declared.line.Line.{Line}
-use Rattle.sip_message.specs.declared.part_field.PartField.{PartField}
+use Rattle.sip_message.specs.declared.content.Content.{Content}
 use Rattle.sip_message.specs.declared.datagram_parts.Parts.{Parts}
-use Rattle.sip_message.specs.Field.{entries_of}
-use Rattle.sip_message.specs.Lines.{after_blanks, line_at, lines_at, unfolded, folds_of, head_at}
-use Rattle.sip_message.specs.Line.{line_bytes, has_fold, IsHeadCut}
-use Rattle.sip_message.specs.Parts.{fields_seen, folds_kept, AreKept, AreFieldsOf, AreContents, ArePartsOf}
-use Rattle.sip_message.proofs.Keeps.{same_folds, same_places}
+use Rattle.sip_message.specs.Lines.{after_blanks, line_at, head_at}
+use Rattle.sip_message.specs.Start.{start_of}
+use Rattle.sip_message.specs.Field.{entries_of, kept}
+use Rattle.sip_message.specs.Body.{lengths, one_length, is_short}
+use Rattle.sip_message.specs.Reading.{◌>>=◌, with_body, head_said, content_from, content_of}
+use Rattle.sip_message.specs.HeadContent.{IsContentOf}
+use Rattle.sip_message.specs.Parts.{joined_values, folds_of_head, AreSlicesOf, ArePartsOf}
+use Rattle.sip_message.proofs.Wholes.{all_of_it}
 
-pub contents_are : (lines : List Line) (rest : Bor (List ℕ)) (parts : Parts) (entries : List PartField) → entries_of (map line_bytes lines) ≡ Some (fields_seen entries) → AreFieldsOf lines entries → AreKept entries parts.fields.items
-    → IsCutFrom rest parts.body → AreContents lines rest parts
-contents_are lines rest parts entries said are kept body = record {
-  folds = ap (λ (o : Option (List Field)). option_map (λ es. folds_kept es (map has_fold lines)) o) said
-      ∙ ap (λ (flags : List Bool). Some (folds_kept (fields_seen entries) flags)) (sym (same_folds lines entries are))
-      ∙ ap (λ (flags : List Bool). Some flags) (sym kept.folds);
-  slices = λ source stand. kept.slices source (same_places source lines entries are stand);
-  body = body;
-}
-
-all_of_it : (slice : Bor (List ℕ)) → IsSliceOf slice slice
-all_of_it slice =
-    let none : length slice.now - 0 ≡ length slice.now = omega arith in record {
-      span = record { start = 0; end = length slice.now };
-      within = record { ordered = omega arith; inside = omega arith };
-      bytes = sym (ap (λ (n : ℕ). take n slice.now) none ∙ take_all (length slice.now) slice.now (omega arith));
-      block = refl;
-      place = omega arith;
-    }
-
-same_first : (x y : List (List ℕ) × List ℕ) → Some x ≡ Some y → x.0 ≡ y.0
-same_first x y e =
-    let both : x ≡ y = cc in
-    ap (λ (p : List (List ℕ) × List ℕ). p.0) both
-
--- the folds of a head, by the lines that it has
-by_lines : (o : Option (List (List ℕ) × List ℕ)) (bytes : List (List ℕ)) (rest : List ℕ) (flags : List Bool) → option_map {T = List (List ℕ) × List ℕ} {U = List (List ℕ) × List ℕ} (λ x. (unfolded x.0, x.1)) o ≡ Some (bytes, rest) → option_map (λ x. folds_of x.0) o ≡ Some flags
-    → option_and_then (λ lines. option_map (λ entries. folds_kept entries (folds_of lines.0)) (entries_of (unfolded lines.0))) o ≡ option_map (λ entries. folds_kept entries flags) (entries_of bytes)
-by_lines None bytes rest flags e f = absurd cc
-by_lines (Some x) bytes rest flags e f =
-    let first : unfolded x.0 ≡ bytes = same_first (unfolded x.0, x.1) (bytes, rest) e in
-    let second : folds_of x.0 ≡ flags = cc in
-    ap (λ (w : List (List ℕ)). option_map (λ entries. folds_kept entries (folds_of x.0)) (entries_of w)) first
-    ∙ ap (λ (w : List Bool). option_map (λ entries. folds_kept entries w) (entries_of bytes)) second
-
-pub parts_are : (datagram blankless line head rest : Bor (List ℕ)) (lines : List Line) (parts : Parts) → blankless.now ≡ after_blanks datagram.now → IsCutFrom datagram blankless → Some (line.now, head.now) ≡ line_at blankless.now → IsCutFrom blankless head
-    → head_at head.now ≡ Some (map line_bytes lines, rest.now) → IsHeadCut head lines rest → AreContents lines rest parts → ArePartsOf datagram parts
-parts_are datagram blankless line head rest lines parts after after_cut first head_cut said cut are =
+pub parts_are : (datagram blankless line head rest : Bor (List ℕ)) (content : Content) (parts : Parts) → blankless.now ≡ after_blanks datagram.now → IsCutFrom datagram blankless → Some (line.now, head.now) ≡ line_at blankless.now → IsCutFrom blankless head
+    → IsContentOf head content rest → parts.fields ≡ content.fields → IsCutFrom rest parts.body → ArePartsOf datagram parts
+parts_are datagram blankless line head rest content parts after after_cut first head_cut are same body =
     let whole : IsSliceOf datagram head = head_cut.of_whole datagram (after_cut.of_whole datagram (all_of_it datagram)) in
     let at : line_at (after_blanks datagram.now) ≡ Some (line.now, head.now) = ap line_at (sym after) ∙ sym first in record {
-      folds = ap (λ (o : Option (List ℕ × List ℕ)). option_and_then (λ f. option_and_then (λ ls. option_map (λ entries. folds_kept entries (folds_of ls.0)) (entries_of (unfolded ls.0))) (lines_at false f.1)) o) at
-          ∙ by_lines (lines_at false head.now) (map line_bytes lines) rest.now (map has_fold lines) said cut.folds ∙ are.folds;
-      slices = are.slices datagram (cut.slices datagram whole);
-      body = are.body.of_whole datagram (cut.follows.of_whole datagram whole);
+      folds = ap (λ (o : Option (List ℕ × List ℕ)). option_and_then (λ f. folds_of_head f.1) o) at ∙ are.folds ∙ ap (λ w. Some (joined_values w.items)) (sym same);
+      slices = subst (λ w. AreSlicesOf datagram w.items) (sym same) (are.slices datagram whole);
+      body = body.of_whole datagram (are.follows.of_whole datagram whole);
     }
+
+-- ---- what is said
+
+-- whether the body is short, and the message, of what a head says
+abbrev pub with_start : Start → Option ℕ × List Field × List ℕ → Bool × Message
+with_start start x = (is_short x.0 x.2, with_body start x.1 x.0 x.2)
+
+after_step : {A B C : Type 0} (r : Result A ReadError) (f : A → Result C ReadError) (g : A → Result B ReadError) (h : B → Result C ReadError) → ((x : A) → f x ≡ g x >>= h) → r >>= f ≡ (r >>= g) >>= h
+after_step (Ok x) f g h same = same x
+after_step (Err e) f g h same = refl
+
+by_head : (start : Start) (head : List ℕ) → ok_or (head_at head) NotSip >>= (λ x. content_from start x.0 x.1) ≡ head_said head >>= (λ x. Ok (with_start start x))
+unfolding head_said content_from
+by_head start head =
+    after_step (ok_or (head_at head) NotSip) _ _ _ (λ x. after_step (ok_or (entries_of x.0) BadField) _ _ _ (λ entries. after_step (ok_or (one_length (lengths entries)) BadField) _ _ _ (λ n. after_step (ok_or (kept entries) BadField) _ _ _ (λ fields. refl))))
+
+pub content_is : (bytes blankless line head : List ℕ) (start : Start) → blankless ≡ after_blanks bytes → Some (line, head) ≡ line_at blankless → ok_or (start_of line) NotSip ≡ Ok start → content_of bytes ≡ head_said head >>= (λ x. Ok (with_start start x))
+unfolding content_of
+content_is bytes blankless line head start after first says =
+    let at : line_at (after_blanks bytes) ≡ Some (line, head) = ap line_at (sym after) ∙ sym first in
+    rw (at, says) (by_head start head)
+
+pub head_fault : (bytes head : List ℕ) (start : Start) (e : ReadError) → content_of bytes ≡ head_said head >>= (λ x. Ok (with_start start x)) → (e ≡ NoMemory) ⊎ (head_said head ≡ Err e) → (e ≡ NoMemory) ⊎ (content_of bytes ≡ Err e)
+head_fault bytes head start e is (inl none) = inl none
+head_fault bytes head start e is (inr fault) = inr (is ∙ ap (λ (r : Result (Option ℕ × List Field × List ℕ) ReadError). r >>= (λ x. Ok (with_start start x))) fault)

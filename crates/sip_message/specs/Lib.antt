@@ -6,7 +6,9 @@ pub mod Says
 pub mod Reading
 pub mod Begins
 pub mod Seen
+pub mod Named
 pub mod Line
 pub mod Parts
+pub mod HeadContent
 pub use Rattle.sip_form.specs.field
 pub use Rattle.sip_form.specs as form

@@ -76,12 +76,6 @@ abbrev pub unfolded : List (List ℕ) → List (List ℕ)
 unfolded [] = []
 unfolded (line ∷ lines) = unfolded_on line lines
 
--- lines that were taken, and the lines behind them: the last one may go on
-abbrev pub unfolded_after : List (List ℕ) → List (List ℕ) → List (List ℕ)
-unfolded_after [] lines = unfolded lines
-unfolded_after (line ∷ []) lines = unfolded_on line lines
-unfolded_after (line ∷ next ∷ taken) lines = line ∷ unfolded_after (next ∷ taken) lines
-
 -- the lines of a head, each with its folds, and what follows the empty line
 abbrev pub head_at : List ℕ → Option (List (List ℕ) × List ℕ)
 head_at bytes = option_map (λ x. (unfolded x.0, x.1)) (lines_at false bytes)
@@ -97,9 +91,3 @@ folds_on has_fold (next ∷ lines) = if is_fold next then folds_on true lines el
 abbrev pub folds_of : List (List ℕ) → List Bool
 folds_of [] = []
 folds_of (line ∷ lines) = folds_on false lines
-
--- of lines that were taken, and the lines behind them: the last one may go on
-abbrev pub folds_after : List Bool → List (List ℕ) → List Bool
-folds_after [] lines = folds_of lines
-folds_after (has_fold ∷ []) lines = folds_on has_fold lines
-folds_after (has_fold ∷ next ∷ taken) lines = has_fold ∷ folds_after (next ∷ taken) lines

@@ -1,7 +1,7 @@
 -- The parts of a datagram, with their places in it.
 use Rattle.std.specs.Prelude.{◌≡◌, ℕ, Bool, false, List, [], ◌∷◌, ◌++◌, map, Option, Some, option_map}
 use Rattle.std.specs.Option.{option_and_then, unwrap_or}
-use Rattle.std.specs.List.{AllByRecursion, AllZip}
+use Rattle.std.specs.List.{AllByRecursion}
 use denote.Ref.{Bor}
 use Rattle.sip_text.specs.declared.span.Span.{Span}
 use Rattle.sip_text.specs.Span.{part}
@@ -9,11 +9,9 @@ use Rattle.sip_form.specs.field.declared.field.Field.{Field}
 use Rattle.sip_form.specs.declared.message.Message.{Message}
 use Rattle.sip_form.specs.ViewStart.{start_seen}
 use Rattle.sip_form.specs.view.Piece.{bytes_of}
-use Rattle.sip_form.specs.view.Slice.{IsSliceOf, IsCutFrom, IsPieceOf, IsPieceCutFrom, is_joined}
+use Rattle.sip_form.specs.view.Slice.{IsSliceOf, IsPieceOf, is_joined}
 use Rattle.sip_message.specs.declared.part_field.PartField.{PartField}
 use Rattle.sip_message.specs.declared.datagram_parts.Parts.{Parts}
-use Rattle.sip_message.specs.declared.line.Line.{Line}
-use Rattle.sip_message.specs.Line.{line_piece, line_bytes, has_fold, AreLinesOf}
 use Rattle.sip_message.specs.Lines.{after_blanks, line_at, lines_at, unfolded, folds_of}
 use Rattle.sip_message.specs.Field.{entries_of, pieces}
 
@@ -42,9 +40,13 @@ folds_kept [] folds = []
 folds_kept (field ∷ fields) [] = []
 folds_kept (field ∷ fields) (fold ∷ folds) = map (λ item. fold) (unwrap_or (pieces field) []) ++ folds_kept fields folds
 
+-- whether the line of each field that a head says has a fold
+abbrev pub folds_of_head : List ℕ → Option (List Bool)
+folds_of_head head = option_and_then (λ lines. option_map (λ entries. folds_kept entries (folds_of lines.0)) (entries_of (unfolded lines.0))) (lines_at false head)
+
 -- whether the line of each field that bytes say has a fold (RFC 3261 7.3.1)
 abbrev pub folds_said : List ℕ → Option (List Bool)
-folds_said bytes = option_and_then (λ first. option_and_then (λ lines. option_map (λ entries. folds_kept entries (folds_of lines.0)) (entries_of (unfolded lines.0))) (lines_at false first.1)) (line_at (after_blanks bytes))
+folds_said bytes = option_and_then (λ first. folds_of_head first.1) (line_at (after_blanks bytes))
 
 -- Parts stand in a datagram: the value of each field whose line has no fold is a slice of the datagram, that of the others was joined,
 -- and the body is a slice.
@@ -66,18 +68,3 @@ pub record AreItemsKept (old : List PartField) (field : PartField) (spans : List
   pub seen : fields_seen new ≡ fields_seen old ++ map (λ span. record (field_seen field) { value = part (bytes_of field.value) span }) spans
   pub folds : joined_values new ≡ joined_values old ++ map (λ span. is_joined field.value) spans
   pub slices : (source : Bor (List ℕ)) → IsPieceOf source field.value → AreSlicesOf source old → AreSlicesOf source new
-
--- where the fields that are kept of entries stand
-pub record AreKept (entries fields : List PartField) : Type 0 where
-  pub folds : joined_values fields ≡ folds_kept (fields_seen entries) (joined_values entries)
-  pub slices : (source : Bor (List ℕ)) → AreSlicesOf source entries → AreSlicesOf source fields
-
--- where the fields of lines stand
-abbrev pub AreFieldsOf : List Line → List PartField → Type 0
-AreFieldsOf lines fields = AllZip (λ line field. IsPieceCutFrom (line_piece line) field.value) lines fields
-
--- where the parts of lines and of what follows them stand
-pub record AreContents (lines : List Line) (rest : Bor (List ℕ)) (parts : Parts) : Type 0 where
-  pub folds : option_map (λ entries. folds_kept entries (map has_fold lines)) (entries_of (map line_bytes lines)) ≡ Some (joined_values parts.fields.items)
-  pub slices : (source : Bor (List ℕ)) → AreLinesOf source lines → AreSlicesOf source parts.fields.items
-  pub body : IsCutFrom rest parts.body

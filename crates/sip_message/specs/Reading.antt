@@ -59,6 +59,15 @@ reading_of bytes = if nat_lt 65507 (length bytes) then Err TooLong else datagram
 
 -- ---- before the limits
 
+-- the one length if there is one, the fields that are kept, and what follows them, of a head (RFC 3261 7.3)
+unfoldable pub head_said : List ℕ → Result (Option ℕ × List Field × List ℕ) ReadError
+head_said bytes = do
+  head ← ok_or (head_at bytes) NotSip
+  entries ← ok_or (entries_of head.0) BadField
+  length ← ok_or (one_length (lengths entries)) BadField
+  fields ← ok_or (kept entries) BadField
+  Ok (length, fields, head.1)
+
 -- whether the body is short, and the message, of a start line, lines and what follows them
 unfoldable pub content_from : Start → List (List ℕ) → List ℕ → Result (Bool × Message) ReadError
 content_from start lines rest = do

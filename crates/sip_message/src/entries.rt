@@ -1,26 +1,25 @@
-ghost use Rattle.std.specs.Prelude.{◌≡◌, true, length, take, option_map, map, IfOk, IfSome};
+ghost use Rattle.std.specs.Prelude.{◌≡◌, true, length, take, option_map, IfOk, IfSome, MatchResult, Some};
 ghost use Rattle.std.specs.List.{list_all};
-ghost use Rattle.std.specs.Option.{ok_or};
 ghost use Rattle.sip_text.specs.Lists.{trimmed, end_trimmed};
 ghost use Rattle.sip_text.specs.Words.{is_token_text};
 ghost use Rattle.sip_text.specs.Splits.{split_at_byte};
 ghost use Rattle.sip_form.specs.view.declared.piece.Piece.TheVariants.{Part, Joined};
 ghost use Rattle.sip_form.specs.view.Slice.{IsCutFrom, IsPieceCutFrom};
-ghost use Rattle.sip_message.specs.Field.{is_text, field_from, field_of, entries_of};
+ghost use Rattle.sip_message.specs.HeadContent.{IsFault};
+ghost use Rattle.sip_message.specs.Field.{is_text, field_from, field_of};
 ghost use Rattle.sip_message.specs.Line.{line_piece, line_bytes};
-ghost use Rattle.sip_message.specs.Parts.{field_seen, fields_seen, AreFieldsOf};
-ghost use Rattle.sip_message.specs.Reading.{Gives};
+ghost use Rattle.sip_message.specs.Named.{IsNamed};
+ghost use Rattle.sip_message.specs.Parts.{field_seen};
 ghost use Rattle.sip_message.specs.Seen.{seen_field};
-ghost use Rattle.sip_form.specs.declared.error.ReadError.TheVariants.{BadField};
 
 use crate::joined_line::JoinedLine;
 use crate::line::Line;
+use crate::line_fault::LineFault;
 use crate::part_field::PartField;
 use httparse::is_header_value;
 use sip_form::view::{Piece, ViewName, slice_before, slice_from};
-use sip_form::{ViewError, ViewRefusal};
 use sip_text::{
-    Buffer, is_token, split_once, without_blanks, without_end_blanks, without_front_blanks,
+    Buffer, is_token, split_once, split_token, without_end_blanks, without_front_blanks,
 };
 use std::alloc::{AllocError, Global};
 
@@ -49,7 +48,8 @@ fn trimmed_slice(bytes: &[u8]) -> &[u8]
     ensures cut { IsCutFrom bytes.entry result }
 {
     let start = bytes.len() - without_front_blanks(bytes).len();
-    slice_before(slice_from(bytes, start), without_blanks(bytes).len())
+    let end = without_end_blanks(bytes).len();
+    slice_before(slice_from(bytes, start), end.saturating_sub(start))
 }
 
 /// The written name and the value of the field of what stands before its `:` and behind it.
@@ -68,14 +68,45 @@ fn field_from_parts<'a>(front: &'a [u8], value: &'a [u8]) -> Option<(&'a [u8], &
     Some((name, trimmed_slice(value)))
 }
 
-/// The written name and the value of the field that a line writes.
-fn parts_of_line(line: &[u8]) -> Option<(&[u8], &[u8])>
+/// The name at the front of a line that a `:` follows at once, as in most, and what stands behind it. None says nothing.
+fn plain_halves(line: &[u8]) -> Option<(&[u8], &[u8])>
+    ensures halves { IfSome result (λ x. IsNamed line.now x.0.now x.1.now) }
+    ensures cut { IfSome result (λ x. IsCutFrom line.entry x.1) }
+{
+    let (name, rest) = split_token(line);
+    if name.is_empty() {
+        return None;
+    }
+    let Some((b':', _)) = rest.split_first() else {
+        return None;
+    };
+    let at = name.len();
+    Some((slice_before(line, at), slice_from(line, at + 1)))
+}
+
+/// The written name and the value of the field that a line of any form writes.
+fn any_parts(line: &[u8]) -> Option<(&[u8], &[u8])>
     ensures field { option_map (λ x. seen_field x.0.now x.1.now) result ≡ field_of line.now }
     ensures name { IfSome result (λ x. (is_token_text x.0.now ≡ true) × (take (length x.0.now) line.now ≡ x.0.now)) }
     ensures cut { IfSome result (λ x. IsCutFrom line.entry x.1) }
 {
     let (front, value) = halves(line, b':')?;
     field_from_parts(front, value)
+}
+
+/// The written name and the value of the field that a line writes.
+pub(crate) fn parts_of_line(line: &[u8]) -> Option<(&[u8], &[u8])>
+    ensures field { option_map (λ x. seen_field x.0.now x.1.now) result ≡ field_of line.now }
+    ensures name { IfSome result (λ x. (is_token_text x.0.now ≡ true) × (take (length x.0.now) line.now ≡ x.0.now)) }
+    ensures cut { IfSome result (λ x. IsCutFrom line.entry x.1) }
+{
+    let Some((name, value)) = plain_halves(line) else {
+        return any_parts(line);
+    };
+    if !is_text_value(value) {
+        return None;
+    }
+    Some((name, trimmed_slice(value)))
 }
 
 /// The field with this name and this value, which is copied.
@@ -91,52 +122,35 @@ fn copied<'a>(alloc: Global, name: &'a [u8], value: &[u8]) -> Result<PartField<'
 }
 
 /// The field that a line without folds writes. No byte is copied.
-fn field_of_part<'a>(line: &'a [u8]) -> Result<PartField<'a>, ViewError<'a>>
-    ensures field { Gives field_seen result (ok_or (field_of line.now) BadField) }
-    ensures cut { IfOk result (λ field. IsPieceCutFrom (Part line.entry) field.value) }
+fn field_of_part<'a>(line: &'a [u8]) -> Option<PartField<'a>>
+    ensures field { option_map field_seen result ≡ field_of line.now }
+    ensures cut { IfSome result (λ field. IsPieceCutFrom (Part line.entry) field.value) }
 {
-    match parts_of_line(line) {
-        Some((name, value)) => Ok(PartField {
-            name: ViewName::of_part(name),
-            value: Piece::Part(value),
-        }),
-        None => Err(ViewError::new(ViewRefusal::BadField)),
-    }
+    let (name, value) = parts_of_line(line)?;
+    Some(PartField {
+        name: ViewName::of_part(name),
+        value: Piece::Part(value),
+    })
 }
 
 /// The field that a line with folds writes: of its value alone, bytes are copied.
-fn field_of_joined<'a>(alloc: Global, line: &JoinedLine<'a>) -> Result<PartField<'a>, ViewError<'a>>
-    ensures field { Gives field_seen result (ok_or (field_of line.now.bytes.items) BadField) }
+fn field_of_joined<'a>(alloc: Global, line: &JoinedLine<'a>) -> Result<PartField<'a>, LineFault>
+    ensures field { MatchResult result (λ field. field_of line.now.bytes.items ≡ Some (field_seen field)) (λ e. IsFault e (field_of line.now.bytes.items)) }
     ensures joined { IfOk result (λ field. IsPieceCutFrom (Joined line.now.bytes.items) field.value) }
 {
     match parts_of_line(line.as_slice()) {
         Some((name, value)) => Ok(copied(alloc, line.front(name), value)?),
-        None => Err(ViewError::new(ViewRefusal::BadField)),
+        None => Err(LineFault::BadField),
     }
 }
 
 /// The field that a line writes.
-fn field_of_line<'a>(alloc: Global, line: &Line<'a>) -> Result<PartField<'a>, ViewError<'a>>
-    ensures field { Gives field_seen result (ok_or (field_of (line_bytes line.now)) BadField) }
+pub(crate) fn field_of_line<'a>(alloc: Global, line: &Line<'a>) -> Result<PartField<'a>, LineFault>
+    ensures field { MatchResult result (λ field. field_of (line_bytes line.now) ≡ Some (field_seen field)) (λ e. IsFault e (field_of (line_bytes line.now))) }
     ensures cut { IfOk result (λ field. IsPieceCutFrom (line_piece line.now) field.value) }
 {
     match line {
-        Line::Part(part) => field_of_part(part),
+        Line::Part(part) => field_of_part(part).ok_or(LineFault::BadField),
         Line::Unfolded(joined) => field_of_joined(alloc, joined),
     }
-}
-
-/// The fields that lines write.
-pub(crate) fn fields_of_lines<'a>(
-    alloc: Global,
-    lines: &[Line<'a>],
-) -> Result<Vec<PartField<'a>>, ViewError<'a>>
-    ensures fields { Gives (λ fields. fields_seen fields.items) result (ok_or (entries_of (map line_bytes lines.now)) BadField) }
-    ensures cut { IfOk result (λ fields. AreFieldsOf lines.now fields.items) }
-{
-    let mut fields = Vec::with_capacity(alloc, lines.len())?;
-    for line in lines {
-        fields.push(field_of_line(alloc, line)?)?;
-    }
-    Ok(fields)
 }

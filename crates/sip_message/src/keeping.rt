@@ -1,17 +1,15 @@
-ghost use Rattle.std.specs.Prelude.{◌≡◌, [], ◌∷◌, true, false, length, map, IfOk, OnOk, All, None, MatchResult, ◌⊎◌};
-ghost use Rattle.std.specs.Option.{ok_or};
+ghost use Rattle.std.specs.Prelude.{◌≡◌, [], ◌∷◌, true, false, map, IfOk, OnOk, All, Some, MatchResult};
 ghost use Rattle.sip_form.specs.field.FieldName.{is_length, is_list};
 ghost use Rattle.sip_text.specs.Lists.{cut};
 ghost use Rattle.sip_text.specs.Span.{part, IsWithin};
 ghost use Rattle.sip_form.specs.view.Piece.{bytes_of};
 ghost use Rattle.sip_form.specs.view.Slice.{IsPieceCutFrom};
-ghost use Rattle.sip_message.specs.Field.{pieces, kept};
-ghost use Rattle.sip_message.specs.Parts.{field_seen, fields_seen, IsKept, AreItemsKept, AreKept};
-ghost use Rattle.sip_message.specs.Reading.{Gives};
-ghost use Rattle.sip_form.specs.declared.error.ReadError.TheVariants.{NoMemory, BadField};
+ghost use Rattle.sip_message.specs.HeadContent.{IsFault};
+ghost use Rattle.sip_message.specs.Field.{pieces};
+ghost use Rattle.sip_message.specs.Parts.{field_seen, IsKept, AreItemsKept};
 
+use crate::line_fault::LineFault;
 use crate::part_field::PartField;
-use sip_form::{ViewError, ViewRefusal};
 use sip_text::{Span, TextError, cut_list, is_one_item};
 use std::alloc::{AllocError, Global};
 
@@ -61,26 +59,26 @@ fn keep_parts<'a>(
 }
 
 /// The items of a list (RFC 3261 7.3.1).
-fn items_of<'a>(alloc: Global, value: &[u8]) -> Result<Vec<Span>, ViewError<'a>>
-    ensures items { Gives (λ spans. map (part value.now) spans.items) result (ok_or (cut value.now) BadField) }
+fn items_of(alloc: Global, value: &[u8]) -> Result<Vec<Span>, LineFault>
+    ensures items { MatchResult result (λ spans. cut value.now ≡ Some (map (part value.now) spans.items)) (λ e. IsFault e (cut value.now)) }
     ensures within { IfOk result (λ spans. All (λ span. IsWithin span value.now) spans.items) }
 {
     match cut_list(alloc, value) {
         Ok(spans) => Ok(spans),
-        Err(TextError::NoMemory) => Err(ViewError::new(ViewRefusal::NoMemory)),
-        Err(_) => Err(ViewError::new(ViewRefusal::BadField)),
+        Err(TextError::NoMemory) => Err(LineFault::NoMemory),
+        Err(_) => Err(LineFault::BadField),
     }
 }
 
 /// Keeps a field for each item of a list.
-fn keep_items<'a>(
+pub(crate) fn keep_items<'a>(
     alloc: Global,
     fields: &mut Vec<PartField<'a>>,
     field: &PartField<'a>,
-) -> Result<(), ViewError<'a>>
+) -> Result<(), LineFault>
     requires not_length { is_length field.now.name ≡ false }
     requires list { is_list field.now.name ≡ true }
-    ensures { MatchResult result (λ _. IsKept fields.old.items field.now fields.new.items) (λ e. (e ≡ NoMemory) ⊎ ((e ≡ BadField) × (pieces (field_seen field.now) ≡ None))) }
+    ensures { MatchResult result (λ _. IsKept fields.old.items field.now fields.new.items) (λ e. IsFault e (pieces (field_seen field.now))) }
 {
     let spans = items_of(alloc, field.value.as_slice())?;
     keep_parts(alloc, fields, field, &spans)?;
@@ -92,10 +90,10 @@ fn keep_list<'a>(
     alloc: Global,
     fields: &mut Vec<PartField<'a>>,
     field: PartField<'a>,
-) -> Result<(), ViewError<'a>>
+) -> Result<(), LineFault>
     requires not_length { is_length field.name ≡ false }
     requires list { is_list field.name ≡ true }
-    ensures { MatchResult result (λ _. IsKept fields.old.items field.entry fields.new.items) (λ e. (e ≡ NoMemory) ⊎ ((e ≡ BadField) × (pieces (field_seen field.entry) ≡ None))) }
+    ensures { MatchResult result (λ _. IsKept fields.old.items field.entry fields.new.items) (λ e. IsFault e (pieces (field_seen field.entry))) }
 {
     if is_one_item(field.value.as_slice()) {
         fields.push(field)?;
@@ -104,35 +102,18 @@ fn keep_list<'a>(
     keep_items(alloc, fields, &field)
 }
 
-/// Keeps what is kept of a field.
-fn keep<'a>(
+/// Keeps a field that isn't Content-Length: a list as its items. A field that isn't cut is moved.
+pub(crate) fn keep<'a>(
     alloc: Global,
     fields: &mut Vec<PartField<'a>>,
     field: PartField<'a>,
-) -> Result<(), ViewError<'a>>
-    ensures { MatchResult result (λ _. IsKept fields.old.items field.entry fields.new.items) (λ e. (e ≡ NoMemory) ⊎ ((e ≡ BadField) × (pieces (field_seen field.entry) ≡ None))) }
+) -> Result<(), LineFault>
+    requires not_length { is_length field.name ≡ false }
+    ensures { MatchResult result (λ _. IsKept fields.old.items field.entry fields.new.items) (λ e. IsFault e (pieces (field_seen field.entry))) }
 {
-    if field.name.is_content_length() {
-        return Ok(());
-    }
     if field.name.is_list() {
         return keep_list(alloc, fields, field);
     }
     fields.push(field)?;
     Ok(())
-}
-
-/// The fields that are kept. A field that isn't cut is moved.
-pub(crate) fn kept_of<'a>(
-    alloc: Global,
-    entries: Vec<PartField<'a>>,
-) -> Result<Vec<PartField<'a>>, ViewError<'a>>
-    ensures fields { Gives (λ fields. fields_seen fields.items) result (ok_or (kept (fields_seen entries.entry.items)) BadField) }
-    ensures cut { IfOk result (λ fields. AreKept entries.entry.items fields.items) }
-{
-    let mut fields = Vec::with_capacity(alloc, entries.len())?;
-    for field in entries {
-        keep(alloc, &mut fields, field)?;
-    }
-    Ok(fields)
 }

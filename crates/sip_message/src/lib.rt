@@ -4,6 +4,7 @@
 #![tactic(auto)]
 
 mod body;
+mod content;
 mod datagram_parts;
 mod entries;
 pub mod examples;
@@ -11,6 +12,7 @@ mod joined_line;
 mod keeping;
 pub mod laws;
 mod line;
+mod line_fault;
 mod lines;
 mod part_field;
 mod parting;

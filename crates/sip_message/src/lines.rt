@@ -1,27 +1,20 @@
-ghost use Rattle.std.specs.Prelude.{◌≡◌, ◌+◌, ◌<◌, slice_index, ◌∷◌, ◌++◌, [], length, map, IfOk, IfSome, OnOk, OnErr, List, ℕ, true, MatchOption, option_map, Some, None};
-ghost use Rattle.std.specs.Option.{ok_or};
+ghost use Rattle.std.specs.Prelude.{◌≡◌, ◌+◌, ◌<◌, slice_index, ◌∷◌, [], length, IfOk, IfSome, ℕ, MatchOption, option_map, true, false};
 ghost use Rattle.memchr.specs.Find.{OccursAt, FindsNeedle};
 ghost use Rattle.sip_form.specs.view.Slice.{IsCutFrom};
-ghost use Rattle.sip_message.specs.Line.{line_bytes, IsTaken, IsHeadCut};
-ghost use Rattle.sip_message.specs.Lines.{after_blanks, is_crlf, line_at, is_fold, joined, unfolded_after, head_at};
-ghost use Rattle.sip_message.specs.Reading.{Gives};
-ghost use Rattle.sip_form.specs.declared.error.ReadError.TheVariants.{NotSip};
+ghost use Rattle.sip_message.specs.HeadContent.{IsWhole};
+ghost use Rattle.sip_message.specs.Lines.{after_blanks, line_at, is_fold, head_at};
 
 use crate::line::Line;
 use memchr::memchr;
 use sip_form::view::{slice_before, slice_from};
-use sip_form::{ViewError, ViewRefusal};
 use sip_text::is_space_or_tab;
 use std::alloc::{AllocError, Global};
-
-/// Room for the fields of most messages.
-const USUAL_LINES: usize = 16;
 
 /// A slice with its place: of a variable that is a reference, an invariant sees what it points to, and not where
 /// that stands.
 #[derive(Clone, Copy)]
-struct Slice<'a> {
-    bytes: &'a [u8],
+pub(crate) struct Slice<'a> {
+    pub bytes: &'a [u8],
 }
 
 /// What follows a CRLF at the front.
@@ -92,7 +85,8 @@ pub(crate) fn first_line(bytes: &[u8]) -> Option<(&[u8], &[u8])>
 }
 
 /// Whether a line goes on with the line before it.
-fn is_fold_line(line: &[u8]) -> bool
+#[inline]
+pub(crate) fn is_fold_line(line: &[u8]) -> bool
     ensures { result ≡ is_fold line.now }
 {
     let Some((first, _)) = line.split_first() else {
@@ -101,46 +95,36 @@ fn is_fold_line(line: &[u8]) -> bool
     is_space_or_tab(*first)
 }
 
-/// Takes a fold of the last of some lines. With no line before it, it is none.
-fn take_fold<'a>(alloc: Global, lines: &mut Vec<Line<'a>>, fold: &'a [u8]) -> Result<(), AllocError>
-    requires { is_fold fold.now ≡ true }
-    ensures { OnOk result (IsTaken lines.old.items fold.entry lines.new.items) }
-{
-    let Some(last) = lines.pop() else {
-        lines.push(Line::Part(fold))?;
-        return Ok(());
-    };
-    lines.push(last.with_fold(alloc, fold)?)?;
-    Ok(())
-}
-
-/// Takes a line behind others, of which the last may go on with it.
-fn take_line<'a>(alloc: Global, lines: &mut Vec<Line<'a>>, line: &'a [u8]) -> Result<(), AllocError>
-    ensures { OnOk result (IsTaken lines.old.items line.entry lines.new.items) }
-{
-    if is_fold_line(line) {
-        return take_fold(alloc, lines, line);
-    }
-    lines.push(Line::Part(line))?;
-    Ok(())
-}
-
-/// The lines up to an empty one, each with its folds, and what follows it.
-pub(crate) fn lines_of_head(
+/// A line with its folds, and what follows them.
+pub(crate) fn whole_line<'a>(
     alloc: Global,
-    bytes: &[u8],
-) -> Result<(Vec<Line<'_>>, &[u8]), ViewError<'_>>
-    ensures lines { Gives (λ x. (map line_bytes x.0.items, x.1.now)) result (ok_or (head_at bytes.now) NotSip) }
-    ensures cut { IfOk result (λ x. IsHeadCut bytes.entry x.0.items x.1) }
+    line: &'a [u8],
+    after: &'a [u8],
+) -> Result<(Line<'a>, &'a [u8]), AllocError>
+    ensures { IfOk result (λ x. IsWhole line.entry after.entry x.0 x.1) }
 {
-    let mut lines = Vec::with_capacity(alloc, USUAL_LINES)?;
+    let mut whole = Line::Part(line);
+    let mut rest = Slice { bytes: after };
+    while is_fold_line(rest.bytes) {
+        let Some((fold, next)) = first_line(rest.bytes) else {
+            return Ok((whole, rest.bytes));
+        };
+        whole = whole.with_fold(alloc, fold)?;
+        rest = Slice { bytes: next };
+    }
+    Ok((whole, rest.bytes))
+}
+
+/// Whether there is an empty line, which ends a head.
+pub(crate) fn has_end(bytes: &[u8]) -> bool
+    ensures { MatchOption (head_at bytes.now) (result ≡ false) (λ _. result ≡ true) }
+{
     let mut rest = Slice { bytes };
     while let Some((line, after)) = first_line(rest.bytes) {
         if line.is_empty() {
-            return Ok((lines, after));
+            return true;
         }
-        take_line(alloc, &mut lines, line)?;
         rest = Slice { bytes: after };
     }
-    Err(ViewError::new(ViewRefusal::NotSip))
+    false
 }

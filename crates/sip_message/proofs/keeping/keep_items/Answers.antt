@@ -4,7 +4,6 @@ use Rattle.sip_text.specs.Span.{part}
 use Rattle.sip_text.specs.Lists.{cut}
 use Rattle.sip_form.specs.view.Piece.{bytes_of}
 use Rattle.sip_message.specs.Parts.{AreItemsKept}
-use Rattle.sip_message.proofs.Steps.{found}
 use Rattle.sip_message.proofs.Keeps.{items_kept}
 use Rattle.sip_message.proofs.keeping.keep_items.Goals as goal
 
@@ -13,5 +12,5 @@ returns c =
     let same : c.as_slice.result.now ≡ bytes_of c.args.field.now.value = c.as_slice.ensures in
     let spans : List Span = c.in_ok-spans.spans.items in
     items_kept c.args.fields.now.items c.args.field.now spans c.keep_parts.new.fields.items c.requires.not_length c.requires.list
-    (subst (λ (v : List ℕ). cut v ≡ Some (map (part v) spans)) same (found _ _ c.in_ok-spans.ensures.items))
+    (subst (λ (v : List ℕ). cut v ≡ Some (map (part v) spans)) same c.in_ok-spans.ensures.items)
     (subst (λ (s : List Span). AreItemsKept c.args.fields.now.items c.args.field.now s c.keep_parts.new.fields.items) c.deref.ensures.value c.in_ok-keep_parts.ensures)

@@ -1,5 +1,5 @@
 use Rattle.std.proofs.Common.{refl, sym, ◌∙◌}
-use Rattle.sip_message.proofs.Heads.{itself, cut_again}
+use Rattle.sip_message.proofs.Wholes.{itself, cut_again}
 use Rattle.sip_message.proofs.lines.without_blank_lines.Goals as goal
 
 pub loop-after-init : goal.loop-after-init
