@@ -4,7 +4,7 @@ ghost use Rattle.sip_edit.specs.TopVia;
 
 use sip_credentials::header::Via;
 use sip_credentials::host::{Addr, ip_text};
-use sip_text::{Bytes, first_part, same_no_case, without_blanks};
+use sip_text::{Buffer, Bytes, first_part, same_no_case, without_blanks};
 use std::alloc::{AllocError, Global};
 
 /// The most bytes that a Via gets from its source: the port of an `rport`, and a `received`.
@@ -33,14 +33,16 @@ fn is_parameter(name: &[u8], piece: &[u8]) -> bool
     same_no_case(without_blanks(before_equals(piece)), name)
 }
 
-/// Adds a parameter as it is written in the Via of a request that was received.
-fn put_edited(out: &mut Bytes, port: u16, piece: &[u8]) -> Result<(), AllocError>
+/// Adds a parameter, of which it is known whether it is `rport`, as it is written in the Via of a request that was
+/// received.
+fn put_edited(out: &mut Buffer, port: u16, piece: &[u8], is_port: bool) -> Result<(), AllocError>
+    requires { is_port ≡ TopVia.is_parameter (codes "rport") piece.now }
     ensures { OnOk result (out.new ≡ out.old ++ TopVia.edited port piece.now) }
 {
     if is_parameter(b"received", piece) {
         return Ok(());
     }
-    if is_parameter(b"rport", piece) {
+    if is_port {
         out.extend(b";rport=")?;
         return out.push_decimal(u64::from(port));
     }
@@ -51,7 +53,7 @@ fn put_edited(out: &mut Bytes, port: u16, piece: &[u8]) -> Result<(), AllocError
 /// Adds the source's address, if it is wanted.
 fn put_source(
     alloc: Global,
-    out: &mut Bytes,
+    out: &mut Buffer,
     host: &[u8],
     from: Addr,
     asks: bool,
@@ -71,19 +73,20 @@ fn with_source(alloc: Global, value: &[u8], host: &[u8], from: Addr) -> Result<B
     ensures { IfOk result (λ edited. edited ≡ TopVia.with_source host.now from (parts_at 59 value.now)) }
 {
     let (sent_by, mut rest) = first_part(value, b';');
-    let mut out = Bytes::with_room(alloc, value.len().saturating_add(SOURCE_BYTES))?;
+    let mut out = Buffer::with_room(alloc, value.len().saturating_add(SOURCE_BYTES))?;
     out.extend(sent_by)?;
     let mut asks = false;
     while let Some(text) = rest {
         let (piece, behind) = first_part(text, b';');
-        if is_parameter(b"rport", piece) {
+        let is_port = is_parameter(b"rport", piece);
+        if is_port {
             asks = true;
         }
-        put_edited(&mut out, from.port, piece)?;
+        put_edited(&mut out, from.port, piece, is_port)?;
         rest = behind;
     }
     put_source(alloc, &mut out, host, from, asks)?;
-    Ok(out)
+    Ok(out.into_bytes())
 }
 
 /// The value of the top Via of a request as it came from an address, by what it says: a `received` that came is

@@ -9,3 +9,4 @@ mod Lookup
 pub mod Plain
 pub mod Unread
 pub mod PlainVias
+pub mod PlainAddresses

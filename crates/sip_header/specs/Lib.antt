@@ -9,6 +9,7 @@ pub mod ContactItem
 pub mod MaxForwards
 pub mod Expires
 pub mod Route
+pub mod PlainAddress
 pub mod FieldExamples
 pub mod HeaderError
 pub use Rattle.sip_text.specs as text

@@ -2,3 +2,4 @@ pub mod Answered
 pub mod OneTo
 pub mod Order
 pub mod Told
+pub mod PlainAddresses

@@ -1,8 +1,10 @@
-ghost use Rattle.std.specs.Prelude.{◌≡◌, ◌++◌, IfOk, OnOk};
+ghost use Rattle.std.specs.Prelude.{◌≡◌, ◌++◌, ◌||◌, IfOk, OnOk};
+ghost use Rattle.sip_state.specs.field.FieldName.{is_same_name};
+ghost use Rattle.sip_state.specs.field.declared.field_name.FieldName.TheVariants as Name;
 ghost use Rattle.sip_state.specs.hops.HostAddress.{address_of};
 ghost use Rattle.sip_dialog.specs.Addresses as Given;
 
-use sip_header::{AnyUri, NameAddr, name_addr_of, route_of};
+use sip_header::{AnyUri, NameAddr, bracketed_place, name_addr_of, route_of};
 use sip_state::field::FieldName;
 use sip_state::form::{Kept, View};
 use sip_state::hops::Hops;
@@ -34,10 +36,25 @@ fn item_in<'v>(alloc: Global, field: &'v ViewField<'_>) -> Result<Option<NameAdd
     Ok(None)
 }
 
-/// The address that a Contact or a Record-Route gives.
+/// Whether a field is a Contact or a Record-Route.
+fn gives_address(field: &ViewField<'_>) -> bool
+    ensures { result ≡ (is_same_name field.now.name Name.Contact || is_same_name field.now.name Name.RecordRoute) }
+{
+    let name = field.name();
+    name.is_same(&FieldName::Contact) || name.is_same(&FieldName::RecordRoute)
+}
+
+/// The address that a Contact or a Record-Route gives: no URI is made of one as most are written.
+#[tactic(auto, using(crate::proofs::PlainAddresses::address_is, crate::proofs::PlainAddresses::no_address))]
 fn address_in(alloc: Global, hops: &Hops, field: &ViewField<'_>) -> Result<Option<Addr>, AllocError>
     ensures { IfOk result (λ address. address ≡ Given.address_in (address_of hops.now.addresses) field.now) }
 {
+    if !gives_address(field) {
+        return Ok(None);
+    }
+    if let Some((host, port)) = bracketed_place(field.value().as_slice()) {
+        return Ok(hops.address_at(host, port.unwrap_or(5060)));
+    }
     match item_in(alloc, field)? {
         Some(item) => Ok(address_by(hops, &item.uri)),
         None => Ok(None),

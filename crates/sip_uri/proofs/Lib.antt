@@ -9,3 +9,4 @@ pub mod TableLemmas
 pub use Rattle.sip_host.proofs as of_host
 pub mod Rests
 pub mod Users
+pub mod PlainPlaces

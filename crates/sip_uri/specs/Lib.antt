@@ -2,6 +2,7 @@ pub mod Scheme
 pub mod Parts
 pub mod Uri
 pub mod Reading
+pub mod PlainPlace
 pub mod Aor
 pub mod Examples
 pub mod UriError

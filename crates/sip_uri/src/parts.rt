@@ -70,7 +70,7 @@ fn any_rest(text: &[u8]) -> (Option<(&[u8], Option<&[u8]>)>, Option<&[u8]>, Opti
 }
 
 /// The parameters and the headers that a text writes which follows host and port. None where something else follows.
-fn behind_place(rest: &[u8]) -> Option<(Option<&[u8]>, Option<&[u8]>)>
+pub(crate) fn behind_place(rest: &[u8]) -> Option<(Option<&[u8]>, Option<&[u8]>)>
     ensures { IfSome result (λ x. (front : List ℕ) → list_all is_of_place front ≡ true → AreTexts (front ++ rest.now) front (option_map (λ y. y.now) x.0) (option_map (λ y. y.now) x.1)) }
 {
     let Some((mark, behind)) = rest.split_first() else {

@@ -71,7 +71,7 @@ fn plain_length(text: &[u8]) -> usize
 }
 
 /// A user without escapes that an `@` ends, and what follows it. None says nothing.
-fn plain_user(text: &[u8]) -> Option<(&[u8], &[u8])>
+pub(crate) fn plain_user(text: &[u8]) -> Option<(&[u8], &[u8])>
     ensures { IfSome result (λ x. user_of text.now ≡ Ok (Some (record { user = x.0.now; password = None }), x.1.now)) }
 {
     let (user, rest) = text.split_at(plain_length(text));

@@ -3,3 +3,4 @@ pub mod Last
 pub mod Left
 pub mod Kept
 pub mod Front
+pub mod PlainRoutes

@@ -1,5 +1,6 @@
-ghost use Rattle.std.specs.Prelude.{◌≡◌, IfOk, [], ◌∷◌, codes, decimal, None};
+ghost use Rattle.std.specs.Prelude.{◌≡◌, ◌&&◌, ◌==◌, IfOk, [], ◌∷◌, codes, decimal, None};
 ghost use Rattle.std.specs.List.{list_any};
+ghost use Rattle.std.specs.Option.{unwrap_or};
 ghost use Rattle.std.specs.Str.{bytes_eq};
 ghost use Rattle.sip_uri.specs.text.Words.{is_same_text};
 ghost use Rattle.sip_uri.specs.host.Addresses.{ip_text};
@@ -87,7 +88,14 @@ impl Own {
     pub fn is_own_place(&self, uri: &Uri) -> bool
         ensures { result ≡ is_own_place self.now uri.now }
     {
-        self.is_own_host(uri.host.as_slice()) && uri.port_number().unwrap_or(5060) == self.port
+        self.is_own_at(uri.host.as_slice(), uri.port_number())
+    }
+
+    /// Whether a host and the number of a port, 5060 where none is written, are this server's.
+    pub(crate) fn is_own_at(&self, host: &[u8], port: Option<u16>) -> bool
+        ensures { result ≡ (is_own_host self.now host.now && unwrap_or port 5060 == self.now.port) }
+    {
+        self.is_own_host(host) && port.unwrap_or(5060) == self.port
     }
 
     /// Whether a Via is this server's: its sent-by is the host that it calls itself, in any case, and its port, 5060

@@ -3,7 +3,7 @@ ghost use Rattle.sip_way.specs.Way as Ways;
 ghost use Rattle.sip_way.specs.Routes.{all_but_last, without_own};
 
 use crate::own::Own;
-use sip_header::{AnyUri, NameAddr, route_of};
+use sip_header::{AnyUri, NameAddr, bracketed_place, route_of};
 use sip_uri::text::{Items, Text};
 use std::alloc::{AllocError, Global};
 
@@ -17,10 +17,14 @@ fn names_own_place(own: &Own, uri: &AnyUri<'_>) -> bool
     }
 }
 
-/// Whether an item of Route names this server.
+/// Whether an item of Route names this server: no URI is made of one as this server writes them.
+#[tactic(auto, using(crate::proofs::PlainRoutes::own_at))]
 pub(crate) fn is_own_route(alloc: Global, own: &Own, value: &[u8]) -> Result<bool, AllocError>
     ensures { IfOk result (λ is_own. is_own ≡ Ways.begins_with_own own.now (value.now ∷ [])) }
 {
+    if let Some((host, port)) = bracketed_place(value) {
+        return Ok(own.is_own_at(host, port));
+    }
     match route_of(alloc, value)? {
         Some(route) => Ok(names_own_place(own, &route.uri)),
         None => Ok(false),

@@ -1,0 +1,23 @@
+-- Addresses in the form that most have.
+use Rattle.std.specs.Prelude.{◌≡◌, ◌⊎◌, ℕ, List, [], Option, Some, option_map}
+use Rattle.sip_uri.specs.host.Port.{port_value}
+use Rattle.sip_uri.specs.PlainPlace.{loose_routing}
+use Rattle.sip_uri.specs.declared.scheme.Scheme.TheVariants as Scheme
+use Rattle.sip_uri.specs.declared.uri.Uri.{Uri}
+use Rattle.sip_header.specs.declared.name_addr.AnyUri.TheVariants.{Sip}
+use Rattle.sip_header.specs.declared.name_addr.NameAddr.{NameAddr}
+use Rattle.sip_header.specs.NameAddr.{name_addr_of}
+use Rattle.sip_header.specs.Route.{route_of}
+
+-- A value is an address in brackets, whose URI is a `sip` one with this host and this number of a port, if it has one, and with no parameters but,
+-- perhaps, `lr` (RFC 3261 20.10, 20.30, 20.34).
+pub record IsBracketedPlace (value host : List ℕ) (port : Option ℕ) : Type 0 where
+  pub address : NameAddr
+  pub uri : Uri
+  pub is_address : name_addr_of value ≡ Some address
+  pub is_route : route_of value ≡ Some address
+  pub has_uri : address.uri ≡ Sip uri
+  pub is_sip : uri.scheme ≡ Scheme.Sip
+  pub has_host : uri.host ≡ host
+  pub has_port : option_map port_value uri.port ≡ option_map (λ n. Some n) port
+  pub parameters : (uri.parameters ≡ []) ⊎ (uri.parameters ≡ loose_routing)

@@ -1,0 +1,26 @@
+-- SIP URIs in the form that most have.
+use Rattle.std.specs.Prelude.{◌≡◌, ◌⊎◌, ℕ, List, [], ◌∷◌, codes, Option, Some, None, option_map, Ok}
+use Rattle.sip_host.specs.Port.{port_value}
+use Rattle.sip_uri.specs.declared.user.UserInfo.{UserInfo}
+use Rattle.sip_uri.specs.declared.parameters.Parameter.{Parameter}
+use Rattle.sip_uri.specs.declared.scheme.Scheme.TheVariants as Scheme
+use Rattle.sip_uri.specs.declared.uri.Uri.{Uri}
+use Rattle.sip_uri.specs.Reading.{user_of, reading_of}
+
+-- a text behind a scheme has a user, or none, and this follows it
+pub record HasUser (text rest : List ℕ) : Type 0 where
+  pub info : Option UserInfo
+  pub is_user : user_of text ≡ Ok (info, rest)
+
+-- the parameter `lr`, alone (RFC 3261 19.1.1)
+abbrev pub loose_routing : List Parameter
+loose_routing = record { name = codes "lr"; value = None } ∷ []
+
+-- A text is a `sip` URI with this host and this number of a port, if it has one, whose parameters are none, or `lr` alone (RFC 3261 19.1.1).
+pub record IsPlain (text host : List ℕ) (port : Option ℕ) : Type 0 where
+  pub uri : Uri
+  pub is_read : reading_of text ≡ Ok uri
+  pub is_sip : uri.scheme ≡ Scheme.Sip
+  pub has_host : uri.host ≡ host
+  pub has_port : option_map port_value uri.port ≡ option_map (λ n. Some n) port
+  pub parameters : (uri.parameters ≡ []) ⊎ (uri.parameters ≡ loose_routing)

@@ -1,0 +1,50 @@
+ghost use Rattle.std.specs.Prelude.{◌≡◌, ◌⊎◌, true, codes, option_map, IfSome, Some, None};
+ghost use Rattle.sip_uri.specs.PlainPlace.{HasUser, IsPlain};
+
+use crate::parts::behind_place;
+use crate::scheme::behind_sip;
+use crate::user::plain_user;
+use sip_host::place_at;
+use sip_host::text::split_once;
+
+/// What follows the user of a text behind its scheme, where it has one without escapes and without a password, or none.
+/// None says nothing.
+fn behind_user(text: &[u8]) -> Option<&[u8]>
+    ensures { IfSome result (λ rest. HasUser text.now rest.now) }
+{
+    if let Some((_, rest)) = plain_user(text) {
+        return Some(rest);
+    }
+    match split_once(text, b'@') {
+        Some(_) => None,
+        None => Some(text),
+    }
+}
+
+/// Whether there are no parameters, or `lr` alone; `false` says nothing.
+fn is_loose_or_none(parameters: Option<&[u8]>) -> bool
+    ensures { result ≡ true → (option_map (λ x. x.now) parameters.entry ≡ None) ⊎ (option_map (λ x. x.now) parameters.entry ≡ Some (codes "lr")) }
+{
+    match parameters {
+        Some(text) => text == b"lr".as_slice(),
+        None => true,
+    }
+}
+
+/// The host and the number of the port, if one is written, of a `sip` URI whose parameters are none or `lr` alone, and
+/// that has neither headers nor, in its user, escapes or a password: where they stand, so that nothing is made of the
+/// URI. None says nothing: `parse_uri` reads every URI. Takes no memory.
+pub fn plain_place(text: &[u8]) -> Option<(&[u8], Option<u16>)>
+    ensures { IfSome result (λ x. IsPlain text.now x.0.now x.1) }
+{
+    let rest = behind_user(behind_sip(text)?)?;
+    let (host, port, behind) = place_at(rest)?;
+    let (parameters, headers) = behind_place(behind)?;
+    if headers.is_some() || !is_loose_or_none(parameters) {
+        return None;
+    }
+    match port {
+        Some((_, number)) => Some((host, Some(number))),
+        None => Some((host, None)),
+    }
+}
