@@ -17,7 +17,7 @@ use sip_event::StepOut;
 use sip_proxy::event::Packet;
 use sip_proxy::field::Fields;
 use sip_proxy::fitting::events::opens_fitting;
-use sip_proxy::fork::Change;
+use sip_proxy::fork::Opening;
 use sip_proxy::forwarding::Drafted;
 use sip_proxy::heard::Heard;
 use sip_proxy::hops::Hops;
@@ -51,7 +51,7 @@ fn find_named<T: Timers>(proxy: &Proxy<T>, key: &Key, from: Addr) -> Option<usiz
 #[derive(Drop)]
 struct Agreed {
     packet: Packet,
-    opened: Change,
+    opened: Opening,
 }
 
 /// Makes the 200 to a CANCEL (RFC 3261 9.2). `AllocError` is the only refusal.
@@ -72,7 +72,7 @@ fn agree(
     answered_at_once();
     let extras = Fields::new(alloc);
     let replied = reply(alloc, server, arrival, key, request, 200, &extras)?;
-    let opened = Change::of(alloc, replied.request)?;
+    let opened = Opening::of(alloc, replied.request)?;
     Ok(Agreed {
         packet: replied.packet,
         opened,

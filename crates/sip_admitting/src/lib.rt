@@ -46,7 +46,7 @@ pub mod form {
 
 /// Of `sip_heard`.
 pub mod heard {
-    pub use sip_proxy::heard::Heard;
+    pub use sip_proxy::heard::{Heard, Names};
 }
 
 /// Of `sip_hops`.

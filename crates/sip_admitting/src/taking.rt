@@ -8,7 +8,7 @@ ghost use Rattle.sip_admitting.specs.Admitting.{IsOpenableIn};
 
 use sip_event::StepOut;
 use sip_proxy::Proxy;
-use sip_proxy::fork::Change;
+use sip_proxy::fork::Opening;
 use sip_proxy::learning::Lessons;
 use sip_proxy::opening::Arrival;
 use sip_proxy::state::OpenRequest;
@@ -31,8 +31,8 @@ fn open<T: Timers>(
     ensures timers { OnErr result (proxy.new.timers ≡ proxy.old.timers) }
     ensures room { proxy.new.room ≡ proxy.old.room }
 {
-    let change = Change::of(alloc, request)?;
-    proxy.open(arrival.now, change, Lessons::new(alloc))
+    let opening = Opening::of(alloc, request)?;
+    proxy.open(arrival.now, opening, Lessons::new(alloc))
 }
 
 /// The moment of a datagram comes, and the request is opened that was drafted, if one was: where 1,024 are open, none is.

@@ -7,6 +7,7 @@ ghost use Rattle.sip_judge.specs.header.CoreFields.{core_of};
 ghost use Rattle.sip_judge.specs.key.declared.key.Key.{Key};
 ghost use Rattle.sip_judge.specs.location.declared.binding.Binding.{Binding};
 ghost use Rattle.sip_judge.specs.state.Arrival.{Arrival};
+ghost use Rattle.sip_judge.specs.state.heard.Names.{AreNames};
 ghost use Rattle.sip_judge.specs.state.declared.open_request.OpenRequest.{OpenRequest};
 ghost use Rattle.sip_judge.specs.state.declared.proxy_state.ProxyState.{ProxyState};
 ghost use Rattle.sip_judge.specs.state.declared.server.Server.{Server};
@@ -19,16 +20,18 @@ use crate::acknowledging::ack_verdict;
 use crate::cancelling::cancel_verdict;
 use crate::checks::check;
 use crate::policy::policy_verdict;
-use crate::verdict::Verdict;
+use crate::verdict::{Outcome, Verdict};
 use crate::within::within;
 use sip_judge::dialog::Dialogs;
 use sip_judge::field::Fields;
 use sip_judge::form::View;
 use sip_judge::header::{CoreFields, tag_of};
+use sip_judge::heard::Names;
 use sip_judge::location::Locations;
 use sip_judge::nonces::Nonces;
 use sip_judge::policy::Rules;
 use sip_judge::reply::unsupported_field;
+use sip_judge::targets::Targets;
 use sip_judge::validate::{Checked, Refused};
 use sip_judge::{Judge, is_register};
 use std::alloc::{AllocError, Global};
@@ -74,6 +77,17 @@ fn is_outside(method: &[u8], core: &CoreFields<'_>) -> bool
     !names_dialog(core)
 }
 
+/// Whether a request goes to somebody by what policy decided.
+fn goes_out(outcome: &Outcome) -> bool {
+    match outcome {
+        Outcome::Send(_, targets) => match targets {
+            Targets::Bindings(_) | Targets::Hop(_, _) => true,
+            Targets::NotFound | Targets::Unavailable => false,
+        },
+        Outcome::Challenge | Outcome::Deny(_) | Outcome::Register(_, _) => false,
+    }
+}
+
 /// A request of which this was read goes on in its dialog; where that isn't known, it is answered 481.
 fn request_within<'v, R: Rules>(
     alloc: Global,
@@ -82,15 +96,21 @@ fn request_within<'v, R: Rules>(
     now: u64,
     request: &'v View<'_>,
     checked: &Checked<'_>,
+    names: &mut Option<Names>,
 ) -> Result<Verdict<'v>, AllocError>
     requires core { result_ok (core_of request.now) ≡ Some checked.now.core }
     requires way { checked.now.way ≡ way_of judge.now.config.own request.now }
+    requires names { AreNames request.now names.now }
     ensures verdict { IfOk result (λ verdict. (state : ProxyState) → state.dialogs ≡ dialogs.now.dialogs → (rows : List Binding) (named : Option OpenRequest)
         → Is judge.now rows now named (Definition.within judge.now state now request.now Definition.InDialog (Definition.Answer 481 [])) verdict) }
     ensures room { IfOk result (λ verdict. (room : ℕ) → HasRoom room verdict) }
+    ensures names { AreNames request.now names.new }
 {
     match within(alloc, judge, dialogs, now, request, checked)? {
-        Some((address, id)) => Ok(Verdict::InDialog(address, id)),
+        Some((address, id)) => {
+            *names = Some(Names::of(alloc, &checked.core)?);
+            Ok(Verdict::InDialog(address, id))
+        }
         None => Ok(Verdict::Answer(481, Fields::new(alloc))),
     }
 }
@@ -106,22 +126,28 @@ fn core_verdict<'v, R: Rules>(
     request: &'v View<'_>,
     method: &[u8],
     checked: &Checked<'_>,
+    names: &mut Option<Names>,
 ) -> Result<Verdict<'v>, AllocError>
     requires moment { now < 2 ^ 62 }
     requires core { result_ok (core_of request.now) ≡ Some checked.now.core }
     requires way { checked.now.way ≡ way_of judge.now.config.own request.now }
+    requires names { AreNames request.now names.now }
     ensures verdict { IfOk result (λ verdict. (state : ProxyState) (is_full : Bool) → Knows state locations.old.rows nonces.now dialogs.now.dialogs is_full → (named : Option OpenRequest)
         → Is judge.now locations.old.rows now named (Definition.core_verdict judge.now state now request.now method.now (Some checked.now.core)) verdict) }
     ensures unchanged { locations.new.rows ≡ locations.old.rows }
     ensures room { IfOk result (HasRoom locations.new.room) }
+    ensures names { AreNames request.now names.new }
 {
     if is_outside(method, &checked.core) {
         let judged = policy_verdict(
             alloc, judge, locations, nonces, now, request, method, checked,
         )?;
+        if goes_out(&judged.outcome) {
+            *names = Some(Names::of(alloc, &checked.core)?);
+        }
         return Ok(Verdict::Judged(judged));
     }
-    request_within(alloc, judge, dialogs, now, request, checked)
+    request_within(alloc, judge, dialogs, now, request, checked, names)
 }
 
 /// The verdict on a request that passed the checks, of which this was read: 503 without room, else it is served.
@@ -136,20 +162,23 @@ fn passed_verdict<'v, R: Rules>(
     request: &'v View<'_>,
     method: &[u8],
     checked: &Checked<'_>,
+    names: &mut Option<Names>,
 ) -> Result<Verdict<'v>, AllocError>
     requires moment { now < 2 ^ 62 }
     requires core { result_ok (core_of request.now) ≡ Some checked.now.core }
     requires way { checked.now.way ≡ way_of judge.now.config.own request.now }
+    requires names { AreNames request.now names.now }
     ensures verdict { IfOk result (λ verdict. (state : ProxyState) → Knows state locations.old.rows nonces.now dialogs.now.dialogs is_full → (named : Option OpenRequest)
         → Is judge.now locations.old.rows now named (Definition.checked_verdict judge.now state now request.now method.now None) verdict) }
     ensures unchanged { locations.new.rows ≡ locations.old.rows }
     ensures room { IfOk result (HasRoom locations.new.room) }
+    ensures names { AreNames request.now names.new }
 {
     if is_full {
         return Ok(Verdict::Answer(503, Fields::new(alloc)));
     }
     core_verdict(
-        alloc, judge, locations, nonces, dialogs, now, request, method, checked,
+        alloc, judge, locations, nonces, dialogs, now, request, method, checked, names,
     )
 }
 
@@ -165,17 +194,21 @@ fn checked_verdict<'v, R: Rules>(
     request: &'v View<'_>,
     method: &[u8],
     short: bool,
+    names: &mut Option<Names>,
 ) -> Result<Verdict<'v>, AllocError>
     requires moment { now < 2 ^ 62 }
     requires request { IsRequestOf method.now request.now.start }
+    requires names { AreNames request.now names.now }
     ensures verdict { IfOk result (λ verdict. (state : ProxyState) → Knows state locations.old.rows nonces.now dialogs.now.dialogs is_full → (named : Option OpenRequest)
         → Is judge.now locations.old.rows now named (Definition.checked_verdict judge.now state now request.now method.now (refusal_of judge.now.config.own request.now short)) verdict) }
     ensures unchanged { locations.new.rows ≡ locations.old.rows }
     ensures room { IfOk result (HasRoom locations.new.room) }
+    ensures names { AreNames request.now names.new }
 {
     match check(alloc, judge, request, method, short) {
         Ok(checked) => passed_verdict(
             alloc, judge, locations, nonces, dialogs, is_full, now, request, method, &checked,
+            names,
         ),
         Err(Refused::NoMemory) => Err(AllocError),
         Err(Refused::Status(status, items)) => refusal_verdict(alloc, status, items.as_slice()),
@@ -200,8 +233,9 @@ fn is_cancel(method: &[u8]) -> bool
 /// length says: the first case that applies. An ACK is sent on in a dialog or dropped; a CANCEL is decided by the
 /// request that it names, unless it is bad or there is no room; every other is refused by the checks, answered 503
 /// where 1,024 requests are open, sent on in its dialog, or judged by policy, and then registered or sent to its targets
-/// (RFC 3261 9.2, 10.3, 16.3 to 16.5). No binding changes; there is room for the plan that a REGISTER gives.
-/// `AllocError` is the only refusal. Moments are in milliseconds, below 2^62.
+/// (RFC 3261 9.2, 10.3, 16.3 to 16.5). What names its dialogs is made where it goes on and is kept, of what the checks read.
+/// No binding changes; there is room for the plan that a REGISTER gives. `AllocError` is the only refusal. Moments are in
+/// milliseconds, below 2^62.
 pub fn new_verdict<'v, R: Rules>(
     alloc: Global,
     judge: &Judge<R>,
@@ -213,6 +247,7 @@ pub fn new_verdict<'v, R: Rules>(
     request: &'v View<'_>,
     method: &[u8],
     short: bool,
+    names: &mut Option<Names>,
 ) -> Result<Verdict<'v>, AllocError>
     requires moment { now < 2 ^ 62 }
     requires request { IsRequestOf method.now request.now.start }
@@ -220,7 +255,9 @@ pub fn new_verdict<'v, R: Rules>(
         → Is judge.now locations.old.rows now (Definition.found_for_cancel state key a.from) (Definition.new_verdict judge.now state a request.now short method.now key) verdict) }
     ensures unchanged { locations.new.rows ≡ locations.old.rows }
     ensures room { IfOk result (HasRoom locations.new.room) }
+    ensures names { AreNames request.now names.new }
 {
+    *names = None;
     if is_ack(method) {
         return ack_verdict(alloc, judge, dialogs, now, request, method, short);
     }
@@ -228,6 +265,6 @@ pub fn new_verdict<'v, R: Rules>(
         return cancel_verdict(alloc, &judge.server().config.own, is_full, request, short);
     }
     checked_verdict(
-        alloc, judge, locations, nonces, dialogs, is_full, now, request, method, short,
+        alloc, judge, locations, nonces, dialogs, is_full, now, request, method, short, names,
     )
 }

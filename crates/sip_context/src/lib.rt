@@ -43,7 +43,7 @@ pub mod form {
 
 /// Of `sip_heard`.
 pub mod heard {
-    pub use sip_state::heard::{Heard, received_value};
+    pub use sip_state::heard::{Heard, Names, received_value};
 }
 
 /// Of `sip_best`.

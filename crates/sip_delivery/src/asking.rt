@@ -3,6 +3,7 @@ ghost use Rattle.sip_admitting.specs.Admitting.{IsAnswered};
 ghost use Rattle.sip_admitting.specs.proxy.Proxy.{IsComing};
 ghost use Rattle.sip_admitting.specs.proxy.arrival.Verdict.{HasRoomFor, Is};
 ghost use Rattle.sip_admitting.specs.proxy.arrival.declared.verdict.Verdict.TheVariants as Arrived;
+ghost use Rattle.sip_admitting.specs.proxy.heard.Names.{AreNames};
 ghost use Rattle.sip_admitting.specs.proxy.key.Key.{key_of};
 ghost use Rattle.sip_admitting.specs.proxy.opening.Arrivals.{arrival_of};
 ghost use Rattle.sip_admitting.specs.proxy.state.State.{has_key};
@@ -15,6 +16,7 @@ use crate::keeping::{NewRequest, keep};
 use sip_admitting::arrival::{Judged, Outcome};
 use sip_admitting::event::StepOut;
 use sip_admitting::form::View;
+use sip_admitting::heard::Names;
 use sip_admitting::hops::Hops;
 use sip_admitting::key::Key;
 use sip_admitting::opening::Arrival;
@@ -63,10 +65,12 @@ fn send_judged<T: Timers>(
     arrival: Arrival,
     key: Key,
     message: &View<'_>,
+    names: Option<Names>,
     judged: &Judged<'_>,
 ) -> Result<StepOut, AllocError>
     requires coming { IsComing proxy.old.state arrival }
     requires key { key_of message.now ≡ Some key }
+    requires names { AreNames message.now names }
     requires alone { position (has_key key) proxy.old.state.requests ≡ None }
     requires rows { hops.now.addresses ≡ server.now.config.addresses }
     requires there { Asking.is_answered_here judged.now.outcome ≡ false }
@@ -78,7 +82,7 @@ fn send_judged<T: Timers>(
 {
     match &judged.outcome {
         Outcome::Send(rule, targets) => go_to(
-            alloc, server, hops, proxy, arrival, key, message, judged, *rule, targets,
+            alloc, server, hops, proxy, arrival, key, message, names, judged, *rule, targets,
         ),
         Outcome::Challenge | Outcome::Deny(_) | Outcome::Register(_, _) => {
             Ok(take_dropped(alloc, proxy, arrival))
@@ -96,10 +100,12 @@ pub(crate) fn take_asked<T: Timers>(
     arrival: Arrival,
     key: Key,
     message: &View<'_>,
+    names: Option<Names>,
     judged: Judged<'_>,
 ) -> Result<StepOut, AllocError>
     requires coming { IsComing proxy.old.state arrival }
     requires key { key_of message.now ≡ Some key }
+    requires names { AreNames message.now names }
     requires alone { position (has_key key) proxy.old.state.requests ≡ None }
     requires rows { hops.now.addresses ≡ server.now.config.addresses }
     requires room { HasRoomFor proxy.old.room judged.outcome }
@@ -112,5 +118,7 @@ pub(crate) fn take_asked<T: Timers>(
     if is_answered_here(&judged.outcome) {
         return answer_judged(alloc, server, proxy, arrival, key, message, judged);
     }
-    send_judged(alloc, server, hops, proxy, arrival, key, message, &judged)
+    send_judged(
+        alloc, server, hops, proxy, arrival, key, message, names, &judged,
+    )
 }

@@ -1,5 +1,6 @@
 ghost use Rattle.std.specs.Prelude.{◌≡◌, position, true, false, None, Some, IfOk, OnErr};
 ghost use Rattle.sip_admitting.specs.proxy.Proxy.{IsComing};
+ghost use Rattle.sip_admitting.specs.proxy.heard.Names.{AreNames};
 ghost use Rattle.sip_admitting.specs.proxy.key.Key.{key_of};
 ghost use Rattle.sip_admitting.specs.proxy.state.State.{has_key};
 ghost use Rattle.sip_admitting.specs.proxy.verdict.Verdict as Definition;
@@ -11,6 +12,7 @@ use sip_admitting::arrival::Judged;
 use sip_admitting::dialog::DialogId;
 use sip_admitting::event::StepOut;
 use sip_admitting::form::View;
+use sip_admitting::heard::Names;
 use sip_admitting::hops::Hops;
 use sip_admitting::host::Addr;
 use sip_admitting::key::Key;
@@ -32,12 +34,14 @@ pub(crate) fn go_to<T: Timers>(
     arrival: Arrival,
     key: Key,
     message: &View<'_>,
+    names: Option<Names>,
     judged: &Judged<'_>,
     rule: u32,
     targets: &Targets,
 ) -> Result<StepOut, AllocError>
     requires coming { IsComing proxy.old.state arrival }
     requires key { key_of message.now ≡ Some key }
+    requires names { AreNames message.now names }
     requires alone { position (has_key key) proxy.old.state.requests ≡ None }
     requires space { Definition.is_full proxy.old.state ≡ false }
     requires rows { hops.now.addresses ≡ server.now.config.addresses }
@@ -47,7 +51,7 @@ pub(crate) fn go_to<T: Timers>(
     ensures unchanged { OnErr result (proxy.new.state ≡ proxy.old.state) }
     ensures timers { OnErr result (proxy.new.timers ≡ proxy.old.timers) }
 {
-    let kept = keep_onward(alloc, key, message, arrival.from)?;
+    let kept = keep_onward(alloc, key, message, names, arrival.from)?;
     let NewRequest { key, message } = kept;
     send_to(
         alloc, server, hops, proxy, arrival, key, message, judged, rule, targets,
@@ -64,11 +68,13 @@ pub(crate) fn go_within<T: Timers>(
     arrival: Arrival,
     key: Key,
     message: &View<'_>,
+    names: Option<Names>,
     address: Addr,
     id: DialogId,
 ) -> Result<StepOut, AllocError>
     requires coming { IsComing proxy.old.state arrival }
     requires key { key_of message.now ≡ Some key }
+    requires names { AreNames message.now names }
     requires alone { position (has_key key) proxy.old.state.requests ≡ None }
     requires space { Definition.is_full proxy.old.state ≡ false }
     requires rows { hops.now.addresses ≡ server.now.config.addresses }
@@ -76,7 +82,7 @@ pub(crate) fn go_within<T: Timers>(
     ensures unchanged { OnErr result (proxy.new.state ≡ proxy.old.state) }
     ensures timers { OnErr result (proxy.new.timers ≡ proxy.old.timers) }
 {
-    let kept = keep_onward(alloc, key, message, arrival.from)?;
+    let kept = keep_onward(alloc, key, message, names, arrival.from)?;
     let NewRequest { key, message } = kept;
     send_within(
         alloc, server, hops, proxy, arrival, key, message, address, id,

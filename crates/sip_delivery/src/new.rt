@@ -42,8 +42,19 @@ pub(crate) fn take_new<T: Timers, R: Rules>(
 {
     new_requests_need_room();
     new_verdict_answers_finally();
-    let decided = proxy.verdict(alloc, judge, arrival.now, message, method, short)?;
+    let mut names = None;
+    let decided = proxy.verdict(
+        alloc,
+        judge,
+        arrival.now,
+        message,
+        method,
+        short,
+        &mut names,
+    )?;
     let server = judge.server();
     let hops = judge.hops();
-    serve(alloc, server, hops, proxy, arrival, key, message, decided)
+    serve(
+        alloc, server, hops, proxy, arrival, key, message, names, decided,
+    )
 }

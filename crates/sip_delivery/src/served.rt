@@ -1,6 +1,7 @@
 ghost use Rattle.std.specs.Prelude.{◌≡◌, position, None, Some, IfOk, OnErr};
 ghost use Rattle.sip_admitting.specs.proxy.Proxy.{IsComing};
 ghost use Rattle.sip_admitting.specs.proxy.arrival.Verdict.{HasRoom, Is};
+ghost use Rattle.sip_admitting.specs.proxy.heard.Names.{AreNames};
 ghost use Rattle.sip_admitting.specs.proxy.key.Key.{key_of};
 ghost use Rattle.sip_admitting.specs.proxy.state.State.{has_key};
 ghost use Rattle.sip_admitting.specs.proxy.verdict.Verdict as Definition;
@@ -12,6 +13,7 @@ use crate::going::go_within;
 use sip_admitting::arrival::Verdict;
 use sip_admitting::event::StepOut;
 use sip_admitting::form::View;
+use sip_admitting::heard::Names;
 use sip_admitting::hops::Hops;
 use sip_admitting::key::Key;
 use sip_admitting::opening::Arrival;
@@ -22,8 +24,8 @@ use sip_ongoing::take_dropped;
 use sip_routing::send_ack;
 use std::alloc::{AllocError, Global};
 
-/// The step of a new request with a key, of what was decided about it. `AllocError` is the only refusal; nothing is
-/// changed then.
+/// The step of a new request with a key, of what was decided about it; its names may have been made before.
+/// `AllocError` is the only refusal; nothing is changed then.
 pub(crate) fn serve<T: Timers>(
     alloc: Global,
     server: &Server,
@@ -32,10 +34,12 @@ pub(crate) fn serve<T: Timers>(
     arrival: Arrival,
     key: Key,
     message: &View<'_>,
+    names: Option<Names>,
     decided: Verdict<'_>,
 ) -> Result<StepOut, AllocError>
     requires coming { IsComing proxy.old.state arrival }
     requires key { key_of message.now ≡ Some key }
+    requires names { AreNames message.now names }
     requires alone { position (has_key key) proxy.old.state.requests ≡ None }
     requires rows { hops.now.addresses ≡ server.now.config.addresses }
     requires room { HasRoom proxy.old.room decided }
@@ -55,10 +59,10 @@ pub(crate) fn serve<T: Timers>(
             alloc, server, proxy, arrival, key, message, status, &extras,
         ),
         Verdict::InDialog(address, id) => go_within(
-            alloc, server, hops, proxy, arrival, key, message, address, id,
+            alloc, server, hops, proxy, arrival, key, message, names, address, id,
         ),
         Verdict::Judged(judged) => take_asked(
-            alloc, server, hops, proxy, arrival, key, message, judged,
+            alloc, server, hops, proxy, arrival, key, message, names, judged,
         ),
     }
 }

@@ -16,7 +16,6 @@ use Rattle.sip_keeping.specs.request.Named.{named_by}
 use Rattle.sip_keeping.specs.request.declared.request.Request.{Request}
 use Rattle.sip_fork.specs.Contexts.{AreTied}
 use Rattle.sip_fork.specs.Due.{IsDue, IsFirst, IsNotDue, IsNothingDue, IsOfFirst, IsOfOwner}
-use Rattle.sip_fork.specs.declared.due.First.{First}
 use Rattle.sip_fork.specs.Queue.{IsQueue}
 use Rattle.sip_fork.specs.Timing.{Timing}
 use Rattle.sip_fork.specs.declared.due.Due.{Due}

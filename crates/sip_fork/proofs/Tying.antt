@@ -1,8 +1,8 @@
 -- Exactly the timers that open requests name stand, also after one was opened, changed or closed.
-use Rattle.std.proofs.Common.{◌≡◌, ℕ, ◌+◌, ◌<◌, ◌^◌, zero, Bool, true, false, cond, List, [], ◌∷◌, ◌++◌, map, length, take, drop, suc, get_or, set, remove, slice_get, position, Some, refl, sym, ◌∙◌, ap, subst, arith, eqb}
+use Rattle.std.proofs.Common.{◌≡◌, ℕ, ◌+◌, ◌<◌, ◌^◌, zero, Bool, true, false, cond, List, [], ◌∷◌, ◌++◌, map, take, drop, suc, get_or, set, remove, slice_get, position, Some, refl, sym, ◌∙◌, ap, subst, arith, eqb}
 use Rattle.std.specs.Prelude.{count_by}
 use Rattle.std.specs.Option.{option_map}
-use Rattle.std.proofs.lemmas.List.{map-append, drop-map, take-map, get_or-set_same, set-set}
+use Rattle.std.proofs.lemmas.List.{map-append, drop-map, take-map}
 use Rattle.std.proofs.lemmas.List.Elements.{All-get_or, All-append, All-take, All-drop, All-set, All-push}
 use Rattle.std.proofs.lemmas.List.Sums.{sum_by_push, sum_by-set, sum_by-remove, get_or-le-sum_by}
 use Rattle.std.proofs.lemmas.Option.{slice_get_within, slice_get-map, get_or_from_slice_get}
@@ -17,7 +17,7 @@ use Rattle.sip_keeping.specs.request.Named.{HasKeys, IsReady, named_by}
 use Rattle.sip_keeping.specs.request.Near.{IsNear}
 use Rattle.sip_keeping.specs.request.declared.request.Plan.{Plan}
 use Rattle.sip_keeping.specs.request.declared.request.Request.{Request}
-use Rattle.sip_fork.specs.Contexts.{AreTied, IsFitting, IsKept, IsSame}
+use Rattle.sip_fork.specs.Contexts.{AreTied, IsFitting, IsKept}
 use Rattle.sip_fork.proofs.Nearness.{IsNear-within}
 use Rattle.sip_fork.proofs.Mapped.{position-map}
 
@@ -121,28 +121,10 @@ pub place_of : (next : OpenRequest) (rows : List Request) (i : ℕ) (r : Request
 place_of next rows i r same found =
     position-map (λ (x : Request). x.context) (λ (x : OpenRequest). eqb x.number next.number) rows ∙ subst (λ (n : ℕ). position (λ (x : Request). eqb x.context.number n) rows ≡ Some i) (sym same) found
 
--- ---- one in another's place, and back
+-- ---- what is seen of the rows
 
 abbrev pub contexts : List Request → List OpenRequest
 contexts rows = map (λ (r : Request). r.context) rows
-
--- what stands at a place where something was put
-put_there : (rows : List Request) (i : ℕ) (spare r : Request) → i < length rows → slice_get (set rows i spare) i ≡ Some r → r ≡ spare
-put_there rows i spare r lt at = sym (get_or_from_slice_get (set rows i spare) i r r at) ∙ get_or-set_same rows i spare r lt
-
-pub same_before : (request : OpenRequest) (spare r : Request) → IsSame request spare.context → IsSame r.context request → IsSame r.context spare.context
-same_before request spare r prepared same = record { number = prepared.number ∙ same.number; key = prepared.key ∙ same.key }
-
-pub same_back : (rows mid : List Request) (i : ℕ) (spare r next : Request) (request : OpenRequest) → i < length rows → mid ≡ set rows i spare → slice_get mid i ≡ Some r → IsSame request spare.context → next.context ≡ request → IsSame r.context next.context
-same_back rows mid i spare r next request lt put at prepared is =
-    let there : r ≡ spare = put_there rows i spare r lt (subst (λ (xs : List Request). slice_get xs i ≡ Some r) put at) in
-    record {
-      number = ap (λ (x : OpenRequest). x.number) is ∙ sym prepared.number ∙ ap (λ (x : Request). x.context.number) (sym there);
-      key = ap (λ (x : OpenRequest). x.key) is ∙ sym prepared.key ∙ ap (λ (x : Request). x.context.key) (sym there);
-    }
-
-pub put_back : (rows mid new : List Request) (i : ℕ) (spare next : Request) → mid ≡ set rows i spare → new ≡ set mid i next → new ≡ set rows i next
-put_back rows mid new i spare next put back = back ∙ ap (λ (xs : List Request). set xs i next) put ∙ set-set rows i spare next
 
 pub seen_changed : (rows new : List Request) (i : ℕ) (next : Request) (request : OpenRequest) → new ≡ set rows i next → next.context ≡ request → contexts new ≡ set (contexts rows) i request
 seen_changed rows new i next request e is = ap (λ (xs : List Request). contexts xs) e ∙ set-map rows i next ∙ ap (λ (x : OpenRequest). set (contexts rows) i x) is

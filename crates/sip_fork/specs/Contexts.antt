@@ -53,12 +53,10 @@ pub record AreTied (pending : List Timer) (reached : ℕ) (rows : List Request) 
   pub kept : All (IsKept reached) rows
   pub early : reached < 2 ^ 62
 
--- A request as it is to be is prepared: there are keys for its branches, its numbers are of their types, and what stands in
--- its place meanwhile has its number and its key.
-pub record IsPrepared (plan : Plan) (spare : Request) : Type 0 where
+-- A request as it is to be is prepared: there are keys for its branches, and its numbers are of their types.
+pub record IsPrepared (plan : Plan) : Type 0 where
   pub keys : HasKeys plan.request plan.keys
   pub numbers : HasNumbers plan.request
-  pub same : IsSame plan.request spare.context
 
 -- The moments of each open request are near the last one that came, which is at most a millisecond behind the one by which
 -- timers were told that they aren't due.

@@ -6,7 +6,6 @@ ghost use Rattle.sip_model.specs.state.declared.branch.Branch.{Branch};
 ghost use Rattle.sip_keeping.specs.request.Named.{HasKeys};
 ghost use Rattle.sip_keeping.specs.request.Near.{most_timers};
 ghost use Rattle.sip_timers.specs.declared.error.TimerError.TheVariants.{NoMemory};
-ghost use Rattle.sip_fork.specs.Contexts.{IsSame};
 
 use crate::row::Standing;
 use sip_keeping::inputs::Sending;
@@ -19,13 +18,11 @@ use sip_timers::{TimerError, Timers};
 use std::alloc::{AllocError, Global};
 use std::marker::Model;
 
-/// An open request as it is to be, with all the memory that it takes to open it, or to change the one of its number and
-/// its key; seen as the request.
+/// An open request as it is to be, with all the memory that it takes to change the one of its number and its key; seen as
+/// the request.
 #[derive(Drop)]
 pub struct Change {
     pub(crate) plan: Plan,
-    /// Stands in the request's place while its timers move.
-    pub(crate) spare: Held<Standing>,
 }
 
 impl Model for Change {
@@ -36,7 +33,23 @@ impl Model for Change {
 
     ghost view = { λ c. c.plan.request };
 
-    ghost invariant = { λ c. IsPrepared c.plan c.spare };
+    ghost invariant = { λ c. IsPrepared c.plan };
+}
+
+/// A request as it is to be opened, with all the memory that it takes; seen as the request.
+#[derive(Drop)]
+pub struct Opening {
+    pub(crate) change: Change,
+    /// Where it is to stand.
+    pub(crate) place: Held<Standing>,
+}
+
+impl Model for Opening {
+    ghost use Rattle.sip_model.specs.state.declared.open_request.OpenRequest.{OpenRequest};
+
+    ghost Value = { OpenRequest };
+
+    ghost view = { λ o. o.change };
 }
 
 /// What an input makes of an open request: the request as it is to be, and what is sent.
@@ -54,9 +67,7 @@ const NO_KEYS: TimerKeys = TimerKeys {
 };
 
 /// A closed request of the same number and key, without answers and branches.
-fn closed_like(alloc: Global, call: &OpenRequest) -> Result<OpenRequest, AllocError>
-    ensures { IfOk result (IsSame call.now) }
-{
+fn closed_like(alloc: Global, call: &OpenRequest) -> Result<OpenRequest, AllocError> {
     let key = call.key.clone()?;
     let request = call.request.clone()?;
     Ok(OpenRequest {
@@ -73,10 +84,8 @@ fn closed_like(alloc: Global, call: &OpenRequest) -> Result<OpenRequest, AllocEr
     })
 }
 
-/// What stands in a request's place while its timers move.
-fn spare_of(alloc: Global, call: &OpenRequest) -> Result<Held<Standing>, AllocError>
-    ensures { IfOk result (λ spare. IsSame call.now spare.context) }
-{
+/// Memory for a request, in which a closed one stands until it is opened.
+fn place_for(alloc: Global, call: &OpenRequest) -> Result<Held<Standing>, AllocError> {
     let context = closed_like(alloc, call)?;
     let request = Request {
         context,
@@ -129,22 +138,13 @@ fn has_numbers(call: &OpenRequest) -> u64
 }
 
 impl Change {
-    /// An open request as it is to be. `AllocError` is the only refusal.
-    pub fn of(alloc: Global, request: OpenRequest) -> Result<Self, AllocError>
-        ensures { IfOk result (λ change. change ≡ request) }
-    {
-        let plan = Plan::of(alloc, request)?;
-        Change::of_plan(alloc, plan)
-    }
-
-    /// An open request as it was planned. `AllocError` is the only refusal.
-    pub(crate) fn of_plan(alloc: Global, plan: Plan) -> Result<Self, AllocError>
+    /// An open request as it was planned. Takes no memory.
+    pub(crate) fn of_plan(plan: Plan) -> Self
         requires { HasKeys plan.request plan.keys }
-        ensures { IfOk result (λ change. change ≡ plan.request) }
+        ensures { result ≡ plan.request }
     {
         let _number = has_numbers(&plan.request);
-        let spare = spare_of(alloc, &plan.request)?;
-        Ok(Change { plan, spare })
+        Change { plan }
     }
 
     /// Makes room for the timers that the request may name. `NoMemory` is the only refusal.
@@ -155,7 +155,6 @@ impl Change {
         ensures still { T.reached timers.new ≡ T.reached timers.old }
         ensures refused { IfErr result (λ e. e ≡ NoMemory) }
     {
-        let _spare = &self.spare;
         self.plan.reserve(timers)
     }
 
@@ -163,7 +162,6 @@ impl Change {
     pub fn request(&self) -> &OpenRequest
         ensures { result.now ≡ self.now }
     {
-        let _spare = &self.spare;
         &self.plan.request
     }
 
@@ -171,7 +169,25 @@ impl Change {
     pub(crate) fn closes(&self) -> bool
         ensures { result ≡ States.has_left self.now }
     {
-        let _spare = &self.spare;
         has_left(&self.plan.request)
+    }
+}
+
+impl Opening {
+    /// A request as it is to be opened. `AllocError` is the only refusal.
+    pub fn of(alloc: Global, request: OpenRequest) -> Result<Self, AllocError>
+        ensures { IfOk result (λ opening. opening ≡ request) }
+    {
+        let plan = Plan::of(alloc, request)?;
+        let place = place_for(alloc, &plan.request)?;
+        let change = Change::of_plan(plan);
+        Ok(Opening { change, place })
+    }
+
+    /// The request.
+    pub fn change(&self) -> &Change
+        ensures { result.now ≡ self.now }
+    {
+        &self.change
     }
 }

@@ -18,7 +18,7 @@ ghost use Rattle.sip_fork.specs.Contexts.{IsFitting, IsSame};
 ghost use Rattle.sip_fork.specs.Due.{IsFirst, IsNothingDue, IsOfFirst};
 ghost use Rattle.sip_fork.specs.Places.{branch_at};
 
-use crate::change::{Change, Prepared};
+use crate::change::{Change, Opening, Prepared};
 use crate::due::{First, what_at};
 use crate::lookup::place_of_sent;
 use crate::moving::{change_row, close_row, open_row};
@@ -210,7 +210,7 @@ impl<T: Timers> Contexts<T> {
         let _moment = self.moment;
         let row = self.table.get(place);
         let planned = Planned::of(alloc, server, now, &row.request.context, input)?;
-        let change = Change::of_plan(alloc, planned.plan)?;
+        let change = Change::of_plan(planned.plan);
         Ok(Prepared {
             change,
             sending: planned.sending,
@@ -254,20 +254,20 @@ impl<T: Timers> Contexts<T> {
     }
 
     /// Opens a request that was prepared, whose number is above all others and whose key isn't open. Takes no memory.
-    pub fn open(&mut self, change: Change)
+    pub fn open(&mut self, opening: Opening)
         requires few { length self.old.requests < 1024 }
         requires places { 1 ≤ self.old.places }
-        requires last { All (λ (r : OpenRequest). r.number < change.number) self.old.requests }
-        requires alone { position (has_key change.key) self.old.requests ≡ None }
-        requires within { IsWithin self.old.moment change }
-        requires fitting { IsFitting self.old.reached self.old.room change }
-        ensures requests { self.new.requests ≡ with_one_more change self.old.requests }
+        requires last { All (λ (r : OpenRequest). r.number < opening.number) self.old.requests }
+        requires alone { position (has_key opening.key) self.old.requests ≡ None }
+        requires within { IsWithin self.old.moment opening }
+        requires fitting { IsFitting self.old.reached self.old.room opening }
+        ensures requests { self.new.requests ≡ with_one_more opening self.old.requests }
         ensures moment { self.new.moment ≡ self.old.moment }
         ensures reached { self.new.reached ≡ self.old.reached }
         ensures places { self.old.places ≤ self.new.places + 1 }
-        ensures room { self.old.room ≤ self.new.room + most_timers change }
+        ensures room { self.old.room ≤ self.new.room + most_timers opening }
     {
-        open_row(&mut self.table, &mut self.timers, change);
+        open_row(&mut self.table, &mut self.timers, opening);
     }
 
     /// What is due first of all open requests, if anything is: no deadline stands before it, and nothing is to go again before

@@ -13,7 +13,7 @@ mod queue;
 mod row;
 mod timing;
 
-pub use change::{Change, Prepared};
+pub use change::{Change, Opening, Prepared};
 pub use contexts::Contexts;
 pub use due::{Due, First};
 

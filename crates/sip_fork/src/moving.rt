@@ -5,7 +5,7 @@ ghost use Rattle.sip_keeping.specs.request.Near.{most_timers};
 ghost use Rattle.sip_keeping.specs.request.declared.request.Request.{Request};
 ghost use Rattle.sip_fork.specs.Contexts.{AreTied, IsFitting, IsSame};
 
-use crate::change::Change;
+use crate::change::{Change, Opening};
 use crate::queue::Queue;
 use crate::row::Standing;
 use sip_keeping::request::Request;
@@ -43,32 +43,33 @@ pub(crate) fn change_row<T: Timers>(
     ensures room { timers.old.room ≤ timers.new.room + most_timers change }
     ensures still { timers.new.reached ≡ timers.old.reached }
 {
-    let Change { plan, spare } = change;
-    let mut row = table.replace(place, spare.into_value());
-    row.request.apply(timers, plan);
-    let _spare = table.replace(place, row);
+    let Change { plan } = change;
+    let row = table.get(place);
+    let request = row.request.changed(timers, plan);
+    let _was = table.replace(place, Standing { request });
 }
 
 /// Opens a request behind all others: its timers are set.
 pub(crate) fn open_row<T: Timers>(
     table: &mut Table<Standing>,
     timers: &mut Queue<T>,
-    change: Change,
+    opening: Opening,
 )
     requires few { length table.old.rows < 1024 }
     requires places { 1 ≤ table.old.room }
-    requires last { All (λ (r : Request). r.context.number < change.number) table.old.rows }
-    requires alone { position (λ (r : Request). same_key r.context.key change.key) table.old.rows ≡ None }
+    requires last { All (λ (r : Request). r.context.number < opening.number) table.old.rows }
+    requires alone { position (λ (r : Request). same_key r.context.key opening.key) table.old.rows ≡ None }
     requires tied { AreTied timers.old.pending timers.old.reached table.old.rows }
-    requires fitting { IsFitting timers.old.reached timers.old.room change }
-    ensures rows { map (λ (r : Request). r.context) table.new.rows ≡ map (λ (r : Request). r.context) table.old.rows ++ change ∷ [] }
+    requires fitting { IsFitting timers.old.reached timers.old.room opening }
+    ensures rows { map (λ (r : Request). r.context) table.new.rows ≡ map (λ (r : Request). r.context) table.old.rows ++ opening ∷ [] }
     ensures tied { AreTied timers.new.pending timers.new.reached table.new.rows }
     ensures places { table.old.room ≤ table.new.room + 1 }
-    ensures room { timers.old.room ≤ timers.new.room + most_timers change }
+    ensures room { timers.old.room ≤ timers.new.room + most_timers opening }
     ensures still { timers.new.reached ≡ timers.old.reached }
 {
-    let Change { plan, mut spare } = change;
+    let Opening { change, mut place } = opening;
+    let Change { plan } = change;
     let request = Request::open(timers, plan);
-    let _spare = spare.replace(Standing { request });
-    table.push(spare);
+    let _closed = place.replace(Standing { request });
+    table.push(place);
 }

@@ -4,3 +4,4 @@ pub mod Addresses
 pub mod Received
 pub mod Told
 pub mod Unparted
+pub mod PlainPlaces

@@ -1,5 +1,5 @@
 -- What names the dialogs of a request (RFC 3261 12).
-use Rattle.std.specs.Prelude.{ℕ, List, [], Option, option_map}
+use Rattle.std.specs.Prelude.{◌≡◌, ℕ, List, [], Option, None, Some, option_map, ⊤}
 use Rattle.std.specs.Option.{option_and_then, unwrap_or}
 use Rattle.std.specs.Result.{result_ok}
 use Rattle.sip_form.specs.declared.message.Message.{Message}
@@ -16,6 +16,11 @@ names_of core = record { call_id = core.call_id; from_tag = unwrap_or (tag_of co
 -- those of a request, if its core fields are read
 abbrev pub names_in : Message → Option Names
 names_in m = option_map names_of (result_ok (core_of m))
+
+-- names that were made of a request before, if they were, are its own
+abbrev pub AreNames : Message → Option Names → Type 0
+AreNames m None = ⊤
+AreNames m (Some names) = Some names ≡ names_in m
 
 -- the dialog with a tag of To
 abbrev pub id_to : List ℕ → Names → DialogId

@@ -1,4 +1,6 @@
-ghost use Rattle.std.specs.Prelude.{◌≡◌, IfOk};
+ghost use Rattle.std.specs.Prelude.{◌≡◌, ◌||◌, IfOk};
+ghost use Rattle.sip_header.specs.field.FieldName.{is_same_name};
+ghost use Rattle.sip_header.specs.field.declared.field_name.FieldName.TheVariants as Name;
 ghost use Rattle.sip_dialog.specs.Addresses as Given;
 ghost use Rattle.sip_heard.specs.Given as Spec;
 
@@ -6,7 +8,7 @@ use crate::route_facts::Place;
 use sip_equality::text::{Bytes, Items};
 use sip_equality::uri::Uri;
 use sip_header::form::{FieldName, ViewField};
-use sip_header::{AnyUri, NameAddr, name_addr_of, route_of};
+use sip_header::{AnyUri, NameAddr, bracketed_place, name_addr_of, route_of};
 use sip_hops::{is_by_udp, port_or_default};
 use std::alloc::{AllocError, Global};
 
@@ -49,10 +51,28 @@ fn item_in<'v>(alloc: Global, field: &'v ViewField<'_>) -> Result<Option<NameAdd
     Ok(None)
 }
 
+/// Whether a field is a Contact or a Record-Route.
+fn gives_place(field: &ViewField<'_>) -> bool
+    ensures { result ≡ (is_same_name field.now.name Name.Contact || is_same_name field.now.name Name.RecordRoute) }
+{
+    let name = field.name();
+    name.is_same(&FieldName::Contact) || name.is_same(&FieldName::RecordRoute)
+}
+
 /// Where a Contact or a Record-Route leads, if it is one whose URI may have an address.
+#[tactic(auto, using(crate::proofs::PlainPlaces::place_is, crate::proofs::PlainPlaces::no_place))]
 fn place_in(alloc: Global, field: &ViewField<'_>) -> Result<Option<Place>, AllocError>
     ensures { IfOk result (λ place. place ≡ Spec.place_in field.now) }
 {
+    if !gives_place(field) {
+        return Ok(None);
+    }
+    if let Some((host, port)) = bracketed_place(field.value().as_slice()) {
+        return Ok(Some(Place {
+            host: Bytes::copy(alloc, host)?,
+            port: port.unwrap_or(5060),
+        }));
+    }
     match item_in(alloc, field)? {
         Some(item) => place_by(alloc, &item.uri),
         None => Ok(None),

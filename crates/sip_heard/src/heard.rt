@@ -17,7 +17,7 @@ ghost use Rattle.sip_heard.specs.Given.{address_there};
 ghost use Rattle.sip_heard.specs.Heard.{facts_in};
 
 use crate::given::places_in;
-use crate::names::{dialog_by, dialog_to, names_dialog, names_in};
+use crate::names::{Names, dialog_by, dialog_to, names_dialog, names_in};
 use crate::onward::Onward;
 use crate::route_facts::{Place, RouteFacts};
 use crate::top_via::{TopVia, received_value};
@@ -150,13 +150,20 @@ impl Heard {
         })
     }
 
-    /// A request that came from an address, and that goes on. `AllocError` is the only refusal.
-    pub fn onward(alloc: Global, request: &View<'_>, from: Addr) -> Result<Self, AllocError>
+    /// A request that came from an address, and that goes on. Its core fields aren't read for names that were made before.
+    /// `AllocError` is the only refusal.
+    pub fn onward(
+        alloc: Global,
+        request: &View<'_>,
+        from: Addr,
+        names: Option<Names>,
+    ) -> Result<Self, AllocError>
+        requires names { Spec.AreNames request.now names }
         ensures { IfOk result (λ heard. heard ≡ request.now) }
     {
         let message = Kept::of(alloc, request)?;
         let via = TopVia::of(alloc, request, from)?;
-        let onward = Onward::of(alloc, request)?;
+        let onward = Onward::of(alloc, request, names)?;
         Ok(Heard {
             message,
             via,

@@ -11,5 +11,6 @@ mod route_facts;
 mod top_via;
 
 pub use heard::Heard;
+pub use names::Names;
 pub use route_facts::{Place, RecordedPlace, RouteFacts};
 pub use top_via::received_value;

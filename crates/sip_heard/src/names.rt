@@ -10,12 +10,22 @@ use sip_header::{CoreFields, HeaderError, Parameters, core_of, tag_of};
 use std::alloc::{AllocError, Global};
 
 /// What names the dialogs of a request (RFC 3261 12).
-#[derive(Drop)]
-pub(crate) struct Names {
-    pub(crate) call_id: Bytes,
+pub struct Names {
+    pub call_id: Bytes,
     /// Empty where From has no tag.
-    pub(crate) from_tag: Bytes,
-    pub(crate) to_tag: Option<Bytes>,
+    pub from_tag: Bytes,
+    pub to_tag: Option<Bytes>,
+}
+
+/// Written out, so that it is proved once and not wherever names are dropped.
+impl Drop for Names {
+    fn drop(self) {
+        let Names {
+            call_id: _,
+            from_tag: _,
+            to_tag: _,
+        } = self;
+    }
 }
 
 /// The tag of From, or an empty one.
@@ -38,18 +48,20 @@ fn to_tag(alloc: Global, parameters: &Parameters<'_>) -> Result<Option<Bytes>, A
     }
 }
 
-/// What the core fields of a request say of its dialogs.
-fn names_of(alloc: Global, core: &CoreFields<'_>) -> Result<Names, AllocError>
-    ensures { IfOk result (λ names. names ≡ Spec.names_of core.now) }
-{
-    let call_id = Bytes::copy(alloc, core.call_id.as_slice())?;
-    let from_tag = from_tag(alloc, &core.from.parameters)?;
-    let to_tag = to_tag(alloc, &core.to.parameters)?;
-    Ok(Names {
-        call_id,
-        from_tag,
-        to_tag,
-    })
+impl Names {
+    /// What the core fields of a request say of its dialogs. `AllocError` is the only refusal.
+    pub fn of(alloc: Global, core: &CoreFields<'_>) -> Result<Self, AllocError>
+        ensures { IfOk result (λ names. names ≡ Spec.names_of core.now) }
+    {
+        let call_id = Bytes::copy(alloc, core.call_id.as_slice())?;
+        let from_tag = from_tag(alloc, &core.from.parameters)?;
+        let to_tag = to_tag(alloc, &core.to.parameters)?;
+        Ok(Names {
+            call_id,
+            from_tag,
+            to_tag,
+        })
+    }
 }
 
 /// What names the dialogs of a request, if its core fields are read.
@@ -57,9 +69,24 @@ pub(crate) fn names_in(alloc: Global, request: &View<'_>) -> Result<Option<Names
     ensures { IfOk result (λ names. names ≡ Spec.names_in request.now) }
 {
     match core_of(alloc, request) {
-        Ok(core) => Ok(Some(names_of(alloc, &core)?)),
+        Ok(core) => Ok(Some(Names::of(alloc, &core)?)),
         Err(HeaderError::NoMemory) => Err(AllocError),
         Err(_) => Ok(None),
+    }
+}
+
+/// The same, where they may have been made before.
+pub(crate) fn names_by(
+    alloc: Global,
+    request: &View<'_>,
+    made: Option<Names>,
+) -> Result<Option<Names>, AllocError>
+    requires { Spec.AreNames request.now made }
+    ensures { IfOk result (λ names. names ≡ Spec.names_in request.now) }
+{
+    match made {
+        Some(names) => Ok(Some(names)),
+        None => names_in(alloc, request),
     }
 }
 

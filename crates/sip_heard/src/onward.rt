@@ -1,8 +1,9 @@
 ghost use Rattle.std.specs.Prelude.{IfOk};
 ghost use Rattle.sip_heard.specs.Heard.{AreGiven, IsOnward};
+ghost use Rattle.sip_heard.specs.Names.{AreNames};
 
 use crate::given::places_in;
-use crate::names::{Names, names_in};
+use crate::names::{Names, names_by};
 use crate::route_facts::{Place, RouteFacts};
 use sip_equality::text::Items;
 use sip_header::form::{View, ViewStart};
@@ -37,12 +38,17 @@ fn given_by(alloc: Global, request: &View<'_>) -> Result<Option<Items<Place>>, A
 }
 
 impl Onward {
-    /// What is read of a request that goes on.
-    pub(crate) fn of(alloc: Global, request: &View<'_>) -> Result<Self, AllocError>
+    /// What is read of a request that goes on, whose names may have been made before.
+    pub(crate) fn of(
+        alloc: Global,
+        request: &View<'_>,
+        names: Option<Names>,
+    ) -> Result<Self, AllocError>
+        requires { AreNames request.now names }
         ensures { IfOk result (λ onward. IsOnward request.now onward) }
     {
         let routes = RouteFacts::of(alloc, request)?;
-        let names = names_in(alloc, request)?;
+        let names = names_by(alloc, request, names)?;
         let given = given_by(alloc, request)?;
         Ok(Onward {
             routes,

@@ -14,7 +14,7 @@ use sip_equality::uri::{Parameter, Scheme, Uri};
 use sip_equality::{same, says_same_no_case};
 use sip_header::form::{FieldName, View, ViewStart};
 use sip_header::uri::{UriError, parse_uri};
-use sip_header::{AnyUri, route_of};
+use sip_header::{AnyUri, bracketed_place, route_of};
 use sip_uri::text::split_once;
 use sip_way::{Own, RoutesKept};
 use std::alloc::{AllocError, Global};
@@ -61,10 +61,17 @@ fn place_in(alloc: Global, uri: &AnyUri<'_>) -> Result<Option<Place>, AllocError
     }
 }
 
-/// Where an item of Route leads.
+/// Where an item of Route leads: no URI is made of one as proxies write them.
+#[tactic(auto, using(crate::proofs::PlainPlaces::first_is))]
 fn place_of(alloc: Global, value: &[u8]) -> Result<Option<Place>, AllocError>
     ensures { IfOk result (λ place. place ≡ Facts.first_place (value.now ∷ [])) }
 {
+    if let Some((host, port)) = bracketed_place(value) {
+        return Ok(Some(Place {
+            host: Bytes::copy(alloc, host)?,
+            port: port.unwrap_or(5060),
+        }));
+    }
     match route_of(alloc, value)? {
         Some(route) => place_in(alloc, &route.uri),
         None => Ok(None),

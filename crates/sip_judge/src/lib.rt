@@ -49,6 +49,11 @@ pub mod header {
     pub use sip_verdict::header::{CoreFields, Parameter, tag_of};
 }
 
+/// Of `sip_heard`.
+pub mod heard {
+    pub use sip_verdict::heard::Names;
+}
+
 /// Of `sip_dialog`.
 pub mod dialog {
     pub use sip_verdict::dialog::{DialogId, Dialogs};

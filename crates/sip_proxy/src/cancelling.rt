@@ -15,7 +15,7 @@ use crate::changing::{fits_once_it_came, open_at, reserve_dialog};
 use crate::drafting::Draft;
 use crate::proxy::Proxy;
 use sip_fork::timers::Timers;
-use sip_fork::{Change, Contexts};
+use sip_fork::{Change, Contexts, Opening};
 use sip_forwarding::Drafted;
 use sip_forwarding::event::Packet;
 use sip_forwarding::text::Items;
@@ -79,7 +79,7 @@ fn others_keep_their_places()
 fn open_and_change_at<T: Timers>(
     contexts: &mut Contexts<T>,
     now: u64,
-    opened: Change,
+    opened: Opening,
     place: usize,
     change: Change,
 )
@@ -113,7 +113,7 @@ impl<T: Timers> Proxy<T> {
     pub fn open_and_change(
         &mut self,
         now: u64,
-        opened: Change,
+        opened: Opening,
         place: usize,
         draft: Draft,
     ) -> Result<Items<Packet>, AllocError>
@@ -134,7 +134,7 @@ impl<T: Timers> Proxy<T> {
     {
         let Draft { change, drafted } = draft;
         let Drafted { packets, lessons } = drafted;
-        reserve_both(&mut self.contexts, &opened, &change)?;
+        reserve_both(&mut self.contexts, opened.change(), &change)?;
         reserve_dialog(&mut self.dialogs, &lessons)?;
         open_and_change_at(&mut self.contexts, now, opened, place, change);
         lessons.take(&mut self.dialogs, now);

@@ -16,7 +16,7 @@ use crate::drafting::Draft;
 use crate::proxy::Proxy;
 use sip_fork::keeping::moments::time_passes;
 use sip_fork::timers::Timers;
-use sip_fork::{Change, Contexts};
+use sip_fork::{Change, Contexts, Opening};
 use sip_forwarding::Drafted;
 use sip_forwarding::dialog::Dialogs;
 use sip_forwarding::event::Packet;
@@ -77,26 +77,26 @@ fn change_at<T: Timers>(contexts: &mut Contexts<T>, now: u64, place: usize, chan
 }
 
 /// A moment comes, and a request is opened. Takes no memory.
-pub(crate) fn open_at<T: Timers>(contexts: &mut Contexts<T>, now: u64, change: Change)
+pub(crate) fn open_at<T: Timers>(contexts: &mut Contexts<T>, now: u64, opening: Opening)
     requires few { length contexts.old.requests < 1024 }
     requires places { 1 ≤ contexts.old.places }
-    requires last { All (λ (r : OpenRequest). r.number < change.number) contexts.old.requests }
-    requires alone { position (has_key change.key) contexts.old.requests ≡ None }
+    requires last { All (λ (r : OpenRequest). r.number < opening.number) contexts.old.requests }
+    requires alone { position (has_key opening.key) contexts.old.requests ≡ None }
     requires later { contexts.old.moment ≤ now }
     requires small { now < 2 ^ 62 }
     requires none_before { NoneBefore now contexts.old.requests }
     requires none_again { NoneAgainBefore now contexts.old.requests }
-    requires fits { Fits change }
-    requires within { IsWithin now change }
-    requires room { most_timers change ≤ contexts.old.room }
-    ensures requests { contexts.new.requests ≡ with_one_more change contexts.old.requests }
+    requires fits { Fits opening }
+    requires within { IsWithin now opening }
+    requires room { most_timers opening ≤ contexts.old.room }
+    ensures requests { contexts.new.requests ≡ with_one_more opening contexts.old.requests }
     ensures moment { contexts.new.moment ≡ now }
     ensures reached { contexts.new.reached ≡ max contexts.old.reached (now - 1) }
-    ensures room { contexts.old.room ≤ contexts.new.room + most_timers change }
+    ensures room { contexts.old.room ≤ contexts.new.room + most_timers opening }
 {
     fits_once_it_came();
     contexts.reach(now);
-    contexts.open(change);
+    contexts.open(opening);
 }
 
 /// Makes room for one more request. `AllocError` is the only refusal.
@@ -143,22 +143,22 @@ impl<T: Timers> Proxy<T> {
     /// At a moment in milliseconds a request is opened whose number is above all others and whose key isn't open, and the
     /// dialogs learn of it. Refused with `AllocError` where there is no memory for it, its timers or a dialog; nothing is
     /// changed then.
-    pub fn open(&mut self, now: u64, change: Change, lessons: Lessons) -> Result<(), AllocError>
+    pub fn open(&mut self, now: u64, opening: Opening, lessons: Lessons) -> Result<(), AllocError>
         requires space { length self.old.state.requests < 1024 }
         requires moment { MayCome self.old.state now }
-        requires last { All (λ (r : OpenRequest). r.number < change.number) self.old.state.requests }
-        requires alone { position (has_key change.key) self.old.state.requests ≡ None }
-        requires fits { Fits change }
-        requires within { IsWithin now change }
+        requires last { All (λ (r : OpenRequest). r.number < opening.number) self.old.state.requests }
+        requires alone { position (has_key opening.key) self.old.state.requests ≡ None }
+        requires fits { Fits opening }
+        requires within { IsWithin now opening }
         requires few { beginnings lessons ≤ 1 }
-        ensures becomes { OnOk result (Becomes now (with_one_more change self.old.state.requests) lessons self.old.state self.new.state) }
+        ensures becomes { OnOk result (Becomes now (with_one_more opening self.old.state.requests) lessons self.old.state self.new.state) }
         ensures unchanged { OnErr result (self.new.state ≡ self.old.state) }
         ensures timers { OnErr result (self.new.timers ≡ self.old.timers) }
         ensures room { self.new.room ≡ self.old.room }
     {
-        reserve_open(&mut self.contexts, &change)?;
+        reserve_open(&mut self.contexts, opening.change())?;
         reserve_dialog(&mut self.dialogs, &lessons)?;
-        open_at(&mut self.contexts, now, change);
+        open_at(&mut self.contexts, now, opening);
         lessons.take(&mut self.dialogs, now);
         Ok(())
     }

@@ -1,5 +1,6 @@
 ghost use Rattle.std.specs.Prelude.{◌≡◌, ◌<◌, ◌^◌, ℕ, IfOk, List, Option};
 ghost use Rattle.sip_arrival.specs.Verdict.{HasRoom, Is, IsRequestOf};
+ghost use Rattle.sip_forwarding.specs.heard.Names.{AreNames};
 ghost use Rattle.sip_forwarding.specs.key.declared.key.Key.{Key};
 ghost use Rattle.sip_forwarding.specs.location.declared.binding.Binding.{Binding};
 ghost use Rattle.sip_forwarding.specs.state.Arrival.{Arrival};
@@ -7,6 +8,7 @@ ghost use Rattle.sip_forwarding.specs.state.declared.open_request.OpenRequest.{O
 ghost use Rattle.sip_forwarding.specs.verdict.Verdict as Definition;
 
 use crate::proxy::Proxy;
+use sip_arrival::heard::Names;
 use sip_arrival::judge::Judge;
 use sip_arrival::{Verdict, ack_verdict, new_verdict};
 use sip_fork::timers::Timers;
@@ -16,8 +18,9 @@ use std::alloc::{AllocError, Global};
 
 impl<T: Timers> Proxy<T> {
     /// The verdict on a request of a method that no open one is found for, of whose body fewer bytes may have come than its
-    /// length says (RFC 3261 9.2, 10.3, 16.3 to 16.5), at a moment in milliseconds. Nothing is changed; there is room for the
-    /// plan that a REGISTER gives. `AllocError` is the only refusal.
+    /// length says (RFC 3261 9.2, 10.3, 16.3 to 16.5), at a moment in milliseconds. What names its dialogs is made where it
+    /// goes on and is kept. Nothing is changed; there is room for the plan that a REGISTER gives. `AllocError` is the only
+    /// refusal.
     pub fn verdict<'v, R: Rules>(
         &mut self,
         alloc: Global,
@@ -26,12 +29,14 @@ impl<T: Timers> Proxy<T> {
         request: &'v View<'_>,
         method: &[u8],
         short: bool,
+        names: &mut Option<Names>,
     ) -> Result<Verdict<'v>, AllocError>
         requires moment { now < 2 ^ 62 }
         requires request { IsRequestOf method.now request.now.start }
         ensures verdict { IfOk result (λ verdict. (a : Arrival) (key : Key) → a.now ≡ now
             → Is judge.now self.old.state.bindings now (Definition.found_for_cancel self.old.state key a.from) (Definition.new_verdict judge.now self.old.state a request.now short method.now key) verdict) }
         ensures room { IfOk result (HasRoom self.new.room) }
+        ensures names { AreNames request.now names.new }
         ensures unchanged { self.new.state ≡ self.old.state }
         ensures timers { self.new.timers ≡ self.old.timers }
     {
@@ -47,6 +52,7 @@ impl<T: Timers> Proxy<T> {
             request,
             method,
             short,
+            names,
         )
     }
 

@@ -50,6 +50,7 @@ pub mod form {
 
 /// Of `sip_heard`.
 pub mod heard {
+    pub use sip_arrival::heard::Names;
     pub use sip_forwarding::heard::Heard;
 }
 
@@ -150,7 +151,7 @@ pub mod arrival {
 
 /// Of `sip_fork`.
 pub mod fork {
-    pub use sip_fork::{Change, Due, First};
+    pub use sip_fork::{Due, First, Opening};
 }
 
 /// Of `sip_forwarding`.

@@ -89,14 +89,14 @@ impl Request {
         }
     }
 
-    /// The request becomes what was planned, and its timers follow. Takes no memory.
-    pub fn apply<T: Timers>(&mut self, timers: &mut T, plan: Plan)
-        requires held { IsHeld (T.pending timers.old) (named_by self.old) }
-        requires timed { IsNear (2 ^ 64) self.old.context }
+    /// The request as it was planned, which takes its place: its timers follow. Takes no memory.
+    pub fn changed<T: Timers>(&self, timers: &mut T, plan: Plan) -> Self
+        requires held { IsHeld (T.pending timers.old) (named_by self.now) }
+        requires timed { IsNear (2 ^ 64) self.now.context }
         requires ready { IsReady (T.reached timers.old) (T.room timers.old) plan }
-        ensures moves { Moves (T.pending timers.old) (named_by self.old) (T.pending timers.new) (named_by self.new) }
-        ensures request { self.new.context ≡ plan.request }
-        ensures keys { HasKeys self.new.context self.new.branches }
+        ensures moves { Moves (T.pending timers.old) (named_by self.now) (T.pending timers.new) (named_by result) }
+        ensures request { result.context ≡ plan.request }
+        ensures keys { HasKeys result.context result.branches }
         ensures left { T.room timers.old ≤ T.room timers.new + most_timers plan.request }
         ensures still { T.reached timers.new ≡ T.reached timers.old }
     {
@@ -109,9 +109,11 @@ impl Request {
             &request,
             keys.as_mut_slice(),
         );
-        self.context = request;
-        self.side = side;
-        self.branches = keys;
+        Request {
+            context: request,
+            side,
+            branches: keys,
+        }
     }
 
     /// The request is open no longer: its timers are stopped.

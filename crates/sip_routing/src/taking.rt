@@ -10,7 +10,7 @@ ghost use Rattle.sip_proxy.specs.verdict.Verdict.{is_full};
 use sip_proxy::Proxy;
 use sip_proxy::arrival::Judged;
 use sip_proxy::event::Packet;
-use sip_proxy::fork::Change;
+use sip_proxy::fork::Opening;
 use sip_proxy::forwarding::Forwarded;
 use sip_proxy::learning::Lessons;
 use sip_proxy::opening::Arrival;
@@ -41,8 +41,8 @@ pub(crate) fn take_request<T: Timers>(
         request,
         lessons,
     } = forwarded;
-    let change = Change::of(alloc, request)?;
-    proxy.open(arrival.now, change, lessons)?;
+    let opening = Opening::of(alloc, request)?;
+    proxy.open(arrival.now, opening, lessons)?;
     proxy.count();
     Ok(packets)
 }

@@ -56,7 +56,7 @@ pub mod form {
 
 /// Of `sip_heard`.
 pub mod heard {
-    pub use sip_heard::{Heard, received_value};
+    pub use sip_heard::{Heard, Names, received_value};
 }
 
 /// Of `sip_best`.

@@ -63,6 +63,11 @@ pub mod header {
     };
 }
 
+/// Of `sip_heard`.
+pub mod heard {
+    pub use sip_context::heard::Names;
+}
+
 /// Of `sip_dialog`.
 pub mod dialog {
     pub use sip_context::dialog::{DialogId, Dialogs};

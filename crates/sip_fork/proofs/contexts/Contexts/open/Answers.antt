@@ -9,10 +9,10 @@ use Rattle.sip_fork.proofs.contexts.Contexts.open.Goals as goal
 
 pub open_row-requires-clause-last : goal.open_row-requires-clause-last
 open_row-requires-clause-last g c =
-    all-map (λ (r : Request). r.context) (λ (r : OpenRequest). r.number < c.args.change.number) c.self.inside.table.rows
-    (subst (λ (v : Contexts). All (λ (r : OpenRequest). r.number < c.args.change.number) v.requests) (sym c.self.view_is) c.requires.last)
+    all-map (λ (r : Request). r.context) (λ (r : OpenRequest). r.number < c.args.opening.number) c.self.inside.table.rows
+    (subst (λ (v : Contexts). All (λ (r : OpenRequest). r.number < c.args.opening.number) v.requests) (sym c.self.view_is) c.requires.last)
 
 pub open_row-requires-clause-alone : goal.open_row-requires-clause-alone
 open_row-requires-clause-alone g c =
-    sym (position-map (λ (r : Request). r.context) (has_key c.args.change.key) c.self.inside.table.rows)
-    ∙ subst (λ (v : Contexts). position (has_key c.args.change.key) v.requests ≡ None) (sym c.self.view_is) c.requires.alone
+    sym (position-map (λ (r : Request). r.context) (has_key c.args.opening.key) c.self.inside.table.rows)
+    ∙ subst (λ (v : Contexts). position (has_key c.args.opening.key) v.requests ≡ None) (sym c.self.view_is) c.requires.alone
