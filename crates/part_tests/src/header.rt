@@ -1,4 +1,4 @@
-use sip_header::{NameAddr, cseq_of, name_addr_of, route_of};
+use sip_header::{NameAddr, bracketed_place, cseq_of, name_addr_of, route_of};
 use std::alloc::Global;
 use test_forms::{gives, says, says_nothing};
 
@@ -53,4 +53,26 @@ fn addresses(rt: HostRuntime) {
     }
     assert!(rt; says_nothing(route_of(alloc, b"sip:far.net;lr")));
     assert!(rt; cseq_of(b"2147483647 INVITE").is_some());
+}
+
+/// Values that have more than a URI in brackets, or one that is read as a whole alone.
+const NO_PLACES: &[&[u8]] = &[
+    b"sip:far.net",
+    b"\"B\" <sip:b@far.net>",
+    b"<sip:b@far.net>;tag=x1",
+    b"<sip:b@far.net> ",
+    b"<sip:b@far.net;user=phone>",
+    b"<sips:b@far.net>",
+    b"*",
+];
+
+#[test]
+fn places_in_brackets(rt: HostRuntime) {
+    let route: &[u8] = b"<sip:sip.host.com:5060;lr>";
+    let contact: &[u8] = b"<sip:help@127.0.0.1>";
+    assert!(rt; bracketed_place(route) == Some((b"sip.host.com".as_slice(), Some(5060))));
+    assert!(rt; bracketed_place(contact) == Some((b"127.0.0.1".as_slice(), None)));
+    for value in NO_PLACES {
+        assert!(rt; bracketed_place(value).is_none(), "{value:?}");
+    }
 }

@@ -1,4 +1,4 @@
-use sip_uri::{UriError, parse_uri, write_uri};
+use sip_uri::{UriError, parse_uri, plain_place, write_uri};
 use std::alloc::Global;
 use test_forms::{gives_bytes, gives_text};
 
@@ -39,6 +39,36 @@ fn is_read(alloc: Global, text: &[u8], is_uri: bool) -> bool {
 fn texts_of_uris(rt: HostRuntime) {
     for (text, is_uri) in TEXTS {
         assert!(rt; is_read(rt.alloc(), text, *is_uri), "{text:?}");
+    }
+}
+
+/// URIs whose place is read where it stands: the host, and the number of the port.
+const PLACES: &[(&[u8], &[u8], Option<u16>)] = &[
+    (b"sip:help@127.0.0.1:5082", b"127.0.0.1", Some(5082)),
+    (b"sip:127.0.0.1", b"127.0.0.1", None),
+    (b"sip:far.net;lr", b"far.net", None),
+    (b"sip:a@far.net:5060;lr", b"far.net", Some(5060)),
+];
+
+/// Texts that are read as a whole alone, and one that is no URI.
+const NO_PLACES: &[&[u8]] = &[
+    b"sip:alice:secretword@atlanta.com",
+    b"sip:%61@far.net",
+    b"sip:a@far.net?subject=x",
+    b"sip:a@far.net;transport=udp",
+    b"sips:a@far.net",
+    b"SIP:a@far.net",
+    b"sip:a@[::1]:5060",
+    b"sip:a@far.net:99999",
+];
+
+#[test]
+fn plain_places(rt: HostRuntime) {
+    for (text, host, port) in PLACES {
+        assert!(rt; plain_place(text) == Some((*host, *port)), "{text:?}");
+    }
+    for text in NO_PLACES {
+        assert!(rt; plain_place(text).is_none(), "{text:?}");
     }
 }
 

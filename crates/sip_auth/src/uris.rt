@@ -1,9 +1,11 @@
 ghost use Rattle.std.specs.Prelude.{◌≡◌, IfOk};
 ghost use Rattle.std.specs.Result.{result_ok};
 ghost use Rattle.sip_policy.specs.uri.Reading.{reading_of};
+ghost use Rattle.sip_way.specs.equality.Equality.{same};
 ghost use Rattle.sip_auth.specs.Proof.{is_equal_uri};
 
 use sip_policy::uri::{Uri, UriError, parse_uri};
+use sip_way::equality::laws::equality_is_reflexive;
 use sip_way::equality::same;
 use std::alloc::{AllocError, Global};
 
@@ -18,10 +20,31 @@ fn uri_in(alloc: Global, text: &[u8]) -> Result<Option<Uri>, AllocError>
     }
 }
 
-/// Whether two texts are SIP URIs that are equal (RFC 3261 19.1.4).
+/// Whether a URI is equal to itself, as one without parameters is.
+fn equals_itself(uri: &Uri) -> bool
+    ensures { result ≡ same uri.now uri.now }
+{
+    equality_is_reflexive();
+    uri.parameters.as_slice().is_empty() || same(uri, uri)
+}
+
+/// Whether a text is a SIP URI that is equal to itself.
+fn is_equal_to_itself(alloc: Global, text: &[u8]) -> Result<bool, AllocError>
+    ensures { IfOk result (λ equal. equal ≡ is_equal_uri text.now text.now) }
+{
+    match uri_in(alloc, text)? {
+        Some(uri) => Ok(equals_itself(&uri)),
+        None => Ok(false),
+    }
+}
+
+/// Whether two texts are SIP URIs that are equal (RFC 3261 19.1.4). Most are the same text, which is read once.
 pub(crate) fn is_equal_uri(alloc: Global, left: &[u8], right: &[u8]) -> Result<bool, AllocError>
     ensures { IfOk result (λ equal. equal ≡ is_equal_uri left.now right.now) }
 {
+    if left == right {
+        return is_equal_to_itself(alloc, left);
+    }
     let Some(left) = uri_in(alloc, left)? else {
         return Ok(false);
     };

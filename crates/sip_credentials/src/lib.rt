@@ -39,6 +39,7 @@ pub mod form {
 /// Of `sip_header`.
 pub mod header {
     pub use sip_header::{
-        MaxForwards, Via, cseq_of, max_forwards_of, name_addr_of, parameter_of, tag_of,
+        MaxForwards, Via, bracketed_place, cseq_of, max_forwards_of, name_addr_of, parameter_of,
+        tag_of,
     };
 }

@@ -1,10 +1,14 @@
 ghost use Rattle.std.specs.Prelude.{◌≡◌, IfOk, All, map};
+ghost use Rattle.sip_view.specs.field.Values;
 ghost use Rattle.sip_view.specs.KeptField.{field_kept, IsStored};
+ghost use Rattle.sip_form.specs.ViewStart.{start_seen};
 
 use crate::kept_start::{KeptStart, put_start, start_in};
 use crate::message_view::View;
+use crate::view_start::ViewStart;
+use sip_view::field::FieldName;
 use sip_view::text::{Buffer, Span};
-use sip_view::{KeptField, ViewFields, fields_in, put, put_fields};
+use sip_view::{KeptField, ViewFields, fields_in, fields_in_with_first, put, put_fields};
 use std::alloc::{AllocError, Global};
 use std::marker::Model;
 
@@ -55,6 +59,13 @@ impl Kept {
         (self.store.as_slice(), self.list.as_slice())
     }
 
+    /// Its first line, of which no byte is copied. Takes no memory.
+    pub fn start(&self) -> ViewStart<'_>
+        ensures { start_seen result ≡ self.now.start }
+    {
+        start_in(self.store.as_slice(), self.start)
+    }
+
     /// Views of its fields, of which no byte is copied. `AllocError` is the only refusal.
     pub fn fields<'k>(&'k self, alloc: Global) -> Result<ViewFields<'k>, AllocError>
         ensures { IfOk result (λ fields. fields ≡ self.now.fields) }
@@ -68,6 +79,21 @@ impl Kept {
     {
         let store = self.store.as_slice();
         let fields = fields_in(alloc, store, self.list.as_slice())?;
+        Ok(View::new(start_in(store, self.start), fields, self.body.of(store)))
+    }
+
+    /// A view of the message, the first field of a name with another value. No byte is copied. `AllocError` is the only
+    /// refusal.
+    pub fn view_with_first<'k>(
+        &'k self,
+        alloc: Global,
+        name: &FieldName,
+        value: &'k [u8],
+    ) -> Result<View<'k>, AllocError>
+        ensures { IfOk result (λ view. view ≡ record self.now { fields = Values.with_first name.now value.now self.now.fields }) }
+    {
+        let store = self.store.as_slice();
+        let fields = fields_in_with_first(alloc, store, self.list.as_slice(), name, value)?;
         Ok(View::new(start_in(store, self.start), fields, self.body.of(store)))
     }
 }

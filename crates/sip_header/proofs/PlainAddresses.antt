@@ -1,6 +1,8 @@
 -- An address that is a URI in brackets and nothing else.
 use Rattle.std.proofs.Common.{◌≡◌, ℕ, true, List, [], ◌∷◌, length, Option, Some, None, refl, sym, ap, subst, ◌∙◌, arith}
-use Rattle.std.specs.Prelude.{◌==◌, is_some, IfSome, if◌then◌else◌}
+use Rattle.std.specs.Prelude.{◌==◌, Bool, false, codes, option_map, is_some, IfSome, if◌then◌else◌}
+use Rattle.std.specs.Str.{bytes_eq}
+use Rattle.std.proofs.lemmas.Slice.Eq.{bytes_eq-Decides}
 use denote.Ref.{Bor}
 use Rattle.std.proofs.lemmas.Bool.{eqb-true}
 use Rattle.sip_text.specs.Lists.{trimmed}
@@ -8,6 +10,7 @@ use Rattle.sip_text.specs.Cuts.{split_outside}
 use Rattle.sip_uri.specs.Reading.{reading_of}
 use Rattle.sip_uri.specs.PlainPlace.{IsPlain}
 use Rattle.sip_header.specs.declared.name_addr.AnyUri.TheVariants.{Sip}
+use Rattle.sip_header.specs.declared.contact_item.ContactItem.TheVariants.{Star, Address}
 use Rattle.sip_header.specs.NameAddr.{name_addr_by, name_addr_of, bracketed_by, uri_by, with_parameters}
 use Rattle.sip_header.specs.PlainAddress.{IsBracketedPlace}
 
@@ -17,6 +20,11 @@ in_brackets value rest inner host port p opens closes =
     let read : uri_by (trimmed inner) (reading_of (trimmed inner)) ≡ Some (Sip p.uri) = ap (uri_by (trimmed inner)) p.is_read in
     ap (name_addr_by value) (sym opens) ∙ ap bracketed_by (sym closes) ∙ ap (with_parameters (Some [])) read
 
+-- what has a `<` isn't `*`
+not_star : (value rest : List ℕ) → Some ([], rest) ≡ split_outside 60 value → (t : Bool) → bytes_eq value (codes "*") ≡ t → bytes_eq value (codes "*") ≡ false
+not_star value rest opens false e = e
+not_star value rest opens true e = let star : value ≡ codes "*" = (bytes_eq-Decides value (codes "*")).0 e in let never : ◌≡◌ {A = Option (List ℕ × List ℕ)} (Some ([], rest)) None = opens ∙ ap (split_outside 60) star in absurd cc
+
 pub bracketed_is : (value rest inner host : List ℕ) (port : Option ℕ) → Some ([], rest) ≡ split_outside 60 value → Some (inner, []) ≡ split_outside 62 rest → IsPlain (trimmed inner) host port → IsBracketedPlace value host port
 bracketed_is value rest inner host port opens closes p =
     let is : name_addr_of value ≡ Some (record { uri = Sip p.uri; parameters = [] }) = in_brackets value rest inner host port p opens closes in record {
@@ -24,6 +32,8 @@ bracketed_is value rest inner host port opens closes p =
       uri = p.uri;
       is_address = is;
       is_route = ap (λ o. if is_some o then name_addr_of value else None) (sym opens) ∙ is;
+      is_contact = ap (λ t. if t then Some Star else option_map (λ address. Address address) (name_addr_of value)) (not_star value rest opens (bytes_eq value (codes "*")) refl) ∙ ap (option_map (λ address. Address address)) is;
+      no_parameters = refl;
       has_uri = refl;
       is_sip = p.is_sip;
       has_host = p.has_host;

@@ -8,14 +8,18 @@ use Rattle.sip_header.specs.declared.name_addr.AnyUri.TheVariants.{Sip}
 use Rattle.sip_header.specs.declared.name_addr.NameAddr.{NameAddr}
 use Rattle.sip_header.specs.NameAddr.{name_addr_of}
 use Rattle.sip_header.specs.Route.{route_of}
+use Rattle.sip_header.specs.declared.contact_item.ContactItem.TheVariants.{Address}
+use Rattle.sip_header.specs.ContactItem.{contact_of}
 
 -- A value is an address in brackets, whose URI is a `sip` one with this host and this number of a port, if it has one, and with no parameters but,
--- perhaps, `lr` (RFC 3261 20.10, 20.30, 20.34).
+-- perhaps, `lr`; behind the brackets nothing stands (RFC 3261 20.10, 20.30, 20.34).
 pub record IsBracketedPlace (value host : List ℕ) (port : Option ℕ) : Type 0 where
   pub address : NameAddr
   pub uri : Uri
   pub is_address : name_addr_of value ≡ Some address
   pub is_route : route_of value ≡ Some address
+  pub is_contact : contact_of value ≡ Some (Address address)
+  pub no_parameters : address.parameters ≡ []
   pub has_uri : address.uri ≡ Sip uri
   pub is_sip : uri.scheme ≡ Scheme.Sip
   pub has_host : uri.host ≡ host

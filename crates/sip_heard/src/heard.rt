@@ -8,6 +8,7 @@ ghost use Rattle.sip_header.specs.field.Values.{with_first};
 ghost use Rattle.sip_dialog.specs.Addresses.{addresses_in};
 ghost use Rattle.sip_dialog.specs.DialogId.{id_of};
 ghost use Rattle.sip_edit.specs.ReceivedRequest.{received_fields, response_address};
+ghost use Rattle.sip_form.specs.ViewStart.{start_seen};
 ghost use Rattle.sip_hops.specs.HostAddress.{address_of};
 ghost use Rattle.sip_way.specs.Way.{request_uri, fields_left};
 ghost use Rattle.sip_way.specs.RoutesKept.{fields_kept};
@@ -24,8 +25,8 @@ use crate::top_via::{TopVia, received_value};
 use sip_dialog::DialogId;
 use sip_equality::host::Addr;
 use sip_equality::text::Items;
-use sip_form::{Kept, View};
-use sip_header::form::Value;
+use sip_form::{Kept, View, ViewStart};
+use sip_header::form::{FieldName, Value};
 use sip_hops::Hops;
 use sip_shared::Shared;
 use sip_way::{Own, RoutesKept};
@@ -171,11 +172,30 @@ impl Heard {
         })
     }
 
+    /// The first line of the message, of which no byte is copied. Takes no memory.
+    pub fn start(&self) -> ViewStart<'_>
+        ensures { start_seen result ≡ self.now.start }
+    {
+        self.message.start()
+    }
+
     /// A view of the message, of which no byte is copied. `AllocError` is the only refusal.
     pub fn view<'k>(&'k self, alloc: Global) -> Result<View<'k>, AllocError>
         ensures { IfOk result (λ view. view ≡ self.now) }
     {
         self.message.view(alloc)
+    }
+
+    /// A view of the message, whose top Via has another value, as `received_via` gives it (RFC 3261 18.2.1). No byte is
+    /// copied. `AllocError` is the only refusal.
+    pub fn with_top_via<'k>(
+        &'k self,
+        alloc: Global,
+        value: &'k [u8],
+    ) -> Result<View<'k>, AllocError>
+        ensures { IfOk result (λ view. view ≡ record self.now { fields = with_first Name.Via value.now self.now.fields }) }
+    {
+        self.message.view_with_first(alloc, &FieldName::Via, value)
     }
 
     /// The value that the top Via gets where the request came from an address (RFC 3261 18.2.1); empty where there is no

@@ -1,4 +1,4 @@
-ghost use Rattle.std.specs.Prelude.{◌≡◌, ◌++◌, map, option_map, IfOk, OnOk};
+ghost use Rattle.std.specs.Prelude.{◌≡◌, ◌++◌, true, map, option_map, IfOk, OnOk};
 ghost use Rattle.std.specs.Option.{option_to_list};
 ghost use Rattle.sip_credentials.specs.field.Named.{first_named};
 ghost use Rattle.sip_credentials.specs.FirstField.{first_of};
@@ -8,7 +8,7 @@ ghost use Rattle.sip_credentials.specs.header.NameAddr.{name_addr_of};
 
 use crate::reasons::reason_of;
 use sip_credentials::form::{FieldName, Fields, View, ViewStart, write_view};
-use sip_credentials::header::{name_addr_of, tag_of};
+use sip_credentials::header::{bracketed_place, name_addr_of, tag_of};
 use sip_credentials::view::{Value, ViewField, ViewFields};
 use sip_uri::text::Bytes;
 use std::alloc::{AllocError, Global};
@@ -30,10 +30,21 @@ fn put_first<'v>(
     out.push(field.lent()?)
 }
 
+/// Whether the value of a To is an address in brackets and nothing else, which has no tag, as most are. `false` says
+/// nothing.
+fn is_plain_to(to: &[u8]) -> bool
+    ensures { result ≡ true → Reply.lacks_tag (name_addr_of to.now) ≡ true }
+{
+    bracketed_place(to).is_some()
+}
+
 /// Whether the value of a To takes a tag.
 fn lacks_tag(alloc: Global, to: &[u8]) -> Result<bool, AllocError>
     ensures { IfOk result (λ lacks. lacks ≡ Reply.lacks_tag (name_addr_of to.now)) }
 {
+    if is_plain_to(to) {
+        return Ok(true);
+    }
     match name_addr_of(alloc, to)? {
         Some(to) => Ok(tag_of(&to.parameters).is_none()),
         None => Ok(false),

@@ -37,12 +37,11 @@ fn recorded(
     ensures { IfOk result (λ records. (server : Server) → judged.now.minute ≡ minute_on server judged.now.question
         → records ≡ Effects.record_of server (arrival_of arrival) request.now judged.now.question outcome ∷ []) }
 {
-    let view = request.view(alloc)?;
     let record = record_of(
         alloc,
         arrival.number,
         arrival.now,
-        &view,
+        &request.start(),
         &judged.question,
         judged.minute,
         outcome,

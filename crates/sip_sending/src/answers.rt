@@ -3,7 +3,6 @@ ghost use Rattle.sip_context.specs.form.Text.{text_of};
 ghost use Rattle.sip_context.specs.reply.Reply.{reply_of};
 ghost use Rattle.sip_context.specs.Sending as Spec;
 
-use sip_context::edit::with_top_via;
 use sip_context::event::{Packet, Ticket};
 use sip_context::heard::Heard;
 use sip_context::host::Addr;
@@ -64,8 +63,7 @@ pub fn made_answer(
     ensures { IfOk result (λ text. text ≡ text_of (Spec.made_answer server.now number request.now from status extras.now)) }
 {
     let via = request.received_via(alloc, from)?;
-    let request = request.view(alloc)?;
-    let received = with_top_via(alloc, &request, via.as_slice())?;
+    let received = request.with_top_via(alloc, via.as_slice())?;
     let tag = to_tag(alloc, server.word, number)?;
     respond(alloc, &received, status, tag.as_slice(), extras)
 }
@@ -94,10 +92,9 @@ pub fn written_answer(
 ) -> Result<Written, AllocError>
     ensures { IfOk result (λ written. written ≡ Spec.made_answer server.now context.now.number context.now.request context.now.source status []) }
 {
-    let heard = context.request.get();
-    let request = heard.view(alloc)?;
-    let via = heard.received_via(alloc, context.source)?;
-    let received = with_top_via(alloc, &request, via.as_slice())?;
+    let request = context.request.get();
+    let via = request.received_via(alloc, context.source)?;
+    let received = request.with_top_via(alloc, via.as_slice())?;
     let tag = to_tag(alloc, server.word, context.number)?;
     written_reply(alloc, &received, status, tag.as_slice())
 }

@@ -10,8 +10,9 @@ ghost use Rattle.sip_context.specs.state.State.{is_invite};
 ghost use Rattle.sip_context.specs.Sending as Spec;
 ghost use Rattle.sip_sending.specs.Base;
 
-use sip_context::edit::{ack_with, branch_text, cancel_of, own_via_value, with_top_via};
+use sip_context::edit::{ack_with, branch_text, cancel_of, own_via_value};
 use sip_context::event::{Packet, Ticket};
+use sip_context::heard::Heard;
 use sip_context::state::{Branch, OpenRequest, Server};
 use sip_context::text::{Bytes, Items};
 use sip_onward::form::{View, write_view};
@@ -171,14 +172,14 @@ fn put_received_branch(
     number: u64,
     begins_dialog: bool,
     routes: RoutesKept,
-    request: &View<'_>,
+    request: &Heard,
     via: &[u8],
     branch: &Branch,
 ) -> Result<(), AllocError>
     requires { fields_kept routes (with_first Name.Via via.now request.now.fields) ≡ fields_left server.now.config.own (request_uri request.now.start) (with_first Name.Via via.now request.now.fields) }
     ensures { OnOk result (out.new ≡ out.old ++ Base.packets_by server.now again number (Base.base_over server.now begins_dialog via.now request.now) branch.now) }
 {
-    let received = with_top_via(alloc, request, via)?;
+    let received = request.with_top_via(alloc, via)?;
     let base = base_of(alloc, server, begins_dialog, routes, &received)?;
     put_branch(alloc, out, server, again, number, &base, branch)
 }
@@ -196,7 +197,6 @@ pub fn branch_packets(
     ensures { OnOk result (out.new ≡ out.old ++ Spec.branch_packets server.now again context.now branch.now) }
 {
     let heard = context.request.get();
-    let request = heard.view(alloc)?;
     let begins = begins_dialog(alloc, context)?;
     let routes = heard.routes_kept(alloc, &server.config.own)?;
     let via = heard.received_via(alloc, context.source)?;
@@ -208,7 +208,7 @@ pub fn branch_packets(
         context.number,
         begins,
         routes,
-        &request,
+        heard,
         via.as_slice(),
         branch,
     )
@@ -223,14 +223,14 @@ fn put_received_branches(
     number: u64,
     begins_dialog: bool,
     routes: RoutesKept,
-    request: &View<'_>,
+    request: &Heard,
     via: &[u8],
     branches: &[Branch],
 ) -> Result<(), AllocError>
     requires { fields_kept routes (with_first Name.Via via.now request.now.fields) ≡ fields_left server.now.config.own (request_uri request.now.start) (with_first Name.Via via.now request.now.fields) }
     ensures { OnOk result (out.new ≡ out.old ++ flat_map (Base.packets_by server.now again number (Base.base_over server.now begins_dialog via.now request.now)) branches.now) }
 {
-    let received = with_top_via(alloc, request, via)?;
+    let received = request.with_top_via(alloc, via)?;
     let base = base_of(alloc, server, begins_dialog, routes, &received)?;
     put_branches(alloc, out, server, again, number, &base, branches)
 }
@@ -248,7 +248,6 @@ pub fn packets_of_branches(
     ensures { OnOk result (out.new ≡ out.old ++ flat_map (Spec.branch_packets server.now again context.now) branches.now) }
 {
     let heard = context.request.get();
-    let request = heard.view(alloc)?;
     let begins = begins_dialog(alloc, context)?;
     let routes = heard.routes_kept(alloc, &server.config.own)?;
     let via = heard.received_via(alloc, context.source)?;
@@ -260,7 +259,7 @@ pub fn packets_of_branches(
         context.number,
         begins,
         routes,
-        &request,
+        heard,
         via.as_slice(),
         branches,
     )
@@ -321,7 +320,7 @@ fn put_received_ack(
     number: u64,
     begins_dialog: bool,
     routes: RoutesKept,
-    request: &View<'_>,
+    request: &Heard,
     via: &[u8],
     branch: &Branch,
     to: Option<&[u8]>,
@@ -329,7 +328,7 @@ fn put_received_ack(
     requires { fields_kept routes (with_first Name.Via via.now request.now.fields) ≡ fields_left server.now.config.own (request_uri request.now.start) (with_first Name.Via via.now request.now.fields) }
     ensures { OnOk result (out.new ≡ out.old ++ Base.acks_by server.now again number (Base.base_over server.now begins_dialog via.now request.now) branch.now (option_map (λ value. value.now) to.entry)) }
 {
-    let received = with_top_via(alloc, request, via)?;
+    let received = request.with_top_via(alloc, via)?;
     let base = base_of(alloc, server, begins_dialog, routes, &received)?;
     put_ack(alloc, out, server, again, number, &base, branch, to)
 }
@@ -348,7 +347,6 @@ pub fn ack_packets(
     ensures { OnOk result (out.new ≡ out.old ++ Spec.ack_packets server.now again context.now branch.now (option_map (λ value. value.now) to.entry)) }
 {
     let heard = context.request.get();
-    let request = heard.view(alloc)?;
     let begins = begins_dialog(alloc, context)?;
     let routes = heard.routes_kept(alloc, &server.config.own)?;
     let via = heard.received_via(alloc, context.source)?;
@@ -360,7 +358,7 @@ pub fn ack_packets(
         context.number,
         begins,
         routes,
-        &request,
+        heard,
         via.as_slice(),
         branch,
         to,

@@ -23,13 +23,12 @@ pub(crate) fn records_of(
     ensures { IfOk result (λ records. (server : Server) → judged.now.minute ≡ minute_on server judged.now.question
         → records ≡ Effects.record_of server (arrival_of arrival) request.now judged.now.question outcome ∷ []) }
 {
-    let view = request.view(alloc)?;
     let question = &judged.question;
     let record = record_of(
         alloc,
         arrival.number,
         arrival.now,
-        &view,
+        &request.start(),
         question,
         judged.minute,
         outcome,

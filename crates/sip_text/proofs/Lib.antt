@@ -15,3 +15,4 @@ pub mod PlainDecimals
 pub mod Differing
 pub mod SmallDecimals
 pub mod OneItem
+pub mod LowerCase

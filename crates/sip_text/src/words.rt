@@ -128,8 +128,20 @@ pub fn same_bytes(left: &[u8], right: &[u8]) -> bool
     true
 }
 
-/// A text with the letters `A` to `Z` in lower case. `AllocError` is the only refusal.
-pub fn lower_case(alloc: Global, text: &[u8]) -> Result<Bytes, AllocError>
+/// Whether no byte of a text is a capital letter.
+fn is_lower_case(text: &[u8]) -> bool
+    ensures { result ≡ list_all (λ b. to_ascii_lowercase b == b) text.now }
+{
+    for byte in text {
+        if byte.to_ascii_lowercase() != *byte {
+            return false;
+        }
+    }
+    true
+}
+
+/// A text, byte by byte in lower case.
+fn lowered(alloc: Global, text: &[u8]) -> Result<Bytes, AllocError>
     ensures { IfOk result (λ lower. lower ≡ without_case text.now) }
 {
     let mut lower = Bytes::with_room(alloc, text.len())?;
@@ -137,4 +149,16 @@ pub fn lower_case(alloc: Global, text: &[u8]) -> Result<Bytes, AllocError>
         lower.push(byte.to_ascii_lowercase())?;
     }
     Ok(lower)
+}
+
+/// A text with the letters `A` to `Z` in lower case: most are so already, and are copied whole. `AllocError` is the only
+/// refusal.
+#[tactic(auto, using(crate::proofs::LowerCase::lower_is_itself))]
+pub fn lower_case(alloc: Global, text: &[u8]) -> Result<Bytes, AllocError>
+    ensures { IfOk result (λ lower. lower ≡ without_case text.now) }
+{
+    if is_lower_case(text) {
+        return Bytes::copy(alloc, text);
+    }
+    lowered(alloc, text)
 }

@@ -1,6 +1,6 @@
 -- The text of a Contact's URI isn't longer than the value that it is read from.
 use Rattle.std.proofs.Common.{◌≡◌, ◌≤◌, ◌-◌, ℕ, true, not, ◌==◌, List, [], ◌∷◌, length, take, Some, refl, sym, ap, ◌∙◌, arith, length-append, inl, inr}
-use Rattle.std.specs.Prelude.{reverse, take_while, nat_lt}
+use Rattle.std.specs.Prelude.{◌&&◌, Option, is_some, reverse, take_while, nat_lt}
 use Rattle.std.specs.Char.{to_ascii_lowercase}
 use Rattle.std.specs.List.{join_with_byte}
 use Rattle.std.proofs.lemmas.Bool.Decides.{nat_tests}
@@ -18,7 +18,8 @@ use Rattle.sip_header.specs.declared.contact_item.ContactItem.TheVariants.{Addre
 use Rattle.sip_header.specs.NameAddr.{IsAnyUri, IsNameAddr}
 use Rattle.sip_header.specs.ContactItem.{contact_of}
 use Rattle.sip_header.proofs.NameAddrLaws.{written_contact}
-use Rattle.sip_validate.specs.Faults.{is_sip, may_be_bound}
+use Rattle.sip_header.specs.PlainAddress.{IsBracketedPlace}
+use Rattle.sip_validate.specs.Faults.{is_sip, may_be_bound, is_bindable}
 
 same_length : (left right : List ℕ) → is_same_text left right ≡ true → length left ≡ length right
 same_length [] [] e = refl
@@ -67,3 +68,7 @@ by_uri value address (Other text) is e le = refl
 -- a value of at most 512 bytes has a URI that isn't too long
 pub short_bound : (value : List ℕ) (address : NameAddr) → contact_of value ≡ Some (Address address) → length value ≤ 512 → may_be_bound address.uri ≡ is_sip address.uri
 short_bound value address is le = by_uri value address address.uri (written_contact value (Address address) is) refl le
+
+-- an address in brackets and nothing else, of at most 512 bytes, may be bound
+pub plain_bound : (value host : List ℕ) (port : Option ℕ) → IsBracketedPlace value host port → length value ≤ 512 → (is_some (contact_of value) && is_bindable (contact_of value)) ≡ true
+plain_bound value host port place le = ap (λ item. is_some item && is_bindable item) place.is_contact ∙ short_bound value place.address place.is_contact le ∙ ap is_sip place.has_uri

@@ -12,7 +12,10 @@ ghost use Rattle.sip_validate.specs.Faults as Definition;
 ghost use Rattle.sip_validate.specs.Refusal.{has_own_via};
 
 use crate::candidate::Candidate;
-use sip_header::{AnyUri, ContactItem, MaxForwards, contact_of, max_forwards_of, route_of, via_of};
+use sip_header::{
+    AnyUri, ContactItem, MaxForwards, bracketed_place, contact_of, max_forwards_of, route_of,
+    via_of,
+};
 use sip_uri::text::{same_bytes, same_no_case, split_once};
 use sip_uri::{UriError, parse_uri, write_uri};
 use sip_view::ViewField;
@@ -150,11 +153,22 @@ fn may_be_bound(alloc: Global, uri: &AnyUri<'_>, short: bool) -> Result<bool, Al
     }
 }
 
+/// Whether a value is a short address in brackets and nothing else, as most contacts are. `false` says nothing.
+#[tactic(auto, using(crate::proofs::Lengths::plain_bound))]
+fn is_plain_contact(value: &[u8]) -> bool
+    ensures { result ≡ true → (is_some (Contacts.contact_of value.now) && Definition.is_bindable (Contacts.contact_of value.now)) ≡ true }
+{
+    value.len() <= LONGEST_CONTACT && bracketed_place(value).is_some()
+}
+
 /// Whether a value is an item of Contact that is `*` or may be bound. A URI isn't longer than the value that it stands in.
 #[tactic(auto, using(crate::proofs::Lengths::short_bound))]
 fn is_bindable(alloc: Global, value: &[u8]) -> Result<bool, AllocError>
     ensures { IfOk result (λ may. may ≡ (is_some (Contacts.contact_of value.now) && Definition.is_bindable (Contacts.contact_of value.now))) }
 {
+    if is_plain_contact(value) {
+        return Ok(true);
+    }
     let Some(contact) = contact_of(alloc, value)? else {
         return Ok(false);
     };

@@ -16,7 +16,7 @@ mod view_named;
 pub use kept_field::KeptField;
 pub use piece::Piece;
 pub use slices::{slice_before, slice_from, slice_of};
-pub use store::{fields_in, put, put_fields};
+pub use store::{fields_in, fields_in_with_first, put, put_fields};
 pub use value::Value;
 pub use view_field::ViewField;
 pub use view_fields::ViewFields;

@@ -1,4 +1,5 @@
 ghost use Rattle.std.specs.Prelude.{◌≡◌, IfOk, All, map};
+ghost use Rattle.sip_field.specs.Values;
 ghost use Rattle.sip_view.specs.KeptField.{field_kept, IsStored, IsPut, IsFieldPut, AreFieldsPut};
 
 use crate::kept_field::KeptField;
@@ -7,6 +8,7 @@ use crate::view_field::ViewField;
 use crate::view_fields::ViewFields;
 use crate::view_name::ViewName;
 use sip_field::text::{Buffer, Span};
+use sip_field::{FieldName, KnownName};
 use std::alloc::{AllocError, Global};
 
 /// Puts bytes at the end of a store. What stood in it stays where it is.
@@ -77,6 +79,32 @@ pub fn fields_in<'k>(
     let mut fields = ViewFields::with_room(alloc, list.len())?;
     for kept in list {
         fields.push(field_in(bytes, kept))?;
+    }
+    Ok(fields)
+}
+
+/// The fields that are kept so in a store, the first of a name with another value. No byte is copied.
+pub fn fields_in_with_first<'k>(
+    alloc: Global,
+    bytes: &'k [u8],
+    list: &'k [KeptField],
+    name: &FieldName,
+    value: &'k [u8],
+) -> Result<ViewFields<'k>, AllocError>
+    requires { All (IsStored bytes.now) list.now }
+    ensures { IfOk result (λ fields. fields ≡ Values.with_first name.now value.now (map (field_kept bytes.now) list.now)) }
+{
+    let mut fields = ViewFields::with_room(alloc, list.len())?;
+    let known = KnownName::of(name);
+    let mut is_edited = false;
+    for kept in list {
+        let field = field_in(bytes, kept);
+        if !is_edited && field.name().is_named(known, name) {
+            fields.push(ViewField::new(name_in(bytes, kept), Value::of_part(value)))?;
+            is_edited = true;
+        } else {
+            fields.push(field)?;
+        }
     }
     Ok(fields)
 }

@@ -5,7 +5,7 @@ ghost use Rattle.sip_field.specs.Values;
 use crate::value::Value;
 use crate::view_field::ViewField;
 use crate::view_fields::ViewFields;
-use sip_field::{Field, FieldName};
+use sip_field::{Field, FieldName, KnownName};
 use std::alloc::{AllocError, Global};
 
 /// Adds views of some fields, of which no byte is copied.
@@ -26,9 +26,10 @@ pub(crate) fn put_named<'a>(
 ) -> Result<(), AllocError>
     ensures { OnOk result (out.new ≡ out.old ++ all_named name.now fields.now) }
 {
+    let known = KnownName::of(name);
     for field in fields {
-        if field.name().is_same(name) {
-            out.push(field.lent()?)?;
+        if field.name().is_named(known, name) {
+            out.append(field.lent()?)?;
         }
     }
     Ok(())
@@ -52,9 +53,10 @@ pub(crate) fn with_first<'a>(
     ensures { IfOk result (λ views. views ≡ Values.with_first name.now value.now fields.now) }
 {
     let mut views = ViewFields::with_room(alloc, fields.len())?;
+    let known = KnownName::of(name);
     let mut is_edited = false;
     for field in fields {
-        if !is_edited && field.name().is_same(name) {
+        if !is_edited && field.name().is_named(known, name) {
             views.push(with_value(field, value)?)?;
             is_edited = true;
         } else {

@@ -58,6 +58,19 @@ impl<'a> ViewFields<'a> {
         ensures ok { OnOk result (self.new ≡ self.old ++ field.entry ∷ []) }
         ensures err { OnErr result (self.new ≡ self.old) }
     {
+        if self.list.len() < self.list.capacity() {
+            self.list.push_reserved(field);
+            return Ok(());
+        }
+        self.append(field)
+    }
+
+    /// Adds a field at the end, for which room may have to be made. It stands apart, so that where there is room a field
+    /// is written in place.
+    pub(crate) fn append(&mut self, field: ViewField<'a>) -> Result<(), AllocError>
+        ensures ok { OnOk result (self.new ≡ self.old ++ field.entry ∷ []) }
+        ensures err { OnErr result (self.new ≡ self.old) }
+    {
         self.list.push(field)?;
         Ok(())
     }

@@ -133,15 +133,26 @@ impl<'a> ViewName<'a> {
     {
         match (self.known, known) {
             (Some(left), Some(right)) => left.is_same(right),
-            _ => same_no_case(self.spelling(), name.spelling()),
+            _ => self.is_spelled(name),
         }
+    }
+
+    /// Whether it is spelled as a name is. It stands apart, so that where a field is looked for known names are compared
+    /// in place.
+    fn is_spelled(&self, name: &FieldName) -> bool
+        ensures { result ≡ is_same_name self.now name.now }
+    {
+        same_no_case(self.spelling(), name.spelling())
     }
 
     /// Whether it is this name: names are compared without case (RFC 3261 7.3.1). Takes no memory.
     pub fn is_same(&self, other: &FieldName) -> bool
         ensures { result ≡ is_same_name self.now other.now }
     {
-        self.is_named(KnownName::of(other), other)
+        match KnownName::of(other) {
+            Some(known) => self.is_named(Some(known), other),
+            None => self.is_spelled(other),
+        }
     }
 
     /// Whether it is Content-Length, which a message that was read doesn't keep as a field.

@@ -3,7 +3,7 @@ use Rattle.std.proofs.Common.{◌≡◌, ℕ, Bool, true, false, cond, List, [],
 use Rattle.std.specs.Prelude.{Result, Ok, Err, ◌==◌, ◌&&◌, codes, option_map, is_some}
 use Rattle.std.specs.Option.{option_map_or}
 use Rattle.std.specs.Result.{result_ok}
-use Rattle.std.specs.List.{list_all, flat_map}
+use Rattle.std.specs.List.{list_all, list_any, flat_map}
 use Rattle.std.specs.Char.{to_ascii_lowercase}
 use Rattle.std.proofs.lemmas.List.{append-nil}
 use Rattle.sip_uri.specs.text.Words.{is_same_text}
@@ -13,11 +13,12 @@ use Rattle.sip_uri.specs.declared.error.UriError.{UriError}
 use Rattle.sip_uri.specs.declared.scheme.Scheme.{Scheme}
 use Rattle.sip_uri.specs.declared.scheme.Scheme.TheVariants.{Sip, Sips}
 use Rattle.sip_uri.specs.declared.user.UserInfo.{UserInfo}
+use Rattle.sip_uri.specs.declared.parameters.Parameter.{Parameter}
 use Rattle.sip_uri.specs.declared.uri.Uri.{Uri}
 use Rattle.sip_uri.specs.Scheme.{scheme_text}
 use Rattle.sip_uri.specs.Uri.{userinfo_text, port_text, parameter_text, headers_text, rest_text, IsWritten}
 use Rattle.sip_uri.specs.Reading.{reading_of}
-use Rattle.sip_uri.proofs.Tests.{and_both, and_is, not_is}
+use Rattle.sip_uri.proofs.Tests.{and_both, and_is}
 use Rattle.sip_uri.proofs.PartLaws.{IsNoPlaceByte, place_others}
 use Rattle.sip_uri.proofs.ReadingLaws.{is_written}
 use Rattle.sip_equality.proofs.Equal.{eqb_own}
@@ -122,19 +123,19 @@ front_by : (own : Own) (uri : List ℕ) (r : Result Uri UriError) → list_all (
 front_by own uri (Err fault) bare is e = absurd cc
 front_by own uri (Ok u) bare is e = front_of own uri u bare (is_written uri u is) (at_own own u (and_both (has_lr u) (same u (record_route_uri own)) e).1)
 
--- a text that isn't split at a `%` has none
 none_in_front : (front : List ℕ) (parts : Option (List ℕ × List ℕ)) → in_front front parts ≡ None → parts ≡ None
 none_in_front front None e = refl
 none_in_front front (Some x) e = absurd cc
 
-unsplit : (text : List ℕ) → split_at_byte 37 text ≡ None → list_all (is_not 37) text ≡ true
-unsplit [] e = refl
-unsplit (b ∷ bs) e = by_first (b == 37) refl e (unsplit bs)
+-- a text that isn't split at a byte has none of it
+without_mark : (mark : ℕ) (text : List ℕ) → split_at_byte mark text ≡ None → list_all (is_not mark) text ≡ true
+without_mark mark [] e = refl
+without_mark mark (b ∷ bs) e = by_first (b == mark) refl e (without_mark mark bs)
   where
-    by_first : (t : Bool) → (b == 37) ≡ t → cond t (Some ([], bs)) (in_front (b ∷ []) (split_at_byte 37 bs)) ≡ None → (split_at_byte 37 bs ≡ None → list_all (is_not 37) bs ≡ true)
-        → list_all (is_not 37) (b ∷ bs) ≡ true
+    by_first : (t : Bool) → (b == mark) ≡ t → cond t (Some ([], bs)) (in_front (b ∷ []) (split_at_byte mark bs)) ≡ None → (split_at_byte mark bs ≡ None → list_all (is_not mark) bs ≡ true)
+        → list_all (is_not mark) (b ∷ bs) ≡ true
     by_first true is e more = absurd cc
-    by_first false is e more = rw is (more (none_in_front (b ∷ []) (split_at_byte 37 bs) e))
+    by_first false is e more = rw is (more (none_in_front (b ∷ []) (split_at_byte mark bs) e))
 
 abbrev begins_so : Own → List ℕ → Bool
 begins_so own uri = is_same_text (take 4 uri) (codes "sip:") && is_same_text (take (length own.host) (drop 4 uri)) own.host
@@ -150,6 +151,34 @@ not_own own uri begins_not bare = by_came (came_strictly own uri) refl
     by_came : (t : Bool) → came_strictly own uri ≡ t → came_strictly own uri ≡ false
     by_came false is = is
     by_came true is =
-        let begins_it : begins_so own uri ≡ true = front_by own uri (reading_of uri) (unsplit own.host bare) refl is in
+        let begins_it : begins_so own uri ≡ true = front_by own uri (reading_of uri) (without_mark 37 own.host bare) refl is in
         let never : true ≡ false = sym begins_it ∙ begins_not in
         absurd cc
+
+-- ---- parameters
+
+behind : (p : ℕ → Bool) (front rest : List ℕ) → list_all p (front ++ rest) ≡ true → list_all p rest ≡ true
+behind p [] rest e = e
+behind p (b ∷ bs) rest e = behind p bs rest (and_both (p b) (list_all p (bs ++ rest)) e).1
+
+-- what is written without a `;` has no parameters
+no_lr : (uri : List ℕ) (u : Uri) → list_all (is_not 59) uri ≡ true → IsWritten uri u → has_lr u ≡ false
+no_lr uri u none written = by_parameters u.parameters refl
+  where
+    by_parameters : (parameters : List Parameter) → u.parameters ≡ parameters → has_lr u ≡ false
+    by_parameters [] e = ap (list_any (λ p. says_same_no_case p.name (codes "lr"))) e
+    by_parameters (p ∷ ps) e =
+        let rest = behind (is_not 59) (written.scheme ++ 58 ∷ []) (rest_text u) (ap (list_all (is_not 59)) (append_assoc written.scheme (58 ∷ []) (rest_text u) ∙ sym written.whole) ∙ none) in
+        let place = behind (is_not 59) (userinfo_text u.userinfo) (u.host ++ behind_host u) rest in
+        let port = behind (is_not 59) u.host (behind_host u) place in
+        let parameters = behind (is_not 59) (port_text u.port) (flat_map parameter_text u.parameters ++ headers_text u.headers) port in
+        let never : list_all (is_not 59) (flat_map parameter_text (p ∷ ps) ++ headers_text u.headers) ≡ true = ap (λ w. list_all (is_not 59) (flat_map parameter_text w ++ headers_text u.headers)) (sym e) ∙ parameters in
+        absurd cc
+
+no_lr_by : (own : Own) (uri : List ℕ) (r : Result Uri UriError) → list_all (is_not 59) uri ≡ true → reading_of uri ≡ r → option_map_or (is_record_route own) (result_ok r) false ≡ false
+no_lr_by own uri (Err fault) none is = refl
+no_lr_by own uri (Ok u) none is = ap (λ t. t && same u (record_route_uri own)) (no_lr uri u none (is_written uri u is))
+
+-- what has no `;` isn't this server's Record-Route
+pub not_loose : (own : Own) (uri : List ℕ) → split_at_byte 59 uri ≡ None → came_strictly own uri ≡ false
+not_loose own uri bare = no_lr_by own uri (reading_of uri) (without_mark 59 uri bare) refl

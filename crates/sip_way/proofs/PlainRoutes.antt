@@ -1,11 +1,9 @@
 -- Routes as proxies write them.
 use Rattle.std.proofs.Common.{◌≡◌, ℕ, false, List, [], ◌∷◌, Option, Some, None, refl, sym, ap, ◌∙◌}
 use Rattle.std.specs.Prelude.{◌&&◌, ◌==◌, option_map}
-use Rattle.std.specs.Option.{option_map_or, option_and_then, unwrap_or}
+use Rattle.std.specs.Option.{option_map_or, unwrap_or}
 use Rattle.sip_uri.specs.host.Port.{port_value, port_number}
-use Rattle.sip_header.specs.declared.name_addr.AnyUri.{AnyUri}
 use Rattle.sip_header.specs.declared.name_addr.NameAddr.{NameAddr}
-use Rattle.sip_header.specs.Route.{route_of}
 use Rattle.sip_header.specs.PlainAddress.{IsBracketedPlace}
 use Rattle.sip_way.specs.declared.own.Own.{Own}
 use Rattle.sip_way.specs.Own.{is_own_host}

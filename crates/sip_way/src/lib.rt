@@ -15,5 +15,5 @@ pub use way::{Way, uri_left, way_of};
 
 /// Of `sip_equality`.
 pub mod equality {
-    pub use sip_equality::same;
+    pub use sip_equality::{laws, same};
 }

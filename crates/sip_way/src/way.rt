@@ -4,6 +4,7 @@ ghost use Rattle.sip_header.specs.form.ViewStart.{start_seen};
 ghost use Rattle.sip_header.specs.NameAddr.{sip_uri};
 ghost use Rattle.sip_header.specs.field.declared.field_name.FieldName.TheVariants as Name;
 ghost use Rattle.sip_header.specs.field.Values.{values_of};
+ghost use Rattle.sip_way.specs.declared.own.Own.{Own};
 ghost use Rattle.sip_way.specs.Way as Ways;
 ghost use Rattle.sip_way.specs.Routes.{way_with, way_by};
 
@@ -125,12 +126,20 @@ fn may_be_own(own: &Own, uri: &[u8]) -> bool
     split_once(own.host.as_slice(), b'%').is_some()
 }
 
+/// Whether a URI may have parameters: without a `;` it has none, and so no `lr`.
+#[tactic(auto, using(crate::proofs::Front::none_by, crate::proofs::Front::not_loose))]
+fn may_have_parameters(uri: &[u8]) -> bool
+    ensures { (own : Own) → result ≡ false → Ways.came_strictly own uri.now ≡ false }
+{
+    split_once(uri, b';').is_some()
+}
+
 /// Whether a Request-URI is one that this server put into Record-Route. Only one that may be is parsed, since a long
 /// one costs much to parse.
 fn came_strictly(alloc: Global, own: &Own, uri: &[u8]) -> Result<bool, AllocError>
     ensures { IfOk result (λ is_own. is_own ≡ Ways.came_strictly own.now uri.now) }
 {
-    if !may_be_own(own, uri) {
+    if !may_be_own(own, uri) || !may_have_parameters(uri) {
         return Ok(false);
     }
     match parse_uri(alloc, uri) {

@@ -7,9 +7,9 @@ use Rattle.sip_sending.proofs.branches.packets_of_branches.Goals as goal
 
 pub put_received_branches-requires : goal.put_received_branches-requires
 put_received_branches-requires c =
-    left_of c.args.server.now.config.own c.in_ok-routes.routes c.get-heard.result.now c.in_ok-request.request c.as_slice.result.now c.in_ok-request.ensures c.in_ok-routes.ensures
+    left_of c.args.server.now.config.own c.in_ok-routes.routes c.get-heard.result.now c.get-heard.result.now c.as_slice.result.now refl c.in_ok-routes.ensures
 
 pub returns : goal.returns
 returns c =
-    all_sent c.put_received_branches.result c.put_received_branches.new.out c.args.out.now c.args.server.now c.args.again c.args.context.now c.args.branches.now c.get-heard.result.now c.in_ok-request.request (record c.in_ok-request.request { fields = with_first Name.Via c.as_slice.result.now c.in_ok-request.request.fields }) (base_over c.args.server.now c.in_ok-begins.begins c.as_slice.result.now c.in_ok-request.request) c.in_ok-begins.begins c.in_ok-via.via c.as_slice.result.now
-    c.get-heard.ensures c.in_ok-request.ensures c.in_ok-begins.ensures c.in_ok-via.ensures c.as_slice.ensures refl refl c.put_received_branches.ensures
+    all_sent c.put_received_branches.result c.put_received_branches.new.out c.args.out.now c.args.server.now c.args.again c.args.context.now c.args.branches.now c.get-heard.result.now c.get-heard.result.now (record c.get-heard.result.now { fields = with_first Name.Via c.as_slice.result.now c.get-heard.result.now.fields }) (base_over c.args.server.now c.in_ok-begins.begins c.as_slice.result.now c.get-heard.result.now) c.in_ok-begins.begins c.in_ok-via.via c.as_slice.result.now
+    c.get-heard.ensures refl c.in_ok-begins.ensures c.in_ok-via.ensures c.as_slice.ensures refl refl c.put_received_branches.ensures

@@ -1,6 +1,6 @@
 use Rattle.std.proofs.Common.{◌≡◌, take}
 use Rattle.sip_text.specs.Words.{without_case}
-use Rattle.sip_text.proofs.words.lower_case.Given as goal
+use Rattle.sip_text.proofs.words.lowered.Given as goal
 
 -- the bytes so far, in lower case
 abbrev pub invariant-loop-byte : goal.invariant-loop-byte
