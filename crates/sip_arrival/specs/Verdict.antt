@@ -1,5 +1,5 @@
 -- When what was decided about a request is the verdict on it.
-use Rattle.std.specs.Prelude.{◌≡◌, ℕ, Bool, List, Option, None, ⊤}
+use Rattle.std.specs.Prelude.{◌≡◌, ℕ, Bool, true, false, List, Option, None, ⊤}
 use Rattle.sip_judge.specs.dialog.declared.dialog.Dialog.{Dialog}
 use Rattle.sip_judge.specs.form.declared.message.Start.{Start}
 use Rattle.sip_judge.specs.form.declared.message.Start.TheVariants.{Request, Status}
@@ -11,6 +11,8 @@ use Rattle.sip_judge.specs.nonces.declared.nonces.Nonce.{Nonce}
 use Rattle.sip_judge.specs.state.declared.open_request.OpenRequest.{OpenRequest}
 use Rattle.sip_judge.specs.state.declared.proxy_state.ProxyState.{ProxyState}
 use Rattle.sip_judge.specs.state.declared.server.Server.{Server}
+use Rattle.sip_judge.specs.targets.declared.targets.Targets.{Targets}
+use Rattle.sip_judge.specs.targets.declared.targets.Targets.TheVariants.{Bindings, Hop, NotFound, Unavailable}
 use Rattle.sip_judge.specs.verdict.declared.question.Question.{Question}
 use Rattle.sip_judge.specs.verdict.Verdict as Definition
 use Rattle.sip_arrival.specs.declared.verdict.Verdict.{Verdict}
@@ -56,6 +58,32 @@ Is server rows now named verdict (Answer status extras) = verdict ≡ Definition
 Is server rows now named verdict (InDialog address id) = verdict ≡ Definition.InDialog address id
 Is server rows now named verdict (Judged judged) =
     (judged.minute ≡ Definition.minute_on server judged.question) × IsOutcome rows now judged.question verdict judged.outcome
+
+-- ---- where it goes on
+
+-- whether targets are somebody, at live bindings or behind a rule's hop (RFC 3261 16.5)
+abbrev pub are_somebody : Targets → Bool
+are_somebody (Bindings targets) = true
+are_somebody (Hop uri address) = true
+are_somebody NotFound = false
+are_somebody Unavailable = false
+
+-- whether a request goes to somebody by what policy decided (RFC 3261 16.5)
+abbrev pub goes_out : Outcome → Bool
+goes_out Challenge = false
+goes_out (Deny id) = false
+goes_out (Send id targets) = are_somebody targets
+goes_out (Register id registering) = false
+
+-- whether a request goes on, in its dialog or to its targets, and is kept until it is answered (RFC 3261 16.6); an ACK
+-- and a CANCEL aren't
+abbrev pub goes_on : Verdict → Bool
+goes_on Dropped = false
+goes_on (AckOn address id) = false
+goes_on Cancel = false
+goes_on (Answer status extras) = false
+goes_on (InDialog address id) = true
+goes_on (Judged judged) = goes_out judged.outcome
 
 -- ---- bindings
 

@@ -1,4 +1,4 @@
-ghost use Rattle.std.specs.Prelude.{◌≡◌, ℕ, List, Option, Some, IfOk};
+ghost use Rattle.std.specs.Prelude.{◌≡◌, ℕ, false, List, Option, Some, IfOk};
 ghost use Rattle.std.specs.Result.{result_ok};
 ghost use Rattle.sip_judge.specs.header.CoreFields.{core_of};
 ghost use Rattle.sip_judge.specs.location.declared.binding.Binding.{Binding};
@@ -6,7 +6,7 @@ ghost use Rattle.sip_judge.specs.state.declared.open_request.OpenRequest.{OpenRe
 ghost use Rattle.sip_judge.specs.state.declared.proxy_state.ProxyState.{ProxyState};
 ghost use Rattle.sip_judge.specs.way.Way.{way_of};
 ghost use Rattle.sip_judge.specs.verdict.Verdict as Definition;
-ghost use Rattle.sip_arrival.specs.Verdict.{Is, IsRequestOf, HasRoom};
+ghost use Rattle.sip_arrival.specs.Verdict.{Is, IsRequestOf, HasRoom, goes_on};
 
 use crate::checks::check;
 use crate::verdict::Verdict;
@@ -32,6 +32,7 @@ fn ack_within<'v, R: Rules>(
     ensures verdict { IfOk result (λ verdict. (state : ProxyState) → state.dialogs ≡ dialogs.now.dialogs → (rows : List Binding) (named : Option OpenRequest)
         → Is judge.now rows now named (Definition.within judge.now state now request.now Definition.AckOn Definition.Drop) verdict) }
     ensures room { IfOk result (λ verdict. (room : ℕ) → HasRoom room verdict) }
+    ensures kept { IfOk result (λ verdict. goes_on verdict ≡ false) }
 {
     match within(alloc, judge, dialogs, now, request, checked)? {
         Some((address, id)) => Ok(Verdict::AckOn(address, id)),
@@ -54,6 +55,7 @@ pub fn ack_verdict<'v, R: Rules>(
     ensures verdict { IfOk result (λ verdict. (state : ProxyState) → state.dialogs ≡ dialogs.now.dialogs → (rows : List Binding) (named : Option OpenRequest)
         → Is judge.now rows now named (Definition.ack_verdict judge.now state now request.now short) verdict) }
     ensures room { IfOk result (λ verdict. (room : ℕ) → HasRoom room verdict) }
+    ensures kept { IfOk result (λ verdict. goes_on verdict ≡ false) }
 {
     match check(alloc, judge, request, method, short) {
         Ok(checked) => ack_within(alloc, judge, dialogs, now, request, &checked),

@@ -1,4 +1,4 @@
-ghost use Rattle.std.specs.Prelude.{◌≡◌, ◌<◌, ◌^◌, IfOk, Bool, ℕ, List, Option, Some, None, is_some, [], codes};
+ghost use Rattle.std.specs.Prelude.{◌≡◌, ◌<◌, ◌^◌, IfOk, Bool, false, ℕ, List, Option, Some, None, is_some, [], codes};
 ghost use Rattle.std.specs.Str.{bytes_eq};
 ghost use Rattle.std.specs.Result.{result_ok};
 ghost use Rattle.sip_judge.specs.dialog.DialogId.{id_of};
@@ -14,7 +14,8 @@ ghost use Rattle.sip_judge.specs.state.declared.server.Server.{Server};
 ghost use Rattle.sip_judge.specs.way.Way.{way_of};
 ghost use Rattle.sip_judge.specs.validate.Refusal.{refusal_of};
 ghost use Rattle.sip_judge.specs.verdict.Verdict as Definition;
-ghost use Rattle.sip_arrival.specs.Verdict.{Is, IsRequestOf, Knows, HasRoom};
+ghost use Rattle.sip_arrival.specs.Verdict as Spec;
+ghost use Rattle.sip_arrival.specs.Verdict.{Is, IsRequestOf, Knows, HasRoom, goes_on};
 
 use crate::acknowledging::ack_verdict;
 use crate::cancelling::cancel_verdict;
@@ -52,6 +53,7 @@ fn refusal_verdict<'v>(alloc: Global, status: u16, items: &[u8]) -> Result<Verdi
     ensures verdict { IfOk result (λ verdict. (server : Server) (state : ProxyState) (now : ℕ) (m : Message) (method : List ℕ) (rows : List Binding) (named : Option OpenRequest)
         → Is server rows now named (Definition.checked_verdict server state now m method (Some (status, items.now))) verdict) }
     ensures room { IfOk result (λ verdict. (room : ℕ) → HasRoom room verdict) }
+    ensures kept { IfOk result (λ verdict. goes_on verdict ≡ false) }
 {
     Ok(Verdict::Answer(status, refusal_fields(alloc, status, items)?))
 }
@@ -78,7 +80,9 @@ fn is_outside(method: &[u8], core: &CoreFields<'_>) -> bool
 }
 
 /// Whether a request goes to somebody by what policy decided.
-fn goes_out(outcome: &Outcome) -> bool {
+fn goes_out(outcome: &Outcome) -> bool
+    ensures { result ≡ Spec.goes_out outcome.now }
+{
     match outcome {
         Outcome::Send(_, targets) => match targets {
             Targets::Bindings(_) | Targets::Hop(_, _) => true,
@@ -101,10 +105,12 @@ fn request_within<'v, R: Rules>(
     requires core { result_ok (core_of request.now) ≡ Some checked.now.core }
     requires way { checked.now.way ≡ way_of judge.now.config.own request.now }
     requires names { AreNames request.now names.now }
+    requires none { names.now ≡ None }
     ensures verdict { IfOk result (λ verdict. (state : ProxyState) → state.dialogs ≡ dialogs.now.dialogs → (rows : List Binding) (named : Option OpenRequest)
         → Is judge.now rows now named (Definition.within judge.now state now request.now Definition.InDialog (Definition.Answer 481 [])) verdict) }
     ensures room { IfOk result (λ verdict. (room : ℕ) → HasRoom room verdict) }
     ensures names { AreNames request.now names.new }
+    ensures made { IfOk result (λ verdict. is_some names.new ≡ goes_on verdict) }
 {
     match within(alloc, judge, dialogs, now, request, checked)? {
         Some((address, id)) => {
@@ -132,11 +138,13 @@ fn core_verdict<'v, R: Rules>(
     requires core { result_ok (core_of request.now) ≡ Some checked.now.core }
     requires way { checked.now.way ≡ way_of judge.now.config.own request.now }
     requires names { AreNames request.now names.now }
+    requires none { names.now ≡ None }
     ensures verdict { IfOk result (λ verdict. (state : ProxyState) (is_full : Bool) → Knows state locations.old.rows nonces.now dialogs.now.dialogs is_full → (named : Option OpenRequest)
         → Is judge.now locations.old.rows now named (Definition.core_verdict judge.now state now request.now method.now (Some checked.now.core)) verdict) }
     ensures unchanged { locations.new.rows ≡ locations.old.rows }
     ensures room { IfOk result (HasRoom locations.new.room) }
     ensures names { AreNames request.now names.new }
+    ensures made { IfOk result (λ verdict. is_some names.new ≡ goes_on verdict) }
 {
     if is_outside(method, &checked.core) {
         let judged = policy_verdict(
@@ -168,11 +176,13 @@ fn passed_verdict<'v, R: Rules>(
     requires core { result_ok (core_of request.now) ≡ Some checked.now.core }
     requires way { checked.now.way ≡ way_of judge.now.config.own request.now }
     requires names { AreNames request.now names.now }
+    requires none { names.now ≡ None }
     ensures verdict { IfOk result (λ verdict. (state : ProxyState) → Knows state locations.old.rows nonces.now dialogs.now.dialogs is_full → (named : Option OpenRequest)
         → Is judge.now locations.old.rows now named (Definition.checked_verdict judge.now state now request.now method.now None) verdict) }
     ensures unchanged { locations.new.rows ≡ locations.old.rows }
     ensures room { IfOk result (HasRoom locations.new.room) }
     ensures names { AreNames request.now names.new }
+    ensures made { IfOk result (λ verdict. is_some names.new ≡ goes_on verdict) }
 {
     if is_full {
         return Ok(Verdict::Answer(503, Fields::new(alloc)));
@@ -199,11 +209,13 @@ fn checked_verdict<'v, R: Rules>(
     requires moment { now < 2 ^ 62 }
     requires request { IsRequestOf method.now request.now.start }
     requires names { AreNames request.now names.now }
+    requires none { names.now ≡ None }
     ensures verdict { IfOk result (λ verdict. (state : ProxyState) → Knows state locations.old.rows nonces.now dialogs.now.dialogs is_full → (named : Option OpenRequest)
         → Is judge.now locations.old.rows now named (Definition.checked_verdict judge.now state now request.now method.now (refusal_of judge.now.config.own request.now short)) verdict) }
     ensures unchanged { locations.new.rows ≡ locations.old.rows }
     ensures room { IfOk result (HasRoom locations.new.room) }
     ensures names { AreNames request.now names.new }
+    ensures made { IfOk result (λ verdict. is_some names.new ≡ goes_on verdict) }
 {
     match check(alloc, judge, request, method, short) {
         Ok(checked) => passed_verdict(
@@ -233,9 +245,9 @@ fn is_cancel(method: &[u8]) -> bool
 /// length says: the first case that applies. An ACK is sent on in a dialog or dropped; a CANCEL is decided by the
 /// request that it names, unless it is bad or there is no room; every other is refused by the checks, answered 503
 /// where 1,024 requests are open, sent on in its dialog, or judged by policy, and then registered or sent to its targets
-/// (RFC 3261 9.2, 10.3, 16.3 to 16.5). What names its dialogs is made where it goes on and is kept, of what the checks read.
-/// No binding changes; there is room for the plan that a REGISTER gives. `AllocError` is the only refusal. Moments are in
-/// milliseconds, below 2^62.
+/// (RFC 3261 9.2, 10.3, 16.3 to 16.5). What names its dialogs is made exactly where it goes on and is kept, of what the
+/// checks read. No binding changes; there is room for the plan that a REGISTER gives. `AllocError` is the only refusal.
+/// Moments are in milliseconds, below 2^62.
 pub fn new_verdict<'v, R: Rules>(
     alloc: Global,
     judge: &Judge<R>,
@@ -256,6 +268,7 @@ pub fn new_verdict<'v, R: Rules>(
     ensures unchanged { locations.new.rows ≡ locations.old.rows }
     ensures room { IfOk result (HasRoom locations.new.room) }
     ensures names { AreNames request.now names.new }
+    ensures made { IfOk result (λ verdict. is_some names.new ≡ goes_on verdict) }
 {
     *names = None;
     if is_ack(method) {

@@ -1,11 +1,11 @@
-ghost use Rattle.std.specs.Prelude.{◌≡◌, ℕ, List, IfOk};
+ghost use Rattle.std.specs.Prelude.{◌≡◌, ℕ, false, List, IfOk};
 ghost use Rattle.sip_judge.specs.key.declared.key.Key.{Key};
 ghost use Rattle.sip_judge.specs.location.declared.binding.Binding.{Binding};
 ghost use Rattle.sip_judge.specs.state.Arrival.{Arrival};
 ghost use Rattle.sip_judge.specs.state.declared.proxy_state.ProxyState.{ProxyState};
 ghost use Rattle.sip_judge.specs.state.declared.server.Server.{Server};
 ghost use Rattle.sip_judge.specs.verdict.Verdict as Definition;
-ghost use Rattle.sip_arrival.specs.Verdict.{Is, HasRoom};
+ghost use Rattle.sip_arrival.specs.Verdict.{Is, HasRoom, goes_on};
 
 use crate::verdict::Verdict;
 use sip_judge::field::Fields;
@@ -26,6 +26,7 @@ pub(crate) fn cancel_verdict<'v>(
         → server.config.own ≡ own.now → Definition.is_full state ≡ is_full
         → Is server rows now (Definition.found_for_cancel state key a.from) (Definition.cancel_verdict server state a request.now short key) verdict) }
     ensures room { IfOk result (λ verdict. (room : ℕ) → HasRoom room verdict) }
+    ensures kept { IfOk result (λ verdict. goes_on verdict ≡ false) }
 {
     if is_bad_request(alloc, request, short, own)? {
         return Ok(Verdict::Answer(400, Fields::new(alloc)));

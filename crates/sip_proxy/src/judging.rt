@@ -1,5 +1,5 @@
-ghost use Rattle.std.specs.Prelude.{◌≡◌, ◌<◌, ◌^◌, ℕ, IfOk, List, Option};
-ghost use Rattle.sip_arrival.specs.Verdict.{HasRoom, Is, IsRequestOf};
+ghost use Rattle.std.specs.Prelude.{◌≡◌, ◌<◌, ◌^◌, ℕ, IfOk, is_some, List, Option};
+ghost use Rattle.sip_arrival.specs.Verdict.{HasRoom, Is, IsRequestOf, goes_on};
 ghost use Rattle.sip_forwarding.specs.heard.Names.{AreNames};
 ghost use Rattle.sip_forwarding.specs.key.declared.key.Key.{Key};
 ghost use Rattle.sip_forwarding.specs.location.declared.binding.Binding.{Binding};
@@ -17,10 +17,10 @@ use sip_forwarding::policy::Rules;
 use std::alloc::{AllocError, Global};
 
 impl<T: Timers> Proxy<T> {
-    /// The verdict on a request of a method that no open one is found for, of whose body fewer bytes may have come than its
-    /// length says (RFC 3261 9.2, 10.3, 16.3 to 16.5), at a moment in milliseconds. What names its dialogs is made where it
-    /// goes on and is kept. Nothing is changed; there is room for the plan that a REGISTER gives. `AllocError` is the only
-    /// refusal.
+    /// The verdict on a request of a method that no open one is found for, of whose body fewer bytes may have come than
+    /// its length says (RFC 3261 9.2, 10.3, 16.3 to 16.5), at a moment in milliseconds. What names its dialogs is made
+    /// exactly where it goes on and is kept. Nothing is changed; there is room for the plan that a REGISTER gives.
+    /// `AllocError` is the only refusal.
     pub fn verdict<'v, R: Rules>(
         &mut self,
         alloc: Global,
@@ -37,6 +37,7 @@ impl<T: Timers> Proxy<T> {
             → Is judge.now self.old.state.bindings now (Definition.found_for_cancel self.old.state key a.from) (Definition.new_verdict judge.now self.old.state a request.now short method.now key) verdict) }
         ensures room { IfOk result (HasRoom self.new.room) }
         ensures names { AreNames request.now names.new }
+        ensures made { IfOk result (λ verdict. is_some names.new ≡ goes_on verdict) }
         ensures unchanged { self.new.state ≡ self.old.state }
         ensures timers { self.new.timers ≡ self.old.timers }
     {
