@@ -1,0 +1,108 @@
+#!/bin/sh
+# Whether each name in the tables of docs/MAP.md stands where the page says: a room in crates.txt, a file, a function,
+# constant or type in that file, a definition in its module of specs. Proves nothing and takes a second.
+cd "$(dirname "$0")/.." || exit 2
+exec python3 - <<'PY'
+import os
+import re
+import sys
+
+PAGE = "docs/MAP.md"
+TABLES = {
+    "Section": ["Section", "About", "Room", "Decided by", "File", "Definition"],
+    "To change": ["To change", "Room", "Go to", "File", "Definition"],
+}
+LONGEST = 300
+NAME = re.compile(r"`([^`]+)`")
+DEFINITION = re.compile(r"`(\w+) (specs/\w+)`: ((?:`\w+`(?:, )?)+)")
+ROOMS = {line.split(":")[0].strip() for line in open("crates.txt", encoding="utf-8")}
+texts = {}
+
+
+def text(path):
+    if path not in texts:
+        texts[path] = open(path, encoding="utf-8").read() if os.path.exists(path) else None
+    return texts[path]
+
+
+def cells(line):
+    return [cell.strip() for cell in line.strip().strip("|").split("|")]
+
+
+def blocks_of(code, owner):
+    """The impl blocks of a type, each up to the brace that closes it at the front of a line."""
+    return [m.group() for m in re.finditer(r"(?ms)^impl\b[^{]*?\b" + owner + r"\b[^{]*\{.*?^\}", code)]
+
+
+def stands(code, name):
+    """Whether a file has a function, constant or type of this name, or a method of this type."""
+    owner, _, item = name.rpartition("::")
+    if owner:
+        return any(re.search(r"\bfn " + item + r"\b", block) for block in blocks_of(code, owner))
+    return re.search(r"(?m)^(?:pub(?:\(\w+\))? )?(?:fn|const|struct|enum|trait) " + name + r"\b", code) is not None
+
+
+def is_defined(module, name):
+    return re.search(r"(?m)^(?:\w+ )?pub (?:record |data )?" + re.escape(name) + r"(?![\w-])", module) is not None
+
+
+faults = count = 0
+
+
+def need(number, good, what):
+    global faults
+    if not good:
+        faults += 1
+        print(f"{PAGE}:{number}: {what}")
+
+
+def check(number, good, what):
+    """The same of a name: that of a room, a file, a function or a definition."""
+    global count
+    count += 1
+    need(number, good, what)
+
+
+rows = {kind: 0 for kind in TABLES}
+kind = None
+for number, line in enumerate(open(PAGE, encoding="utf-8"), 1):
+    if not line.startswith("|"):
+        kind = None
+        continue
+    row = cells(line)
+    if row[0] in TABLES:
+        kind = row[0]
+        need(number, row == TABLES[kind], "another header than " + " | ".join(TABLES[kind]))
+        continue
+    if kind is None or set(line.strip()) <= set("|-"):
+        continue
+    rows[kind] += 1
+    if len(row) != len(TABLES[kind]):
+        need(number, False, f"{len(row)} cells in place of {len(TABLES[kind])}")
+        continue
+    for cell in row:
+        need(number, len(cell) <= LONGEST, f"a cell of {len(cell)} characters")
+    of = dict(zip(TABLES[kind], row))
+    room, path = of["Room"].strip("`"), of["File"].strip("`")
+    check(number, room in ROOMS, f"{room}: not in crates.txt")
+    need(number, path.startswith(f"crates/{room}/src/"), f"{path}: not of {room}")
+    code = text(path)
+    check(number, code is not None, f"{path}: no such file")
+    names = NAME.findall(of.get("Decided by") or of["Go to"])
+    need(number, names, "no function or constant")
+    for name in names:
+        check(number, code is not None and stands(code, name), f"{path}: without {name}")
+    found = DEFINITION.findall(of["Definition"])
+    whole = "; ".join(f"`{crate} {module}`: {listed}" for crate, module, listed in found)
+    need(number, whole == of["Definition"], "a definition that isn't written as `CRATE specs/Module`: `name`")
+    for crate, module, listed in found:
+        path = f"crates/{crate}/{module}.antt"
+        check(number, crate in ROOMS, f"{crate}: not in crates.txt")
+        check(number, text(path) is not None, f"{path}: no such file")
+        for name in NAME.findall(listed):
+            check(number, text(path) is not None and is_defined(text(path), name), f"{path}: without {name}")
+for kind, many in rows.items():
+    need(0, many, f"no row under {kind}")
+print(f"{count} names, {faults} faults")
+sys.exit(1 if faults else 0)
+PY
