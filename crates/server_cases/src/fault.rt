@@ -1,4 +1,4 @@
-use sip_loop::engine::StepError;
+use sip_replay::engine::StepError;
 use sip_script::Stop;
 use std::alloc::{AllocError, AllocFailed};
 use std::io;

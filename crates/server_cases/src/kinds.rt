@@ -1,5 +1,5 @@
 use sip_index::IndexedRules;
-use sip_loop::engine::Engine;
+use sip_replay::engine::Engine;
 use sip_wheel::WheelTimers;
 
 /// The timers that the program has.

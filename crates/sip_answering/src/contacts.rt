@@ -1,30 +1,28 @@
 ghost use Rattle.std.specs.Prelude.{◌≡◌, List, Ok, IfOk, map};
-ghost use Rattle.sip_location.specs.Binding as Bindings;
+ghost use Rattle.sip_location.specs.Binding as Definitions;
 ghost use Rattle.sip_location.specs.Locations.{IsPlan};
 ghost use Rattle.sip_location.specs.Registration.{registered};
 ghost use Rattle.sip_location.specs.declared.binding.Binding.{Binding};
 ghost use Rattle.sip_location.specs.declared.registration.Registration.{Registration};
 ghost use Rattle.sip_model.specs.Effect as Effects;
 
-use sip_location::{Binding, Plan};
+use sip_location::{BindingRef, Bindings, Plan};
 use sip_model::field::{Field, FieldName, Fields};
 use sip_model::reply::contact_value;
-use sip_model::uri::write_uri;
 use std::alloc::{AllocError, Global};
 
 /// The seconds that a binding has left, rounded up.
-fn seconds_left(now: u64, binding: &Binding) -> u64
-    ensures { result ≡ Bindings.seconds_left now binding.now }
+fn seconds_left(now: u64, binding: &BindingRef<'_>) -> u64
+    ensures { result ≡ Definitions.seconds_left now binding.now }
 {
-    binding.expires_at.saturating_sub(now).div_ceil(1000)
+    binding.expires_at().saturating_sub(now).div_ceil(1000)
 }
 
 /// The field that lists a binding.
-fn contact_field(alloc: Global, now: u64, binding: &Binding) -> Result<Field, AllocError>
+fn contact_field(alloc: Global, now: u64, binding: &BindingRef<'_>) -> Result<Field, AllocError>
     ensures { IfOk result (λ field. field ≡ Effects.contact_field now binding.now) }
 {
-    let uri = write_uri(alloc, &binding.uri)?;
-    let value = contact_value(alloc, uri.as_slice(), seconds_left(now, binding))?;
+    let value = contact_value(alloc, binding.uri_text(), seconds_left(now, binding))?;
     Ok(Field {
         name: FieldName::Contact,
         value,
@@ -32,12 +30,13 @@ fn contact_field(alloc: Global, now: u64, binding: &Binding) -> Result<Field, Al
 }
 
 /// The fields that list some bindings.
-fn fields_of(alloc: Global, now: u64, bindings: &[Binding]) -> Result<Fields, AllocError>
-    ensures { IfOk result (λ fields. fields ≡ map (Effects.contact_field now) bindings.now) }
+fn fields_of(alloc: Global, now: u64, bindings: Bindings<'_>) -> Result<Fields, AllocError>
+    ensures { IfOk result (λ fields. fields ≡ map (Effects.contact_field now) bindings.entry) }
 {
+    let mut left = bindings;
     let mut fields = Fields::new(alloc);
-    for binding in bindings {
-        fields.push(contact_field(alloc, now, binding)?)?;
+    while let Some(binding) = left.next() {
+        fields.push(contact_field(alloc, now, &binding)?)?;
     }
     Ok(fields)
 }

@@ -1,6 +1,7 @@
-ghost use Rattle.std.specs.Prelude.{◌≡◌, ◌<◌, ◌^◌, IfOk};
+ghost use Rattle.std.specs.Prelude.{◌≡◌, ◌<◌, ◌^◌, false, IfOk};
+ghost use Rattle.std.specs.Option.{option_copied};
 ghost use Rattle.sip_judge.specs.state.declared.proxy_state.ProxyState.{ProxyState};
-ghost use Rattle.sip_judge.specs.way.Way.{way_of};
+ghost use Rattle.sip_judge.specs.way.Way.{way_of, request_uri_of, request_uri_in};
 ghost use Rattle.sip_judge.specs.verdict.Verdict as Definition;
 ghost use Rattle.sip_arrival.specs.Verdict.{IsOutcome, HasRoomFor};
 
@@ -9,8 +10,10 @@ use sip_judge::form::View;
 use sip_judge::location::Locations;
 use sip_judge::nonces::Nonces;
 use sip_judge::policy::{Decision, Rules};
+use sip_judge::uri::Uri;
 use sip_judge::validate::Checked;
 use sip_judge::verdict::Question;
+use sip_judge::way::Way;
 use sip_judge::{Judge, is_register};
 use std::alloc::{AllocError, Global};
 
@@ -23,12 +26,14 @@ fn let_through<R: Rules>(
     request: &View<'_>,
     method: &[u8],
     checked: &Checked<'_>,
+    uri: Option<&Uri>,
     question: &Question<'_>,
     id: u32,
     decision: &Decision,
 ) -> Result<Outcome, AllocError>
     requires moment { now < 2 ^ 62 }
     requires way { checked.now.way ≡ way_of judge.now.config.own request.now }
+    requires uri { Definition.is_register method.now ≡ false → option_copied uri ≡ request_uri_of judge.now.config.own request.now }
     requires question { question.now.target ≡ Definition.target_of judge.now request.now method.now checked.now.core }
     ensures outcome { IfOk result (λ outcome. (state : ProxyState) → state.bindings ≡ locations.old.rows
         → IsOutcome locations.old.rows now question.now (Definition.let_through judge.now state now request.now method.now checked.now.core question.now id decision.now) outcome) }
@@ -36,12 +41,11 @@ fn let_through<R: Rules>(
     ensures room { IfOk result (HasRoomFor locations.new.room) }
 {
     if is_register(method) {
-        let registering = judge.registering(alloc, locations, now, request, checked)?;
+        let target = &question.target;
+        let registering = judge.registering(alloc, locations, now, request, checked, target)?;
         return Ok(Outcome::Register(id, registering));
     }
-    let targets = judge.request_targets(
-        alloc, locations, now, request, checked, question, decision,
-    )?;
+    let targets = judge.targets_by(alloc, locations, now, question, decision, uri)?;
     Ok(Outcome::Send(id, targets))
 }
 
@@ -54,11 +58,13 @@ fn decided<R: Rules>(
     request: &View<'_>,
     method: &[u8],
     checked: &Checked<'_>,
+    uri: Option<&Uri>,
     question: &Question<'_>,
     decision: &Decision,
 ) -> Result<Outcome, AllocError>
     requires moment { now < 2 ^ 62 }
     requires way { checked.now.way ≡ way_of judge.now.config.own request.now }
+    requires uri { Definition.is_register method.now ≡ false → option_copied uri ≡ request_uri_of judge.now.config.own request.now }
     requires question { question.now.target ≡ Definition.target_of judge.now request.now method.now checked.now.core }
     ensures outcome { IfOk result (λ outcome. (state : ProxyState) → state.bindings ≡ locations.old.rows
         → IsOutcome locations.old.rows now question.now (Definition.decided judge.now state now request.now method.now checked.now.core question.now decision.now) outcome) }
@@ -69,10 +75,10 @@ fn decided<R: Rules>(
         Decision::Challenge => Ok(Outcome::Challenge),
         Decision::Deny(id) => Ok(Outcome::Deny(*id)),
         Decision::Allow(id) => let_through(
-            alloc, judge, locations, now, request, method, checked, question, *id, decision,
+            alloc, judge, locations, now, request, method, checked, uri, question, *id, decision,
         ),
         Decision::Via(id, _) => let_through(
-            alloc, judge, locations, now, request, method, checked, question, *id, decision,
+            alloc, judge, locations, now, request, method, checked, uri, question, *id, decision,
         ),
     }
 }
@@ -86,10 +92,12 @@ fn judged<'v, R: Rules>(
     request: &View<'_>,
     method: &[u8],
     checked: &Checked<'_>,
+    uri: Option<&Uri>,
     question: Question<'v>,
 ) -> Result<Judged<'v>, AllocError>
     requires moment { now < 2 ^ 62 }
     requires way { checked.now.way ≡ way_of judge.now.config.own request.now }
+    requires uri { Definition.is_register method.now ≡ false → option_copied uri ≡ request_uri_of judge.now.config.own request.now }
     requires question { question.target ≡ Definition.target_of judge.now request.now method.now checked.now.core }
     ensures question { IfOk result (λ judged. judged.question ≡ question.entry) }
     ensures minute { IfOk result (λ judged. judged.minute ≡ Definition.minute_on judge.now judged.question) }
@@ -107,6 +115,7 @@ fn judged<'v, R: Rules>(
         request,
         method,
         checked,
+        uri,
         &question,
         &ruling.decision,
     )?;
@@ -115,6 +124,17 @@ fn judged<'v, R: Rules>(
         minute: ruling.minute,
         outcome,
     })
+}
+
+/// The Request-URI that is left of a request, read once; that of a REGISTER decides about nothing before it is let
+/// through.
+fn uri_of(alloc: Global, method: &[u8], way: &Way<'_>) -> Result<Option<Uri>, AllocError>
+    ensures { IfOk result (λ uri. Definition.is_register method.now ≡ false → uri ≡ request_uri_in way.now) }
+{
+    if is_register(method) {
+        return Ok(None);
+    }
+    way.request_uri(alloc)
 }
 
 /// What policy says of a request outside a dialog, of which this was read (RFC 3261 16.3 step 6, 16.5, 10.3).
@@ -136,8 +156,11 @@ pub(crate) fn policy_verdict<'v, R: Rules>(
     ensures unchanged { locations.new.rows ≡ locations.old.rows }
     ensures room { IfOk result (λ judged. HasRoomFor locations.new.room judged.outcome) }
 {
-    let question = judge.question_of(alloc, nonces, now, request, method, checked)?;
+    let read = uri_of(alloc, method, &checked.way)?;
+    let uri = read.as_ref();
+    let core = &checked.core;
+    let question = judge.question_of(alloc, nonces, now, request, method, core, uri)?;
     judged(
-        alloc, judge, locations, now, request, method, checked, question,
+        alloc, judge, locations, now, request, method, checked, uri, question,
     )
 }

@@ -1,8 +1,8 @@
 -- How the program ends where a replay is refused, or a server can't go on.
 use Rattle.sip_loop.specs.declared.served.ServeError.{ServeError}
 use Rattle.sip_loop.specs.declared.served.ServeError.TheVariants as serving
-use Rattle.sip_loop.specs.declared.error.ReplayError.{ReplayError}
-use Rattle.sip_loop.specs.declared.error.ReplayError.TheVariants as replays
+use Rattle.sip_replay.specs.declared.error.ReplayError.{ReplayError}
+use Rattle.sip_replay.specs.declared.error.ReplayError.TheVariants as replays
 use Rattle.sip_arguments.specs.declared.exit.Exit.{Exit}
 use Rattle.sip_arguments.specs.declared.exit.Exit.TheVariants.{Script, Device, Memory}
 

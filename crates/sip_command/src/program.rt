@@ -4,12 +4,10 @@ ghost use Rattle.sip_command.specs.Exits;
 use crate::printing::print;
 use crate::service::serve_turns;
 use sip_arguments::{Call, Exit, Parsed, config_of, parse, summary_of};
-use sip_index::IndexedRules;
-use sip_loop::{ReplayError, replay};
 use sip_policy::Rules;
+use sip_replay::{ReplayError, replay};
 use sip_text::Bytes;
 use sip_timers::Timers;
-use sip_wheel::WheelTimers;
 use std::io::{Read, Write};
 use std::net::Net;
 use std::random::RandomSource;
@@ -57,36 +55,35 @@ pub fn replay_script<T: Timers, P: Rules, R: Files + AllocGlobal, I: Read, W: Wr
 }
 
 /// Serves with the configuration of a file.
-fn serve_file<R: Files + Net + Clock + RandomSource + AllocGlobal, W: Write>(
+fn serve_file<T: Timers, P: Rules, R: Files + Net + Clock + RandomSource + AllocGlobal, W: Write>(
     rt: &R,
     path: &str,
     turns: Option<u32>,
     output: &mut W,
 ) -> Result<(), Exit> {
     let config = config_of(rt, Some(path))?;
-    serve_turns(rt, config, turns, output)
+    serve_turns::<T, P, R, W>(rt, config, turns, output)
 }
 
-fn carry_out<R: Files + Net + Clock + RandomSource + AllocGlobal, I: Read, W: Write>(
-    rt: &R,
-    call: &Call,
-    input: &mut I,
-    output: &mut W,
-) -> Result<(), Exit> {
+fn carry_out<
+    T: Timers,
+    P: Rules,
+    R: Files + Net + Clock + RandomSource + AllocGlobal,
+    I: Read,
+    W: Write,
+>(rt: &R, call: &Call, input: &mut I, output: &mut W) -> Result<(), Exit> {
     match call {
         Call::Check(path) => check_file(rt, path.as_str(), output),
         Call::Replay(Some(path)) => {
             let path = Some(path.as_str());
-            replay_script::<WheelTimers, IndexedRules, R, I, W>(rt, path, input, output)
+            replay_script::<T, P, R, I, W>(rt, path, input, output)
         }
-        Call::Replay(None) => {
-            replay_script::<WheelTimers, IndexedRules, R, I, W>(rt, None, input, output)
-        }
-        Call::Serve(path, turns) => serve_file(rt, path.as_str(), *turns, output),
+        Call::Replay(None) => replay_script::<T, P, R, I, W>(rt, None, input, output),
+        Call::Serve(path, turns) => { serve_file::<T, P, R, W>(rt, path.as_str(), *turns, output) }
     }
 }
 
-fn run<R: Files + Net + Clock + RandomSource + AllocGlobal, I: Read, W: Write>(
+fn run<T: Timers, P: Rules, R: Files + Net + Clock + RandomSource + AllocGlobal, I: Read, W: Write>(
     rt: &R,
     words: &[String],
     input: &mut I,
@@ -94,23 +91,24 @@ fn run<R: Files + Net + Clock + RandomSource + AllocGlobal, I: Read, W: Write>(
 ) -> Result<(), Exit> {
     match parse(rt.alloc(), words)? {
         Parsed::Text(text) => print(text.as_bytes(), output),
-        Parsed::Call(call) => carry_out(rt, &call, input, output),
+        Parsed::Call(call) => carry_out::<T, P, R, I, W>(rt, &call, input, output),
     }
 }
 
-/// Does what the words of a command line say, the program's own name first, and gives the exit status: 0 done, 1
-/// usage, 2 configuration, 3 script, 4 device, 5 memory. What it complains about is one line, but for the text on
-/// usage.
-pub fn command<R: Files + Net + Clock + RandomSource + AllocGlobal, I: Read, W: Write, C: Write>(
-    rt: &R,
-    words: &[String],
-    input: &mut I,
-    output: &mut W,
-    complaints: &mut C,
-) -> u8
+/// Does what the words of a command line say, the program's own name first, on these kinds of timers and rules, and gives
+/// the exit status: 0 done, 1 usage, 2 configuration, 3 script, 4 device, 5 memory. What it complains about is one line,
+/// but for the text on usage.
+pub fn command<
+    T: Timers,
+    P: Rules,
+    R: Files + Net + Clock + RandomSource + AllocGlobal,
+    I: Read,
+    W: Write,
+    C: Write,
+>(rt: &R, words: &[String], input: &mut I, output: &mut W, complaints: &mut C) -> u8
     ensures { result ≤ 5 }
 {
-    match run(rt, words, input, output) {
+    match run::<T, P, R, I, W>(rt, words, input, output) {
         Ok(()) => 0,
         Err(exit) => {
             let _ = writeln!(complaints, "{exit}");

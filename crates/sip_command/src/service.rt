@@ -9,12 +9,12 @@ use rand_core::Rng;
 use sip_arguments::Exit;
 use sip_event::Boot;
 use sip_host::Addr;
-use sip_index::IndexedRules;
 use sip_link::{Clock, SteadyClock, UdpLink};
 use sip_loop::engine::Engine;
 use sip_loop::{ServeError, serve};
+use sip_policy::Rules;
 use sip_settings::Config;
-use sip_wheel::WheelTimers;
+use sip_timers::Timers;
 use std::alloc::Global;
 use std::io::Write;
 use std::net::Net;
@@ -26,8 +26,8 @@ const LONGEST: u64 = 1000;
 
 /// A server, and what drives it.
 #[derive(Drop)]
-struct Service<'a, R> {
-    engine: Engine<WheelTimers, IndexedRules>,
+struct Service<'a, T: Timers, P: Rules, R> {
+    engine: Engine<T, P>,
     link: UdpLink,
     clock: SteadyClock<'a, R>,
     words: StdRng,
@@ -66,12 +66,12 @@ fn boot_of(words: &mut StdRng) -> Boot {
 }
 
 /// A server of a configuration that is bound to an address and hears nothing yet.
-fn start<R: Net + rt::Clock + RandomSource>(
+fn start<T: Timers, P: Rules, R: Net + rt::Clock + RandomSource>(
     rt: &R,
     alloc: Global,
     address: Addr,
     config: Config,
-) -> Result<Service<'_, R>, Exit> {
+) -> Result<Service<'_, T, P, R>, Exit> {
     let link = UdpLink::bind(rt, alloc, address)?;
     let mut words: StdRng = rand::make_rng(rt)?;
     let boot = boot_of(&mut words);
@@ -85,9 +85,9 @@ fn start<R: Net + rt::Clock + RandomSource>(
 }
 
 /// Waits for a datagram until something is due, lets the server do one turn, and prints the records of it.
-fn do_turn<R: rt::Clock, W: Write>(
+fn do_turn<T: Timers, P: Rules, R: rt::Clock, W: Write>(
     alloc: Global,
-    service: &mut Service<'_, R>,
+    service: &mut Service<'_, T, P, R>,
     output: &mut W,
 ) -> Result<(), Exit>
     ensures { OnOk result (PrintsRecords (W.contents output.old) (W.contents output.new)) }
@@ -111,9 +111,9 @@ fn do_turn<R: rt::Clock, W: Write>(
 
 /// Does so many turns.
 #[tactic(auto, using(crate::proofs::Printed::prints_none))]
-fn do_turns<R: rt::Clock, W: Write>(
+fn do_turns<T: Timers, P: Rules, R: rt::Clock, W: Write>(
     alloc: Global,
-    service: &mut Service<'_, R>,
+    service: &mut Service<'_, T, P, R>,
     turns: u64,
     output: &mut W,
 ) -> Result<(), Exit>
@@ -126,9 +126,9 @@ fn do_turns<R: rt::Clock, W: Write>(
 }
 
 /// Does so many turns, and says then that they are over.
-fn do_counted_turns<R: rt::Clock, W: Write>(
+fn do_counted_turns<T: Timers, P: Rules, R: rt::Clock, W: Write>(
     alloc: Global,
-    service: &mut Service<'_, R>,
+    service: &mut Service<'_, T, P, R>,
     address: Addr,
     turns: u32,
     output: &mut W,
@@ -141,9 +141,9 @@ fn do_counted_turns<R: rt::Clock, W: Write>(
 }
 
 /// Does turns as long as the process goes on.
-fn do_all_turns<R: rt::Clock, W: Write>(
+fn do_all_turns<T: Timers, P: Rules, R: rt::Clock, W: Write>(
     alloc: Global,
-    service: &mut Service<'_, R>,
+    service: &mut Service<'_, T, P, R>,
     address: Addr,
     output: &mut W,
 ) -> Result<(), Exit> {
@@ -153,7 +153,7 @@ fn do_all_turns<R: rt::Clock, W: Write>(
 
 /// Serves at the address of a configuration, for so many turns, or until the process is ended. Prints where it serves, the
 /// record of each decision when it was taken, and the number of turns at their end; nothing else.
-pub fn serve_turns<R: Net + rt::Clock + RandomSource + AllocGlobal, W: Write>(
+pub fn serve_turns<T: Timers, P: Rules, R: Net + rt::Clock + RandomSource + AllocGlobal, W: Write>(
     rt: &R,
     config: Config,
     turns: Option<u32>,
@@ -165,7 +165,7 @@ pub fn serve_turns<R: Net + rt::Clock + RandomSource + AllocGlobal, W: Write>(
     let ip = config.own.ip;
     let port = config.bound_port;
     let address = Addr { ip, port };
-    let mut service = start(rt, alloc, address, config)?;
+    let mut service = start::<T, P, R>(rt, alloc, address, config)?;
     match turns {
         Some(turns) => do_counted_turns(alloc, &mut service, address, turns, output),
         None => do_all_turns(alloc, &mut service, address, output),

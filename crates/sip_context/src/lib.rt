@@ -78,7 +78,9 @@ pub mod key {
 
 /// Of `sip_location`.
 pub mod location {
-    pub use sip_state::location::{LiveBindings, LocationError, Locations, Plan, Registration};
+    pub use sip_state::location::{
+        Contacts, LiveBindings, LocationError, Locations, Plan, Registration,
+    };
 }
 
 /// Of `sip_edit`.

@@ -43,7 +43,8 @@ pub(crate) fn take_new<T: Timers, R: Rules>(
     new_requests_need_room();
     new_verdict_answers_finally();
     let mut names = None;
-    let decided = proxy.verdict(
+    // Matched, not `?`: what was decided is large, and isn't moved so.
+    match proxy.verdict(
         alloc,
         judge,
         arrival.now,
@@ -51,10 +52,14 @@ pub(crate) fn take_new<T: Timers, R: Rules>(
         method,
         short,
         &mut names,
-    )?;
-    let server = judge.server();
-    let hops = judge.hops();
-    serve(
-        alloc, server, hops, proxy, arrival, key, message, names, decided,
-    )
+    ) {
+        Ok(decided) => {
+            let server = judge.server();
+            let hops = judge.hops();
+            serve(
+                alloc, server, hops, proxy, arrival, key, message, names, decided,
+            )
+        }
+        Err(_) => Err(AllocError),
+    }
 }

@@ -1,2 +1,2 @@
-pub mod Contacts
 pub mod Outcomes
+pub mod ByMethod

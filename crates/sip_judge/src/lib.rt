@@ -12,7 +12,6 @@ mod targeting;
 pub use judge::Judge;
 pub use question::is_register;
 pub use registering::Registering;
-pub use registration::registration_of;
 
 /// Of `sip_text`.
 pub mod text {
@@ -67,6 +66,11 @@ pub mod location {
 /// Of `sip_way`.
 pub mod way {
     pub use sip_verdict::way::{Own, Way};
+}
+
+/// Of `sip_uri`.
+pub mod uri {
+    pub use sip_verdict::uri::Uri;
 }
 
 /// Of `sip_targets`.

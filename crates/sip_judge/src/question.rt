@@ -1,8 +1,8 @@
-ghost use Rattle.std.specs.Prelude.{◌≡◌, IfOk, if◌then◌else◌};
+ghost use Rattle.std.specs.Prelude.{◌≡◌, false, IfOk, if◌then◌else◌};
 ghost use Rattle.std.specs.Option.{option_copied};
 ghost use Rattle.sip_verdict.specs.policy.Operation as Operations;
 ghost use Rattle.sip_verdict.specs.location.Registering as Naming;
-ghost use Rattle.sip_verdict.specs.way.Way.{way_of, request_uri_in};
+ghost use Rattle.sip_verdict.specs.way.Way.{request_uri_of};
 ghost use Rattle.sip_verdict.specs.Verdict as Verdict;
 
 use crate::judge::Judge;
@@ -15,8 +15,6 @@ use sip_verdict::nonces::Nonces;
 use sip_verdict::policy::{Operation, Rules, minute_of};
 use sip_verdict::text::Bytes;
 use sip_verdict::uri::{Aor, Uri, aor_of};
-use sip_verdict::validate::Checked;
-use sip_verdict::way::Way;
 use std::alloc::{AllocError, Global};
 
 /// Whether a method is REGISTER. Takes no memory.
@@ -40,30 +38,25 @@ fn aor_or_nobody(alloc: Global, uri: Option<&Uri>) -> Result<Aor, AllocError>
 }
 
 /// The address of record that To names (RFC 3261 10.3 step 5).
-pub(crate) fn to_aor(alloc: Global, core: &CoreFields<'_>) -> Result<Aor, AllocError>
+fn to_aor(alloc: Global, core: &CoreFields<'_>) -> Result<Aor, AllocError>
     ensures { IfOk result (λ aor. aor ≡ Naming.to_aor core.now) }
 {
     aor_or_nobody(alloc, core.to.uri.sip_uri())
 }
 
-/// The address of record that a request is sent to.
-fn request_aor(alloc: Global, way: &Way<'_>) -> Result<Aor, AllocError>
-    ensures { IfOk result (λ aor. aor ≡ Naming.aor_or_nobody (request_uri_in way.now)) }
-{
-    match way.request_uri(alloc)? {
-        Some(uri) => aor_or_nobody(alloc, Some(&uri)),
-        None => aor_or_nobody(alloc, None),
-    }
-}
-
-/// The address of record that a request is for: To's of a REGISTER, the Request-URI's of any other.
-fn target_of(alloc: Global, method: &[u8], checked: &Checked<'_>) -> Result<Aor, AllocError>
-    ensures { IfOk result (λ aor. aor ≡ (if Verdict.is_register method.now then Naming.to_aor checked.now.core else Naming.aor_or_nobody (request_uri_in checked.now.way))) }
+/// The address of record that a request is for: To's of a REGISTER, that of the Request-URI of any other.
+fn target_of(
+    alloc: Global,
+    method: &[u8],
+    core: &CoreFields<'_>,
+    uri: Option<&Uri>,
+) -> Result<Aor, AllocError>
+    ensures { IfOk result (λ aor. aor ≡ (if Verdict.is_register method.now then Naming.to_aor core.now else Naming.aor_or_nobody (option_copied uri.entry))) }
 {
     if is_register(method) {
-        to_aor(alloc, &checked.core)
+        to_aor(alloc, core)
     } else {
-        request_aor(alloc, &checked.way)
+        aor_or_nobody(alloc, uri)
     }
 }
 
@@ -76,7 +69,9 @@ fn operation_of(alloc: Global, method: &[u8], request: &View<'_>) -> Result<Oper
 }
 
 impl<R: Rules> Judge<R> {
-    /// What policy is asked about a request of a method, of which this was read. `AllocError` is the only refusal.
+    /// What policy is asked about a request of a method, of which this was read, with the Request-URI of one that is no
+    /// REGISTER. `AllocError` is the only refusal.
+    #[tactic(auto, using(crate::proofs::ByMethod::target_by_method))]
     pub fn question_of<'v>(
         &self,
         alloc: Global,
@@ -84,13 +79,14 @@ impl<R: Rules> Judge<R> {
         now: u64,
         request: &'v View<'_>,
         method: &[u8],
-        checked: &Checked<'_>,
+        core: &CoreFields<'_>,
+        uri: Option<&Uri>,
     ) -> Result<Question<'v>, AllocError>
-        requires { checked.now.way ≡ way_of self.now.config.own request.now }
-        ensures { IfOk result (λ question. question ≡ Verdict.question_of self.now nonces.now now request.now method.now checked.now.core) }
+        requires { Verdict.is_register method.now ≡ false → option_copied uri ≡ request_uri_of self.now.config.own request.now }
+        ensures { IfOk result (λ question. question ≡ Verdict.question_of self.now nonces.now now request.now method.now core.now) }
     {
         let config = &self.server().config;
-        let target = target_of(alloc, method, checked)?;
+        let target = target_of(alloc, method, core, uri)?;
         let operation = operation_of(alloc, method, request)?;
         let realm = config.realm.as_slice();
         let proof = proof_of(alloc, realm, &config.users, nonces, now, request)?;

@@ -1,6 +1,4 @@
-ghost use Rattle.std.specs.Prelude.{◌≡◌, ◌≢◌, ◌<◌, ◌^◌, ◌&&◌, ◌++◌, [], ◌∷◌, IfOk, OnOk, List, ℕ, map};
-ghost use Rattle.std.specs.List.{filter_map};
-ghost use Rattle.sip_verdict.specs.header.ContactItem.{contact_of};
+ghost use Rattle.std.specs.Prelude.{◌≡◌, ◌≢◌, ◌<◌, ◌^◌, ◌&&◌, [], ◌∷◌, IfOk, OnOk, List, ℕ};
 ghost use Rattle.sip_verdict.specs.location.Registering as Naming;
 ghost use Rattle.sip_verdict.specs.location.Registration.{registered};
 ghost use Rattle.sip_verdict.specs.location.declared.binding.Binding.{Binding};
@@ -13,57 +11,34 @@ ghost use Rattle.sip_verdict.specs.reply.Extras;
 ghost use Rattle.sip_judge.specs.Registering.{ComesTo, HasRoom};
 
 use crate::judge::Judge;
-use crate::question::to_aor;
 use crate::registering::Registering;
 use sip_verdict::field::{Field, FieldName, Fields};
 use sip_verdict::form::View;
-use sip_verdict::header::{ContactItem, CoreFields, contact_of, expires_of};
-use sip_verdict::location::{LocationError, Locations, Registration};
+use sip_verdict::header::{CoreFields, expires_of};
+use sip_verdict::location::{Contacts, LocationError, Locations, Registration};
 use sip_verdict::policy::{Rules, is_own_domain, is_users_address};
 use sip_verdict::reply::min_expires;
 use sip_verdict::state::Server;
-use sip_verdict::text::{Items, Text};
+use sip_verdict::text::Text;
+use sip_verdict::uri::Aor;
 use sip_verdict::validate::Checked;
 use sip_verdict::view::ViewFields;
 use sip_verdict::way::Way;
 use std::alloc::{AllocError, Global};
 
-/// Adds what a value of Contact says, if it can be read.
-fn put_contact<'v>(
-    alloc: Global,
-    items: &mut Items<ContactItem<'v>>,
-    value: &'v [u8],
-) -> Result<(), AllocError>
-    ensures { OnOk result (items.new ≡ items.old ++ filter_map contact_of (value.now ∷ [])) }
-{
-    match contact_of(alloc, value)? {
-        Some(item) => items.push(item),
-        None => Ok(()),
-    }
-}
-
-/// What some values of Contact say, without those that can't be read.
-fn contacts_in<'v>(alloc: Global, values: &[&'v [u8]]) -> Result<Items<ContactItem<'v>>, AllocError>
-    ensures { IfOk result (λ items. items ≡ filter_map contact_of (map (λ value. value.now) values.now)) }
-{
-    let mut items = Items::new(alloc);
-    for value in values {
-        put_contact(alloc, &mut items, value)?;
-    }
-    Ok(items)
-}
-
-/// What a REGISTER with these core fields and fields asks for (RFC 3261 10.3). `AllocError` is the only refusal.
-pub fn registration_of<'v>(
+/// What a REGISTER with these core fields and fields asks for, whose To names this address of record (RFC 3261 10.3).
+fn registration_of<'v>(
     alloc: Global,
     core: &'v CoreFields<'_>,
     fields: &'v ViewFields<'_>,
+    aor: &Aor,
 ) -> Result<Registration<'v>, AllocError>
+    requires { aor.now ≡ Naming.to_aor core.now }
     ensures { IfOk result (λ registration. registration ≡ Naming.registration_of core.now fields.now) }
 {
     let values = fields.values(alloc, &FieldName::Contact)?;
-    let contacts = contacts_in(alloc, values.as_slice())?;
-    let aor = to_aor(alloc, core)?;
+    let contacts = Contacts::read(alloc, values.as_slice())?;
+    let aor = aor.clone()?;
     Ok(Registration {
         aor,
         contacts,
@@ -122,13 +97,15 @@ fn planned_for(
     now: u64,
     request: &View<'_>,
     core: &CoreFields<'_>,
+    aor: &Aor,
 ) -> Result<Registering, AllocError>
-    requires { now < 2 ^ 62 }
+    requires moment { now < 2 ^ 62 }
+    requires named { aor.now ≡ Naming.to_aor core.now }
     ensures outcome { IfOk result (ComesTo locations.old.rows now (Naming.to_aor core.now) (Verdict.registered_by (registered locations.old.rows (Naming.registration_of core.now request.now.fields) now))) }
     ensures unchanged { locations.new.rows ≡ locations.old.rows }
     ensures room { IfOk result (HasRoom locations.new.room) }
 {
-    let registration = registration_of(alloc, core, request.fields())?;
+    let registration = registration_of(alloc, core, request.fields(), aor)?;
     planned(alloc, locations, now, registration)
 }
 
@@ -151,14 +128,12 @@ fn is_for_own_domain(alloc: Global, server: &Server, way: &Way<'_>) -> Result<bo
     }
 }
 
-/// Whether To names a configured user of an own domain.
-fn is_for_user(alloc: Global, server: &Server, core: &CoreFields<'_>) -> Result<bool, AllocError>
-    ensures { IfOk result (λ known. known ≡ is_users_address server.now.config.users server.now.config.own.domains (Naming.to_aor core.now)) }
+/// Whether an address of record is a configured user's of an own domain.
+fn is_for_user(server: &Server, aor: &Aor) -> bool
+    ensures { result ≡ is_users_address server.now.config.users server.now.config.own.domains aor.now }
 {
     let config = &server.config;
-    let aor = to_aor(alloc, core)?;
-    let known = is_users_address(&config.users, config.own.domains.as_slice(), &aor);
-    Ok(known)
+    is_users_address(&config.users, config.own.domains.as_slice(), aor)
 }
 
 /// Whether a REGISTER, of which this was read, is for an own domain and a configured user of one.
@@ -167,14 +142,16 @@ fn is_registrable(
     server: &Server,
     request: &View<'_>,
     checked: &Checked<'_>,
+    aor: &Aor,
 ) -> Result<bool, AllocError>
-    requires { checked.now.way ≡ way_of server.now.config.own request.now }
+    requires read { checked.now.way ≡ way_of server.now.config.own request.now }
+    requires named { aor.now ≡ Naming.to_aor checked.now.core }
     ensures { IfOk result (λ yes. yes ≡ (Verdict.is_own_uri server.now (request_uri_of server.now.config.own request.now) && is_users_address server.now.config.users server.now.config.own.domains (Naming.to_aor checked.now.core))) }
 {
     if !is_for_own_domain(alloc, server, &checked.way)? {
         return Ok(false);
     }
-    is_for_user(alloc, server, &checked.core)
+    Ok(is_for_user(server, aor))
 }
 
 /// What a REGISTER that was let through comes to.
@@ -185,23 +162,26 @@ fn registering_by(
     now: u64,
     request: &View<'_>,
     checked: &Checked<'_>,
+    aor: &Aor,
 ) -> Result<Registering, AllocError>
     requires moment { now < 2 ^ 62 }
     requires read { checked.now.way ≡ way_of server.now.config.own request.now }
+    requires named { aor.now ≡ Naming.to_aor checked.now.core }
     ensures outcome { IfOk result (ComesTo locations.old.rows now (Naming.to_aor checked.now.core) (Verdict.registration_by server.now locations.old.rows now request.now checked.now.core)) }
     ensures unchanged { locations.new.rows ≡ locations.old.rows }
     ensures room { IfOk result (HasRoom locations.new.room) }
 {
-    if !is_registrable(alloc, server, request, checked)? {
+    if !is_registrable(alloc, server, request, checked, aor)? {
         return Ok(not_found(alloc));
     }
-    planned_for(alloc, locations, now, request, &checked.core)
+    planned_for(alloc, locations, now, request, &checked.core, aor)
 }
 
 impl<R: Rules> Judge<R> {
     /// What a REGISTER that was let through comes to, of which this was read: 404 unless its Request-URI names an own
     /// domain and To a configured user of one, else what the registrar refuses, or plans for the address of record that
-    /// To names (RFC 3261 10.3). No binding changes. `AllocError` is the only refusal. Moments are below 2^62.
+    /// To names, which is handed in (RFC 3261 10.3). No binding changes. `AllocError` is the only refusal. Moments are
+    /// below 2^62.
     pub fn registering(
         &self,
         alloc: Global,
@@ -209,13 +189,16 @@ impl<R: Rules> Judge<R> {
         now: u64,
         request: &View<'_>,
         checked: &Checked<'_>,
+        aor: &Aor,
     ) -> Result<Registering, AllocError>
         requires moment { now < 2 ^ 62 }
         requires read { checked.now.way ≡ way_of self.now.config.own request.now }
+        requires named { aor.now ≡ Naming.to_aor checked.now.core }
         ensures outcome { IfOk result (ComesTo locations.old.rows now (Naming.to_aor checked.now.core) (Verdict.registration_by self.now locations.old.rows now request.now checked.now.core)) }
         ensures unchanged { locations.new.rows ≡ locations.old.rows }
         ensures room { IfOk result (HasRoom locations.new.room) }
     {
-        registering_by(alloc, self.server(), locations, now, request, checked)
+        let server = self.server();
+        registering_by(alloc, server, locations, now, request, checked, aor)
     }
 }

@@ -1,5 +1,7 @@
 pub mod Binding
+pub mod KeptBinding
 pub mod Interval
+pub mod ReadContacts
 pub mod Registration
 pub mod Examples
 pub mod LocationError

@@ -2,10 +2,16 @@
 //! them are live, what a REGISTER asks for, and what it makes of them.
 #![tactic(auto)]
 
+mod aor_ref;
 mod binding;
+mod block;
+mod candidate;
+mod candidates;
+mod contacts;
 mod edits;
 mod error;
 pub mod examples;
+mod filed_aor;
 mod interval;
 pub mod laws;
 mod live;
@@ -13,11 +19,15 @@ mod locations;
 mod plan;
 mod refusals;
 mod registration;
+mod row;
 mod rows;
+mod standing;
 
-pub use binding::Binding;
+pub use aor_ref::AorRef;
+pub use binding::{Binding, BindingRef};
+pub use contacts::Contacts;
 pub use error::LocationError;
-pub use live::LiveBindings;
+pub use live::{Bindings, LiveBindings};
 pub use locations::Locations;
 pub use plan::Plan;
 pub use registration::Registration;

@@ -1,24 +1,28 @@
-ghost use Rattle.std.specs.Prelude.{◌≡◌, ◌≤◌, ◌<◌, ◌^◌, ℕ, [], true, false, length, filter, Ok, IsOk, IfOk, IfErr, OnOk, OnErr};
-ghost use Rattle.std.specs.List.{AllByRecursion};
+ghost use Rattle.std.specs.Prelude.{◌≡◌, ◌≤◌, ◌<◌, ◌^◌, ℕ, List, [], true, false, nat_lt, length, filter, Ok, IsOk, IfOk, IfErr, OnOk, OnErr};
 ghost use Rattle.indexmap.specs.IndexMap.{spare};
 ghost use Rattle.sip_equality.specs.uri.declared.aor.Aor.{Aor};
 ghost use Rattle.sip_equality.specs.uri.Aor.{is_same_aor};
+ghost use Rattle.sip_location.specs.declared.binding.Binding.{Binding};
 ghost use Rattle.sip_location.specs.declared.error.LocationError.TheVariants.{NoMemory};
 ghost use Rattle.sip_location.specs.declared.registration.Registration.{Registration};
-ghost use Rattle.sip_location.specs.Binding.{is_of, is_live, live};
-ghost use Rattle.sip_location.specs.Filed.{AreFiled, IsReplaced};
+ghost use Rattle.sip_location.specs.Binding.{is_live, live};
+ghost use Rattle.sip_location.specs.Filed.{AreFiled, IsReplaced, bindings_of};
 ghost use Rattle.sip_location.specs.Locations.{of_aor, IsPlan, IsRefusal};
 ghost use Rattle.sip_location.specs.Registration.{edited, registered};
 ghost use Rattle.sip_location.specs.Sameness.{SameOutcome};
 
-use crate::binding::Binding;
+use crate::aor_ref::AorRef;
+use crate::candidates::Candidates;
 use crate::edits::apply_contacts;
 use crate::error::LocationError;
-use crate::live::LiveBindings;
+use crate::filed_aor::FiledAor;
+use crate::live::{Bindings, LiveBindings};
 use crate::plan::Plan;
 use crate::refusals::{has_bad_star, has_old_cseq, is_too_brief};
 use crate::registration::Registration;
-use crate::rows::{Rows, is_live};
+use crate::row::Row;
+use crate::rows::Rows;
+use crate::standing::{Standing, is_live_row, standing_of};
 use indexmap::IndexMap;
 use sip_equality::uri::Aor;
 use std::alloc::Global;
@@ -32,7 +36,7 @@ const MOST: usize = 16;
 /// handed in, in milliseconds.
 #[derive(Drop)]
 pub struct Locations {
-    rows: IndexMap<Aor, Rows>,
+    rows: IndexMap<FiledAor, Rows>,
 }
 
 impl Model for Locations {
@@ -57,9 +61,9 @@ impl Locations {
         Ok(Locations { rows })
     }
 
-    /// The rows of an address of record, expired ones, too.
-    fn rows_of(&self, aor: &Aor) -> &[Binding]
-        ensures { result.now ≡ of_aor aor.now self.now.rows }
+    /// What is kept of an address of record, expired bindings, too.
+    fn rows_of(&self, aor: &Aor) -> &[Row]
+        ensures { bindings_of aor.now result.now ≡ of_aor aor.now self.now.rows }
     {
         match self.rows.get(aor) {
             Some(rows) => rows.as_slice(),
@@ -68,13 +72,10 @@ impl Locations {
     }
 
     /// The live bindings of an address of record, in their order, lent. Takes no memory.
-    pub fn live(&self, aor: &Aor, now: u64) -> LiveBindings<'_>
+    pub fn live<'a>(&'a self, aor: &'a Aor, now: u64) -> LiveBindings<'a>
         ensures { result ≡ live aor.now now self.now.rows }
     {
-        LiveBindings {
-            rows: self.rows_of(aor),
-            now,
-        }
+        LiveBindings::new(Bindings::new(AorRef::of(aor), self.rows_of(aor)), now)
     }
 
     /// How many live bindings an address of record has. Takes no memory.
@@ -95,10 +96,11 @@ impl Locations {
         ensures room { OnOk result (1 ≤ self.new.room) }
     {
         let alloc = *self.rows.allocator();
-        let bindings = planned(alloc, self.rows_of(&request.aor), request, now)?;
-        let aor = request.aor.clone()?;
+        let kept = self.rows_of(&request.aor);
+        let rows = planned(alloc, kept, &*request, now)?;
+        let aor = FiledAor::of(alloc, &request.aor)?;
         self.rows.reserve(1)?;
-        Ok(Plan { aor, bindings })
+        Ok(Plan { aor, rows })
     }
 
     /// Gives the address of record of a plan its bindings, in place of all that it has. Takes no memory: `plan` made the
@@ -109,8 +111,8 @@ impl Locations {
         ensures others { (other : Aor) → is_same_aor other plan.aor ≡ false → of_aor other self.new.rows ≡ of_aor other self.old.rows }
         ensures registered { (r : Registration) (now : ℕ) → IsPlan self.old.rows r now plan → SameOutcome now (Ok self.new.rows) (registered self.old.rows r now) }
     {
-        let Plan { aor, bindings } = plan;
-        file(&mut self.rows, aor, bindings);
+        let Plan { aor, rows } = plan;
+        file(&mut self.rows, aor, rows);
     }
 
     /// `plan`, then `apply`.
@@ -127,10 +129,9 @@ impl Locations {
 }
 
 /// Files rows under an address of record, in place of what is filed there. An address without rows leaves the map.
-fn file(map: &mut IndexMap<Aor, Rows>, aor: Aor, rows: Rows)
+fn file(map: &mut IndexMap<FiledAor, Rows>, aor: FiledAor, rows: Rows)
     requires room { 1 ≤ spare map.old }
     requires filed { AreFiled map.old.entries }
-    requires own { AllByRecursion (λ b. is_of aor b ≡ true) rows }
     ensures { IsReplaced map.old.entries aor rows map.new.entries }
 {
     if rows.as_slice().is_empty() {
@@ -141,24 +142,24 @@ fn file(map: &mut IndexMap<Aor, Rows>, aor: Aor, rows: Rows)
 }
 
 /// How many of some rows are live.
-fn live_count(rows: &[Binding], now: u64) -> usize
-    ensures { result ≡ length (filter (is_live now) rows.now) }
+fn live_count(rows: &[Row], now: u64) -> usize
+    ensures { result ≡ length (filter (λ kept. nat_lt now kept.expires_at) rows.now) }
 {
-    rows.iter().filter(|row| is_live(row, now)).count()
+    rows.iter().filter(|row| is_live_row(row, now)).count()
 }
 
-/// The bindings that an address of record is to have, made of its rows.
-fn planned(
+/// The bindings that an address of record is to have, made of those that stand.
+fn edited<'a>(
     alloc: Global,
-    rows: &[Binding],
-    request: &Registration<'_>,
+    standing: &'a [Standing<'_>],
+    request: &'a Registration<'_>,
     now: u64,
-) -> Result<Rows, LocationError>
+) -> Result<Candidates<'a>, LocationError>
     requires { now < 2 ^ 62 }
-    ensures plan { IfOk result (λ bindings. IsOk (registered rows.now request.now now) × (bindings ≡ edited rows.now request.now now)) }
-    ensures refused { IfErr result (IsRefusal rows.now request.now now) }
+    ensures plan { IfOk result (λ bindings. (rows : List Binding) → standing.now ≡ live request.now.aor now rows → IsOk (registered rows request.now now) × (bindings ≡ edited rows request.now now)) }
+    ensures refused { IfErr result (λ e. (rows : List Binding) → standing.now ≡ live request.now.aor now rows → IsRefusal rows request.now now e) }
 {
-    let mut bindings = Rows::live(alloc, rows, &request.aor, now)?;
+    let mut bindings = Candidates::of(alloc, standing)?;
     if request.contacts.as_slice().is_empty() {
         return Ok(bindings);
     }
@@ -171,9 +172,26 @@ fn planned(
     if has_old_cseq(request, bindings.as_slice()) {
         return Err(LocationError::OldCSeq);
     }
-    apply_contacts(alloc, &mut bindings, request, now)?;
+    apply_contacts(&mut bindings, request, now)?;
     if bindings.as_slice().len() > MOST {
         return Err(LocationError::TooMany);
     }
     Ok(bindings)
+}
+
+/// What is to be kept of an address of record, made of what is kept.
+fn planned<'a>(
+    alloc: Global,
+    rows: &'a [Row],
+    request: &'a Registration<'_>,
+    now: u64,
+) -> Result<Rows, LocationError>
+    requires { now < 2 ^ 62 }
+    ensures plan { IfOk result (λ planned. IsOk (registered (bindings_of request.now.aor rows.now) request.now now) × (bindings_of request.now.aor planned ≡ edited (bindings_of request.now.aor rows.now) request.now now)) }
+    ensures refused { IfErr result (IsRefusal (bindings_of request.now.aor rows.now) request.now now) }
+{
+    let standing = standing_of(alloc, &request.aor, rows, now)?;
+    let bindings = edited(alloc, standing.as_slice(), &*request, now)?;
+    let rows = Rows::of(alloc, bindings.as_slice())?;
+    Ok(rows)
 }

@@ -4,7 +4,7 @@ ghost use Rattle.std.specs.List.{list_any};
 ghost use Rattle.sip_header.specs.NameAddr.{sip_uri};
 ghost use Rattle.sip_location.specs.Registration as Definitions;
 
-use crate::binding::Binding;
+use crate::candidate::Candidate;
 use crate::interval::{is_brief, is_zero, seconds_for};
 use crate::registration::Registration;
 use sip_equality::same;
@@ -73,35 +73,35 @@ pub(crate) fn is_too_brief(request: &Registration<'_>) -> bool
 }
 
 /// Whether a contact speaks of a binding.
-fn speaks_of(contact: &ContactItem<'_>, binding: &Binding) -> bool
+fn speaks_of(contact: &ContactItem<'_>, binding: &Candidate<'_>) -> bool
     ensures { result ≡ Definitions.speaks_of binding.now contact.now }
 {
     match contact {
         ContactItem::Star => true,
         ContactItem::Address(address) => match &address.uri {
-            AnyUri::Sip(uri) => same(&binding.uri, uri),
+            AnyUri::Sip(uri) => same(binding.uri(), uri),
             AnyUri::Other(_) => false,
         },
     }
 }
 
-fn any_speaks_of(contacts: &[ContactItem<'_>], binding: &Binding) -> bool
+fn any_speaks_of(contacts: &[ContactItem<'_>], binding: &Candidate<'_>) -> bool
     ensures { result ≡ list_any (Definitions.speaks_of binding.now) contacts.now }
 {
     contacts.iter().any(|contact| speaks_of(contact, binding))
 }
 
 /// Whether a binding was made in the same Call-ID by a CSeq that isn't lower, and a contact speaks of it.
-fn is_newer(binding: &Binding, request: &Registration<'_>) -> bool
+fn is_newer(binding: &Candidate<'_>, request: &Registration<'_>) -> bool
     ensures { result ≡ Definitions.is_newer request.now binding.now }
 {
-    same_bytes(binding.call_id.as_slice(), request.call_id.as_slice())
-        && request.cseq <= binding.cseq
+    same_bytes(binding.call_id(), request.call_id.as_slice())
+        && request.cseq <= binding.cseq()
         && any_speaks_of(request.contacts.as_slice(), binding)
 }
 
 /// Whether a live binding from before the request is newer than it.
-pub(crate) fn has_old_cseq(request: &Registration<'_>, bindings: &[Binding]) -> bool
+pub(crate) fn has_old_cseq(request: &Registration<'_>, bindings: &[Candidate<'_>]) -> bool
     ensures { result ≡ Definitions.has_old_cseq request.now bindings.now }
 {
     bindings.iter().any(|binding| is_newer(binding, request))

@@ -1,6 +1,7 @@
-use sip_equality::text::{Items, Text};
+use crate::contacts::Contacts;
+use sip_equality::text::Text;
 use sip_equality::uri::Aor;
-use sip_header::{ContactItem, Expires};
+use sip_header::Expires;
 
 /// What a registrar reads of a REGISTER (RFC 3261 10.3). Without contacts it is a query.
 #[derive(Drop)]
@@ -8,7 +9,7 @@ pub struct Registration<'a> {
     /// The address of record that To names.
     pub aor: Aor,
     /// The items of Contact, in their order.
-    pub contacts: Items<ContactItem<'a>>,
+    pub contacts: Contacts<'a>,
     /// What its Expires says.
     pub expires: Expires,
     pub call_id: Text<'a>,

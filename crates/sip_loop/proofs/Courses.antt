@@ -17,7 +17,7 @@ use Rattle.sip_model.specs.Step.{Given as ForEvent, Passing, IsStep, moment_of}
 use Rattle.sip_model.specs.Run.{Link, IsRun, event_moment, events_of, steps_of}
 use Rattle.sip_loop.specs.Serving.{Turn, Doing, Fires, Takes, Sends, Faults, IsWaiting, turns_in, events_in, steps_in, given_in, event_of_turn, reading_of, last_moment, records_of, told_more}
 use Rattle.sip_loop.specs.Courses.{HasRunOf, Leads, Hands, Course}
-use Rattle.sip_loop.proofs.Running.{run_on}
+use Rattle.sip_run.proofs.RunOn.{run_on}
 
 -- ---- lists
 

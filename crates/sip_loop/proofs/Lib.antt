@@ -1,11 +1,4 @@
-pub mod Calls
 pub mod Courses
-pub mod Fronts
 pub mod Handed
-pub mod OneList
-pub mod Refusing
-pub mod Replaying
-pub mod Running
 pub mod Turning
-pub mod Stopping
 pub mod Turns

@@ -112,7 +112,7 @@ impl<T: Timers> Proxy<T> {
     }
 
     /// The live bindings of an address of record at the last moment, in their order, lent. Takes no memory.
-    pub fn bindings(&self, aor: &Aor) -> LiveBindings<'_>
+    pub fn bindings<'a>(&'a self, aor: &'a Aor) -> LiveBindings<'a>
         ensures { result ≡ live aor.now self.now.state.moment self.now.state.bindings }
     {
         let moment = self.contexts.moment();

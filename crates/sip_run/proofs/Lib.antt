@@ -2,3 +2,4 @@ pub mod Going
 pub mod Refusing
 pub mod Stopping
 pub mod Waiting
+pub mod RunOn

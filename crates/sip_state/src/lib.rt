@@ -86,7 +86,7 @@ pub mod key {
 
 /// Of `sip_location`.
 pub mod location {
-    pub use sip_location::{LiveBindings, LocationError, Locations, Plan, Registration};
+    pub use sip_location::{Contacts, LiveBindings, LocationError, Locations, Plan, Registration};
 }
 
 /// Of `sip_settings`.

@@ -5,8 +5,8 @@ ghost use Rattle.sip_targets.specs.Target.{target_for};
 use sip_hops::Hops;
 use sip_hops::equality::says_same_no_case;
 use sip_policy::host::Addr;
-use sip_policy::text::{Bytes, Items};
-use sip_policy::uri::{Parameter, Uri, UserInfo};
+use sip_policy::text::Items;
+use sip_policy::uri::{Parameter, Uri};
 use std::alloc::{AllocError, Global};
 
 /// A place that a request is sent to (RFC 3261 16.5).
@@ -44,37 +44,21 @@ fn without_method(alloc: Global, parameters: &[Parameter]) -> Result<Items<Param
     Ok(kept)
 }
 
-fn copied_userinfo(userinfo: &Option<UserInfo>) -> Result<Option<UserInfo>, AllocError>
-    ensures { IfOk result (λ copy. copy ≡ userinfo.now) }
+/// The Request-URI for a contact, made of its URI: without `method` and without URI headers, which no Request-URI has
+/// (RFC 3261 19.1.1, table 1).
+fn target_uri(alloc: Global, contact: Uri) -> Result<Uri, AllocError>
+    ensures { IfOk result (λ uri. uri ≡ Definitions.target_uri contact) }
 {
-    userinfo.clone()
-}
-
-fn copied_port(port: &Option<Bytes>) -> Result<Option<Bytes>, AllocError>
-    ensures { IfOk result (λ copy. copy ≡ port.now) }
-{
-    port.clone()
-}
-
-/// The Request-URI for a contact: without `method` and without URI headers, which no Request-URI has (RFC 3261
-/// 19.1.1, table 1).
-fn target_uri(alloc: Global, contact: &Uri) -> Result<Uri, AllocError>
-    ensures { IfOk result (λ uri. uri ≡ Definitions.target_uri contact.now) }
-{
-    Ok(Uri {
-        scheme: contact.scheme,
-        userinfo: copied_userinfo(&contact.userinfo)?,
-        host: contact.host.clone()?,
-        port: copied_port(&contact.port)?,
-        parameters: without_method(alloc, contact.parameters.as_slice())?,
-        headers: Items::new(alloc),
-    })
+    let mut uri = contact;
+    uri.parameters = without_method(alloc, uri.parameters.as_slice())?;
+    uri.headers = Items::new(alloc);
+    Ok(uri)
 }
 
 impl Target {
     /// The target for a contact, at the address of its URI if it has one. `AllocError` is the only refusal.
-    pub(crate) fn for_contact(alloc: Global, contact: &Uri, hops: &Hops) -> Result<Self, AllocError>
-        ensures { IfOk result (λ target. target ≡ target_for hops.now.addresses contact.now) }
+    pub(crate) fn for_contact(alloc: Global, contact: Uri, hops: &Hops) -> Result<Self, AllocError>
+        ensures { IfOk result (λ target. target ≡ target_for hops.now.addresses contact) }
     {
         let uri = target_uri(alloc, contact)?;
         let address = hops.address_of(&uri);

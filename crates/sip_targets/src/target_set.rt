@@ -23,7 +23,7 @@ fn list_targets(
     let mut left = bindings;
     let mut targets = Items::new(alloc);
     while let Some(binding) = left.next() {
-        targets.push(Target::for_contact(alloc, &binding.uri, hops)?)?;
+        targets.push(Target::for_contact(alloc, binding.uri(alloc)?, hops)?)?;
     }
     Ok(targets)
 }

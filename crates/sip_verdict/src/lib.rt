@@ -80,7 +80,7 @@ pub mod key {
 
 /// Of `sip_location`.
 pub mod location {
-    pub use sip_context::location::{LocationError, Locations, Plan, Registration};
+    pub use sip_context::location::{Contacts, LocationError, Locations, Plan, Registration};
 }
 
 /// Of `sip_way`.

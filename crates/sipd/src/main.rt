@@ -2,7 +2,9 @@
 #![tactic(auto)]
 
 use sip_command::{Exit, command};
-use std::io::BufWriter;
+use sip_index::IndexedRules;
+use sip_wheel::WheelTimers;
+use std::io::{BufWriter, Read, Write};
 use std::process::ExitCode;
 use std::{env, io};
 
@@ -15,13 +17,24 @@ fn words(rt: &HostRuntime) -> Result<Vec<String>, Exit> {
     Ok(words)
 }
 
+/// Does what the words of a command line say, on a wheel of timers and indexed rules.
+fn carry_out<I: Read, W: Write, C: Write>(
+    rt: &HostRuntime,
+    words: &[String],
+    input: &mut I,
+    output: &mut W,
+    complaints: &mut C,
+) -> u8 {
+    command::<WheelTimers, IndexedRules, HostRuntime, I, W, C>(rt, words, input, output, complaints)
+}
+
 /// The exit status of what the words ask for.
 fn run(rt: &HostRuntime) -> Result<u8, Exit> {
     let words = words(rt)?;
     let mut input = rt.reader();
     let mut output = BufWriter::new(rt.alloc(), io::writer(rt))?;
     let mut complaints = rt.stderr();
-    Ok(command(
+    Ok(carry_out(
         rt,
         words.as_slice(),
         &mut input,

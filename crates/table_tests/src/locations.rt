@@ -1,16 +1,13 @@
-use sip_header::{Expires, contact_of};
-use sip_location::{LocationError, Locations, Registration};
-use sip_text::{Bytes, Items, Text};
+use sip_header::Expires;
+use sip_location::{Contacts, LocationError, Locations, Registration};
+use sip_text::{Bytes, Text};
 use sip_uri::Aor;
 use std::alloc::{AllocError, Global};
 use test_forms::gives;
 
 /// What a REGISTER asks for Mufasa, with one Contact.
 fn registration(alloc: Global) -> Result<Registration<'static>, AllocError> {
-    let mut contacts = Items::new(alloc);
-    if let Some(contact) = contact_of(alloc, b"<sip:Mufasa@127.0.0.1>")? {
-        contacts.push(contact)?;
-    }
+    let contacts = Contacts::read(alloc, &[b"<sip:Mufasa@127.0.0.1>".as_slice()])?;
     Ok(Registration {
         aor: Aor {
             user: Bytes::copy(alloc, b"Mufasa")?,

@@ -1,7 +1,7 @@
 use crate::tables::names::name_of;
-use sip_header::{Expires, contact_of};
-use sip_location::{Locations, Registration};
-use sip_text::{Bytes, Items, Text};
+use sip_header::Expires;
+use sip_location::{Contacts, Locations, Registration};
+use sip_text::{Bytes, Text};
 use sip_uri::Aor;
 use std::alloc::{AllocError, Global};
 
@@ -14,10 +14,7 @@ fn aor(alloc: Global, number: u32) -> Result<Aor, AllocError> {
 
 /// A REGISTER of one contact for the address of a number.
 fn registration(alloc: Global, number: u32) -> Result<Registration<'static>, AllocError> {
-    let mut contacts = Items::new(alloc);
-    if let Some(item) = contact_of(alloc, b"<sip:phone@127.0.0.1:5082>")? {
-        contacts.push(item)?;
-    }
+    let contacts = Contacts::read(alloc, &[b"<sip:phone@127.0.0.1:5082>".as_slice()])?;
     Ok(Registration {
         aor: aor(alloc, number)?,
         contacts,

@@ -3,8 +3,8 @@
 use crate::kinds::{Server, ServerRules, ServerTimers};
 use sip_event::Boot;
 use sip_host::Addr;
-use sip_loop::engine::StepError;
-use sip_loop::{ReplayError, replay};
+use sip_replay::engine::StepError;
+use sip_replay::{ReplayError, replay};
 use sip_run::fire_next;
 use sip_settings::sample;
 use std::alloc::{AllocError, Global};

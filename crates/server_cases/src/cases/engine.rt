@@ -1,7 +1,7 @@
 use crate::cases::datagrams::{REGISTER, REGISTER_AGAIN};
 use crate::cases::driving::{hear, opened};
 use crate::kinds::Server;
-use sip_loop::engine::StepError;
+use sip_replay::engine::StepError;
 use sip_text::Bytes;
 use sip_uri::Aor;
 use std::alloc::Global;
@@ -18,7 +18,7 @@ fn is_bound(alloc: Global, engine: &Server) -> bool {
     let mut live = engine.bindings(&aor);
     match live.next() {
         Some(binding) => {
-            binding.cseq == 2 && binding.expires_at == 3_602_000 && live.next().is_none()
+            binding.cseq() == 2 && binding.expires_at() == 3_602_000 && live.next().is_none()
         }
         None => false,
     }

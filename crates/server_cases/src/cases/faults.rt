@@ -1,7 +1,7 @@
 use crate::cases::datagrams::{REGISTERED_PRINT, REGISTERED_SCRIPT};
 use crate::cases::devices::{FailingReader, FailingWriter};
 use crate::cases::driving::replayed;
-use sip_loop::ReplayError;
+use sip_replay::ReplayError;
 use std::alloc::Global;
 use std::io::ErrorKind;
 

@@ -1,7 +1,7 @@
 use crate::cases::driving::{PHONE, hear, opened};
 use crate::kinds::Server;
 use sip_event::Ticket;
-use sip_loop::engine::StepError;
+use sip_replay::engine::StepError;
 use std::alloc::Global;
 
 const TOO_LARGE: u64 = 4_611_686_018_427_387_904;

@@ -2,8 +2,8 @@ use crate::cases::datagrams::REGISTER;
 use crate::cases::driving::{hear, opened};
 use crate::cases::faults::ends;
 use crate::kinds::Server;
-use sip_loop::ReplayError;
-use sip_loop::engine::StepError;
+use sip_replay::ReplayError;
+use sip_replay::engine::StepError;
 use std::alloc::Global;
 use std::io::ErrorKind;
 

@@ -1,5 +1,5 @@
 use crate::cases::driving::replayed;
-use sip_loop::ReplayError;
+use sip_replay::ReplayError;
 use std::alloc::{AllocError, Global};
 
 const CHALLENGED: &[u8] = b"SIP/2.0 401 Unauthorized";

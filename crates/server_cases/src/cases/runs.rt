@@ -2,7 +2,7 @@ use crate::cases::datagrams::{REGISTER, REGISTER_AGAIN};
 use crate::cases::driving::PHONE;
 use crate::kinds::{ServerRules, ServerTimers};
 use sip_event::{Boot, Event};
-use sip_loop::engine::StepError;
+use sip_replay::engine::StepError;
 use sip_run::run;
 use sip_settings::sample;
 use sip_text::Bytes;

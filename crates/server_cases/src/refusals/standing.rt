@@ -1,7 +1,7 @@
 use crate::kinds::Server;
-use sip_location::Binding;
+use sip_location::BindingRef;
 use sip_text::{Bytes, same_bytes};
-use sip_uri::{Aor, write_uri};
+use sip_uri::Aor;
 use std::alloc::{AllocError, Global};
 
 /// The users of the sample, whose addresses are all at one domain.
@@ -30,12 +30,12 @@ fn put_number(text: &mut Bytes, number: u64) -> Result<(), AllocError> {
 }
 
 /// Adds all that a binding holds.
-fn put_binding(alloc: Global, text: &mut Bytes, binding: &Binding) -> Result<(), AllocError> {
-    put_word(text, binding.aor.user.as_slice())?;
-    put_word(text, write_uri(alloc, &binding.uri)?.as_slice())?;
-    put_word(text, binding.call_id.as_slice())?;
-    put_number(text, u64::from(binding.cseq))?;
-    put_number(text, binding.expires_at)
+fn put_binding(text: &mut Bytes, binding: &BindingRef<'_>) -> Result<(), AllocError> {
+    put_word(text, binding.aor().user())?;
+    put_word(text, binding.uri_text())?;
+    put_word(text, binding.call_id())?;
+    put_number(text, u64::from(binding.cseq()))?;
+    put_number(text, binding.expires_at())
 }
 
 fn aor_of(alloc: Global, user: &str) -> Result<Aor, AllocError> {
@@ -54,7 +54,7 @@ fn put_bindings(
     let aor = aor_of(alloc, user)?;
     let mut live = engine.bindings(&aor);
     while let Some(binding) = live.next() {
-        put_binding(alloc, text, binding)?;
+        put_binding(text, &binding)?;
     }
     Ok(())
 }

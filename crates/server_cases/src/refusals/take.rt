@@ -4,7 +4,7 @@ use crate::fault::Fault;
 use crate::kinds::Server;
 use crate::refusals::standing::Standing;
 use sip_event::{Event, StepOut};
-use sip_loop::engine::StepError;
+use sip_replay::engine::StepError;
 use sip_run::{event_moment, fire_next, take_event};
 use std::alloc::Global;
 use std::io::Write;

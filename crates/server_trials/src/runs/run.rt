@@ -4,8 +4,10 @@ use md5::{Digest, Md5};
 use server_cases::refusals::prints;
 use sip_arguments::{Call, Exit, Parsed, parse};
 use sip_command::{command, replay_script};
+use sip_index::IndexedRules;
 use sip_policy::ListRules;
 use sip_timers::ListTimers;
+use sip_wheel::WheelTimers;
 use std::alloc::{AllocError, Global};
 use std::fs;
 use std::io::Write;
@@ -88,7 +90,13 @@ fn gives<R: Files + Net + Clock + RandomSource + AllocGlobal>(
     let mut input = script;
     let mut output = Vec::new(rt.alloc());
     let mut complaints = Vec::new(rt.alloc());
-    let status = command(rt, words, &mut input, &mut output, &mut complaints);
+    let status = command::<WheelTimers, IndexedRules, R, &[u8], Vec<u8>, Vec<u8>>(
+        rt,
+        words,
+        &mut input,
+        &mut output,
+        &mut complaints,
+    );
     is_output(rt, name, output.as_slice())
         && says(rt, name, "err", b"", complaints.as_slice())
         && is_status(rt, name, status)

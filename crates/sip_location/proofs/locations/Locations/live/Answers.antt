@@ -1,6 +1,12 @@
-use Rattle.std.proofs.Common.{sym}
+use Rattle.std.proofs.Common.{◌∙◌, sym, ap}
+use Rattle.std.specs.Prelude.{filter}
+use Rattle.sip_equality.specs.uri.declared.aor.Aor.{Aor}
+use Rattle.sip_location.specs.Binding.{is_live}
+use Rattle.sip_location.specs.Filed.{bindings_of}
 use Rattle.sip_location.proofs.Planning.{live_of_own}
 use Rattle.sip_location.proofs.locations.Locations.live.Goals as goal
 
 pub returns : goal.returns
-returns c = rw c.rows_of.ensures (sym (live_of_own c.args.aor.now c.args.now c.args.self.now.rows))
+returns c =
+    let own = c.new.ensures ∙ ap (λ (a : Aor). bindings_of a c.rows_of.result.now) c.of.ensures ∙ c.rows_of.ensures in
+    c.new-2.ensures ∙ ap (filter (is_live c.args.now)) own ∙ sym (live_of_own c.args.aor.now c.args.now c.args.self.now.rows)

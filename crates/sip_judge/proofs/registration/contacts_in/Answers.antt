@@ -1,8 +1,0 @@
-use Rattle.std.proofs.Common.{[]}
-use Rattle.sip_verdict.specs.header.ContactItem.{contact_of}
-use Rattle.sip_judge.proofs.Contacts.{next}
-use Rattle.sip_judge.proofs.registration.contacts_in.Goals as goal
-
-pub loop-value-preserved : goal.loop-value-preserved
-loop-value-preserved c =
-    rw (next contact_of c.args.values.now c.loop-value.value-index (record { ref_ptr = (0, 0); now = [] }) c.loop-value-test.true, ← c.loop-value.invariant) c.in_ok-put_contact.ensures

@@ -1,0 +1,131 @@
+ghost use Rattle.std.specs.Prelude.{◌≡◌, ◌<◌, [], not, length, IfOk, OnOk};
+ghost use Rattle.std.specs.List.{list_any, position_or_len};
+ghost use Rattle.sip_equality.specs.Equality as Equality;
+ghost use Rattle.sip_location.specs.Binding.{without_contact, put};
+
+use crate::candidate::Candidate;
+use crate::standing::Standing;
+use sip_equality::same;
+use sip_uri::Uri;
+use std::alloc::{AllocError, Global};
+use std::marker::Model;
+
+/// The bindings that an address of record may have after a REGISTER, in their order.
+#[derive(Drop)]
+pub(crate) struct Candidates<'a> {
+    list: Vec<Candidate<'a>>,
+}
+
+impl<'a> Model for Candidates<'a> {
+    ghost use Rattle.std.specs.Prelude.{List};
+    ghost use Rattle.sip_location.specs.declared.binding.Binding.{Binding};
+
+    ghost Value = { List Binding };
+
+    ghost view = { λ c. c.list.items };
+}
+
+impl<'a> Candidates<'a> {
+    /// The bindings that stand.
+    pub(crate) fn of(alloc: Global, bindings: &'a [Standing<'_>]) -> Result<Self, AllocError>
+        ensures { IfOk result (λ candidates. candidates ≡ bindings.now) }
+    {
+        let list = lent(alloc, bindings)?;
+        Ok(Candidates { list })
+    }
+
+    pub(crate) fn as_slice(&self) -> &[Candidate<'a>]
+        ensures { result.now ≡ self.now }
+    {
+        self.list.as_slice()
+    }
+
+    /// Removes every binding.
+    pub(crate) fn clear(&mut self)
+        ensures { self.new ≡ [] }
+    {
+        self.list.clear();
+    }
+
+    /// Removes the bindings whose contact is equal to a URI.
+    pub(crate) fn remove(&mut self, uri: &Uri)
+        ensures { self.new ≡ without_contact uri.now self.old }
+    {
+        remove_equal(&mut self.list, uri);
+    }
+
+    /// Puts a binding into the place of the first whose contact is equal to its own, or last; the others that
+    /// are equal go.
+    pub(crate) fn put(&mut self, binding: Candidate<'a>) -> Result<(), AllocError>
+        ensures { OnOk result (self.new ≡ put binding.entry self.old) }
+    {
+        put_in_place(&mut self.list, binding)
+    }
+}
+
+fn lent<'a>(alloc: Global, bindings: &'a [Standing<'_>]) -> Result<Vec<Candidate<'a>>, AllocError>
+    ensures { IfOk result (λ candidates. candidates.items ≡ bindings.now) }
+{
+    let mut list = Vec::with_capacity(alloc, bindings.len().saturating_add(1))?;
+    for binding in bindings {
+        list.push(binding.candidate())?;
+    }
+    Ok(list)
+}
+
+fn remove_equal(list: &mut Vec<Candidate<'_>>, uri: &Uri)
+    ensures { list.new.items ≡ without_contact uri.now list.old.items }
+{
+    list.retain(|binding| !same(binding.uri(), uri));
+}
+
+/// The place of the first binding whose contact is equal to a URI; where there is none, their number.
+fn place_of(bindings: &[Candidate<'_>], uri: &Uri) -> usize
+    ensures { result ≡ position_or_len (λ b. Equality.same b.uri uri.now) bindings.now }
+{
+    for (i, binding) in bindings.iter().enumerate() {
+        if same(binding.uri(), uri) {
+            return i;
+        }
+    }
+    bindings.len()
+}
+
+/// Whether a binding among some has a contact that is equal to a URI.
+fn any_is_equal(bindings: &[Candidate<'_>], uri: &Uri) -> bool
+    ensures { result ≡ list_any (λ b. Equality.same b.uri uri.now) bindings.now }
+{
+    bindings.iter().any(|binding| same(binding.uri(), uri))
+}
+
+/// Puts a binding into the place of the first whose contact is equal to its own; the others that are equal go, but
+/// mostly there is none.
+fn put_at<'a>(
+    list: &mut Vec<Candidate<'a>>,
+    place: usize,
+    binding: Candidate<'a>,
+) -> Result<(), AllocError>
+    requires first { place ≡ position_or_len (λ b. Equality.same b.uri binding.uri) list.old.items }
+    requires within { place < length list.old.items }
+    ensures { OnOk result (list.new.items ≡ put binding.entry list.old.items) }
+{
+    if any_is_equal(&list[place + 1..], binding.uri()) {
+        remove_equal(list, binding.uri());
+        list.insert(place, binding)?;
+        return Ok(());
+    }
+    list[place] = binding;
+    Ok(())
+}
+
+/// Puts a binding among others, each of which is compared with it once, unless several are equal to it.
+fn put_in_place<'a>(list: &mut Vec<Candidate<'a>>, binding: Candidate<'a>) -> Result<(), AllocError>
+    ensures { OnOk result (list.new.items ≡ put binding.entry list.old.items) }
+{
+    let place = place_of(list, binding.uri());
+    if place < list.len() {
+        return put_at(list, place, binding);
+    }
+    list.push(binding)?;
+    Ok(())
+}

@@ -1,0 +1,7 @@
+pub mod Calls
+pub mod Fronts
+pub mod OneList
+pub mod Refusing
+pub mod Replaying
+pub mod Running
+pub mod Stopping

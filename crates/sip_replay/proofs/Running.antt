@@ -1,0 +1,89 @@
+-- A run of the server, step by step, and what is printed of it.
+use Rattle.std.proofs.Common.{◌≡◌, inr, ℕ, List, [], ◌∷◌, ◌++◌, Option, None, Some, refl, sym, ◌∙◌, ap, subst, append-nil}
+use Rattle.std.proofs.lemmas.Grind.{flat_map-append}
+use Rattle.std.proofs.lemmas.List.{reverse-append}
+use Rattle.std.specs.Io.KnownBytes.{Appends}
+use Rattle.std.proofs.KnownBytes.{Appends-nil, Appends-trans}
+use Rattle.sip_event.specs.declared.event.Event.{Event}
+use Rattle.sip_event.specs.declared.event.StepOut.{StepOut}
+use Rattle.sip_model.specs.state.declared.server.Server.{Server}
+use Rattle.sip_model.specs.state.declared.proxy_state.ProxyState.{ProxyState}
+use Rattle.sip_model.specs.Step.{Given, Passing, IsStep}
+use Rattle.sip_model.specs.Run.{Link, IsRun, event_moment, events_of, steps_of, first_moment}
+use Rattle.sip_script.specs.Print.{step_text, printed}
+use Rattle.sip_run.specs.Due.{Fires}
+use Rattle.sip_run.proofs.RunOn.{run_on}
+use Rattle.sip_replay.specs.Replays.{Plays}
+
+-- no step yet
+pub plays_nothing : (server : Server) (state : ProxyState) (until : Option ℕ) (before : Option (List ℕ)) → Plays server state state [] until before before
+plays_nothing server state until before = record {
+  steps = [];
+  history = [];
+  is_run = record { chain = refl; paced = tt; of_events = refl; of_steps = refl };
+  written = Appends-nil before;
+}
+
+-- what is printed of one step more
+pub printed_more : (steps : List StepOut) (out : StepOut) → printed (steps ++ out ∷ []) ≡ printed steps ++ step_text out
+printed_more steps out = flat_map-append step_text steps (out ∷ []) ∙ ap (λ l. printed steps ++ l) (append-nil (step_text out))
+
+-- time passes
+passing_step : (server : Server) (old mid new : ProxyState) (at : ℕ) (out : StepOut) (a b c : Option (List ℕ)) → Plays server old mid [] (Some at) a b → IsStep server mid (Passing at) out new
+    → Appends b c (step_text out) → Plays server old new [] (Some at) a c
+passing_step server old mid new at out a b c h step written = record {
+  steps = h.steps ++ out ∷ [];
+  history = record { before = mid; act = Passing at; out = out; after = new } ∷ h.history;
+  is_run = record {
+    chain = (refl, step, h.is_run.chain);
+    paced = (refl, h.is_run.paced);
+    of_events = h.is_run.of_events;
+    of_steps = reverse-append (out ∷ []) (steps_of h.history) ∙ ap (λ l. l ++ out ∷ []) h.is_run.of_steps;
+  };
+  written = subst (λ l. Appends a c l) (sym (printed_more h.steps out)) (Appends-trans a b c (printed h.steps) (step_text out) h.written written);
+}
+
+-- what is due happens, of the server as it is then
+pub plays_firing : (server then_server : Server) (old mid new : ProxyState) (at : ℕ) (out : StepOut) (a b c : Option (List ℕ)) → then_server ≡ server → Plays server old mid [] (Some at) a b
+    → Fires then_server mid at out new → Appends b c (step_text out) → Plays server old new [] (Some at) a c
+plays_firing server then_server old mid new at out a b c same h fires written =
+    passing_step server old mid new at out a b c h (subst (λ s. IsStep s mid (Passing at) out new) same (inr fires.happens)) written
+
+-- the event's own step comes
+event_step : (server : Server) (old mid new : ProxyState) (event : Event) (out : StepOut) (a b c : Option (List ℕ)) → Plays server old mid [] (Some (event_moment event)) a b → IsStep server mid (Given event) out new
+    → Appends b c (step_text out) → Plays server old new (event ∷ []) None a c
+event_step server old mid new event out a b c h step written = record {
+  steps = h.steps ++ out ∷ [];
+  history = record { before = mid; act = Given event; out = out; after = new } ∷ h.history;
+  is_run = record {
+    chain = (refl, step, h.is_run.chain);
+    paced = (tt, h.is_run.paced);
+    of_events = reverse-append (event ∷ []) (events_of h.history) ∙ ap (λ l. l ++ event ∷ []) h.is_run.of_events;
+    of_steps = reverse-append (out ∷ []) (steps_of h.history) ∙ ap (λ l. l ++ out ∷ []) h.is_run.of_steps;
+  };
+  written = subst (λ l. Appends a c l) (sym (printed_more h.steps out)) (Appends-trans a b c (printed h.steps) (step_text out) h.written written);
+}
+
+-- the same of the server as it is then
+pub plays_event : (server then_server : Server) (old mid new : ProxyState) (at : ℕ) (event : Event) (out : StepOut) (a b c : Option (List ℕ)) → then_server ≡ server → at ≡ event_moment event
+    → Plays server old mid [] (Some at) a b → IsStep then_server mid (Given event) out new → Appends b c (step_text out) → Plays server old new (event ∷ []) None a c
+plays_event server then_server old mid new at event out a b c same is h step written =
+    event_step server old mid new event out a b c (subst (λ (m : ℕ). Plays server old mid [] (Some m) a b) is h) (subst (λ s. IsStep s mid (Given event) out new) same step) written
+
+-- two runs, one behind the other, are one
+abbrev pub RunsJoin : Type 0
+RunsJoin =
+    (server : Server) (first middle last : ProxyState) (events more : List Event) (until : Option ℕ) (steps further : List StepOut) (history later : List Link)
+    → IsRun server first events (first_moment more until) steps history middle → IsRun server middle more until further later last
+    → IsRun server first (events ++ more) until (steps ++ further) (later ++ history) last
+
+-- an event more
+pub plays_both : RunsJoin → (server : Server) (old mid new : ProxyState) (events : List Event) (event : Event) (a b c : Option (List ℕ)) → Plays server old mid events None a b → Plays server mid new (event ∷ []) None b c
+    → Plays server old new (events ++ event ∷ []) None a c
+plays_both join server old mid new events event a b c h next = record {
+  steps = h.steps ++ next.steps;
+  history = next.history ++ h.history;
+  is_run = join server old mid new events (event ∷ []) None h.steps next.steps h.history next.history
+      (run_on server old mid events (Some (event_moment event)) h.steps h.history h.is_run) next.is_run;
+  written = subst (λ l. Appends a c l) (sym (flat_map-append step_text h.steps next.steps)) (Appends-trans a b c (printed h.steps) (printed next.steps) h.written next.written);
+}

@@ -1,0 +1,18 @@
+use Rattle.std.proofs.Common.{◌≡◌, ◌≤◌}
+use Rattle.sip_model.specs.state.State.{first_state}
+use Rattle.sip_script.specs.Devices.{later}
+use Rattle.sip_script.specs.Lines.{left}
+use Rattle.sip_replay.specs.Replays.{server_with}
+use Rattle.sip_replay.proofs.Replaying.{Replays}
+use Rattle.sip_replay.proofs.playback.play.Given as goal
+
+abbrev pub invariant-loop-line : goal.invariant-loop-line
+invariant-loop-line g l =
+    (l.engine.server ≡ server_with l.fn.config)
+    × Replays (server_with l.fn.config) (first_state 1) l.engine.state l.initial.lines l.lines (g.I.TellingReader.remaining l.initial.reader) (g.I.TellingReader.remaining l.reader)
+    (g.W.TellingWriter.contents l.initial.writer) (g.W.TellingWriter.contents l.writer)
+    × (l.lines.asks ≤ l.initial.lines.asks)
+    × (later l.lines.asks (g.I.TellingReader.asked l.reader) ≡ later l.initial.lines.asks (g.I.TellingReader.asked l.initial.reader))
+
+abbrev pub decreases-loop-line : goal.decreases-loop-line
+decreases-loop-line g l = left l.lines

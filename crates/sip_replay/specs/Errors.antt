@@ -1,0 +1,42 @@
+-- The numbers of refusals, and why an event wasn't replayed.
+use Rattle.std.specs.Prelude.{◌≡◌, ◌≤◌, ⊤, ℕ, Option}
+use Rattle.sip_engine.specs.declared.error.StepError.{StepError}
+use Rattle.sip_engine.specs.declared.error.StepError.TheVariants as step_errors
+use Rattle.sip_script.specs.declared.stop.Stop.{Stop}
+use Rattle.sip_script.specs.declared.stop.Stop.TheVariants as stops
+use Rattle.sip_script.specs.Devices.{later}
+use Rattle.sip_replay.specs.declared.error.ReplayError.{ReplayError}
+use Rattle.sip_replay.specs.declared.error.ReplayError.TheVariants.{NoMemory, Script, Read, Write}
+
+-- this project's profile
+abbrev pub number_of_error : ReplayError → ℕ
+number_of_error NoMemory = 1
+number_of_error (Script line) = 2
+number_of_error Read = 3
+number_of_error Write = 4
+
+-- the refusal of the event that begins with a line
+abbrev pub error_at : Stop → ℕ → ReplayError
+error_at stops.NoMemory line = NoMemory
+error_at stops.Script line = Script line
+error_at stops.Read line = Read
+error_at stops.Write line = Write
+
+-- want of memory stays that; any other refusal of a step is the script's
+abbrev pub stop_of_step : StepError → Stop
+stop_of_step step_errors.NoMemory = stops.NoMemory
+stop_of_step step_errors.MomentTooLarge = stops.Script
+stop_of_step step_errors.Worn = stops.Script
+
+-- a reader was asked at most that often
+pub record IsAsked (most : ℕ) (old new : Option ℕ) : Type 0 where
+  pub times : ℕ
+  pub within : times ≤ most
+  pub counted : new ≡ later times old
+
+-- Read is answered where the reader failed, or was asked as often as it may be; Write where the writer gave up.
+abbrev pub IsFaulted : Type 0 → Type 0 → ReplayError → Type 0
+IsFaulted reader_stopped writer_stopped NoMemory = ⊤
+IsFaulted reader_stopped writer_stopped (Script line) = ⊤
+IsFaulted reader_stopped writer_stopped Read = reader_stopped
+IsFaulted reader_stopped writer_stopped Write = writer_stopped

@@ -1,0 +1,69 @@
+ghost use Rattle.std.specs.Prelude.{◌≡◌};
+ghost use Rattle.sip_replay.specs.Errors.{error_at, number_of_error, stop_of_step};
+
+use sip_engine::StepError;
+use sip_script::Stop;
+use std::error::Error;
+use std::fmt;
+
+/// Why a replay stopped.
+#[derive(Clone, Copy, Debug, PartialEq, Eq)]
+pub enum ReplayError {
+    /// Memory ran out.
+    NoMemory,
+    /// The event that begins with this line, counted from 1, isn't one, or its step was refused.
+    Script(u64),
+    /// The reader failed, or was asked 4,294,967,295 times.
+    Read,
+    /// The writer failed.
+    Write,
+}
+
+impl ReplayError {
+    /// The refusal of the event that begins with this line.
+    pub(crate) fn at_line(stop: Stop, line: u64) -> ReplayError
+        ensures { result ≡ error_at stop line }
+    {
+        match stop {
+            Stop::NoMemory => ReplayError::NoMemory,
+            Stop::Script => ReplayError::Script(line),
+            Stop::Read => ReplayError::Read,
+            Stop::Write => ReplayError::Write,
+        }
+    }
+
+    /// The number of this refusal.
+    pub fn number(&self) -> u8
+        ensures { result ≡ number_of_error self.now }
+    {
+        match self {
+            ReplayError::NoMemory => 1,
+            ReplayError::Script(_) => 2,
+            ReplayError::Read => 3,
+            ReplayError::Write => 4,
+        }
+    }
+}
+
+impl fmt::Display for ReplayError {
+    fn fmt<W: fmt::Write>(&self, f: &mut fmt::Formatter<W>) -> fmt::Result {
+        match self {
+            ReplayError::NoMemory => write!(f, "out of memory"),
+            ReplayError::Script(line) => write!(f, "line {line} begins no event that can be taken"),
+            ReplayError::Read => write!(f, "the script could not be read"),
+            ReplayError::Write => write!(f, "the packets could not be written"),
+        }
+    }
+}
+
+impl Error for ReplayError {}
+
+/// Why an event whose step was refused isn't replayed.
+pub(crate) fn stop_of(e: StepError) -> Stop
+    ensures { result ≡ stop_of_step e }
+{
+    match e {
+        StepError::NoMemory => Stop::NoMemory,
+        StepError::MomentTooLarge | StepError::Worn => Stop::Script,
+    }
+}

@@ -1,0 +1,16 @@
+//! A script replayed: its events are handed to the engine, each at its moment, and the packets and records that the engine hands
+//! out are printed.
+#![tactic(auto)]
+
+mod due;
+mod error;
+pub mod laws;
+mod playback;
+
+pub use error::ReplayError;
+pub use playback::replay;
+
+/// Of `sip_engine`.
+pub mod engine {
+    pub use sip_engine::{Engine, StepError};
+}
