@@ -87,10 +87,10 @@ def opened(script, count):
         script.register("help", contacts(1))
 
 
-def bound(script, users):
-    """Users with 16 addresses each, of whom no request is open any more."""
+def bound(script, users, each=16):
+    """Users with 16 addresses each, or fewer, of whom no request is open any more."""
     for place, user in enumerate(users):
-        script.pair(user, [f"sip:{user}@127.0.0.1:{10000 + at}" for at in range(16)])
+        script.pair(user, [f"sip:{user}@127.0.0.1:{10000 + at}" for at in range(each)])
         if place % 32 == 31:
             script.time(33_000)
 
@@ -187,7 +187,8 @@ HELD = {
     "an open REGISTER that was challenged": (opened, 256, 1),
     "an open REGISTER that was answered 200": (answered, 256, 1),
     "an open call that rings": (rung, 256, 1),
-    "a binding": (lambda s, count: bound(s, OTHERS[:count]), 96, 16),
+    "a binding, of a user with 16": (lambda s, count: bound(s, OTHERS[:count]), 96, 16),
+    "a user's only binding": (lambda s, count: bound(s, OTHERS[:count], 1), 127, 1),
     "a dialog": (talking, 1024, 1),
 }
 
@@ -196,7 +197,7 @@ def tell_memory(folder, counter):
     """The most bytes that are held at once: what twice as many hold more, for each that is more."""
     print("| What | Bytes held |\n|---|---|", flush=True)
     for name, (make, count, each) in HELD.items():
-        config = replays.configuration(["help", *OTHERS] if each > 1 else ["help"])
+        config = replays.configuration(["help", *OTHERS] if "binding" in name else ["help"])
         most = []
         for times in (count, 2 * count):
             script = replays.Script()
