@@ -56,6 +56,10 @@ text_sym left right = list_sym (symbols left) (symbols right)
 text_own : IsReflexive says_same
 text_own text = list_own (symbols text)
 
+-- what is the same byte by byte says the same
+pub equal_say_same : (left right : List ℕ) → left ≡ right → true ≡ says_same left right
+equal_say_same left right same = sym (subst (λ (text : List ℕ). says_same left text ≡ true) same (text_own left))
+
 pub part_sym : IsSymmetric says_same_no_case
 part_sym left right = list_sym (map small (symbols left)) (map small (symbols right))
 

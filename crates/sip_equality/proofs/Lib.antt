@@ -5,3 +5,5 @@ pub mod ParameterLaws
 pub mod WalkLaws
 pub mod HeaderLaws
 pub mod PlainLaws
+pub mod OrderedLaws
+pub mod PlaceLaws

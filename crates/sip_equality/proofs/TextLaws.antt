@@ -1,5 +1,5 @@
 -- What texts say: symbol by symbol, and in which order.
-use Rattle.std.proofs.Common.{◌≡◌, ℕ, Bool, true, false, List, [], ◌∷◌, map, is_eq, refl, sym, ◌∙◌, arith}
+use Rattle.std.proofs.Common.{◌≡◌, ℕ, Bool, true, false, List, [], ◌∷◌, map, is_eq, Equal, refl, sym, subst, ◌∙◌, arith}
 use Rattle.std.specs.Prelude.{◌==◌, nat_lt}
 use Rattle.std.specs.Cmp.{IsTotalOrder}
 use Rattle.std.specs.Cmp.Lexicographic.{slice_cmp, pointwise}
@@ -36,3 +36,16 @@ symbols_tie (s ∷ ss) (t ∷ ts) = by_rank (nat_lt (rank s) (rank t)) (rank s =
 
 pub tie_is_same : (left right : List ℕ) → is_eq (order_of_texts left right) ≡ says_same_no_case left right
 tie_is_same left right = symbols_tie (map small (symbols left)) (map small (symbols right))
+
+-- ---- the same bytes
+
+symbol_itself : (s : Symbol) → order_of_symbols s s ≡ Equal
+symbol_itself s = grind arith
+
+symbols_itself : (ss : List Symbol) → slice_cmp order_of_symbols ss ss ≡ Equal
+symbols_itself [] = refl
+symbols_itself (s ∷ ss) = rw (symbol_itself s) (symbols_itself ss)
+
+-- what is the same byte by byte ties
+pub equal_tie : (left right : List ℕ) → left ≡ right → Equal ≡ order_of_texts left right
+equal_tie left right same = sym (subst (λ (text : List ℕ). order_of_texts left text ≡ Equal) same (symbols_itself (map small (symbols left))))

@@ -5,6 +5,7 @@ use Rattle.std.specs.declared.cmp.Ordering.{Ordering}
 use Rattle.std.specs.Ordering.{nat_cmp, ordering_then, is_gt}
 use Rattle.std.specs.Borrow.{Bor}
 use Rattle.std.specs.List.{AllByRecursion}
+use Rattle.std.specs.List.Sorted.{IsPermutation}
 use Rattle.std.specs.Cmp.Lexicographic.{slice_cmp}
 use Rattle.sip_uri.specs.declared.parameters.Parameter.{Parameter}
 use Rattle.sip_uri.specs.declared.headers.UriHeader.{UriHeader}
@@ -46,3 +47,8 @@ begins_with name (p ∷ ps) = says_same_no_case name p.name
 -- parameters behind references
 abbrev pub those_of : {X : Type 0} → List (Bor X) → List X
 those_of xs = map (λ x. x.now) xs
+
+-- Places refer to the elements of a list, and stand in order.
+pub record ArePutInOrder {X : Type 0} (order : X → X → Ordering) (xs : List X) (places : List (Bor X)) : Type 0 where
+  pub moved : IsPermutation xs (those_of places)
+  pub in_order : AreInOrder order (those_of places)

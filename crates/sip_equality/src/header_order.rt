@@ -22,7 +22,7 @@ fn compare_headers(left: &UriHeader, right: &UriHeader) -> Ordering
 }
 
 /// Puts headers into places, in order.
-fn put_in_order<'a>(places: &mut [&'a UriHeader], headers: &'a [UriHeader])
+pub(crate) fn put_in_order<'a>(places: &mut [&'a UriHeader], headers: &'a [UriHeader])
     requires { length places.old ≡ length headers.now }
     ensures moved { IsPermutation headers.now (those_of places.new) }
     ensures in_order { AreInOrder order_of_headers (those_of places.new) }
@@ -45,7 +45,7 @@ fn are_same_at_each_place(left: &[&UriHeader], right: &[&UriHeader]) -> bool
 }
 
 /// The same of lists that may differ in length.
-fn ordered_are_same(left: &[&UriHeader], right: &[&UriHeader]) -> bool
+pub(crate) fn ordered_are_same(left: &[&UriHeader], right: &[&UriHeader]) -> bool
     ensures { result ≡ pointwise Definitions.is_same_header (those_of left.now) (those_of right.now) }
 {
     if left.len() != right.len() {

@@ -6,6 +6,7 @@ pub mod examples;
 mod header_order;
 mod headers;
 pub mod laws;
+mod ordered;
 mod parameter_order;
 mod parameters;
 mod places;
@@ -13,6 +14,7 @@ mod symbols;
 mod texts;
 
 pub use equality::same;
+pub use ordered::Ordered;
 pub use texts::{says_same, says_same_no_case};
 
 /// Of `sip_text`.

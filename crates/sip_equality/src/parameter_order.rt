@@ -1,4 +1,4 @@
-ghost use Rattle.std.specs.Prelude.{◌≡◌, ◌≤◌, ◌<◌, ◌+◌, length, not, ◌∷◌, true};
+ghost use Rattle.std.specs.Prelude.{◌≡◌, ◌≤◌, ◌<◌, ◌+◌, length, not, ◌∷◌, true, false};
 ghost use Rattle.std.specs.List.{list_all};
 ghost use Rattle.std.specs.List.Sorted.{IsPermutation};
 ghost use Rattle.sip_equality.specs.Equality as Definitions;
@@ -9,10 +9,11 @@ use crate::parameters::{are_same_values, is_never_ignored};
 use crate::places::{MOST, SOME, refer_to};
 use crate::texts::{compare_texts, says_same_no_case};
 use sip_uri::Parameter;
+use sip_uri::text::same_bytes;
 use std::cmp::Ordering;
 
 /// Puts parameters into places, in order of their names.
-fn put_in_order<'a>(places: &mut [&'a Parameter], parameters: &'a [Parameter])
+pub(crate) fn put_in_order<'a>(places: &mut [&'a Parameter], parameters: &'a [Parameter])
     requires { length places.old ≡ length parameters.now }
     ensures moved { IsPermutation parameters.now (those_of places.new) }
     ensures in_order { AreInOrder order_of_names (those_of places.new) }
@@ -120,7 +121,7 @@ fn advance_in(left: &[&Parameter], right: &[&Parameter]) -> Advance
 }
 
 /// Whether the parameters of two lists in order are the same: both lists are walked side by side.
-fn ordered_are_same(left: &[&Parameter], right: &[&Parameter]) -> bool
+pub(crate) fn ordered_are_same(left: &[&Parameter], right: &[&Parameter]) -> bool
     requires left { AreInOrder order_of_names (those_of left.now) }
     requires right { AreInOrder order_of_names (those_of right.now) }
     ensures { result ≡ Definitions.are_same_parameters (those_of left.now) (those_of right.now) }
@@ -142,6 +143,31 @@ fn ordered_are_same(left: &[&Parameter], right: &[&Parameter]) -> bool
         }
     }
     may_all_be_ignored(&right[right_at..])
+}
+
+/// Whether two parameters have one name, byte by byte, and different values.
+#[tactic(auto, using(crate::proofs::PlaceLaws::values_differ_alone))]
+fn differ(left: &Parameter, right: &Parameter) -> bool
+    ensures { result ≡ true → Definitions.agrees left.now right.now ≡ false }
+{
+    same_bytes(left.name.as_slice(), right.name.as_slice())
+        && !are_same_values(&left.value, &right.value)
+}
+
+/// Whether two lists differ where they have such parameters at the same place, as those do that differ in a value alone:
+/// then nothing else has to be looked at.
+pub(crate) fn differ_at_a_place(left: &[&Parameter], right: &[&Parameter]) -> bool
+    ensures { result ≡ true → Definitions.are_same_parameters (those_of left.now) (those_of right.now) ≡ false }
+{
+    for (index, parameter) in left.iter().enumerate() {
+        if index >= right.len() {
+            return false;
+        }
+        if differ(parameter, right[index]) {
+            return true;
+        }
+    }
+    false
 }
 
 /// Whether the parameters of two lists are the same, compared in order of their names in places that have room

@@ -3,6 +3,7 @@ ghost use Rattle.sip_equality.specs.Equality as Definitions;
 ghost use Rattle.sip_equality.specs.Order.{order_of_texts};
 
 use crate::symbols::split_symbol;
+use sip_uri::text::same_bytes;
 use std::cmp::Ordering;
 
 /// What stands behind the first byte of two texts, if that is the same and no `%`.
@@ -40,6 +41,9 @@ fn behind_front<'l, 'r>(left: &'l [u8], right: &'r [u8]) -> (&'l [u8], &'r [u8])
 pub fn says_same(left: &[u8], right: &[u8]) -> bool
     ensures { result ≡ Definitions.says_same left.now right.now }
 {
+    if same_bytes(left, right) {
+        return true;
+    }
     let (left_behind, right_behind) = behind_front(left, right);
     let mut left_rest = left_behind;
     let mut right_rest = right_behind;
@@ -60,6 +64,9 @@ pub fn says_same(left: &[u8], right: &[u8]) -> bool
 pub(crate) fn compare_texts(left: &[u8], right: &[u8]) -> Ordering
     ensures { result ≡ order_of_texts left.now right.now }
 {
+    if same_bytes(left, right) {
+        return Ordering::Equal;
+    }
     let (left_behind, right_behind) = behind_front(left, right);
     let mut left_rest = left_behind;
     let mut right_rest = right_behind;

@@ -3,6 +3,7 @@ pub mod KeptBinding
 pub mod Interval
 pub mod ReadContacts
 pub mod Registration
+pub mod Newer
 pub mod Examples
 pub mod LocationError
 pub mod Registering

@@ -5,8 +5,9 @@ ghost use Rattle.sip_location.specs.Registration as Definitions;
 
 use crate::registration::Registration;
 use crate::row::Row;
+use sip_equality::Ordered;
 use sip_equality::uri::Aor;
-use sip_uri::{Uri, write_uri};
+use sip_uri::write_uri;
 use std::alloc::{AllocError, Global};
 use std::marker::Model;
 
@@ -15,7 +16,7 @@ use std::marker::Model;
 #[derive(Drop)]
 pub(crate) struct Candidate<'a> {
     aor: &'a Aor,
-    uri: &'a Uri,
+    uri: Ordered<'a>,
     /// The text of the URI, of one that is kept.
     text: Option<&'a [u8]>,
     call_id: &'a [u8],
@@ -30,16 +31,16 @@ impl<'a> Model for Candidate<'a> {
 
     ghost Value = { Binding };
 
-    ghost view = { λ c. record { aor = c.aor.now; uri = c.uri.now; call_id = c.call_id.now; cseq = c.cseq; expires_at = c.expires_at } };
+    ghost view = { λ c. record { aor = c.aor.now; uri = c.uri; call_id = c.call_id.now; cseq = c.cseq; expires_at = c.expires_at } };
 
-    ghost invariant = { λ c. IsWithText c.uri.now (option_map (λ t. t.now) c.text) };
+    ghost invariant = { λ c. IsWithText c.uri (option_map (λ t. t.now) c.text) };
 }
 
 impl<'a> Candidate<'a> {
     /// One that is kept, whose URI was read.
-    pub(crate) fn kept(aor: &'a Aor, row: &'a Row, uri: &'a Uri) -> Self
-        requires read { uri.now ≡ row.now.uri }
-        requires valid { IsValid uri.now }
+    pub(crate) fn kept(aor: &'a Aor, row: &'a Row, uri: Ordered<'a>) -> Self
+        requires read { uri ≡ row.now.uri }
+        requires valid { IsValid uri }
         ensures { result ≡ binding_of aor.now row.now }
     {
         Candidate {
@@ -53,11 +54,16 @@ impl<'a> Candidate<'a> {
     }
 
     /// One that is asked for.
-    pub(crate) fn bound(request: &'a Registration<'_>, now: u64, uri: &'a Uri, seconds: u64) -> Self
-        requires valid { IsValid uri.now }
+    pub(crate) fn bound(
+        request: &'a Registration<'_>,
+        now: u64,
+        uri: Ordered<'a>,
+        seconds: u64,
+    ) -> Self
+        requires valid { IsValid uri }
         requires now { now < 2 ^ 62 }
         requires small { seconds ≤ 86400 }
-        ensures { result ≡ Definitions.bound request.now now uri.now seconds }
+        ensures { result ≡ Definitions.bound request.now now uri.entry seconds }
     {
         Candidate {
             aor: &request.aor,
@@ -69,11 +75,11 @@ impl<'a> Candidate<'a> {
         }
     }
 
-    /// Its URI.
-    pub(crate) fn uri(&self) -> &'a Uri
+    /// Its URI, put in order for all that it is compared with.
+    pub(crate) fn uri(&self) -> &Ordered<'a>
         ensures { result.now ≡ self.now.uri }
     {
-        self.uri
+        &self.uri
     }
 
     /// The Call-ID of the REGISTER that made it, or asks for it.
@@ -97,7 +103,7 @@ impl<'a> Candidate<'a> {
         match self.text {
             Some(text) => Row::new(alloc, text, self.call_id, self.cseq, self.expires_at),
             None => {
-                let text = write_uri(alloc, self.uri)?;
+                let text = write_uri(alloc, self.uri.uri())?;
                 Row::new(
                     alloc,
                     text.as_slice(),

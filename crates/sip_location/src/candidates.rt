@@ -5,8 +5,7 @@ ghost use Rattle.sip_location.specs.Binding.{without_contact, put};
 
 use crate::candidate::Candidate;
 use crate::standing::Standing;
-use sip_equality::same;
-use sip_uri::Uri;
+use sip_equality::Ordered;
 use std::alloc::{AllocError, Global};
 use std::marker::Model;
 
@@ -48,7 +47,7 @@ impl<'a> Candidates<'a> {
     }
 
     /// Removes the bindings whose contact is equal to a URI.
-    pub(crate) fn remove(&mut self, uri: &Uri)
+    pub(crate) fn remove(&mut self, uri: &Ordered<'_>)
         ensures { self.new ≡ without_contact uri.now self.old }
     {
         remove_equal(&mut self.list, uri);
@@ -68,23 +67,23 @@ fn lent<'a>(alloc: Global, bindings: &'a [Standing<'_>]) -> Result<Vec<Candidate
 {
     let mut list = Vec::with_capacity(alloc, bindings.len().saturating_add(1))?;
     for binding in bindings {
-        list.push(binding.candidate())?;
+        list.push(binding.candidate(alloc)?)?;
     }
     Ok(list)
 }
 
-fn remove_equal(list: &mut Vec<Candidate<'_>>, uri: &Uri)
+fn remove_equal(list: &mut Vec<Candidate<'_>>, uri: &Ordered<'_>)
     ensures { list.new.items ≡ without_contact uri.now list.old.items }
 {
-    list.retain(|binding| !same(binding.uri(), uri));
+    list.retain(|binding| !binding.uri().same(uri));
 }
 
 /// The place of the first binding whose contact is equal to a URI; where there is none, their number.
-fn place_of(bindings: &[Candidate<'_>], uri: &Uri) -> usize
+fn place_of(bindings: &[Candidate<'_>], uri: &Ordered<'_>) -> usize
     ensures { result ≡ position_or_len (λ b. Equality.same b.uri uri.now) bindings.now }
 {
     for (i, binding) in bindings.iter().enumerate() {
-        if same(binding.uri(), uri) {
+        if binding.uri().same(uri) {
             return i;
         }
     }
@@ -92,10 +91,10 @@ fn place_of(bindings: &[Candidate<'_>], uri: &Uri) -> usize
 }
 
 /// Whether a binding among some has a contact that is equal to a URI.
-fn any_is_equal(bindings: &[Candidate<'_>], uri: &Uri) -> bool
+fn any_is_equal(bindings: &[Candidate<'_>], uri: &Ordered<'_>) -> bool
     ensures { result ≡ list_any (λ b. Equality.same b.uri uri.now) bindings.now }
 {
-    bindings.iter().any(|binding| same(binding.uri(), uri))
+    bindings.iter().any(|binding| binding.uri().same(uri))
 }
 
 /// Puts a binding into the place of the first whose contact is equal to its own; the others that are equal go, but

@@ -10,12 +10,14 @@ use crate::candidate::Candidate;
 use crate::candidates::Candidates;
 use crate::interval::seconds_for;
 use crate::registration::Registration;
+use sip_equality::Ordered;
 use sip_header::{AnyUri, ContactItem};
 use sip_uri::Uri;
-use std::alloc::AllocError;
+use std::alloc::{AllocError, Global};
 
 /// Binds a URI for some seconds, or removes what is equal to it for 0.
 fn apply_uri<'a>(
+    alloc: Global,
     bindings: &mut Candidates<'a>,
     request: &'a Registration<'_>,
     now: u64,
@@ -27,8 +29,9 @@ fn apply_uri<'a>(
     requires small { seconds ≤ 86400 }
     ensures { OnOk result (bindings.new ≡ Definitions.after_uri request.now now seconds bindings.old uri.now) }
 {
+    let uri = Ordered::of(alloc, uri)?;
     if seconds == 0 {
-        bindings.remove(uri);
+        bindings.remove(&uri);
         return Ok(());
     }
     bindings.put(Candidate::bound(request, now, uri, seconds))
@@ -36,6 +39,7 @@ fn apply_uri<'a>(
 
 /// Does the same for a URI of any scheme. One of another than `sip` and `sips` leaves the bindings as they are.
 fn apply_any_uri<'a>(
+    alloc: Global,
     bindings: &mut Candidates<'a>,
     request: &'a Registration<'_>,
     now: u64,
@@ -48,12 +52,13 @@ fn apply_any_uri<'a>(
     ensures { OnOk result (bindings.new ≡ option_map_or (Definitions.after_uri request.now now seconds bindings.old) (sip_uri uri.now) bindings.old) }
 {
     match uri {
-        AnyUri::Sip(uri) => apply_uri(bindings, request, now, uri, seconds),
+        AnyUri::Sip(uri) => apply_uri(alloc, bindings, request, now, uri, seconds),
         AnyUri::Other(_) => Ok(()),
     }
 }
 
 fn apply_contact<'a>(
+    alloc: Global,
     bindings: &mut Candidates<'a>,
     request: &'a Registration<'_>,
     now: u64,
@@ -70,7 +75,7 @@ fn apply_contact<'a>(
         }
         ContactItem::Address(address) => {
             let seconds = seconds_for(contact, request.expires);
-            apply_any_uri(bindings, request, now, &address.uri, seconds)
+            apply_any_uri(alloc, bindings, request, now, &address.uri, seconds)
         }
     }
 }
@@ -78,6 +83,7 @@ fn apply_contact<'a>(
 /// Applies the contacts of a REGISTER in their order.
 #[tactic(auto, using(std::proofs::lemmas::List::at_drop_more, std::proofs::lemmas::List::drop_all))]
 pub(crate) fn apply_contacts<'a>(
+    alloc: Global,
     bindings: &mut Candidates<'a>,
     request: &'a Registration<'_>,
     now: u64,
@@ -86,7 +92,7 @@ pub(crate) fn apply_contacts<'a>(
     ensures { OnOk result (bindings.new ≡ Definitions.after_contacts request.now now request.now.contacts bindings.old) }
 {
     for contact in request.contacts.as_slice() {
-        apply_contact(bindings, request, now, contact)?;
+        apply_contact(alloc, bindings, request, now, contact)?;
     }
     Ok(())
 }

@@ -169,10 +169,10 @@ fn edited<'a>(
     if is_too_brief(request) {
         return Err(LocationError::TooBrief);
     }
-    if has_old_cseq(request, bindings.as_slice()) {
+    if has_old_cseq(alloc, request, bindings.as_slice())? {
         return Err(LocationError::OldCSeq);
     }
-    apply_contacts(&mut bindings, request, now)?;
+    apply_contacts(alloc, &mut bindings, request, now)?;
     if bindings.as_slice().len() > MOST {
         return Err(LocationError::TooMany);
     }

@@ -1,5 +1,7 @@
 //! Why a REGISTER is refused (RFC 3261 10.3 steps 6 and 7).
-ghost use Rattle.std.specs.Prelude.{◌≡◌, is_some};
+ghost use Rattle.std.specs.Prelude.{◌≡◌, ◌&&◌, is_some, IfOk};
+ghost use Rattle.sip_equality.specs.Equality as Equality;
+ghost use Rattle.sip_location.specs.Newer.{is_of_call};
 ghost use Rattle.std.specs.List.{list_any};
 ghost use Rattle.sip_header.specs.NameAddr.{sip_uri};
 ghost use Rattle.sip_location.specs.Registration as Definitions;
@@ -7,9 +9,10 @@ ghost use Rattle.sip_location.specs.Registration as Definitions;
 use crate::candidate::Candidate;
 use crate::interval::{is_brief, is_zero, seconds_for};
 use crate::registration::Registration;
-use sip_equality::same;
+use sip_equality::Ordered;
 use sip_equality::text::same_bytes;
 use sip_header::{AnyUri, ContactItem, Expires};
+use std::alloc::{AllocError, Global};
 
 fn is_star(contact: &ContactItem<'_>) -> bool
     ensures { result ≡ Definitions.is_star contact.now }
@@ -72,37 +75,80 @@ pub(crate) fn is_too_brief(request: &Registration<'_>) -> bool
     any_asks_briefly(request.contacts.as_slice(), request.expires)
 }
 
-/// Whether a contact speaks of a binding.
-fn speaks_of(contact: &ContactItem<'_>, binding: &Candidate<'_>) -> bool
-    ensures { result ≡ Definitions.speaks_of binding.now contact.now }
+/// Whether a binding was made in the same Call-ID by a CSeq that isn't lower.
+fn is_of_call(binding: &Candidate<'_>, request: &Registration<'_>) -> bool
+    ensures { result ≡ is_of_call request.now binding.now }
+{
+    same_bytes(binding.call_id(), request.call_id.as_slice()) && request.cseq <= binding.cseq()
+}
+
+fn any_of_call(bindings: &[Candidate<'_>], request: &Registration<'_>) -> bool
+    ensures { result ≡ list_any (is_of_call request.now) bindings.now }
+{
+    bindings.iter().any(|binding| is_of_call(binding, request))
+}
+
+/// Whether such a binding's contact is equal to a URI.
+fn any_equal_of_call(
+    bindings: &[Candidate<'_>],
+    request: &Registration<'_>,
+    uri: &Ordered<'_>,
+) -> bool
+    ensures { result ≡ list_any (λ b. is_of_call request.now b && Equality.same b.uri uri.now) bindings.now }
+{
+    bindings.iter().any(|binding| is_of_call(binding, request) && binding.uri().same(uri))
+}
+
+/// Whether a contact speaks of such a binding.
+fn speaks_of_newer(
+    alloc: Global,
+    contact: &ContactItem<'_>,
+    request: &Registration<'_>,
+    bindings: &[Candidate<'_>],
+) -> Result<bool, AllocError>
+    ensures { IfOk result (λ speaks. speaks ≡ list_any (λ b. is_of_call request.now b && Definitions.speaks_of b contact.now) bindings.now) }
 {
     match contact {
-        ContactItem::Star => true,
+        ContactItem::Star => Ok(any_of_call(bindings, request)),
         ContactItem::Address(address) => match &address.uri {
-            AnyUri::Sip(uri) => same(binding.uri(), uri),
-            AnyUri::Other(_) => false,
+            AnyUri::Sip(uri) => {
+                let uri = Ordered::of(alloc, uri)?;
+                Ok(any_equal_of_call(bindings, request, &uri))
+            }
+            AnyUri::Other(_) => Ok(false),
         },
     }
 }
 
-fn any_speaks_of(contacts: &[ContactItem<'_>], binding: &Candidate<'_>) -> bool
-    ensures { result ≡ list_any (Definitions.speaks_of binding.now) contacts.now }
+/// Whether some contact speaks of such a binding.
+#[tactic(auto, using(std::proofs::lemmas::List::at_drop_more, std::proofs::lemmas::List::drop_all))]
+fn any_speaks_of_newer(
+    alloc: Global,
+    contacts: &[ContactItem<'_>],
+    request: &Registration<'_>,
+    bindings: &[Candidate<'_>],
+) -> Result<bool, AllocError>
+    ensures { IfOk result (λ speaks. speaks ≡ list_any (λ c. list_any (λ b. is_of_call request.now b && Definitions.speaks_of b c) bindings.now) contacts.now) }
 {
-    contacts.iter().any(|contact| speaks_of(contact, binding))
+    for contact in contacts {
+        if speaks_of_newer(alloc, contact, request, bindings)? {
+            return Ok(true);
+        }
+    }
+    Ok(false)
 }
 
-/// Whether a binding was made in the same Call-ID by a CSeq that isn't lower, and a contact speaks of it.
-fn is_newer(binding: &Candidate<'_>, request: &Registration<'_>) -> bool
-    ensures { result ≡ Definitions.is_newer request.now binding.now }
+/// Whether a live binding from before the request is newer than it. Mostly none is of its Call-ID with such a CSeq.
+#[tactic(auto, using(crate::proofs::Older::by_contacts, crate::proofs::Older::none_of_call))]
+pub(crate) fn has_old_cseq(
+    alloc: Global,
+    request: &Registration<'_>,
+    bindings: &[Candidate<'_>],
+) -> Result<bool, AllocError>
+    ensures { IfOk result (λ old. old ≡ Definitions.has_old_cseq request.now bindings.now) }
 {
-    same_bytes(binding.call_id(), request.call_id.as_slice())
-        && request.cseq <= binding.cseq()
-        && any_speaks_of(request.contacts.as_slice(), binding)
-}
-
-/// Whether a live binding from before the request is newer than it.
-pub(crate) fn has_old_cseq(request: &Registration<'_>, bindings: &[Candidate<'_>]) -> bool
-    ensures { result ≡ Definitions.has_old_cseq request.now bindings.now }
-{
-    bindings.iter().any(|binding| is_newer(binding, request))
+    if !any_of_call(bindings, request) {
+        return Ok(false);
+    }
+    any_speaks_of_newer(alloc, request.contacts.as_slice(), request, bindings)
 }

@@ -5,6 +5,7 @@ ghost use Rattle.sip_location.specs.KeptBinding.{binding_of};
 
 use crate::candidate::Candidate;
 use crate::row::Row;
+use sip_equality::Ordered;
 use sip_equality::uri::Aor;
 use sip_uri::Uri;
 use std::alloc::{AllocError, Global};
@@ -40,10 +41,11 @@ impl<'a> Standing<'a> {
     }
 
     /// It, lent.
-    pub(crate) fn candidate(&self) -> Candidate<'_>
-        ensures { result ≡ self.now }
+    pub(crate) fn candidate(&self, alloc: Global) -> Result<Candidate<'_>, AllocError>
+        ensures { IfOk result (λ candidate. candidate ≡ self.now) }
     {
-        Candidate::kept(self.aor, self.row, &self.uri)
+        let uri = Ordered::of(alloc, &self.uri)?;
+        Ok(Candidate::kept(self.aor, self.row, uri))
     }
 }
 
