@@ -5,6 +5,7 @@ the top. KIND is `costs` or `held`; both without it.
 Counts are marginal: what a replay with three of a thing costs more than with one, halved, behind the same set-up. What a
 datagram costs is measured by its bytes, and what goes out of it, at once or by timers, by its packets: the goal is at most
 BYTE instructions for each byte that came and PACKET for each packet, what reads the script and prints the packets taken in.
+The last column tells the instructions for each byte that came or went out.
 """
 
 import os
@@ -27,23 +28,24 @@ def each(less, more):
 
 
 def costs_of(shape, folder):
-    """The bytes, the packets and the instructions of a shape."""
+    """The bytes, the packets, the bytes of these, and the instructions of a shape."""
     config = replays.configuration()
     scripts = [hostile.script_of(shape, times) for times in (FEW, MANY)]
-    packets = [len(re.findall(r"^packet ", run(PROGRAM, [], script.text(), config, folder)[0], re.M)) for script in scripts]
+    # the line in front of a packet ends with its length
+    sent = [[int(size) for size in re.findall(r"^packet .* (\d+)$", run(PROGRAM, [], script.text(), config, folder)[0], re.M)] for script in scripts]
     counts = [instructions(script.text(), config, folder) for script in scripts]
-    return each(*(script.bytes for script in scripts)), each(*packets), each(*counts)
+    return each(*(script.bytes for script in scripts)), each(*map(len, sent)), each(*map(sum, sent)), each(*counts)
 
 
 def tell_costs(folder):
-    print("| Shape | From | Bytes | Packets | Instructions | a byte | a packet | Of the goal |\n|---|---|---|---|---|---|---|---|", flush=True)
+    print("| Shape | From | Bytes | Packets | Their bytes | Instructions | a byte | a packet | Of the goal | a byte of all |\n|---|---|---|---|---|---|---|---|---|---|", flush=True)
     with ThreadPoolExecutor(3) as pool:
         rows = pool.map(lambda shape: costs_of(shape, folder), hostile.COSTS.values())
-        for (name, whose), shape, (size, packets, cost) in zip(hostile.COSTS, hostile.COSTS.values(), rows):
+        for (name, whose), shape, (size, packets, sent, cost) in zip(hostile.COSTS, hostile.COSTS.values(), rows):
             if packets != shape[3]:
                 sys.exit(f"{name}: {packets} packets")
             share = cost / (BYTE * size + PACKET * packets)
-            print(f"| {name} | {whose} | {size:,.0f} | {packets:,.0f} | {cost:,.0f} | {cost / size:,.0f} | {cost / packets:,.0f} | {share:,.2f} |", flush=True)
+            print(f"| {name} | {whose} | {size:,.0f} | {packets:,.0f} | {sent:,.0f} | {cost:,.0f} | {cost / size:,.0f} | {cost / packets:,.0f} | {share:,.2f} | {cost / (size + sent):,.0f} |", flush=True)
 
 
 def held_of(make, count, folder, counter):

@@ -44,6 +44,11 @@ pub mod form {
     pub use sip_proxy::form::{Kept, View};
 }
 
+/// Of `sip_header`.
+pub mod header {
+    pub use sip_proxy::header::Via;
+}
+
 /// Of `sip_heard`.
 pub mod heard {
     pub use sip_proxy::heard::{Heard, Names};

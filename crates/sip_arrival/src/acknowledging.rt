@@ -1,5 +1,6 @@
 ghost use Rattle.std.specs.Prelude.{◌≡◌, ℕ, false, List, Option, Some, IfOk};
 ghost use Rattle.std.specs.Result.{result_ok};
+ghost use Rattle.sip_judge.specs.edit.ReceivedRequest.{top_via};
 ghost use Rattle.sip_judge.specs.header.CoreFields.{core_of};
 ghost use Rattle.sip_judge.specs.location.declared.binding.Binding.{Binding};
 ghost use Rattle.sip_judge.specs.state.declared.open_request.OpenRequest.{OpenRequest};
@@ -14,6 +15,7 @@ use crate::within::within;
 use sip_judge::Judge;
 use sip_judge::dialog::Dialogs;
 use sip_judge::form::View;
+use sip_judge::header::Via;
 use sip_judge::policy::Rules;
 use sip_judge::validate::{Checked, Refused};
 use std::alloc::{AllocError, Global};
@@ -40,24 +42,26 @@ fn ack_within<'v, R: Rules>(
     }
 }
 
-/// The verdict on an ACK that no server transaction takes: it is sent on in a dialog that is known, or dropped, since
-/// nothing answers an ACK (RFC 3261 16.11, 17.2.1). `AllocError` is the only refusal.
+/// The verdict on an ACK that no server transaction takes, with this Via on top: it is sent on in a dialog that is
+/// known, or dropped, since nothing answers an ACK (RFC 3261 16.11, 17.2.1). `AllocError` is the only refusal.
 pub fn ack_verdict<'v, R: Rules>(
     alloc: Global,
     judge: &Judge<R>,
     dialogs: &Dialogs,
     now: u64,
     request: &'v View<'_>,
+    via: &Via<'_>,
     method: &[u8],
     short: bool,
 ) -> Result<Verdict<'v>, AllocError>
-    requires { IsRequestOf method.now request.now.start }
+    requires request { IsRequestOf method.now request.now.start }
+    requires via { top_via request.now ≡ Some via.now }
     ensures verdict { IfOk result (λ verdict. (state : ProxyState) → state.dialogs ≡ dialogs.now.dialogs → (rows : List Binding) (named : Option OpenRequest)
         → Is judge.now rows now named (Definition.ack_verdict judge.now state now request.now short) verdict) }
     ensures room { IfOk result (λ verdict. (room : ℕ) → HasRoom room verdict) }
     ensures kept { IfOk result (λ verdict. goes_on verdict ≡ false) }
 {
-    match check(alloc, judge, request, method, short) {
+    match check(alloc, judge, request, via, method, short) {
         Ok(checked) => ack_within(alloc, judge, dialogs, now, request, &checked),
         Err(Refused::NoMemory) => Err(AllocError),
         Err(Refused::Status(_, _)) => Ok(Verdict::Dropped),

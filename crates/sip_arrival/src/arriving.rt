@@ -2,6 +2,7 @@ ghost use Rattle.std.specs.Prelude.{◌≡◌, ◌<◌, ◌^◌, IfOk, Bool, fal
 ghost use Rattle.std.specs.Str.{bytes_eq};
 ghost use Rattle.std.specs.Result.{result_ok};
 ghost use Rattle.sip_judge.specs.dialog.DialogId.{id_of};
+ghost use Rattle.sip_judge.specs.edit.ReceivedRequest.{top_via};
 ghost use Rattle.sip_judge.specs.form.declared.message.Message.{Message};
 ghost use Rattle.sip_judge.specs.header.CoreFields.{core_of};
 ghost use Rattle.sip_judge.specs.key.declared.key.Key.{Key};
@@ -26,7 +27,7 @@ use crate::within::within;
 use sip_judge::dialog::Dialogs;
 use sip_judge::field::Fields;
 use sip_judge::form::View;
-use sip_judge::header::{CoreFields, tag_of};
+use sip_judge::header::{CoreFields, Via, tag_of};
 use sip_judge::heard::Names;
 use sip_judge::location::Locations;
 use sip_judge::nonces::Nonces;
@@ -192,7 +193,7 @@ fn passed_verdict<'v, R: Rules>(
     )
 }
 
-/// The verdict on a request that isn't ACK or CANCEL.
+/// The verdict on a request with this Via on top that isn't ACK or CANCEL.
 fn checked_verdict<'v, R: Rules>(
     alloc: Global,
     judge: &Judge<R>,
@@ -202,12 +203,14 @@ fn checked_verdict<'v, R: Rules>(
     is_full: bool,
     now: u64,
     request: &'v View<'_>,
+    via: &Via<'_>,
     method: &[u8],
     short: bool,
     names: &mut Option<Names>,
 ) -> Result<Verdict<'v>, AllocError>
     requires moment { now < 2 ^ 62 }
     requires request { IsRequestOf method.now request.now.start }
+    requires via { top_via request.now ≡ Some via.now }
     requires names { AreNames request.now names.now }
     requires none { names.now ≡ None }
     ensures verdict { IfOk result (λ verdict. (state : ProxyState) → Knows state locations.old.rows nonces.now dialogs.now.dialogs is_full → (named : Option OpenRequest)
@@ -217,7 +220,7 @@ fn checked_verdict<'v, R: Rules>(
     ensures names { AreNames request.now names.new }
     ensures made { IfOk result (λ verdict. is_some names.new ≡ goes_on verdict) }
 {
-    match check(alloc, judge, request, method, short) {
+    match check(alloc, judge, request, via, method, short) {
         Ok(checked) => passed_verdict(
             alloc, judge, locations, nonces, dialogs, is_full, now, request, method, &checked,
             names,
@@ -241,13 +244,13 @@ fn is_cancel(method: &[u8]) -> bool
     method == b"CANCEL".as_slice()
 }
 
-/// The verdict on a request of a method that no open one is found for, of whose body fewer bytes may have come than its
-/// length says: the first case that applies. An ACK is sent on in a dialog or dropped; a CANCEL is decided by the
-/// request that it names, unless it is bad or there is no room; every other is refused by the checks, answered 503
-/// where 1,024 requests are open, sent on in its dialog, or judged by policy, and then registered or sent to its targets
-/// (RFC 3261 9.2, 10.3, 16.3 to 16.5). What names its dialogs is made exactly where it goes on and is kept, of what the
-/// checks read. No binding changes; there is room for the plan that a REGISTER gives. `AllocError` is the only refusal.
-/// Moments are in milliseconds, below 2^62.
+/// The verdict on a request of a method, with this Via on top, that no open one is found for, of whose body fewer bytes
+/// may have come than its length says: the first case that applies. An ACK is sent on in a dialog or dropped; a CANCEL
+/// is decided by the request that it names, unless it is bad or there is no room; every other is refused by the checks,
+/// answered 503 where 1,024 requests are open, sent on in its dialog, or judged by policy, and then registered or sent
+/// to its targets (RFC 3261 9.2, 10.3, 16.3 to 16.5). What names its dialogs is made exactly where it goes on and is
+/// kept, of what the checks read. No binding changes; there is room for the plan that a REGISTER gives. `AllocError` is
+/// the only refusal. Moments are in milliseconds, below 2^62.
 pub fn new_verdict<'v, R: Rules>(
     alloc: Global,
     judge: &Judge<R>,
@@ -257,12 +260,14 @@ pub fn new_verdict<'v, R: Rules>(
     is_full: bool,
     now: u64,
     request: &'v View<'_>,
+    via: &Via<'_>,
     method: &[u8],
     short: bool,
     names: &mut Option<Names>,
 ) -> Result<Verdict<'v>, AllocError>
     requires moment { now < 2 ^ 62 }
     requires request { IsRequestOf method.now request.now.start }
+    requires via { top_via request.now ≡ Some via.now }
     ensures verdict { IfOk result (λ verdict. (state : ProxyState) → Knows state locations.old.rows nonces.now dialogs.now.dialogs is_full → (a : Arrival) (key : Key) → a.now ≡ now
         → Is judge.now locations.old.rows now (Definition.found_for_cancel state key a.from) (Definition.new_verdict judge.now state a request.now short method.now key) verdict) }
     ensures unchanged { locations.new.rows ≡ locations.old.rows }
@@ -272,12 +277,19 @@ pub fn new_verdict<'v, R: Rules>(
 {
     *names = None;
     if is_ack(method) {
-        return ack_verdict(alloc, judge, dialogs, now, request, method, short);
+        return ack_verdict(alloc, judge, dialogs, now, request, via, method, short);
     }
     if is_cancel(method) {
-        return cancel_verdict(alloc, &judge.server().config.own, is_full, request, short);
+        return cancel_verdict(
+            alloc,
+            &judge.server().config.own,
+            is_full,
+            request,
+            via,
+            short,
+        );
     }
     checked_verdict(
-        alloc, judge, locations, nonces, dialogs, is_full, now, request, method, short, names,
+        alloc, judge, locations, nonces, dialogs, is_full, now, request, via, method, short, names,
     )
 }

@@ -1,5 +1,6 @@
 ghost use Rattle.std.specs.Prelude.{◌≡◌, IfOk, IfErr, Some, None};
 ghost use Rattle.std.specs.Result.{result_ok};
+ghost use Rattle.sip_judge.specs.edit.ReceivedRequest.{top_via};
 ghost use Rattle.sip_judge.specs.header.CoreFields.{core_of};
 ghost use Rattle.sip_judge.specs.way.Way.{way_of};
 ghost use Rattle.sip_judge.specs.validate.Refusal.{refusal_of};
@@ -8,26 +9,29 @@ ghost use Rattle.sip_arrival.specs.Verdict.{IsRequestOf};
 
 use sip_judge::Judge;
 use sip_judge::form::View;
+use sip_judge::header::Via;
 use sip_judge::policy::Rules;
 use sip_judge::validate::laws::first_row_refuses;
 use sip_judge::validate::{Checked, Refused, validate};
 use std::alloc::Global;
 
-/// What the checks give of a request: what was read of it, where none refuses it; else why it isn't served
-/// (RFC 3261 16.3).
+/// What the checks give of a request with this Via on top: what was read of it, where none refuses it; else why it
+/// isn't served (RFC 3261 16.3).
 pub(crate) fn check<'v, R: Rules>(
     alloc: Global,
     judge: &Judge<R>,
     request: &'v View<'_>,
+    via: &Via<'_>,
     method: &[u8],
     short: bool,
 ) -> Result<Checked<'v>, Refused>
-    requires { IsRequestOf method.now request.now.start }
+    requires request { IsRequestOf method.now request.now.start }
+    requires via { top_via request.now ≡ Some via.now }
     ensures passes { IfOk result (λ checked. refusal_of judge.now.config.own request.now short ≡ None) }
     ensures core { IfOk result (λ checked. result_ok (core_of request.now) ≡ Some checked.core) }
     ensures way { IfOk result (λ checked. checked.way ≡ way_of judge.now.config.own request.now) }
     ensures refusal { IfErr result (IsRefusal (refusal_of judge.now.config.own request.now short)) }
 {
     first_row_refuses();
-    validate(alloc, request, short, &judge.server().config.own)
+    validate(alloc, request, via, short, &judge.server().config.own)
 }

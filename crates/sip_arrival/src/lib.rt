@@ -14,6 +14,11 @@ pub use acknowledging::ack_verdict;
 pub use arriving::new_verdict;
 pub use verdict::{Judged, Outcome, Verdict};
 
+/// Of `sip_header`.
+pub mod header {
+    pub use sip_judge::header::Via;
+}
+
 /// Of `sip_heard`.
 pub mod heard {
     pub use sip_judge::heard::Names;

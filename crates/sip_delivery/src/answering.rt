@@ -1,5 +1,6 @@
 ghost use Rattle.std.specs.Prelude.{◌≡◌, position, false, None, Some, IfOk, OnErr};
 ghost use Rattle.sip_admitting.specs.proxy.Proxy.{IsComing};
+ghost use Rattle.sip_admitting.specs.proxy.edit.ReceivedRequest.{top_via};
 ghost use Rattle.sip_admitting.specs.proxy.fitting.Fits.{IsFinalAnswer};
 ghost use Rattle.sip_admitting.specs.proxy.key.Key.{key_of};
 ghost use Rattle.sip_admitting.specs.proxy.opening.Arrivals.{arrival_of};
@@ -11,6 +12,7 @@ use crate::keeping::{NewRequest, keep};
 use sip_admitting::event::StepOut;
 use sip_admitting::field::Fields;
 use sip_admitting::form::View;
+use sip_admitting::header::Via;
 use sip_admitting::hops::Hops;
 use sip_admitting::key::Key;
 use sip_admitting::opening::Arrival;
@@ -29,18 +31,20 @@ pub(crate) fn answer<T: Timers>(
     arrival: Arrival,
     key: Key,
     message: &View<'_>,
+    via: &Via<'_>,
     status: u16,
     extras: &Fields,
 ) -> Result<StepOut, AllocError>
     requires coming { IsComing proxy.old.state arrival }
     requires key { key_of message.now ≡ Some key }
+    requires via { top_via message.now ≡ Some via.now }
     requires alone { position (has_key key) proxy.old.state.requests ≡ None }
     requires final_status { IsFinalAnswer status }
     ensures does { IfOk result (λ out. Takes server.now proxy.old.state arrival message.now (Definition.Answer status extras.now) out proxy.new.state) }
     ensures unchanged { OnErr result (proxy.new.state ≡ proxy.old.state) }
     ensures timers { OnErr result (proxy.new.timers ≡ proxy.old.timers) }
 {
-    let kept = keep(alloc, key, message, arrival.from)?;
+    let kept = keep(alloc, key, message, via, arrival.from)?;
     let NewRequest { key, message } = kept;
     take_answered(alloc, server, proxy, arrival, key, message, status, extras)
 }
@@ -55,9 +59,11 @@ pub(crate) fn cancel<T: Timers>(
     arrival: Arrival,
     key: Key,
     message: &View<'_>,
+    via: &Via<'_>,
 ) -> Result<StepOut, AllocError>
     requires coming { IsComing proxy.old.state arrival }
     requires key { key_of message.now ≡ Some key }
+    requires via { top_via message.now ≡ Some via.now }
     requires alone { position (has_key key) proxy.old.state.requests ≡ None }
     requires space { Definition.is_full proxy.old.state ≡ false }
     requires rows { hops.now.addresses ≡ server.now.config.addresses }
@@ -65,7 +71,7 @@ pub(crate) fn cancel<T: Timers>(
     ensures unchanged { OnErr result (proxy.new.state ≡ proxy.old.state) }
     ensures timers { OnErr result (proxy.new.timers ≡ proxy.old.timers) }
 {
-    let kept = keep(alloc, key, message, arrival.from)?;
+    let kept = keep(alloc, key, message, via, arrival.from)?;
     let NewRequest { key, message } = kept;
     take_cancel(alloc, server, hops, proxy, arrival, key, message)
 }

@@ -3,6 +3,7 @@ ghost use Rattle.sip_admitting.specs.Admitting.{IsAnswered};
 ghost use Rattle.sip_admitting.specs.proxy.Proxy.{IsComing};
 ghost use Rattle.sip_admitting.specs.proxy.arrival.Verdict.{HasRoomFor, Is};
 ghost use Rattle.sip_admitting.specs.proxy.arrival.declared.verdict.Verdict.TheVariants as Arrived;
+ghost use Rattle.sip_admitting.specs.proxy.edit.ReceivedRequest.{top_via};
 ghost use Rattle.sip_admitting.specs.proxy.heard.Names.{AreNames};
 ghost use Rattle.sip_admitting.specs.proxy.key.Key.{key_of};
 ghost use Rattle.sip_admitting.specs.proxy.opening.Arrivals.{arrival_of};
@@ -16,6 +17,7 @@ use crate::keeping::{NewRequest, keep};
 use sip_admitting::arrival::{Judged, Outcome};
 use sip_admitting::event::StepOut;
 use sip_admitting::form::View;
+use sip_admitting::header::Via;
 use sip_admitting::heard::Names;
 use sip_admitting::hops::Hops;
 use sip_admitting::key::Key;
@@ -37,10 +39,12 @@ fn answer_judged<T: Timers>(
     arrival: Arrival,
     key: Key,
     message: &View<'_>,
+    via: &Via<'_>,
     judged: Judged<'_>,
 ) -> Result<StepOut, AllocError>
     requires coming { IsComing proxy.old.state arrival }
     requires key { key_of message.now ≡ Some key }
+    requires via { top_via message.now ≡ Some via.now }
     requires alone { position (has_key key) proxy.old.state.requests ≡ None }
     requires here { Asking.is_answered_here judged.outcome ≡ true }
     requires room { HasRoomFor proxy.old.room judged.outcome }
@@ -50,7 +54,7 @@ fn answer_judged<T: Timers>(
     ensures unchanged { OnErr result (proxy.new.state ≡ proxy.old.state) }
     ensures timers { OnErr result (proxy.new.timers ≡ proxy.old.timers) }
 {
-    let kept = keep(alloc, key, message, arrival.from)?;
+    let kept = keep(alloc, key, message, via, arrival.from)?;
     let NewRequest { key, message } = kept;
     take_judged(alloc, server, proxy, arrival, key, message, judged)
 }
@@ -65,11 +69,13 @@ fn send_judged<T: Timers>(
     arrival: Arrival,
     key: Key,
     message: &View<'_>,
+    via: &Via<'_>,
     names: Option<Names>,
     judged: &Judged<'_>,
 ) -> Result<StepOut, AllocError>
     requires coming { IsComing proxy.old.state arrival }
     requires key { key_of message.now ≡ Some key }
+    requires via { top_via message.now ≡ Some via.now }
     requires names { AreNames message.now names }
     requires alone { position (has_key key) proxy.old.state.requests ≡ None }
     requires rows { hops.now.addresses ≡ server.now.config.addresses }
@@ -82,7 +88,7 @@ fn send_judged<T: Timers>(
 {
     match &judged.outcome {
         Outcome::Send(rule, targets) => go_to(
-            alloc, server, hops, proxy, arrival, key, message, names, judged, *rule, targets,
+            alloc, server, hops, proxy, arrival, key, message, via, names, judged, *rule, targets,
         ),
         Outcome::Challenge | Outcome::Deny(_) | Outcome::Register(_, _) => {
             Ok(take_dropped(alloc, proxy, arrival))
@@ -100,11 +106,13 @@ pub(crate) fn take_asked<T: Timers>(
     arrival: Arrival,
     key: Key,
     message: &View<'_>,
+    via: &Via<'_>,
     names: Option<Names>,
     judged: Judged<'_>,
 ) -> Result<StepOut, AllocError>
     requires coming { IsComing proxy.old.state arrival }
     requires key { key_of message.now ≡ Some key }
+    requires via { top_via message.now ≡ Some via.now }
     requires names { AreNames message.now names }
     requires alone { position (has_key key) proxy.old.state.requests ≡ None }
     requires rows { hops.now.addresses ≡ server.now.config.addresses }
@@ -116,9 +124,9 @@ pub(crate) fn take_asked<T: Timers>(
     ensures timers { OnErr result (proxy.new.timers ≡ proxy.old.timers) }
 {
     if is_answered_here(&judged.outcome) {
-        return answer_judged(alloc, server, proxy, arrival, key, message, judged);
+        return answer_judged(alloc, server, proxy, arrival, key, message, via, judged);
     }
     send_judged(
-        alloc, server, hops, proxy, arrival, key, message, names, &judged,
+        alloc, server, hops, proxy, arrival, key, message, via, names, &judged,
     )
 }

@@ -12,6 +12,7 @@ use crate::new::take_new;
 use crate::responses::take_reply;
 use sip_admitting::event::StepOut;
 use sip_admitting::form::View;
+use sip_admitting::header::Via;
 use sip_admitting::judge::Judge;
 use sip_admitting::key::Key;
 use sip_admitting::opening::Arrival;
@@ -22,8 +23,8 @@ use sip_incoming::{Incoming, incoming_of, laws, read_datagram};
 use sip_ongoing::take_dropped;
 use std::alloc::{AllocError, Global};
 
-/// The step of a request of a method with a key: it belongs to the open one with that key, or is new (RFC 3261 17.2.3).
-/// `AllocError` is the only refusal; nothing is changed then.
+/// The step of a request of a method with a key and this Via on top: it belongs to the open one with that key, or is
+/// new (RFC 3261 17.2.3). `AllocError` is the only refusal; nothing is changed then.
 fn take_request<T: Timers, R: Rules>(
     alloc: Global,
     judge: &Judge<R>,
@@ -32,18 +33,23 @@ fn take_request<T: Timers, R: Rules>(
     key: Key,
     method: &[u8],
     message: &View<'_>,
+    via: &Via<'_>,
     short: bool,
 ) -> Result<StepOut, AllocError>
     requires coming { IsComing proxy.old.state arrival }
-    requires request { IsRequest message.now short method.now key }
+    requires request { IsRequest message.now short method.now via.now key }
     ensures does { IfOk result (λ out. Takes judge.now proxy.old.state arrival message.now (Definition.message_verdict judge.now proxy.old.state (arrival_of arrival) message.now short) out proxy.new.state) }
     ensures unchanged { OnErr result (proxy.new.state ≡ proxy.old.state) }
     ensures timers { OnErr result (proxy.new.timers ≡ proxy.old.timers) }
 {
     laws::requests();
     match proxy.find(&key) {
-        Some(place) => take_known(alloc, judge, proxy, arrival, place, method, message, short),
-        None => take_new(alloc, judge, proxy, arrival, key, method, message, short),
+        Some(place) => take_known(
+            alloc, judge, proxy, arrival, place, method, message, via, short,
+        ),
+        None => take_new(
+            alloc, judge, proxy, arrival, key, method, message, via, short,
+        ),
     }
 }
 
@@ -83,8 +89,10 @@ fn take_message<T: Timers, R: Rules>(
             message,
             short,
         ),
-        Incoming::Request { method, key } => {
-            take_request(alloc, judge, proxy, arrival, key, method, message, short)
+        Incoming::Request { method, via, key } => {
+            take_request(
+                alloc, judge, proxy, arrival, key, method, message, &via, short,
+            )
         }
     }
 }

@@ -1,5 +1,6 @@
 ghost use Rattle.std.specs.Prelude.{◌≡◌, position, true, false, None, Some, IfOk, OnErr};
 ghost use Rattle.sip_admitting.specs.proxy.Proxy.{IsComing};
+ghost use Rattle.sip_admitting.specs.proxy.edit.ReceivedRequest.{top_via};
 ghost use Rattle.sip_admitting.specs.proxy.heard.Names.{AreNames};
 ghost use Rattle.sip_admitting.specs.proxy.key.Key.{key_of};
 ghost use Rattle.sip_admitting.specs.proxy.state.State.{has_key};
@@ -12,6 +13,7 @@ use sip_admitting::arrival::Judged;
 use sip_admitting::dialog::DialogId;
 use sip_admitting::event::StepOut;
 use sip_admitting::form::View;
+use sip_admitting::header::Via;
 use sip_admitting::heard::Names;
 use sip_admitting::hops::Hops;
 use sip_admitting::host::Addr;
@@ -34,6 +36,7 @@ pub(crate) fn go_to<T: Timers>(
     arrival: Arrival,
     key: Key,
     message: &View<'_>,
+    via: &Via<'_>,
     names: Option<Names>,
     judged: &Judged<'_>,
     rule: u32,
@@ -41,6 +44,7 @@ pub(crate) fn go_to<T: Timers>(
 ) -> Result<StepOut, AllocError>
     requires coming { IsComing proxy.old.state arrival }
     requires key { key_of message.now ≡ Some key }
+    requires via { top_via message.now ≡ Some via.now }
     requires names { AreNames message.now names }
     requires alone { position (has_key key) proxy.old.state.requests ≡ None }
     requires space { Definition.is_full proxy.old.state ≡ false }
@@ -51,7 +55,7 @@ pub(crate) fn go_to<T: Timers>(
     ensures unchanged { OnErr result (proxy.new.state ≡ proxy.old.state) }
     ensures timers { OnErr result (proxy.new.timers ≡ proxy.old.timers) }
 {
-    let kept = keep_onward(alloc, key, message, names, arrival.from)?;
+    let kept = keep_onward(alloc, server, key, message, via, names, arrival.from)?;
     let NewRequest { key, message } = kept;
     send_to(
         alloc, server, hops, proxy, arrival, key, message, judged, rule, targets,
@@ -68,12 +72,14 @@ pub(crate) fn go_within<T: Timers>(
     arrival: Arrival,
     key: Key,
     message: &View<'_>,
+    via: &Via<'_>,
     names: Option<Names>,
     address: Addr,
     id: DialogId,
 ) -> Result<StepOut, AllocError>
     requires coming { IsComing proxy.old.state arrival }
     requires key { key_of message.now ≡ Some key }
+    requires via { top_via message.now ≡ Some via.now }
     requires names { AreNames message.now names }
     requires alone { position (has_key key) proxy.old.state.requests ≡ None }
     requires space { Definition.is_full proxy.old.state ≡ false }
@@ -82,7 +88,7 @@ pub(crate) fn go_within<T: Timers>(
     ensures unchanged { OnErr result (proxy.new.state ≡ proxy.old.state) }
     ensures timers { OnErr result (proxy.new.timers ≡ proxy.old.timers) }
 {
-    let kept = keep_onward(alloc, key, message, names, arrival.from)?;
+    let kept = keep_onward(alloc, server, key, message, via, names, arrival.from)?;
     let NewRequest { key, message } = kept;
     send_within(
         alloc, server, hops, proxy, arrival, key, message, address, id,

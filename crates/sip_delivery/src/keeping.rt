@@ -1,11 +1,14 @@
-ghost use Rattle.std.specs.Prelude.{◌≡◌, IfOk};
+ghost use Rattle.std.specs.Prelude.{◌≡◌, Some, IfOk};
+ghost use Rattle.sip_admitting.specs.proxy.edit.ReceivedRequest.{top_via};
 ghost use Rattle.sip_admitting.specs.proxy.heard.Names.{AreNames};
 
 use sip_admitting::form::View;
+use sip_admitting::header::Via;
 use sip_admitting::heard::{Heard, Names};
 use sip_admitting::host::Addr;
 use sip_admitting::key::Key;
 use sip_admitting::shared::Shared;
+use sip_admitting::state::Server;
 use std::alloc::{AllocError, Global};
 
 /// A new request, kept with its key for as long as it is open.
@@ -15,35 +18,44 @@ pub(crate) struct NewRequest {
     pub(crate) message: Shared<Heard>,
 }
 
-/// Keeps a request that came from an address and is answered here, with its key. `AllocError` is the only refusal.
+/// Keeps a request with this Via on top that came from an address and is answered here, with its key. `AllocError` is
+/// the only refusal.
 pub(crate) fn keep(
     alloc: Global,
     key: Key,
     message: &View<'_>,
+    via: &Via<'_>,
     from: Addr,
 ) -> Result<NewRequest, AllocError>
+    requires { top_via message.now ≡ Some via.now }
     ensures key { IfOk result (λ request. request.key ≡ key) }
     ensures message { IfOk result (λ request. request.message ≡ message.now) }
 {
     let key = Shared::new(alloc, key)?;
-    let message = Shared::new(alloc, Heard::of(alloc, message, from)?)?;
+    let message = Shared::new(alloc, Heard::of(alloc, message, via, from)?)?;
     Ok(NewRequest { key, message })
 }
 
-/// Keeps a request that came from an address and goes on, with its key; its names may have been made before.
-/// `AllocError` is the only refusal.
+/// Keeps a request with this Via on top that came from an address and goes on from this server, with its key; its names may
+/// have been made before. `AllocError` is the only refusal.
 pub(crate) fn keep_onward(
     alloc: Global,
+    server: &Server,
     key: Key,
     message: &View<'_>,
+    via: &Via<'_>,
     names: Option<Names>,
     from: Addr,
 ) -> Result<NewRequest, AllocError>
     requires names { AreNames message.now names }
+    requires via { top_via message.now ≡ Some via.now }
     ensures key { IfOk result (λ request. request.key ≡ key) }
     ensures message { IfOk result (λ request. request.message ≡ message.now) }
 {
     let key = Shared::new(alloc, key)?;
-    let message = Shared::new(alloc, Heard::onward(alloc, message, from, names)?)?;
+    let own = &server.config.own;
+    let realm = server.config.realm.as_slice();
+    let heard = Heard::onward(alloc, own, realm, message, via, from, names)?;
+    let message = Shared::new(alloc, heard)?;
     Ok(NewRequest { key, message })
 }

@@ -2,6 +2,7 @@ ghost use Rattle.std.specs.Prelude.{◌≡◌, ◌<◌, ◌&&◌, codes, length,
 ghost use Rattle.std.specs.Str.{bytes_eq};
 ghost use Rattle.sip_admitting.specs.proxy.Proxy.{IsComing};
 ghost use Rattle.sip_admitting.specs.proxy.arrival.Verdict.{IsRequestOf};
+ghost use Rattle.sip_admitting.specs.proxy.edit.ReceivedRequest.{top_via};
 ghost use Rattle.sip_admitting.specs.proxy.key.declared.key.Key.{Key};
 ghost use Rattle.sip_admitting.specs.proxy.opening.Arrivals.{arrival_of};
 ghost use Rattle.sip_admitting.specs.proxy.state.declared.open_request.OpenRequest.{OpenRequest};
@@ -15,6 +16,7 @@ use sip_admitting::arrival::Verdict;
 use sip_admitting::dialog::DialogId;
 use sip_admitting::event::StepOut;
 use sip_admitting::form::View;
+use sip_admitting::header::Via;
 use sip_admitting::host::Addr;
 use sip_admitting::judge::Judge;
 use sip_admitting::opening::Arrival;
@@ -49,8 +51,8 @@ fn way_on(decided: Verdict<'_>) -> Option<(Addr, DialogId)>
     }
 }
 
-/// The step of an ACK that no server transaction takes: it goes on in its dialog, or is dropped (RFC 3261 13.2.2.4, 16.11).
-/// `AllocError` is the only refusal; nothing is changed then.
+/// The step of an ACK that no server transaction takes, with this Via on top: it goes on in its dialog, or is dropped
+/// (RFC 3261 13.2.2.4, 16.11). `AllocError` is the only refusal; nothing is changed then.
 fn take_ack<T: Timers, R: Rules>(
     alloc: Global,
     judge: &Judge<R>,
@@ -58,16 +60,18 @@ fn take_ack<T: Timers, R: Rules>(
     arrival: Arrival,
     method: &[u8],
     message: &View<'_>,
+    via: &Via<'_>,
     short: bool,
 ) -> Result<StepOut, AllocError>
     requires coming { IsComing proxy.old.state arrival }
     requires request { IsRequestOf method.now message.now.start }
+    requires via { top_via message.now ≡ Some via.now }
     ensures does { IfOk result (λ out. Takes judge.now proxy.old.state arrival message.now (Definition.ack_verdict judge.now proxy.old.state arrival.now message.now short) out proxy.new.state) }
     ensures unchanged { OnErr result (proxy.new.state ≡ proxy.old.state) }
     ensures timers { OnErr result (proxy.new.timers ≡ proxy.old.timers) }
 {
     acks_are_dropped_or_go_on();
-    let decided = proxy.ack_verdict(alloc, judge, arrival.now, message, method, short)?;
+    let decided = proxy.ack_verdict(alloc, judge, arrival.now, message, via, method, short)?;
     match way_on(decided) {
         Some((address, id)) => {
             let server = judge.server();
@@ -78,8 +82,9 @@ fn take_ack<T: Timers, R: Rules>(
     }
 }
 
-/// The step of a request of a method with the key of the open one at a place: an ACK of a 2xx is an own transaction; any
-/// other belongs to the open request (RFC 3261 13.2.2.4, 17.2). `AllocError` is the only refusal; nothing is changed then.
+/// The step of a request of a method, with this Via on top and the key of the open one at a place: an ACK of a 2xx is
+/// an own transaction; any other belongs to the open request (RFC 3261 13.2.2.4, 17.2). `AllocError` is the only
+/// refusal; nothing is changed then.
 pub(crate) fn take_known<T: Timers, R: Rules>(
     alloc: Global,
     judge: &Judge<R>,
@@ -88,18 +93,20 @@ pub(crate) fn take_known<T: Timers, R: Rules>(
     place: usize,
     method: &[u8],
     message: &View<'_>,
+    via: &Via<'_>,
     short: bool,
 ) -> Result<StepOut, AllocError>
     requires coming { IsComing proxy.old.state arrival }
     requires place { place < length proxy.old.state.requests }
     requires request { IsRequestOf method.now message.now.start }
+    requires via { top_via message.now ≡ Some via.now }
     ensures does { IfOk result (λ out. (key : Key) (r : OpenRequest) → slice_get proxy.old.state.requests place ≡ Some r
         → Takes judge.now proxy.old.state arrival message.now (Definition.by_open judge.now proxy.old.state (arrival_of arrival) message.now short method.now key (Some r)) out proxy.new.state) }
     ensures unchanged { OnErr result (proxy.new.state ≡ proxy.old.state) }
     ensures timers { OnErr result (proxy.new.timers ≡ proxy.old.timers) }
 {
     if acknowledges_success(method, proxy.get(place)) {
-        return take_ack(alloc, judge, proxy, arrival, method, message, short);
+        return take_ack(alloc, judge, proxy, arrival, method, message, via, short);
     }
     let server = judge.server();
     let hops = judge.hops();

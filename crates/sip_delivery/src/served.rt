@@ -1,6 +1,7 @@
 ghost use Rattle.std.specs.Prelude.{◌≡◌, position, None, Some, IfOk, OnErr};
 ghost use Rattle.sip_admitting.specs.proxy.Proxy.{IsComing};
 ghost use Rattle.sip_admitting.specs.proxy.arrival.Verdict.{HasRoom, Is};
+ghost use Rattle.sip_admitting.specs.proxy.edit.ReceivedRequest.{top_via};
 ghost use Rattle.sip_admitting.specs.proxy.heard.Names.{AreNames};
 ghost use Rattle.sip_admitting.specs.proxy.key.Key.{key_of};
 ghost use Rattle.sip_admitting.specs.proxy.state.State.{has_key};
@@ -13,6 +14,7 @@ use crate::going::go_within;
 use sip_admitting::arrival::Verdict;
 use sip_admitting::event::StepOut;
 use sip_admitting::form::View;
+use sip_admitting::header::Via;
 use sip_admitting::heard::Names;
 use sip_admitting::hops::Hops;
 use sip_admitting::key::Key;
@@ -24,8 +26,8 @@ use sip_ongoing::take_dropped;
 use sip_routing::send_ack;
 use std::alloc::{AllocError, Global};
 
-/// The step of a new request with a key, of what was decided about it; its names may have been made before.
-/// `AllocError` is the only refusal; nothing is changed then.
+/// The step of a new request with a key and this Via on top, of what was decided about it; its names may have been made
+/// before. `AllocError` is the only refusal; nothing is changed then.
 pub(crate) fn serve<T: Timers>(
     alloc: Global,
     server: &Server,
@@ -34,11 +36,13 @@ pub(crate) fn serve<T: Timers>(
     arrival: Arrival,
     key: Key,
     message: &View<'_>,
+    via: &Via<'_>,
     names: Option<Names>,
     decided: Verdict<'_>,
 ) -> Result<StepOut, AllocError>
     requires coming { IsComing proxy.old.state arrival }
     requires key { key_of message.now ≡ Some key }
+    requires via { top_via message.now ≡ Some via.now }
     requires names { AreNames message.now names }
     requires alone { position (has_key key) proxy.old.state.requests ≡ None }
     requires rows { hops.now.addresses ≡ server.now.config.addresses }
@@ -54,15 +58,15 @@ pub(crate) fn serve<T: Timers>(
         Verdict::AckOn(address, id) => {
             send_ack(alloc, server, hops, proxy, arrival, message, address, id)
         }
-        Verdict::Cancel => cancel(alloc, server, hops, proxy, arrival, key, message),
+        Verdict::Cancel => cancel(alloc, server, hops, proxy, arrival, key, message, via),
         Verdict::Answer(status, extras) => answer(
-            alloc, server, proxy, arrival, key, message, status, &extras,
+            alloc, server, proxy, arrival, key, message, via, status, &extras,
         ),
         Verdict::InDialog(address, id) => go_within(
-            alloc, server, hops, proxy, arrival, key, message, names, address, id,
+            alloc, server, hops, proxy, arrival, key, message, via, names, address, id,
         ),
         Verdict::Judged(judged) => take_asked(
-            alloc, server, hops, proxy, arrival, key, message, names, judged,
+            alloc, server, hops, proxy, arrival, key, message, via, names, judged,
         ),
     }
 }

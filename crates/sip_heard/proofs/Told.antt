@@ -15,9 +15,9 @@ use Rattle.sip_hops.specs.declared.host_address.HostAddress.{HostAddress}
 use Rattle.sip_hops.specs.HostAddress.{is_by_udp, port_or_default, address_at, address_of}
 use Rattle.sip_dialog.specs.Addresses.{item_in, address_by, address_in, addresses_in}
 use Rattle.sip_dialog.specs.DialogId.{id_of}
-use Rattle.sip_heard.specs.declared.route_facts.Place.{Place}
+use Rattle.sip_places.specs.declared.route_facts.Place.{Place}
 use Rattle.sip_heard.specs.Names.{names_of, names_in, dialog_by}
-use Rattle.sip_heard.specs.Given.{place_by, place_in, places_in, address_there}
+use Rattle.sip_places.specs.Given.{place_by, place_in, places_in, address_there}
 
 -- ---- its dialog
 

@@ -1,21 +1,14 @@
 -- What is kept beside a request is what it says.
 use Rattle.std.specs.Prelude.{◌≡◌, List, Option, Some}
-use Rattle.sip_header.specs.field.declared.field_name.FieldName.TheVariants as Name
-use Rattle.sip_header.specs.field.Values.{values_of}
 use Rattle.sip_form.specs.declared.message.Message.{Message}
-use Rattle.sip_way.specs.Way.{request_uri}
 use Rattle.sip_heard.specs.declared.onward.Onward.{Onward}
-use Rattle.sip_heard.specs.declared.route_facts.Place.{Place}
-use Rattle.sip_heard.specs.declared.route_facts.RouteFacts.{RouteFacts}
+use Rattle.sip_places.specs.declared.route_facts.Place.{Place}
 use Rattle.sip_heard.specs.declared.top_via.TopVia.{TopVia}
-use Rattle.sip_heard.specs.RouteFacts.{facts_of}
+use Rattle.sip_places.specs.RouteFacts.{facts_in}
 use Rattle.sip_heard.specs.TopVia.{IsTopVia}
 use Rattle.sip_heard.specs.Names.{names_in}
-use Rattle.sip_heard.specs.Given.{places_in}
-
--- what of a request decides which of its Routes are left
-abbrev pub facts_in : Message → RouteFacts
-facts_in m = facts_of (request_uri m.start) (values_of Name.Route m.fields)
+use Rattle.sip_places.specs.Given.{places_in}
+use Rattle.sip_heard.specs.Tail.{IsTail}
 
 -- where its Contact and Record-Route lead, if that was read
 abbrev pub AreGiven : Message → Option (List Place) → Type 0
@@ -31,3 +24,4 @@ pub record IsOnward (m : Message) (onward : Onward) : Type 0 where
 pub record IsHeard (m : Message) (top : TopVia) (read : Option Onward) : Type 0 where
   pub via : IsTopVia m top
   pub onward : (o : Onward) → read ≡ Some o → IsOnward m o
+  pub tail : (o : Onward) → read ≡ Some o → IsTail m top.source o.tail

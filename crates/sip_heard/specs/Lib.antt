@@ -1,5 +1,4 @@
-pub mod RouteFacts
 pub mod TopVia
 pub mod Names
-pub mod Given
+pub mod Tail
 pub mod Heard

@@ -1,4 +1,4 @@
-ghost use Rattle.std.specs.Prelude.{◌≡◌, ◌++◌, ℕ, IfOk, OnOk, List, is_some};
+ghost use Rattle.std.specs.Prelude.{◌≡◌, ◌++◌, ℕ, IfOk, IfSome, OnOk, List, Some, is_some};
 ghost use Rattle.std.specs.Option.{option_and_then};
 ghost use Rattle.std.specs.List.{filter_map};
 ghost use Rattle.std.specs.Result.{result_ok};
@@ -7,27 +7,31 @@ ghost use Rattle.sip_header.specs.field.declared.field_name.FieldName.TheVariant
 ghost use Rattle.sip_header.specs.field.Values.{with_first};
 ghost use Rattle.sip_dialog.specs.Addresses.{addresses_in};
 ghost use Rattle.sip_dialog.specs.DialogId.{id_of};
-ghost use Rattle.sip_edit.specs.ReceivedRequest.{received_fields, response_address};
+ghost use Rattle.sip_edit.specs.Onward as Goes;
+ghost use Rattle.sip_edit.specs.ReceivedRequest.{received, received_fields, response_address, top_via};
+ghost use Rattle.sip_form.specs.Text.{text_of};
 ghost use Rattle.sip_form.specs.ViewStart.{start_seen};
 ghost use Rattle.sip_hops.specs.HostAddress.{address_of};
 ghost use Rattle.sip_way.specs.Way.{request_uri, fields_left};
 ghost use Rattle.sip_way.specs.RoutesKept.{fields_kept};
-ghost use Rattle.sip_heard.specs.RouteFacts.{kept_by};
+ghost use Rattle.sip_places.specs.RouteFacts.{facts_in, kept_by};
+ghost use Rattle.sip_onward.specs.Tail.{tail_of};
 ghost use Rattle.sip_heard.specs.Names as Spec;
-ghost use Rattle.sip_heard.specs.Given.{address_there};
-ghost use Rattle.sip_heard.specs.Heard.{facts_in};
+ghost use Rattle.sip_places.specs.Given.{address_there};
 
-use crate::given::places_in;
 use crate::names::{Names, dialog_by, dialog_to, names_dialog, names_in};
 use crate::onward::Onward;
-use crate::route_facts::{Place, RouteFacts};
-use crate::top_via::{TopVia, received_value};
+use crate::top_via::{TopVia, received_value, reply_address};
 use sip_dialog::DialogId;
 use sip_equality::host::Addr;
-use sip_equality::text::Items;
-use sip_form::{Kept, View, ViewStart};
+use sip_equality::text::{Bytes, Items};
+use sip_form::{Kept, View, ViewStart, write_view};
+use sip_header::Via;
 use sip_header::form::{FieldName, Value};
 use sip_hops::Hops;
+use sip_onward::{onward_base_by, text_to_target, to_target};
+use sip_places::laws::kept_routes_are_left;
+use sip_places::{Place, RouteFacts, places_in};
 use sip_shared::Shared;
 use sip_way::{Own, RoutesKept};
 use std::alloc::{AllocError, Global};
@@ -106,8 +110,7 @@ fn unread_reply(alloc: Global, message: &Kept, from: Addr) -> Result<Addr, Alloc
     ensures { IfOk result (λ address. address ≡ response_address message.now from) }
 {
     let request = message.view(alloc)?;
-    let via = TopVia::of(alloc, &request, from)?;
-    Ok(via.reply_to)
+    reply_address(alloc, &request, from)
 }
 
 /// Adds the addresses that places have in a table.
@@ -138,12 +141,19 @@ fn put_unread(
 }
 
 impl Heard {
-    /// A request that came from an address, and that is answered here. `AllocError` is the only refusal.
-    pub fn of(alloc: Global, request: &View<'_>, from: Addr) -> Result<Self, AllocError>
+    /// A request with this Via on top that came from an address, and that is answered here. `AllocError` is the only
+    /// refusal.
+    pub fn of(
+        alloc: Global,
+        request: &View<'_>,
+        via: &Via<'_>,
+        from: Addr,
+    ) -> Result<Self, AllocError>
+        requires { top_via request.now ≡ Some via.now }
         ensures { IfOk result (λ heard. heard ≡ request.now) }
     {
         let message = Kept::of(alloc, request)?;
-        let via = TopVia::of(alloc, request, from)?;
+        let via = TopVia::of(alloc, request, via, from)?;
         Ok(Heard {
             message,
             via,
@@ -151,20 +161,24 @@ impl Heard {
         })
     }
 
-    /// A request that came from an address, and that goes on. Its core fields aren't read for names that were made before.
-    /// `AllocError` is the only refusal.
+    /// A request with this Via on top that came from an address, and that goes on from a server of this place and realm. Its
+    /// core fields aren't read for names that were made before. `AllocError` is the only refusal.
     pub fn onward(
         alloc: Global,
+        own: &Own,
+        realm: &[u8],
         request: &View<'_>,
+        via: &Via<'_>,
         from: Addr,
         names: Option<Names>,
     ) -> Result<Self, AllocError>
         requires names { Spec.AreNames request.now names }
+        requires via { top_via request.now ≡ Some via.now }
         ensures { IfOk result (λ heard. heard ≡ request.now) }
     {
         let message = Kept::of(alloc, request)?;
-        let via = TopVia::of(alloc, request, from)?;
-        let onward = Onward::of(alloc, request, names)?;
+        let via = TopVia::of(alloc, request, via, from)?;
+        let onward = Onward::of(alloc, own, realm, request, &via, names)?;
         Ok(Heard {
             message,
             via,
@@ -221,15 +235,78 @@ impl Heard {
 
     /// Which fields are left once a server's own part of the way is taken off (RFC 3261 16.4), whatever value the top Via
     /// has. `AllocError` is the only refusal.
-    #[tactic(auto, using(crate::proofs::KeptRoutes::kept_is))]
     pub fn routes_kept(&self, alloc: Global, own: &Own) -> Result<RoutesKept, AllocError>
         ensures { IfOk result (λ kept. (via : List ℕ) → fields_kept kept (with_first Name.Via via self.now.fields)
             ≡ fields_left own.now (request_uri self.now.start) (with_first Name.Via via self.now.fields)) }
     {
+        kept_routes_are_left();
         match &self.onward {
             Some(onward) => onward.get().routes.kept(alloc, own),
             None => unread_routes(alloc, &self.message, own),
         }
+    }
+
+    /// What its packets have in common, if that was written for a server of this realm, with these Routes left of the
+    /// request as it came from an address.
+    #[tactic(auto, using(crate::proofs::Tails::is_tail))]
+    fn tail_for(&self, realm: &[u8], routes: RoutesKept, from: Addr) -> Option<&[u8]>
+        ensures { IfSome result (λ tail. tail.now ≡ tail_of routes realm.now (received self.now from)) }
+    {
+        let onward = self.onward.as_ref()?;
+        let tail = &onward.get().tail;
+        if !self.via.is_from(from) {
+            return None;
+        }
+        if !tail.is_for(realm, routes) {
+            return None;
+        }
+        Some(tail.text.as_slice())
+    }
+
+    /// The text of the request as it goes to a target, written anew from its fields.
+    fn unread_text(
+        &self,
+        alloc: Global,
+        own: &Own,
+        realm: &[u8],
+        records_route: bool,
+        routes: RoutesKept,
+        from: Addr,
+        uri: &[u8],
+        via: Bytes,
+    ) -> Result<Bytes, AllocError>
+        requires { fields_kept routes (received_fields from self.now.fields) ≡ fields_left own.now (request_uri self.now.start) (received_fields from self.now.fields) }
+        ensures { IfOk result (λ text. text ≡ text_of (Goes.to_target uri.now via (Goes.onward_base own.now realm.now records_route (received self.now from)))) }
+    {
+        let value = self.received_via(alloc, from)?;
+        let received = self.with_top_via(alloc, value.as_slice())?;
+        let base = onward_base_by(alloc, own, realm, records_route, routes, &received)?;
+        let request = to_target(alloc, &base, uri, via)?;
+        write_view(alloc, &request)
+    }
+
+    /// The text of the request as it goes to a target with this Request-URI, if it came from an address: without the
+    /// server's own part of the way, without the credentials for its realm, with one hop less, the server's Via of this value
+    /// on top, and its Record-Route where it gets one (RFC 3261 16.4, 16.6). Where it came from the address that it was kept
+    /// with, what all targets have in common is copied, and not written anew. `AllocError` is the only refusal.
+    pub fn text_to(
+        &self,
+        alloc: Global,
+        own: &Own,
+        realm: &[u8],
+        records_route: bool,
+        from: Addr,
+        uri: &[u8],
+        via: Bytes,
+    ) -> Result<Bytes, AllocError>
+        ensures { IfOk result (λ text. text ≡ text_of (Goes.to_target uri.now via (Goes.onward_base own.now realm.now records_route (received self.now from)))) }
+    {
+        let routes = self.routes_kept(alloc, own)?;
+        if let Some(tail) = self.tail_for(realm, routes, from) {
+            let start = self.start();
+            return text_to_target(alloc, own, records_route, &start, uri, via.as_slice(), tail);
+        }
+        self.unread_text(alloc, own, realm, records_route, routes, from, uri, via)
     }
 
     /// Whether the request names a dialog (RFC 3261 12.2.2). `AllocError` is the only refusal.

@@ -3,14 +3,12 @@
 //! ask.
 #![tactic(auto)]
 
-mod given;
 mod heard;
 mod names;
 mod onward;
-mod route_facts;
+mod tail;
 mod top_via;
 
 pub use heard::Heard;
 pub use names::Names;
-pub use route_facts::{Place, RecordedPlace, RouteFacts};
 pub use top_via::received_value;

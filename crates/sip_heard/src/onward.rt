@@ -1,12 +1,16 @@
 ghost use Rattle.std.specs.Prelude.{IfOk};
 ghost use Rattle.sip_heard.specs.Heard.{AreGiven, IsOnward};
 ghost use Rattle.sip_heard.specs.Names.{AreNames};
+ghost use Rattle.sip_heard.specs.Tail.{IsTail};
+ghost use Rattle.sip_heard.specs.TopVia.{IsTopVia};
 
-use crate::given::places_in;
 use crate::names::{Names, names_by};
-use crate::route_facts::{Place, RouteFacts};
+use crate::tail::Tail;
+use crate::top_via::TopVia;
 use sip_equality::text::Items;
 use sip_header::form::{View, ViewStart};
+use sip_places::{Place, RouteFacts, places_in};
+use sip_way::Own;
 use std::alloc::{AllocError, Global};
 
 /// What is read of a request that goes on.
@@ -17,6 +21,8 @@ pub(crate) struct Onward {
     pub(crate) names: Option<Names>,
     /// Where its Contact and Record-Route lead, if it is an INVITE: its answers tell dialogs of them.
     pub(crate) given: Option<Items<Place>>,
+    /// What its packets have in common.
+    pub(crate) tail: Tail,
 }
 
 /// Whether a request is an INVITE.
@@ -38,22 +44,32 @@ fn given_by(alloc: Global, request: &View<'_>) -> Result<Option<Items<Place>>, A
 }
 
 impl Onward {
-    /// What is read of a request that goes on, whose names may have been made before.
+    /// What is read of a request that goes on from a server of this place and realm, with what its top Via says; its names
+    /// may have been made before.
+    #[tactic(auto, using(crate::proofs::Tails::of_received))]
     pub(crate) fn of(
         alloc: Global,
+        own: &Own,
+        realm: &[u8],
         request: &View<'_>,
+        via: &TopVia,
         names: Option<Names>,
     ) -> Result<Self, AllocError>
-        requires { AreNames request.now names }
-        ensures { IfOk result (λ onward. IsOnward request.now onward) }
+        requires names { AreNames request.now names }
+        requires via { IsTopVia request.now via.now }
+        ensures read { IfOk result (λ onward. IsOnward request.now onward) }
+        ensures tail { IfOk result (λ onward. IsTail request.now via.now.source onward.tail) }
     {
         let routes = RouteFacts::of(alloc, request)?;
         let names = names_by(alloc, request, names)?;
         let given = given_by(alloc, request)?;
+        let kept = routes.kept(alloc, own)?;
+        let tail = Tail::of(alloc, realm, kept, request, via.value.as_slice())?;
         Ok(Onward {
             routes,
             names,
             given,
+            tail,
         })
     }
 }

@@ -1,14 +1,14 @@
-ghost use Rattle.std.specs.Prelude.{◌≡◌, IfOk, true};
+ghost use Rattle.std.specs.Prelude.{◌≡◌, IfOk, Some, true};
 ghost use Rattle.sip_header.specs.field.declared.field_name.FieldName.TheVariants as Name;
 ghost use Rattle.sip_header.specs.field.Values.{with_first};
-ghost use Rattle.sip_edit.specs.ReceivedRequest.{received_fields, response_address};
+ghost use Rattle.sip_edit.specs.ReceivedRequest.{received_fields, response_address, top_via};
 ghost use Rattle.sip_heard.specs.TopVia.{IsTopVia};
 
 use sip_edit::{received_via, response_address};
 use sip_equality::host::Addr;
 use sip_equality::text::Bytes;
 use sip_header::form::{FieldName, View};
-use sip_header::via_of;
+use sip_header::{Via, via_of};
 use std::alloc::{AllocError, Global};
 
 /// What the top Via of a request says that came from an address.
@@ -42,25 +42,41 @@ pub fn received_value(alloc: Global, request: &View<'_>, from: Addr) -> Result<B
     received_via(alloc, via.as_ref(), value, from)
 }
 
+/// Where the answers to a request go that came from an address (RFC 3261 18.2.2). `AllocError` is the only refusal.
+pub(crate) fn reply_address(
+    alloc: Global,
+    request: &View<'_>,
+    from: Addr,
+) -> Result<Addr, AllocError>
+    ensures { IfOk result (λ address. address ≡ response_address request.now from) }
+{
+    let Some(value) = request.fields().first(&FieldName::Via) else {
+        return Ok(from);
+    };
+    let via = via_of(alloc, value)?;
+    Ok(response_address(via.as_ref(), from))
+}
+
 impl TopVia {
-    /// What the top Via of a request says that came from an address.
-    #[tactic(auto, using(crate::proofs::Received::none_edited))]
-    pub(crate) fn of(alloc: Global, request: &View<'_>, from: Addr) -> Result<Self, AllocError>
+    /// What the top Via of a request that came from an address says, as it was read.
+    #[tactic(auto, using(crate::proofs::Received::none_edited, crate::proofs::Received::edited, crate::proofs::Received::answered))]
+    pub(crate) fn of(
+        alloc: Global,
+        request: &View<'_>,
+        via: &Via<'_>,
+        from: Addr,
+    ) -> Result<Self, AllocError>
+        requires { top_via request.now ≡ Some via.now }
         ensures via { IfOk result (λ via. IsTopVia request.now via) }
         ensures source { IfOk result (λ via. via.source ≡ from) }
     {
         let Some(value) = request.fields().first(&FieldName::Via) else {
-            return Ok(TopVia {
-                source: from,
-                value: Bytes::new(alloc),
-                reply_to: from,
-            });
+            unreachable!();
         };
-        let via = via_of(alloc, value)?;
-        let reply_to = response_address(via.as_ref(), from);
+        let reply_to = response_address(Some(via), from);
         Ok(TopVia {
             source: from,
-            value: received_via(alloc, via.as_ref(), value, from)?,
+            value: received_via(alloc, Some(via), value, from)?,
             reply_to,
         })
     }

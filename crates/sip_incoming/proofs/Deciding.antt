@@ -1,10 +1,11 @@
 -- How the verdict on a message follows from what was read of it.
-use Rattle.std.proofs.Common.{◌≡◌, ◌∙◌, ℕ, Bool, true, false, cond, List, Option, Some, None, Ok, Err, refl, sym, ap}
-use Rattle.std.specs.Prelude.{◌||◌, Result, IfOk, option_map, find}
+use Rattle.std.proofs.Common.{◌≡◌, ◌∙◌, ℕ, Bool, true, false, cond, List, Option, Some, None, Ok, Err, refl, sym, ap, subst}
+use Rattle.std.specs.Prelude.{◌||◌, Result, IfOk, IfSome, option_map, find}
 use Rattle.std.specs.Option.{option_and_then}
 use Rattle.std.specs.Result.{result_ok}
 use Rattle.std.specs.declared.alloc.AllocError.{AllocError}
 use denote.Ref.{Bor}
+use Rattle.sip_verdict.specs.edit.ReceivedRequest.{top_via}
 use Rattle.sip_verdict.specs.field.declared.field.Field.{Field}
 use Rattle.sip_verdict.specs.field.declared.field_name.FieldName.TheVariants as Name
 use Rattle.sip_verdict.specs.field.Values.{first_value, values_of}
@@ -124,16 +125,27 @@ by_request m short method uri version key is is_key server state a =
 pub no_key : (own : Own) (m : Message) (short : Bool) (method uri version : List ℕ) → m.start ≡ Start.Request method uri version → None ≡ key_by method m.fields → IsDropped own m short
 no_key own m short method uri version is none = λ server state a same. by_request m short method uri version None is none server state a
 
-pub requests : (m : Message) (short : Bool) (method uri version : List ℕ) (key : Key) → m.start ≡ Start.Request method uri version → Some key ≡ key_by method m.fields
-    → IsRequest m short method key
-requests m short method uri version key is is_key =
+pub requests : (m : Message) (short : Bool) (method uri version : List ℕ) (via : Via) (key : Key) → m.start ≡ Start.Request method uri version → top_via m ≡ Some via
+    → Some key ≡ key_by method m.fields → IsRequest m short method via key
+requests m short method uri version via key is is_via is_key =
     record {
       uri = uri;
       version = version;
       start_is = is;
+      via_is = is_via;
       key_is = key_is m method uri version is ∙ sym is_key;
       verdict_is = by_request m short method uri version (Some key) is is_key;
     }
+
+-- the Via on top and the key, where both were found
+pub no_pair : (found : Option (Via × Key)) (wanted : Option Key) → found ≡ None → option_map (λ (x : Via × Key). x.1) found ≡ wanted → None ≡ wanted
+no_pair found wanted is e = sym (ap (λ (f : Option (Via × Key)). option_map (λ (x : Via × Key). x.1) f) is) ∙ e
+
+pub key_found : (found : Option (Via × Key)) (via : Via) (key : Key) (wanted : Option Key) → found ≡ Some (via, key) → option_map (λ (x : Via × Key). x.1) found ≡ wanted → Some key ≡ wanted
+key_found found via key wanted is e = sym (ap (λ (f : Option (Via × Key)). option_map (λ (x : Via × Key). x.1) f) is) ∙ e
+
+pub via_found : (found : Option (Via × Key)) (via : Via) (key : Key) (m : Message) → found ≡ Some (via, key) → IfSome found (λ (x : Via × Key). top_via m ≡ Some x.0) → top_via m ≡ Some via
+via_found found via key m is h = subst (λ (f : Option (Via × Key)). IfSome f (λ (x : Via × Key). top_via m ≡ Some x.0)) is h
 
 -- ---- a result handed on
 
@@ -169,12 +181,12 @@ found own m short status text method has_more_vias h server state a same r b is 
     h.verdict_is server state a same ∙ ap (response_verdict m.fields status) is
     ∙ ap (λ (more : Bool). cond (b.is_cancel || more) (Respond r b status) Drop) h.vias_are
 
-pub new_request : (m : Message) (short : Bool) (method : List ℕ) (key : Key) → IsRequest m short method key
+pub new_request : (m : Message) (short : Bool) (method : List ℕ) (via : Via) (key : Key) → IsRequest m short method via key
     → (server : Server) (state : ProxyState) (a : Arrival) → find (has_key key) state.requests ≡ None
     → message_verdict server state a m short ≡ new_verdict server state a m short method key
-new_request m short method key h server state a none = h.verdict_is server state a ∙ ap (by_open server state a m short method key) none
+new_request m short method via key h server state a none = h.verdict_is server state a ∙ ap (by_open server state a m short method key) none
 
-pub open_request : (m : Message) (short : Bool) (method : List ℕ) (key : Key) → IsRequest m short method key
+pub open_request : (m : Message) (short : Bool) (method : List ℕ) (via : Via) (key : Key) → IsRequest m short method via key
     → (server : Server) (state : ProxyState) (a : Arrival) (r : OpenRequest) → find (has_key key) state.requests ≡ Some r
     → message_verdict server state a m short ≡ by_open server state a m short method key (Some r)
-open_request m short method key h server state a r is = h.verdict_is server state a ∙ ap (by_open server state a m short method key) is
+open_request m short method via key h server state a r is = h.verdict_is server state a ∙ ap (by_open server state a m short method key) is

@@ -1,9 +1,11 @@
 -- When what was read of a message is what the verdict on it needs of it.
 use Rattle.std.specs.Prelude.{◌≡◌, ℕ, Bool, List, find, Some}
+use Rattle.sip_verdict.specs.edit.ReceivedRequest.{top_via}
 use Rattle.sip_verdict.specs.field.declared.field_name.FieldName.TheVariants as Name
 use Rattle.sip_verdict.specs.field.Values.{values_of}
 use Rattle.sip_verdict.specs.form.declared.message.Start.TheVariants as Start
 use Rattle.sip_verdict.specs.form.declared.message.Message.{Message}
+use Rattle.sip_verdict.specs.header.declared.via.Via.{Via}
 use Rattle.sip_verdict.specs.key.declared.key.Key.{Key}
 use Rattle.sip_verdict.specs.key.Key.{key_of}
 use Rattle.sip_verdict.specs.state.declared.server.Server.{Server}
@@ -30,11 +32,12 @@ pub record IsResponse (own : Own) (m : Message) (short : Bool) (status : ℕ) (b
   pub verdict_is : (server : Server) (state : ProxyState) (a : Arrival) → server.config.own ≡ own
       → message_verdict server state a m short ≡ response_verdict m.fields status (found_branch server branch method state.requests)
 
--- A message is a request of this method with this key, and belongs to the first open request with that key, if there is one (RFC 3261 17.2.3).
-pub record IsRequest (m : Message) (short : Bool) (method : List ℕ) (key : Key) : Type 0 where
+-- A message is a request of this method with this Via on top and this key, and belongs to the first open request with that key, if there is one (RFC 3261 17.2.3).
+pub record IsRequest (m : Message) (short : Bool) (method : List ℕ) (via : Via) (key : Key) : Type 0 where
   pub uri : List ℕ
   pub version : List ℕ
   pub start_is : m.start ≡ Start.Request method uri version
+  pub via_is : top_via m ≡ Some via
   pub key_is : key_of m ≡ Some key
   pub verdict_is : (server : Server) (state : ProxyState) (a : Arrival)
       → message_verdict server state a m short ≡ by_open server state a m short method key (find (has_key key) state.requests)
@@ -43,4 +46,4 @@ pub record IsRequest (m : Message) (short : Bool) (method : List ℕ) (key : Key
 abbrev pub Is : Own → Message → Bool → Incoming → Type 0
 Is own m short Dropped = IsDropped own m short
 Is own m short (Response status branch method has_more_vias) = IsResponse own m short status branch.now method.now has_more_vias
-Is own m short (Request method key) = IsRequest m short method.now key
+Is own m short (Request method via key) = IsRequest m short method.now via key

@@ -1,3 +1,4 @@
+use sip_verdict::header::Via;
 use sip_verdict::key::Key;
 
 /// What a message that came in is.
@@ -18,6 +19,8 @@ pub enum Incoming<'v> {
     /// A request, which belongs to the open one with this key, if there is one.
     Request {
         method: &'v [u8],
+        /// The Via on top.
+        via: Via<'v>,
         key: Key,
     },
 }

@@ -1,5 +1,6 @@
-ghost use Rattle.std.specs.Prelude.{◌≡◌, IfOk};
+ghost use Rattle.std.specs.Prelude.{◌≡◌, IfOk, IfSome, Some, option_map};
 ghost use Rattle.std.specs.Option.{option_and_then};
+ghost use Rattle.sip_verdict.specs.edit.ReceivedRequest.{top_via};
 ghost use Rattle.sip_verdict.specs.field.declared.field_name.FieldName.TheVariants as Name;
 ghost use Rattle.sip_verdict.specs.field.Values.{first_value};
 ghost use Rattle.sip_verdict.specs.header.Via.{via_of};
@@ -24,16 +25,30 @@ pub(crate) fn top_via<'v>(
     }
 }
 
-/// The key of a request of a method, by the Via on top of it.
-pub(crate) fn key_by(
+/// The Via on top of a request of a method, and the key that it gives, if it can be read and gives one.
+pub(crate) fn keyed_via<'v>(
     alloc: Global,
-    message: &View<'_>,
+    message: &'v View<'_>,
     method: &[u8],
-) -> Result<Option<Key>, AllocError>
+) -> Result<Option<(Via<'v>, Key)>, AllocError>
+    ensures key { IfOk result (λ found. option_map (λ x. x.1) found ≡ option_and_then (λ value. option_and_then (Keys.via_key method.now) (via_of value)) (first_value Name.Via message.now.fields)) }
+    ensures via { IfOk result (λ found. IfSome found (λ x. top_via message.now ≡ Some x.0)) }
+{
+    let Some(via) = top_via(alloc, message)? else {
+        return Ok(None);
+    };
+    match Key::of_request(alloc, method, &via)? {
+        Some(key) => Ok(Some((via, key))),
+        None => Ok(None),
+    }
+}
+
+/// The key of a request of a method, by the Via on top of it.
+fn key_by(alloc: Global, message: &View<'_>, method: &[u8]) -> Result<Option<Key>, AllocError>
     ensures { IfOk result (λ key. key ≡ option_and_then (λ value. option_and_then (Keys.via_key method.now) (via_of value)) (first_value Name.Via message.now.fields)) }
 {
-    match top_via(alloc, message)? {
-        Some(via) => Key::of_request(alloc, method, &via),
+    match keyed_via(alloc, message, method)? {
+        Some((_, key)) => Ok(Some(key)),
         None => Ok(None),
     }
 }

@@ -1,5 +1,6 @@
 ghost use Rattle.std.specs.Prelude.{◌≡◌, ◌||◌, ℕ, Bool, List, Some, None, find, if◌then◌else◌};
 ghost use Rattle.sip_verdict.specs.form.declared.message.Message.{Message};
+ghost use Rattle.sip_verdict.specs.header.declared.via.Via.{Via};
 ghost use Rattle.sip_verdict.specs.key.declared.key.Key.{Key};
 ghost use Rattle.sip_verdict.specs.message.Reading.{reading_of};
 ghost use Rattle.sip_verdict.specs.state.declared.branch.Branch.{Branch};
@@ -35,10 +36,10 @@ pub fn responses()
 /// A request with an open key has the verdict of the first open request with it; any other that of a new one (RFC 3261
 /// 17.2.3).
 pub fn requests()
-    ensures new_request { (m : Message) (short : Bool) (method : List ℕ) (key : Key) → IsRequest m short method key
+    ensures new_request { (m : Message) (short : Bool) (method : List ℕ) (via : Via) (key : Key) → IsRequest m short method via key
         → (server : Server) (state : ProxyState) (a : Arrival) → find (has_key key) state.requests ≡ None
         → message_verdict server state a m short ≡ new_verdict server state a m short method key }
-    ensures open_request { (m : Message) (short : Bool) (method : List ℕ) (key : Key) → IsRequest m short method key
+    ensures open_request { (m : Message) (short : Bool) (method : List ℕ) (via : Via) (key : Key) → IsRequest m short method via key
         → (server : Server) (state : ProxyState) (a : Arrival) (r : OpenRequest) → find (has_key key) state.requests ≡ Some r
         → message_verdict server state a m short ≡ by_open server state a m short method key (Some r) }
 {}

@@ -4,7 +4,7 @@ ghost use Rattle.sip_incoming.specs.Incoming.{Is};
 ghost use Rattle.sip_verdict.specs.way.declared.own.Own.{Own};
 
 use crate::incoming::Incoming;
-use crate::key_reading::key_by;
+use crate::key_reading::keyed_via;
 use sip_verdict::form::View;
 use std::alloc::{AllocError, Global};
 
@@ -16,8 +16,8 @@ pub(crate) fn request_of<'v>(
 ) -> Result<Incoming<'v>, AllocError>
     ensures { IfOk result (λ incoming. (own : Own) (short : Bool) (uri version : List ℕ) → request.now.start ≡ Start.Request method.now uri version → Is own request.now short incoming) }
 {
-    match key_by(alloc, request, method)? {
-        Some(key) => Ok(Incoming::Request { method, key }),
+    match keyed_via(alloc, request, method)? {
+        Some((via, key)) => Ok(Incoming::Request { method, via, key }),
         None => Ok(Incoming::Dropped),
     }
 }

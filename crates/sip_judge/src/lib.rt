@@ -45,7 +45,7 @@ pub mod policy {
 
 /// Of `sip_header`.
 pub mod header {
-    pub use sip_verdict::header::{CoreFields, Parameter, tag_of};
+    pub use sip_verdict::header::{CoreFields, Parameter, Via, tag_of};
 }
 
 /// Of `sip_heard`.

@@ -60,7 +60,7 @@ lowered_is Absent fields = refl
 lowered_is (Hops n) fields = append-nil (lowered (Hops n) fields)
 lowered_is Malformed fields = append-nil fields
 
-fields_are : (own : Own) (realm : List ℕ) (m : Message) (routes : RoutesKept) → fields_kept routes m.fields ≡ fields_left own (request_uri m.start) m.fields →
+pub fields_are : (own : Own) (realm : List ℕ) (m : Message) (routes : RoutesKept) → fields_kept routes m.fields ≡ fields_left own (request_uri m.start) m.fields →
     fields_by routes realm m.fields ≡ onward_fields own realm m
 fields_are own realm m routes is =
     ap (λ (w : List Field). with_hops (hops_left (max_forwards_of m.fields)) (without_credentials realm w) ++ default_hops (max_forwards_of m.fields)) is

@@ -1,1 +1,2 @@
 pub mod Lowering
+pub mod Tail

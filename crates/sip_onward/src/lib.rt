@@ -5,9 +5,11 @@
 
 mod onward;
 mod record_route;
+mod tail;
 
 pub use onward::{onward_base, onward_base_by, onward_uri, to_target};
 pub use record_route::push_record_route;
+pub use tail::{tail_of, text_to_target};
 
 /// Of `sip_way`.
 pub mod way {

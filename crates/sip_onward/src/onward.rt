@@ -167,7 +167,7 @@ fn put_default(out: &mut ViewFields<'_>, hops: MaxForwards) -> Result<(), AllocE
 }
 
 /// Adds the fields of a request as they go on to any target, if these Routes are left.
-fn put_onward_fields<'v>(
+pub(crate) fn put_onward_fields<'v>(
     alloc: Global,
     out: &mut ViewFields<'v>,
     realm: &[u8],

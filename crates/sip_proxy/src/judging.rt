@@ -1,5 +1,6 @@
-ghost use Rattle.std.specs.Prelude.{◌≡◌, ◌<◌, ◌^◌, ℕ, IfOk, is_some, List, Option};
+ghost use Rattle.std.specs.Prelude.{◌≡◌, ◌<◌, ◌^◌, ℕ, IfOk, is_some, List, Option, Some};
 ghost use Rattle.sip_arrival.specs.Verdict.{HasRoom, Is, IsRequestOf, goes_on};
+ghost use Rattle.sip_forwarding.specs.edit.ReceivedRequest.{top_via};
 ghost use Rattle.sip_forwarding.specs.heard.Names.{AreNames};
 ghost use Rattle.sip_forwarding.specs.key.declared.key.Key.{Key};
 ghost use Rattle.sip_forwarding.specs.location.declared.binding.Binding.{Binding};
@@ -8,6 +9,7 @@ ghost use Rattle.sip_forwarding.specs.state.declared.open_request.OpenRequest.{O
 ghost use Rattle.sip_forwarding.specs.verdict.Verdict as Definition;
 
 use crate::proxy::Proxy;
+use sip_arrival::header::Via;
 use sip_arrival::heard::Names;
 use sip_arrival::judge::Judge;
 use sip_arrival::{Verdict, ack_verdict, new_verdict};
@@ -17,22 +19,24 @@ use sip_forwarding::policy::Rules;
 use std::alloc::{AllocError, Global};
 
 impl<T: Timers> Proxy<T> {
-    /// The verdict on a request of a method that no open one is found for, of whose body fewer bytes may have come than
-    /// its length says (RFC 3261 9.2, 10.3, 16.3 to 16.5), at a moment in milliseconds. What names its dialogs is made
-    /// exactly where it goes on and is kept. Nothing is changed; there is room for the plan that a REGISTER gives.
-    /// `AllocError` is the only refusal.
+    /// The verdict on a request of a method, with this Via on top, that no open one is found for, of whose body fewer
+    /// bytes may have come than its length says (RFC 3261 9.2, 10.3, 16.3 to 16.5), at a moment in milliseconds. What
+    /// names its dialogs is made exactly where it goes on and is kept. Nothing is changed; there is room for the plan
+    /// that a REGISTER gives. `AllocError` is the only refusal.
     pub fn verdict<'v, R: Rules>(
         &mut self,
         alloc: Global,
         judge: &Judge<R>,
         now: u64,
         request: &'v View<'_>,
+        via: &Via<'_>,
         method: &[u8],
         short: bool,
         names: &mut Option<Names>,
     ) -> Result<Verdict<'v>, AllocError>
         requires moment { now < 2 ^ 62 }
         requires request { IsRequestOf method.now request.now.start }
+        requires via { top_via request.now ≡ Some via.now }
         ensures verdict { IfOk result (λ verdict. (a : Arrival) (key : Key) → a.now ≡ now
             → Is judge.now self.old.state.bindings now (Definition.found_for_cancel self.old.state key a.from) (Definition.new_verdict judge.now self.old.state a request.now short method.now key) verdict) }
         ensures room { IfOk result (HasRoom self.new.room) }
@@ -51,28 +55,41 @@ impl<T: Timers> Proxy<T> {
             is_full,
             now,
             request,
+            via,
             method,
             short,
             names,
         )
     }
 
-    /// The verdict on an ACK that a 2xx calls for, or that belongs to no open request: it goes on in a dialog that is known, or
-    /// is dropped (RFC 3261 13.2.2.4, 16.11). Nothing is changed. `AllocError` is the only refusal.
+    /// The verdict on an ACK, with this Via on top, that a 2xx calls for, or that belongs to no open request: it goes
+    /// on in a dialog that is known, or is dropped (RFC 3261 13.2.2.4, 16.11). Nothing is changed. `AllocError` is the
+    /// only refusal.
     pub fn ack_verdict<'v, R: Rules>(
         &self,
         alloc: Global,
         judge: &Judge<R>,
         now: u64,
         request: &'v View<'_>,
+        via: &Via<'_>,
         method: &[u8],
         short: bool,
     ) -> Result<Verdict<'v>, AllocError>
-        requires { IsRequestOf method.now request.now.start }
+        requires request { IsRequestOf method.now request.now.start }
+        requires via { top_via request.now ≡ Some via.now }
         ensures { IfOk result (λ verdict. (rows : List Binding) (named : Option OpenRequest)
             → Is judge.now rows now named (Definition.ack_verdict judge.now self.now.state now request.now short) verdict) }
     {
         let _open = &self.contexts;
-        ack_verdict(alloc, judge, &self.dialogs, now, request, method, short)
+        ack_verdict(
+            alloc,
+            judge,
+            &self.dialogs,
+            now,
+            request,
+            via,
+            method,
+            short,
+        )
     }
 }

@@ -48,6 +48,11 @@ pub mod form {
     pub use sip_forwarding::form::{Kept, View};
 }
 
+/// Of `sip_header`.
+pub mod header {
+    pub use sip_arrival::header::Via;
+}
+
 /// Of `sip_heard`.
 pub mod heard {
     pub use sip_arrival::heard::Names;

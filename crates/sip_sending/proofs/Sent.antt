@@ -10,7 +10,7 @@ use Rattle.sip_context.specs.edit.way.declared.own.Own.{Own}
 use Rattle.sip_context.specs.edit.way.declared.routes_kept.RoutesKept.{RoutesKept}
 use Rattle.sip_context.specs.edit.way.RoutesKept.{fields_kept}
 use Rattle.sip_context.specs.edit.way.Way.{fields_left, request_uri}
-use Rattle.sip_context.specs.edit.Onward.{onward_of, with_record_route}
+use Rattle.sip_context.specs.edit.Onward.{onward_base, onward_of, to_target, with_record_route}
 use Rattle.sip_context.specs.edit.OwnVia.{branch_text}
 use Rattle.sip_context.specs.edit.OwnRequests.{ack_with, cancel_of}
 use Rattle.sip_context.specs.edit.ReceivedRequest.{received, received_fields}
@@ -19,7 +19,7 @@ use Rattle.sip_context.specs.state.declared.server.Server.{Server}
 use Rattle.sip_context.specs.state.declared.branch.Branch.{Branch}
 use Rattle.sip_context.specs.state.declared.open_request.OpenRequest.{OpenRequest}
 use Rattle.sip_context.specs.Sending.{begins_dialog, request_of, ticket_branch, branch_packets, ack_packets}
-use Rattle.sip_sending.specs.Base.{base_by, request_by, packet_to, packets_by, acks_by}
+use Rattle.sip_sending.specs.Base.{base_by, request_by, packet_to, packets_by, acks_by, via_value}
 
 -- ---- the request of a branch
 
@@ -35,6 +35,23 @@ base_of server r = base_by server (begins_dialog r) (received r.request r.source
 
 is_request : (server : Server) (r : OpenRequest) (b : Branch) → request_by server r.number (base_of server r) b ≡ request_of server r b
 is_request server r b = base_with (begins_dialog r) server (received r.request r.source) r.number b
+
+-- the same, of what the request that is kept is
+to_branch : (server : Server) (r : OpenRequest) (b : Branch) →
+    to_target b.uri (via_value server r.number b.number) (onward_base server.config.own server.config.realm (begins_dialog r) (received r.request r.source)) ≡ request_of server r b
+unfolding base_by request_by
+to_branch server r b = is_request server r b
+
+pub request_is : (server : Server) (r : OpenRequest) (b : Branch) (heard : Message) (realm : List ℕ) (begins : Bool) (uri via : List ℕ) →
+    heard ≡ r.request → realm ≡ server.config.realm → begins ≡ begins_dialog r → uri ≡ b.uri → via ≡ via_value server r.number b.number →
+    to_target uri via (onward_base server.config.own realm begins (received heard r.source)) ≡ request_of server r b
+request_is server r b heard realm begins uri via is_heard is_realm is_begun is_uri is_via =
+    ap (λ (m : Message). to_target uri via (onward_base server.config.own realm begins (received m r.source))) is_heard
+    ∙ ap (λ (w : List ℕ). to_target uri via (onward_base server.config.own w begins (received r.request r.source))) is_realm
+    ∙ ap (λ (t : Bool). to_target uri via (onward_base server.config.own server.config.realm t (received r.request r.source))) is_begun
+    ∙ ap (λ (w : List ℕ). to_target w via (onward_base server.config.own server.config.realm (begins_dialog r) (received r.request r.source))) is_uri
+    ∙ ap (λ (w : List ℕ). to_target b.uri w (onward_base server.config.own server.config.realm (begins_dialog r) (received r.request r.source))) is_via
+    ∙ to_branch server r b
 
 -- ---- the fields that are left
 

@@ -11,7 +11,8 @@ use Rattle.sip_context.specs.edit.OwnRequests.{ack_with, cancel_of}
 use Rattle.sip_context.specs.event.declared.packet.Packet.{Packet}
 use Rattle.sip_context.specs.state.declared.server.Server.{Server}
 use Rattle.sip_context.specs.state.declared.branch.Branch.{Branch}
-use Rattle.sip_context.specs.Sending.{ticket_branch}
+use Rattle.sip_context.specs.state.declared.open_request.OpenRequest.{OpenRequest}
+use Rattle.sip_context.specs.Sending.{ticket_branch, branch_packets}
 
 -- the value of this server's Via on the request to a target
 abbrev pub via_value : Server → ℕ → ℕ → List ℕ
@@ -45,3 +46,7 @@ packets_by server again number base b = packet_to b number (ticket_branch b) aga
 -- the ACK of a branch with this To, as a packet
 unfoldable pub acks_by : Server → Bool → ℕ → Message → Branch → Option (List ℕ) → List Packet
 acks_by server again number base b to = packet_to b number 0 again (ack_with to (request_by server number base b))
+
+-- what a branch of an open request sends, as a packet
+unfoldable pub sends : Server → Bool → OpenRequest → Branch → List Packet
+sends server again r b = branch_packets server again r b

@@ -1,4 +1,4 @@
-ghost use Rattle.std.specs.Prelude.{◌≡◌, ◌++◌, IfOk, OnOk, if◌then◌else◌, option_map};
+ghost use Rattle.std.specs.Prelude.{◌≡◌, ◌++◌, IfOk, OnOk, false, if◌then◌else◌, option_map};
 ghost use Rattle.std.specs.List.{flat_map};
 ghost use Rattle.sip_context.specs.field.declared.field_name.FieldName.TheVariants as Name;
 ghost use Rattle.sip_context.specs.field.Values.{with_first};
@@ -184,9 +184,8 @@ fn put_received_branch(
     put_branch(alloc, out, server, again, number, &base, branch)
 }
 
-/// Adds what a branch of an open request sends: its request, or the CANCEL of that (RFC 3261 9.1, 16.6). It is written
-/// once. `AllocError` is the only refusal.
-pub fn branch_packets(
+/// Adds what a branch of an open request sends, made anew of what the request was.
+fn put_anew(
     alloc: Global,
     out: &mut Items<Packet>,
     server: &Server,
@@ -214,6 +213,106 @@ pub fn branch_packets(
     )
 }
 
+/// The text of the request of a branch of an open request, of which it is known whether it begins a dialog.
+fn request_text(
+    alloc: Global,
+    server: &Server,
+    context: &OpenRequest,
+    begins_dialog: bool,
+    branch: &Branch,
+) -> Result<Bytes, AllocError>
+    requires { begins_dialog ≡ Spec.begins_dialog context.now }
+    ensures { IfOk result (λ text. text ≡ text_of (Spec.request_of server.now context.now branch.now)) }
+{
+    let via = via_value(alloc, server, context.number, branch.number)?;
+    let heard = context.request.get();
+    let own = &server.config.own;
+    let realm = server.config.realm.as_slice();
+    let target = branch.uri.get();
+    let uri = target.as_slice();
+    heard.text_to(alloc, own, realm, begins_dialog, context.source, uri, via)
+}
+
+/// Adds the request of a branch of an open request, which is no CANCEL.
+fn put_request(
+    alloc: Global,
+    out: &mut Items<Packet>,
+    server: &Server,
+    again: bool,
+    context: &OpenRequest,
+    branch: &Branch,
+) -> Result<(), AllocError>
+    requires { branch.now.is_cancel ≡ false }
+    ensures { OnOk result (out.new ≡ out.old ++ Spec.branch_packets server.now again context.now branch.now) }
+{
+    let Some(address) = branch.address else {
+        return Ok(());
+    };
+    let begins = begins_dialog(alloc, context)?;
+    let bytes = request_text(alloc, server, context, begins, branch)?;
+    let ticket = Ticket {
+        datagram: context.number,
+        branch: branch.number,
+    };
+    out.push(Packet {
+        to: address,
+        bytes,
+        ticket,
+        again,
+    })
+}
+
+/// Adds what a branch of an open request sends.
+#[tactic(auto, unfolding(crate::specs::Base::sends))]
+fn put_sent(
+    alloc: Global,
+    out: &mut Items<Packet>,
+    server: &Server,
+    again: bool,
+    context: &OpenRequest,
+    branch: &Branch,
+) -> Result<(), AllocError>
+    ensures { OnOk result (out.new ≡ out.old ++ Base.sends server.now again context.now branch.now) }
+{
+    if branch.is_cancel {
+        return put_anew(alloc, out, server, again, context, branch);
+    }
+    put_request(alloc, out, server, again, context, branch)
+}
+
+/// Adds what a branch of an open request sends: its request, or the CANCEL of that (RFC 3261 9.1, 16.6). It is written
+/// once, and of a request only what isn't the same for all branches. `AllocError` is the only refusal.
+#[tactic(auto, unfolding(crate::specs::Base::sends))]
+pub fn branch_packets(
+    alloc: Global,
+    out: &mut Items<Packet>,
+    server: &Server,
+    again: bool,
+    context: &OpenRequest,
+    branch: &Branch,
+) -> Result<(), AllocError>
+    ensures { OnOk result (out.new ≡ out.old ++ Spec.branch_packets server.now again context.now branch.now) }
+{
+    put_sent(alloc, out, server, again, context, branch)
+}
+
+/// Adds what each of some branches of an open request sends.
+fn put_each(
+    alloc: Global,
+    out: &mut Items<Packet>,
+    server: &Server,
+    again: bool,
+    context: &OpenRequest,
+    branches: &[Branch],
+) -> Result<(), AllocError>
+    ensures { OnOk result (out.new ≡ out.old ++ flat_map (Base.sends server.now again context.now) branches.now) }
+{
+    for branch in branches {
+        put_sent(alloc, out, server, again, context, branch)?;
+    }
+    Ok(())
+}
+
 /// Adds what some branches send of a request, given the value that its top Via gets.
 fn put_received_branches(
     alloc: Global,
@@ -235,9 +334,9 @@ fn put_received_branches(
     put_branches(alloc, out, server, again, number, &base, branches)
 }
 
-/// Adds what some branches of an open request send, in their order. What is the same for all is made once, and each packet
-/// is written once. `AllocError` is the only refusal.
-pub fn packets_of_branches(
+/// Adds what some branches of an open request send, made anew of what the request was: what is the same for all is made
+/// once.
+fn put_all_anew(
     alloc: Global,
     out: &mut Items<Packet>,
     server: &Server,
@@ -263,6 +362,26 @@ pub fn packets_of_branches(
         via.as_slice(),
         branches,
     )
+}
+
+/// Adds what some branches of an open request send, in their order. What is the same for all is made once, and each packet
+/// is written once. `AllocError` is the only refusal.
+#[tactic(auto, unfolding(crate::specs::Base::sends))]
+pub fn packets_of_branches(
+    alloc: Global,
+    out: &mut Items<Packet>,
+    server: &Server,
+    again: bool,
+    context: &OpenRequest,
+    branches: &[Branch],
+) -> Result<(), AllocError>
+    ensures { OnOk result (out.new ≡ out.old ++ flat_map (Spec.branch_packets server.now again context.now) branches.now) }
+{
+    // CANCELs have less in common with their requests, so theirs isn't kept.
+    if branches.iter().any(|branch| branch.is_cancel) {
+        return put_all_anew(alloc, out, server, again, context, branches);
+    }
+    put_each(alloc, out, server, again, context, branches)
 }
 
 /// The text of the ACK of a branch, by what is the same of the request for all branches.

@@ -4,3 +4,4 @@ pub mod Rows
 pub mod Contacts
 pub mod Routes
 pub mod Lengths
+pub mod Vias

@@ -1,15 +1,19 @@
 ghost use Rattle.std.specs.Prelude.{◌≡◌, Some};
+ghost use Rattle.std.specs.Option.{option_and_then};
+ghost use Rattle.sip_view.specs.field.declared.field_name.FieldName.TheVariants as Name;
+ghost use Rattle.sip_view.specs.field.Values.{first_value};
+ghost use Rattle.sip_header.specs.Via.{via_of};
 ghost use Rattle.sip_validate.specs.Candidate.{candidate_with};
 
-use sip_header::CoreFields;
 use sip_header::form::{View, ViewStart};
+use sip_header::{CoreFields, Via};
 use sip_uri::text::same_bytes;
 use sip_view::ViewFields;
 use sip_way::Own;
 use std::marker::Model;
 
 /// A request that is checked: where it is, its parts, whether fewer bytes of its body came than its Content-Length
-/// says, and its core fields, which are read once.
+/// says, and its top Via and its core fields, which are read once.
 #[derive(Drop)]
 pub(crate) struct Candidate<'a> {
     pub(crate) own: &'a Own,
@@ -17,30 +21,40 @@ pub(crate) struct Candidate<'a> {
     pub(crate) uri: &'a [u8],
     pub(crate) version: &'a [u8],
     pub(crate) fields: &'a ViewFields<'a>,
+    /// The Via on top.
+    pub(crate) via: &'a Via<'a>,
     pub(crate) short: bool,
     pub(crate) core: &'a CoreFields<'a>,
 }
 
 impl<'a> Model for Candidate<'a> {
-    ghost use Rattle.std.specs.Prelude.{Some};
+    ghost use Rattle.std.specs.Prelude.{◌≡◌, Some};
+    ghost use Rattle.std.specs.Option.{option_and_then};
+    ghost use Rattle.sip_view.specs.field.declared.field_name.FieldName.TheVariants as Name;
+    ghost use Rattle.sip_view.specs.field.Values.{first_value};
+    ghost use Rattle.sip_header.specs.Via.{via_of};
     ghost use Rattle.sip_way.specs.Way.{way_from};
     ghost use Rattle.sip_validate.specs.Candidate.{Candidate};
 
     ghost Value = { Candidate };
 
     ghost view = { λ r. record { own = r.own.now; method = r.method.now; uri = r.uri.now; version = r.version.now; fields = r.fields.now; short = r.short; core = Some r.core.now; way = way_from r.own.now r.uri.now r.fields.now } };
+
+    ghost invariant = { λ r. option_and_then via_of (first_value Name.Via r.fields.now) ≡ Some r.via.now };
 }
 
 impl<'a> Candidate<'a> {
     ghost use Rattle.sip_validate.specs.Candidate as Definition;
 
-    /// The request that a message is, whose core fields are these; a response is none.
+    /// The request that a message is, whose top Via and core fields are these; a response is none.
     pub(crate) fn of(
         own: &'a Own,
         message: &'a View<'a>,
+        via: &'a Via<'a>,
         short: bool,
         core: &'a CoreFields<'a>,
     ) -> Option<Self>
+        requires { option_and_then via_of (first_value Name.Via message.now.fields) ≡ Some via.now }
         ensures { result ≡ candidate_with (Some core.now) own.now message.now.fields short message.now.start }
     {
         let ViewStart::Request {
@@ -57,6 +71,7 @@ impl<'a> Candidate<'a> {
             uri,
             version: version.as_slice(),
             fields: message.fields(),
+            via,
             short,
             core,
         })

@@ -1,7 +1,7 @@
-ghost use Rattle.std.specs.Prelude.{◌≡◌, ◌&&◌, ◌||◌, not, IfOk, IfSome, is_some, is_ok, true, false};
+ghost use Rattle.std.specs.Prelude.{◌≡◌, ◌&&◌, ◌||◌, not, drop, IfOk, IfSome, is_some, is_ok, true, false};
 ghost use Rattle.std.specs.List.{list_all, list_any};
-ghost use Rattle.std.specs.Option.{option_map_or};
-ghost use Rattle.sip_view.specs.field.Values.{values_of};
+ghost use Rattle.std.specs.Option.{option_and_then, option_map_or};
+ghost use Rattle.sip_view.specs.field.Values.{first_value, values_of};
 ghost use Rattle.sip_view.specs.field.declared.field_name.FieldName.TheVariants as Name;
 ghost use Rattle.sip_uri.specs.Reading.{reading_of};
 ghost use Rattle.sip_header.specs.Via as Vias;
@@ -13,7 +13,7 @@ ghost use Rattle.sip_validate.specs.Refusal.{has_own_via};
 
 use crate::candidate::Candidate;
 use sip_header::{
-    AnyUri, ContactItem, MaxForwards, bracketed_place, contact_of, max_forwards_of, route_of,
+    AnyUri, ContactItem, MaxForwards, Via, bracketed_place, contact_of, max_forwards_of, route_of,
     via_of,
 };
 use sip_uri::text::{same_bytes, same_no_case, split_once};
@@ -90,6 +90,41 @@ fn some_is_own_via(
             };
             some = some || is_own;
         }
+    }
+    Ok(Some(some))
+}
+
+/// The fields behind the first of a name; none where there is none of it.
+fn behind_first<'f, 'a>(fields: &'f [ViewField<'a>], name: &FieldName) -> &'f [ViewField<'a>]
+    ensures { values_of name.now result.now ≡ drop 1 (values_of name.now fields.now) }
+{
+    for (index, field) in fields.iter().enumerate() {
+        if field.name().is_same(name) {
+            return &fields[index + 1..];
+        }
+    }
+    &[]
+}
+
+/// Whether some Via is this server's; None where one can't be read. The one on top was read before, and each behind it
+/// is read once.
+#[tactic(auto, using(crate::proofs::Vias::all_read, crate::proofs::Vias::own_on_top, crate::proofs::Vias::own_behind))]
+fn one_is_own_via(
+    alloc: Global,
+    own: &Own,
+    fields: &[ViewField<'_>],
+    top: &Via<'_>,
+) -> Result<Option<bool>, AllocError>
+    requires { option_and_then Vias.via_of (first_value Name.Via fields.now) ≡ Some top.now }
+    ensures read { IfOk result (λ some. is_some some ≡ list_all (λ value. is_some (Vias.via_of value)) (values_of Name.Via fields.now)) }
+    ensures own { IfOk result (λ some. IfSome some (λ t. t ≡ list_any (λ value. option_map_or (Owns.is_own_via own.now) (Vias.via_of value) false) (values_of Name.Via fields.now))) }
+{
+    let behind = behind_first(fields, &FieldName::Via);
+    let Some(some) = some_is_own_via(alloc, own, behind, &FieldName::Via)? else {
+        return Ok(None);
+    };
+    if own.is_own_via(top) {
+        return Ok(Some(true));
     }
     Ok(Some(some))
 }
@@ -256,12 +291,13 @@ impl<'a> Candidate<'a> {
         }
     }
 
-    /// Whether a Via is this server's (RFC 3261 16.3 step 4); None where one can't be read (20.42). Each is read once.
+    /// Whether a Via is this server's (RFC 3261 16.3 step 4); None where one can't be read (20.42). Those behind the top
+    /// one are read here.
     fn own_via(&self, alloc: Global) -> Result<Option<bool>, AllocError>
         ensures read { IfOk result (λ own. is_some own ≡ list_all (λ value. is_some (Vias.via_of value)) (values_of Name.Via self.now.fields)) }
         ensures own { IfOk result (λ own. IfSome own (λ t. t ≡ has_own_via self.now)) }
     {
-        some_is_own_via(alloc, self.own, self.fields.as_slice(), &FieldName::Via)
+        one_is_own_via(alloc, self.own, self.fields.as_slice(), self.via)
     }
 
     /// Whether each Route can be read (RFC 3261 20.34). `read` says that each was.
@@ -276,8 +312,8 @@ impl<'a> Candidate<'a> {
     }
 
     /// Whether a Via is this server's (RFC 3261 16.3 step 4); None where an item of Via, Route, Record-Route or Contact is
-    /// malformed (20.42, 20.34, 20.30, 20.10), or a Contact of a REGISTER may not be bound. Each Via is read once, and no
-    /// Route where each was read before.
+    /// malformed (20.42, 20.34, 20.30, 20.10), or a Contact of a REGISTER may not be bound. Each Via behind the top
+    /// one is read once, and no Route where each was read before.
     #[tactic(auto, using(crate::proofs::Bad::no_bad_item))]
     fn own_via_among_items(
         &self,

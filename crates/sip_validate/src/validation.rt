@@ -1,7 +1,10 @@
 ghost use Rattle.std.specs.Prelude.{◌≡◌, IfOk, Some, None, false, option_map};
 ghost use Rattle.std.specs.Result.{result_ok};
-ghost use Rattle.std.specs.Option.{option_map_or};
+ghost use Rattle.std.specs.Option.{option_and_then, option_map_or};
+ghost use Rattle.sip_view.specs.field.declared.field_name.FieldName.TheVariants as Name;
+ghost use Rattle.sip_view.specs.field.Values.{first_value};
 ghost use Rattle.sip_header.specs.CoreFields as Cores;
+ghost use Rattle.sip_header.specs.Via.{via_of};
 ghost use Rattle.sip_way.specs.Way as Ways;
 ghost use Rattle.sip_validate.specs.Candidate.{on_way, candidate_with, is_request};
 ghost use Rattle.sip_validate.specs.Faults;
@@ -13,7 +16,7 @@ use crate::candidate::Candidate;
 use crate::checked::Checked;
 use crate::refused::Refused;
 use sip_header::form::{View, ViewStart};
-use sip_header::{CoreFields, HeaderError, core_of};
+use sip_header::{CoreFields, HeaderError, Via, core_of};
 use sip_way::{Own, Way, way_of};
 use std::alloc::{AllocError, Global};
 
@@ -28,36 +31,40 @@ fn core_read<'v>(alloc: Global, message: &'v View<'_>) -> Result<Option<CoreFiel
     }
 }
 
-/// What refuses a message, if these are its core fields; nothing refuses a response.
+/// What refuses a message, if these are its top Via and core fields; nothing refuses a response.
 #[tactic(auto, using(crate::proofs::Routes::of_candidate))]
 fn refusal(
     alloc: Global,
     message: &View<'_>,
+    via: &Via<'_>,
     short: bool,
     own: &Own,
     core: &CoreFields<'_>,
     way: &Way<'_>,
 ) -> Result<Option<Refused>, AllocError>
-    requires { way.now ≡ Ways.way_of own.now message.now }
+    requires via { option_and_then via_of (first_value Name.Via message.now.fields) ≡ Some via.now }
+    requires way { way.now ≡ Ways.way_of own.now message.now }
     ensures { IfOk result (λ refused. refused ≡ option_map refused_with (option_map_or (λ r. Definition.refusal (on_way way.now r)) (candidate_with (Some core.now) own.now message.now.fields short message.now.start) None)) }
 {
-    match Candidate::of(own, message, short, core) {
+    match Candidate::of(own, message, via, short, core) {
         Some(candidate) => candidate.refusal(alloc, way),
         None => Ok(None),
     }
 }
 
-/// Whether a message is a bad request, if its core fields are these; a response is none.
+/// Whether a message is a bad request, if its top Via and core fields are these; a response is none.
 fn is_bad(
     alloc: Global,
     message: &View<'_>,
+    via: &Via<'_>,
     short: bool,
     own: &Own,
     core: &CoreFields<'_>,
 ) -> Result<bool, AllocError>
+    requires { option_and_then via_of (first_value Name.Via message.now.fields) ≡ Some via.now }
     ensures { IfOk result (λ bad. bad ≡ option_map_or Faults.is_bad (candidate_with (Some core.now) own.now message.now.fields short message.now.start) false) }
 {
-    match Candidate::of(own, message, short, core) {
+    match Candidate::of(own, message, via, short, core) {
         Some(candidate) => candidate.is_bad(alloc),
         None => Ok(false),
     }
@@ -74,41 +81,45 @@ fn is_request(message: &View<'_>) -> bool
 }
 
 /// What is read of a request that passes every check (RFC 3261 16.3, 8.2.2, 10.3), each once: its core fields and
-/// its way. `short` says that fewer bytes of its body came than its Content-Length says. Refusals: `Status` with the
-/// status of the first row of the table that applies, and the value of Unsupported in a 420; `NoMemory`. Of a
-/// response only the core fields are asked for, and 400 is its only status.
+/// its way; its top Via was read before. `short` says that fewer bytes of its body came than its Content-Length says.
+/// Refusals: `Status` with the status of the first row of the table that applies, and the value of Unsupported in a
+/// 420; `NoMemory`. Of a response only the core fields are asked for, and 400 is its only status.
 #[tactic(auto, using(crate::proofs::Serving::lacking))]
 pub fn validate<'v>(
     alloc: Global,
     request: &'v View<'_>,
+    via: &Via<'_>,
     short: bool,
     own: &Own,
 ) -> Result<Checked<'v>, Refused>
+    requires { option_and_then via_of (first_value Name.Via request.now.fields) ≡ Some via.now }
     ensures { Validates result (validation_of own.now request.now short) }
 {
     let Some(core) = core_read(alloc, request)? else {
         return Err(Refused::of(alloc, 400));
     };
     let way = way_of(alloc, own, request)?;
-    if let Some(refused) = refusal(alloc, request, short, own, &core, &way)? {
+    if let Some(refused) = refusal(alloc, request, via, short, own, &core, &way)? {
         return Err(refused);
     }
     Ok(Checked { core, way })
 }
 
-/// Whether a request is a bad one: what refuses a CANCEL, which no other row does (RFC 3261 9.2, 16.10). A response
-/// is none. `AllocError` is the only refusal.
+/// Whether a request with this top Via is a bad one: what refuses a CANCEL, which no other row does (RFC 3261 9.2,
+/// 16.10). A response is none. `AllocError` is the only refusal.
 #[tactic(auto, using(crate::proofs::Serving::lacking_is_bad, crate::proofs::Serving::is_bad_with))]
 pub fn is_bad_request(
     alloc: Global,
     request: &View<'_>,
+    via: &Via<'_>,
     short: bool,
     own: &Own,
 ) -> Result<bool, AllocError>
+    requires { option_and_then via_of (first_value Name.Via request.now.fields) ≡ Some via.now }
     ensures { IfOk result (λ bad. bad ≡ Definition.is_bad_request own.now request.now short) }
 {
     let Some(core) = core_read(alloc, request)? else {
         return Ok(is_request(request));
     };
-    is_bad(alloc, request, short, own, &core)
+    is_bad(alloc, request, via, short, own, &core)
 }

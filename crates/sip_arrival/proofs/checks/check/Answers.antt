@@ -15,4 +15,4 @@ returns-clause-way g c =
 
 pub returns-clause-refusal : goal.returns-clause-refusal
 returns-clause-refusal g c =
-    refusal_is c.server.result.now c.args.judge.now c.args.request.now c.args.short c.args.method.now c.validate.result c.server.ensures c.requires (c.first_row_refuses.ensures.refused c.server.result.now.config.own c.args.request.now c.args.short) c.validate.ensures
+    refusal_is c.server.result.now c.args.judge.now c.args.request.now c.args.short c.args.method.now c.validate.result c.server.ensures c.requires.request (c.first_row_refuses.ensures.refused c.server.result.now.config.own c.args.request.now c.args.short) c.validate.ensures

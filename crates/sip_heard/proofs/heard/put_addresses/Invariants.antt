@@ -1,6 +1,6 @@
 use Rattle.std.proofs.Common.{◌≡◌, ◌++◌, drop}
 use Rattle.std.specs.List.{filter_map}
-use Rattle.sip_heard.specs.Given.{address_there}
+use Rattle.sip_places.specs.Given.{address_there}
 use Rattle.sip_heard.proofs.heard.put_addresses.Given as goal
 
 -- the addresses so far, and those of the places that are left

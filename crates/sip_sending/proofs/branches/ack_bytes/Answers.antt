@@ -1,4 +1,4 @@
-use Rattle.std.proofs.Common.{◌≡◌, IfOk, cond, sym, subst, ◌∙◌, ap, option_map}
+use Rattle.std.proofs.Common.{◌≡◌, IfOk, subst, ◌∙◌, ap, option_map}
 use Rattle.sip_context.specs.form.declared.message.Message.{Message}
 use Rattle.sip_context.specs.form.Text.{text_of}
 use Rattle.sip_context.specs.edit.OwnRequests.{ack_with}

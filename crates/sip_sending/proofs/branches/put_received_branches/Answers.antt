@@ -1,4 +1,4 @@
-use Rattle.std.proofs.Common.{◌≡◌, List, ◌++◌, ◌∙◌, ap, sym, subst, OnOk}
+use Rattle.std.proofs.Common.{◌≡◌, ◌++◌, ◌∙◌, ap, sym, subst, OnOk}
 use Rattle.std.specs.List.{flat_map}
 use Rattle.sip_context.specs.form.declared.message.Message.{Message}
 use Rattle.sip_context.specs.edit.way.RoutesKept.{fields_kept}

@@ -1,0 +1,4 @@
+pub mod LastRoute
+pub mod KeptRoutes
+pub mod Unparted
+pub mod PlainPlaces

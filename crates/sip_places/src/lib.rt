@@ -1,0 +1,11 @@
+//! Where the addresses lead that a request gives, read once for whichever server asks: its first Route, its Request-URI
+//! where a server put that into Record-Route, its Contact and Record-Route; and so which of its Routes are left for a
+//! server (RFC 3261 12.1.1, 16.4).
+#![tactic(auto)]
+
+mod given;
+pub mod laws;
+mod route_facts;
+
+pub use given::places_in;
+pub use route_facts::{Place, RecordedPlace, RouteFacts};
