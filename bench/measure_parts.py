@@ -4,7 +4,7 @@
 
 Counts are marginal: what twice as many calls cost more, for each call that is made more, so that starting the program
 and reading standard input aren't in them. Instructions are callgrind's, allocations those of a preloaded counter, and
-the program is that of `crates/server_trials`, as `rt run` builds it.
+the program is that of `crates/test_server`, as `rt run` builds it.
 """
 
 import os
@@ -14,7 +14,7 @@ import sys
 import tempfile
 
 HERE = os.path.dirname(os.path.abspath(__file__))
-PROGRAM = sys.argv[1] if len(sys.argv) > 1 else os.path.join(HERE, "..", "crates", "server_trials", "out", "server_trials")
+PROGRAM = sys.argv[1] if len(sys.argv) > 1 else os.path.join(HERE, "..", "crates", "test_server", "out", "test_server")
 
 # how many of each a configuration may have at most
 LIMITS = {"users": 4096, "rules": 1024, "addresses": 1024, "hops": 256, "domains": 16}

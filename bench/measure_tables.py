@@ -2,7 +2,7 @@
 """Counts instructions of calls on the tables that decide about a request, and on timers: `bench/measure_tables.py [PROGRAM]`, at the top.
 
 Counts are marginal: what twice as many calls cost more, for each call that is made more, so that making the table isn't in
-them. They are callgrind's, and the program is that of `crates/server_trials`, as `rt run` builds it.
+them. They are callgrind's, and the program is that of `crates/test_server`, as `rt run` builds it.
 """
 
 import os
@@ -11,7 +11,7 @@ import subprocess
 import sys
 
 HERE = os.path.dirname(os.path.abspath(__file__))
-PROGRAM = sys.argv[1] if len(sys.argv) > 1 else os.path.join(HERE, "..", "crates", "server_trials", "out", "server_trials")
+PROGRAM = sys.argv[1] if len(sys.argv) > 1 else os.path.join(HERE, "..", "crates", "test_server", "out", "test_server")
 
 # what is called, how large the table is, and how many calls are counted
 CASES = [

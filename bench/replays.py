@@ -169,7 +169,7 @@ class Script:
 
 
 def check_credentials():
-    """The responses of the worked scripts of `crates/server_trials`."""
+    """The responses of the worked scripts of `crates/test_server`."""
     first = f"{1:032x}"
     assert response("2" * 32, first, 1, "REGISTER", "sip:host.com") == "85d4d673c58c2ed45136af95f6d881d3"
     assert response("2" * 32, first, 2, "REGISTER", "sip:host.com") == "38d1a33114e16be1e04485c1f629fdd2"

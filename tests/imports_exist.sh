@@ -9,13 +9,13 @@ import os
 import re
 import sys
 
-IMPORT = re.compile(r"\s*(?:pub )?(?:ghost )?use Rattle\.(sip_\w+)\.(specs|proofs)\.([\w.\-]+?)(?:\.\{([^}]*)\}|\s+as\s[^;]*)?\s*;?\s*$")
+IMPORT = re.compile(r"\s*(?:pub )?(?:ghost )?use Rattle\.((?:sip|model|sipd|test)_\w+)\.(specs|proofs)\.([\w.\-]+?)(?:\.\{([^}]*)\}|\s+as\s[^;]*)?\s*;?\s*$")
 # What the prover writes itself, from the code.
 MADE = ("declared.", "contracts.")
 
 
 # A crate that passes on the specs or the proofs of another one, under a short name.
-PASSED = re.compile(r"(?m)^pub use Rattle\.(sip_\w+)\.(?:specs|proofs)((?:\.\w+)*?)(?:\.(\w+)|\s+as\s+(\w+))$")
+PASSED = re.compile(r"(?m)^pub use Rattle\.((?:sip|model|sipd|test)_\w+)\.(?:specs|proofs)((?:\.\w+)*?)(?:\.(\w+)|\s+as\s+(\w+))$")
 
 
 def text(path):

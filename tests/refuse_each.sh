@@ -2,7 +2,7 @@
 # Refuses each allocation of the steps of six stored runs in turn, one in each run, until none is left. The step that meets
 # the refusal must answer NoMemory and leave the moment, what is due and the bindings as they were, and the same step given
 # again must answer as it does with ample memory, so that what is printed in the end is the stored output.
-# `tests/refuse_each.sh [PROGRAM [NAME..]]`, after `rt run` in crates/server_trials; takes a minute or two.
+# `tests/refuse_each.sh [PROGRAM [NAME..]]`, after `rt run` in crates/test_server; takes a minute or two.
 cd "$(dirname "$0")/.." || exit 2
 exec python3 - "$@" <<'PY'
 import os
@@ -10,9 +10,9 @@ import subprocess
 import sys
 import tempfile
 
-PROGRAM = os.path.abspath(sys.argv[1] if len(sys.argv) > 1 else "crates/server_trials/out/server_trials")
+PROGRAM = os.path.abspath(sys.argv[1] if len(sys.argv) > 1 else "crates/test_server/out/test_server")
 RUNS = sys.argv[2:] or ["registered", "star_and_old_cseq", "call_to_help", "two_answers", "dialog_targets", "cancel"]
-DATA = "crates/server_trials/data"
+DATA = "crates/test_server/data"
 
 
 def stored(name, kind):

@@ -1,5 +1,5 @@
 #!/usr/bin/env python3
-"""Makes the stored runs `damaged_datagrams_*` and `size_limits` of crates/server_trials/data, by rules of its own.
+"""Makes the stored runs `damaged_datagrams_*` and `size_limits` of crates/test_server/data, by rules of its own.
 
 Says whether the stored files are what it makes; with the word `write` writes them; with `script NAME` or `print NAME`
 prints the script of a run, or what `sipd replay` must print of it, whole, so that a difference can be looked at.
@@ -14,7 +14,7 @@ import os
 import re
 import sys
 
-DATA = os.path.join(os.path.dirname(os.path.abspath(__file__)), "..", "crates", "server_trials", "data")
+DATA = os.path.join(os.path.dirname(os.path.abspath(__file__)), "..", "crates", "test_server", "data")
 WORD = f"{1:032x}"
 SOURCE = ("127.0.0.1", 5070)
 APART = 40_000  # more than any request of these stays open

@@ -5,7 +5,7 @@ use Rattle.std.specs.List.{list_all, flat_map}
 use Rattle.sip_text.specs.Words.{is_token_text}
 use Rattle.sip_text.specs.Numbers.{plain_decimal_of}
 use Rattle.sip_text.proofs.PlainDecimals.{plain_read, plain_written}
-use Rattle.sip_uri.specs.host.Host.{is_host, is_not}
+use Rattle.sip_uri.specs.Host.{is_host, is_not}
 use Rattle.sip_uri.specs.declared.aor.Aor.{Aor}
 use Rattle.sip_uri.proofs.Tests.{some_is}
 use Rattle.sip_audit.specs.declared.error.AuditError.{AuditError}

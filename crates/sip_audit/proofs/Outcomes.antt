@@ -7,7 +7,7 @@ use Rattle.std.specs.Char.{is_ascii_digit}
 use Rattle.std.proofs.lemmas.Bool.{ltb-true, lt-ltb}
 use Rattle.std.proofs.lemmas.Bool.Decides.{nat_tests}
 use Rattle.sip_text.specs.Splits.{split_at_byte}
-use Rattle.sip_uri.specs.host.Host.{is_not}
+use Rattle.sip_uri.specs.Host.{is_not}
 use Rattle.sip_uri.proofs.Tests.{some_is, and_both, and_is, all_join, split_again, never_split, split_is}
 use Rattle.sip_audit.specs.declared.record.Outcome.{Outcome}
 use Rattle.sip_audit.specs.declared.record.Outcome.TheVariants.{Challenge, Deny, Sent, Answer}

@@ -7,7 +7,7 @@ use Rattle.std.proofs.lemmas.Bool.{ltb-true}
 use Rattle.std.proofs.lemmas.Bool.Decides.{nat_tests}
 use Rattle.sip_text.specs.Escapes.{unescaped, with_front}
 use Rattle.sip_text.proofs.Escaping.{plain_one}
-use Rattle.sip_uri.specs.host.Host.{is_not}
+use Rattle.sip_uri.specs.Host.{is_not}
 use Rattle.sip_uri.proofs.Tests.{and_both, and_is, differs, is_other, all_join}
 use Rattle.sip_audit.specs.Names.{is_name_byte}
 use Rattle.sip_audit.specs.Lines.{upper_digit, user_byte_text, is_byte}

@@ -11,7 +11,7 @@ use Rattle.sip_text.specs.Words.{is_token_byte, is_token_text}
 use Rattle.sip_text.specs.Numbers.{plain_decimal_of, plain_decimal_below, under}
 use Rattle.sip_text.specs.Splits.{split_at_byte}
 use Rattle.sip_text.proofs.PlainDecimals.{plain_read, plain_written, digits_alone}
-use Rattle.sip_uri.specs.host.Host.{is_host, is_not}
+use Rattle.sip_uri.specs.Host.{is_host, is_not}
 use Rattle.sip_uri.proofs.Tests.{some_is, pair_is, and_both, and_is, is_other, others, all_join, split_again, split_is}
 use Rattle.sip_uri.proofs.PartLaws.{IsNoPlaceByte, place_others}
 use Rattle.sip_audit.specs.declared.record.Operation.{Operation}

@@ -4,4 +4,3 @@ pub mod Lines
 pub mod Reading
 pub mod Parts
 pub mod Examples
-pub use Rattle.sip_uri.specs.host

@@ -3,7 +3,7 @@ use Rattle.std.specs.Prelude.{◌≡◌, ◌<◌, ℕ, Bool, true, ◌&&◌, ◌
 use Rattle.std.specs.List.{flat_map, list_all}
 use Rattle.std.specs.Str.{byte}
 use Rattle.sip_text.specs.Words.{is_token_text}
-use Rattle.sip_uri.specs.host.Host.{is_host}
+use Rattle.sip_uri.specs.Host.{is_host}
 use Rattle.sip_uri.specs.declared.aor.Aor.{Aor}
 use Rattle.sip_audit.specs.declared.record.Operation.{Operation}
 use Rattle.sip_audit.specs.declared.record.Outcome.{Outcome}

@@ -6,7 +6,7 @@ use Rattle.sip_text.specs.Words.{is_token_text}
 use Rattle.sip_text.specs.Splits.{split_at_byte}
 use Rattle.sip_text.specs.Numbers.{plain_decimal_of, plain_decimal_below}
 use Rattle.sip_text.specs.Escapes.{unescaped}
-use Rattle.sip_uri.specs.host.Host.{is_host}
+use Rattle.sip_uri.specs.Host.{is_host}
 use Rattle.sip_audit.specs.declared.error.AuditError.{AuditError}
 use Rattle.sip_audit.specs.declared.error.AuditError.TheVariants.{NoMemory, BadLine}
 use Rattle.sip_audit.specs.declared.record.Operation.{Operation}

@@ -16,13 +16,3 @@ pub use error::AuditError;
 pub use reading::read_line;
 pub use record::{Operation, Outcome, Record};
 pub use writing::line_of;
-
-/// Of `sip_text`.
-pub mod text {
-    pub use sip_text::{Bytes, Items};
-}
-
-/// Of `sip_host`.
-pub mod host {
-    pub use sip_uri::host::Addr;
-}

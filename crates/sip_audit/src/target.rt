@@ -9,8 +9,7 @@ ghost use Rattle.sip_audit.specs.Reading.{Gives};
 use crate::error::AuditError;
 use crate::name::is_name_byte;
 use sip_text::{Bytes, TextError, same_bytes, split_once, unescape};
-use sip_uri::Aor;
-use sip_uri::host::is_host;
+use sip_uri::{Aor, is_host};
 use std::alloc::{AllocError, Global};
 
 /// A hexadecimal digit, letters in upper case.

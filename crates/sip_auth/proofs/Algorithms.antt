@@ -3,13 +3,13 @@ use Rattle.std.proofs.Common.{◌≡◌, ℕ, Bool, true, false, cond, List, [],
 use Rattle.std.specs.Prelude.{find, is_some, ◌&&◌, ◌||◌}
 use Rattle.std.specs.List.{AllByRecursion}
 use Rattle.std.specs.Option.{option_and_then}
-use Rattle.sip_nonces.specs.digest.declared.algorithm.Algorithm.{Algorithm}
-use Rattle.sip_nonces.specs.digest.declared.algorithm.Algorithm.TheVariants.{Md5, Sha256}
-use Rattle.sip_nonces.specs.declared.nonces.Nonce.{Nonce}
-use Rattle.sip_nonces.specs.digest.Protection.{Protection}
-use Rattle.sip_nonces.specs.digest.Credential.{count_of}
-use Rattle.sip_credentials.specs.declared.credentials.Credentials.{Credentials}
-use Rattle.sip_policy.specs.users.declared.user.User.{User}
+use Rattle.sip_digest.specs.declared.algorithm.Algorithm.{Algorithm}
+use Rattle.sip_digest.specs.declared.algorithm.Algorithm.TheVariants.{Md5, Sha256}
+use Rattle.sip_digest.specs.declared.nonces.Nonce.{Nonce}
+use Rattle.sip_digest.specs.Protection.{Protection}
+use Rattle.sip_digest.specs.Credential.{count_of}
+use Rattle.sip_header_credentials.specs.declared.credentials.Credentials.{Credentials}
+use Rattle.sip_policy.specs.declared.user.User.{User}
 use Rattle.sip_policy.specs.User.{is_named}
 use Rattle.sip_auth.specs.Offer.{offers_sha256, HasMd5Alone, with_md5_alone}
 use Rattle.sip_auth.specs.Proof.{Proof, Claim, Wrong, algorithm_of, protection_of, claim_with, claim_by, claim_of, key_of, proof_with_key, proof_by, proof_from, is_equal_uri}

@@ -5,21 +5,21 @@ use Rattle.std.specs.Option.{option_and_then}
 use Rattle.std.proofs.lemmas.Bool.Decides.{nat_tests}
 use Rattle.std.proofs.lemmas.Slice.Eq.{bytes_eq-Decides}
 use Rattle.std.proofs.lemmas.List.Elements.{Contains-append_right, Contains-append_left}
-use Rattle.sip_credentials.specs.form.declared.message.Start.{Start}
-use Rattle.sip_credentials.specs.form.declared.message.Start.TheVariants.{Request, Status}
-use Rattle.sip_credentials.specs.form.declared.message.Message.{Message}
-use Rattle.sip_credentials.specs.field.Values.{values_of}
-use Rattle.sip_credentials.specs.declared.credentials.Credentials.{Credentials}
-use Rattle.sip_credentials.specs.Credentials.{credentials_of, is_realm}
-use Rattle.sip_nonces.specs.digest.Answers.{answer_of}
-use Rattle.sip_nonces.specs.digest.Credential.{Credential, is_answer, count_of}
-use Rattle.sip_nonces.specs.NonceText.{nonce_text, word_of}
-use Rattle.sip_nonces.specs.Nonces.{IsLive, is_this, row_of, standing, worth_of}
-use Rattle.sip_nonces.specs.declared.nonces.Nonce.{Nonce}
-use Rattle.sip_nonces.specs.declared.nonces.Worth.{Worth}
-use Rattle.sip_nonces.specs.declared.nonces.Worth.TheVariants as Worths
-use Rattle.sip_nonces.proofs.NonceTexts.{names_word}
-use Rattle.sip_policy.specs.users.declared.user.User.{User}
+use Rattle.sip_message_form.specs.declared.message.Start.{Start}
+use Rattle.sip_message_form.specs.declared.message.Start.TheVariants.{Request, Status}
+use Rattle.sip_message_form.specs.declared.message.Message.{Message}
+use Rattle.sip_message_fields.specs.Values.{values_of}
+use Rattle.sip_header_credentials.specs.declared.credentials.Credentials.{Credentials}
+use Rattle.sip_header_credentials.specs.Credentials.{credentials_of, is_realm}
+use Rattle.sip_digest.specs.Answers.{answer_of}
+use Rattle.sip_digest.specs.Credential.{Credential, is_answer, count_of}
+use Rattle.sip_digest.specs.NonceText.{nonce_text, word_of}
+use Rattle.sip_digest.specs.Nonces.{IsLive, is_this, row_of, standing, worth_of}
+use Rattle.sip_digest.specs.declared.nonces.Nonce.{Nonce}
+use Rattle.sip_digest.specs.declared.nonces.Worth.{Worth}
+use Rattle.sip_digest.specs.declared.nonces.Worth.TheVariants as Worths
+use Rattle.sip_digest.proofs.NonceTexts.{names_word}
+use Rattle.sip_policy.specs.declared.user.User.{User}
 use Rattle.sip_policy.specs.User.{is_named}
 use Rattle.sip_auth.specs.Proof as Proofs
 use Rattle.sip_auth.specs.Proof.{Claim, for_realm, or_else, first_for_realm, credentials_field, claim_of, is_equal_uri, key_of, proof_with_key, proof_by, proof_from, proof_in, proof_of}

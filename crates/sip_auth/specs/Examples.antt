@@ -1,14 +1,14 @@
 -- Requests with credentials, and what they prove to the sample's users.
 use Rattle.std.specs.Prelude.{ℕ, List, [], ◌∷◌, ◌++◌, codes, Some}
-use Rattle.sip_credentials.specs.field.declared.field_name.FieldName.{FieldName}
-use Rattle.sip_credentials.specs.form.declared.message.Start.TheVariants.{Request}
-use Rattle.sip_credentials.specs.form.declared.message.Message.{Message}
-use Rattle.sip_way.specs.Examples.{sample_realm}
-use Rattle.sip_nonces.specs.digest.declared.algorithm.Algorithm.TheVariants.{Md5}
-use Rattle.sip_nonces.specs.digest.Answers.{answer_of}
-use Rattle.sip_nonces.specs.digest.Credential.{Credential}
-use Rattle.sip_nonces.specs.digest.Protection.{Protection}
-use Rattle.sip_nonces.specs.declared.nonces.Nonce.{Nonce}
+use Rattle.sip_message_fields.specs.declared.field_name.FieldName.{FieldName}
+use Rattle.sip_message_form.specs.declared.message.Start.TheVariants.{Request}
+use Rattle.sip_message_form.specs.declared.message.Message.{Message}
+use Rattle.sip_route.specs.Examples.{sample_realm}
+use Rattle.sip_digest.specs.declared.algorithm.Algorithm.TheVariants.{Md5}
+use Rattle.sip_digest.specs.Answers.{answer_of}
+use Rattle.sip_digest.specs.Credential.{Credential}
+use Rattle.sip_digest.specs.Protection.{Protection}
+use Rattle.sip_digest.specs.declared.nonces.Nonce.{Nonce}
 use Rattle.sip_policy.specs.Examples.{sample_users}
 use Rattle.sip_auth.specs.Proof.{Proof, proof_of}
 

@@ -1,7 +1,7 @@
 -- What a challenge offers (RFC 8760 2.3).
 use Rattle.std.specs.Prelude.{◌≡◌, Bool, is_some, List, None}
 use Rattle.std.specs.List.{list_any}
-use Rattle.sip_policy.specs.users.declared.user.User.{User}
+use Rattle.sip_policy.specs.declared.user.User.{User}
 
 -- SHA-256 is offered where some user could answer by it
 abbrev pub offers_sha256 : List User → Bool

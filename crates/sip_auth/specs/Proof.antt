@@ -3,28 +3,28 @@ use Rattle.std.specs.Prelude.{ℕ, Bool, true, false, ◌&&◌, is_some, if◌th
 use Rattle.std.specs.Option.{option_and_then}
 use Rattle.std.specs.Result.{result_ok}
 use Rattle.std.specs.Str.{bytes_eq}
-use Rattle.sip_policy.specs.text.Words.{is_same_text}
-use Rattle.sip_policy.specs.uri.declared.uri.Uri.{Uri}
-use Rattle.sip_way.specs.equality.Equality.{same}
-use Rattle.sip_policy.specs.uri.Reading.{reading_of}
-use Rattle.sip_nonces.specs.digest.declared.algorithm.Algorithm.{Algorithm}
-use Rattle.sip_nonces.specs.digest.declared.algorithm.Algorithm.TheVariants.{Md5, Sha256}
-use Rattle.sip_nonces.specs.digest.Algorithm.{name_of}
-use Rattle.sip_nonces.specs.digest.Protection.{Protection}
-use Rattle.sip_nonces.specs.digest.Credential.{Credential, count_of}
-use Rattle.sip_nonces.specs.Nonces.{worth_of, spent_by}
-use Rattle.sip_nonces.specs.declared.nonces.Nonce.{Nonce}
-use Rattle.sip_nonces.specs.declared.nonces.Worth.{Worth}
-use Rattle.sip_credentials.specs.field.declared.field_name.FieldName.{FieldName}
-use Rattle.sip_credentials.specs.field.declared.field_name.FieldName.TheVariants as Name
-use Rattle.sip_credentials.specs.field.declared.field.Field.{Field}
-use Rattle.sip_credentials.specs.form.declared.message.Start.{Start}
-use Rattle.sip_credentials.specs.form.declared.message.Start.TheVariants.{Request, Status}
-use Rattle.sip_credentials.specs.form.declared.message.Message.{Message}
-use Rattle.sip_credentials.specs.declared.credentials.Credentials.{Credentials}
-use Rattle.sip_credentials.specs.field.Values.{values_of}
-use Rattle.sip_credentials.specs.Credentials.{credentials_of, is_realm}
-use Rattle.sip_policy.specs.users.declared.user.User.{User}
+use Rattle.sip_text.specs.Words.{is_same_text}
+use Rattle.sip_uri.specs.declared.uri.Uri.{Uri}
+use Rattle.sip_uri_equality.specs.Equality.{same}
+use Rattle.sip_uri.specs.Reading.{reading_of}
+use Rattle.sip_digest.specs.declared.algorithm.Algorithm.{Algorithm}
+use Rattle.sip_digest.specs.declared.algorithm.Algorithm.TheVariants.{Md5, Sha256}
+use Rattle.sip_digest.specs.Algorithm.{name_of}
+use Rattle.sip_digest.specs.Protection.{Protection}
+use Rattle.sip_digest.specs.Credential.{Credential, count_of}
+use Rattle.sip_digest.specs.Nonces.{worth_of, spent_by}
+use Rattle.sip_digest.specs.declared.nonces.Nonce.{Nonce}
+use Rattle.sip_digest.specs.declared.nonces.Worth.{Worth}
+use Rattle.sip_message_fields.specs.declared.field_name.FieldName.{FieldName}
+use Rattle.sip_message_fields.specs.declared.field_name.FieldName.TheVariants as Name
+use Rattle.sip_message_fields.specs.declared.field.Field.{Field}
+use Rattle.sip_message_form.specs.declared.message.Start.{Start}
+use Rattle.sip_message_form.specs.declared.message.Start.TheVariants.{Request, Status}
+use Rattle.sip_message_form.specs.declared.message.Message.{Message}
+use Rattle.sip_header_credentials.specs.declared.credentials.Credentials.{Credentials}
+use Rattle.sip_message_fields.specs.Values.{values_of}
+use Rattle.sip_header_credentials.specs.Credentials.{credentials_of, is_realm}
+use Rattle.sip_policy.specs.declared.user.User.{User}
 use Rattle.sip_policy.specs.User.{is_named}
 
 -- A request proves to come from the user of a name by a credential; or would, but for the nonce of it; or proves nothing.

@@ -1,11 +1,11 @@
 -- A wrong password, and credentials of two realms in one request, for the worked examples.
 use Rattle.std.specs.Prelude.{ℕ, List, [], ◌∷◌, codes}
-use Rattle.sip_credentials.specs.field.declared.field_name.FieldName.TheVariants as Name
-use Rattle.sip_credentials.specs.form.declared.message.Start.TheVariants.{Request}
-use Rattle.sip_credentials.specs.form.declared.message.Message.{Message}
-use Rattle.sip_way.specs.Examples.{sample_realm}
-use Rattle.sip_nonces.specs.digest.declared.algorithm.Algorithm.TheVariants.{Md5}
-use Rattle.sip_nonces.specs.digest.Answers.{a1_of}
+use Rattle.sip_message_fields.specs.declared.field_name.FieldName.TheVariants as Name
+use Rattle.sip_message_form.specs.declared.message.Start.TheVariants.{Request}
+use Rattle.sip_message_form.specs.declared.message.Message.{Message}
+use Rattle.sip_route.specs.Examples.{sample_realm}
+use Rattle.sip_digest.specs.declared.algorithm.Algorithm.TheVariants.{Md5}
+use Rattle.sip_digest.specs.Answers.{a1_of}
 use Rattle.sip_policy.specs.Examples.{mufasas_a1}
 use Rattle.sip_auth.specs.Examples.{credential}
 

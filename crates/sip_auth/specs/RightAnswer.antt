@@ -1,16 +1,16 @@
 -- What a right proof rests on.
 use Rattle.std.specs.Prelude.{◌≡◌, ◌<◌, ℕ, true, List, Contains, Some}
-use Rattle.sip_credentials.specs.form.declared.message.Start.TheVariants.{Request}
-use Rattle.sip_credentials.specs.form.declared.message.Message.{Message}
-use Rattle.sip_credentials.specs.field.Values.{values_of}
-use Rattle.sip_credentials.specs.declared.credentials.Credentials.{Credentials}
-use Rattle.sip_credentials.specs.Credentials.{credentials_of, is_realm}
-use Rattle.sip_nonces.specs.digest.Answers.{answer_of}
-use Rattle.sip_nonces.specs.digest.Credential.{Credential, count_of}
-use Rattle.sip_nonces.specs.NonceText.{nonce_text}
-use Rattle.sip_nonces.specs.Nonces.{IsLive}
-use Rattle.sip_nonces.specs.declared.nonces.Nonce.{Nonce}
-use Rattle.sip_policy.specs.users.declared.user.User.{User}
+use Rattle.sip_message_form.specs.declared.message.Start.TheVariants.{Request}
+use Rattle.sip_message_form.specs.declared.message.Message.{Message}
+use Rattle.sip_message_fields.specs.Values.{values_of}
+use Rattle.sip_header_credentials.specs.declared.credentials.Credentials.{Credentials}
+use Rattle.sip_header_credentials.specs.Credentials.{credentials_of, is_realm}
+use Rattle.sip_digest.specs.Answers.{answer_of}
+use Rattle.sip_digest.specs.Credential.{Credential, count_of}
+use Rattle.sip_digest.specs.NonceText.{nonce_text}
+use Rattle.sip_digest.specs.Nonces.{IsLive}
+use Rattle.sip_digest.specs.declared.nonces.Nonce.{Nonce}
+use Rattle.sip_policy.specs.declared.user.User.{User}
 use Rattle.sip_auth.specs.Proof.{claim_of, credentials_field, is_equal_uri, key_of}
 
 -- A credential proves a user: some value of the request's field for credentials says it, for this realm and for its Request-URI; its response is the answer by the key of a configured

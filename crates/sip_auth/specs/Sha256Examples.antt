@@ -1,9 +1,9 @@
 -- Credentials by SHA-256. The responses were made by another program.
 use Rattle.std.specs.Prelude.{ℕ, List, [], ◌∷◌, ◌++◌, codes, Some}
-use Rattle.sip_credentials.specs.field.declared.field_name.FieldName.TheVariants as Name
-use Rattle.sip_credentials.specs.form.declared.message.Message.{Message}
-use Rattle.sip_way.specs.Examples.{sample_realm}
-use Rattle.sip_policy.specs.users.declared.user.User.{User}
+use Rattle.sip_message_fields.specs.declared.field_name.FieldName.TheVariants as Name
+use Rattle.sip_message_form.specs.declared.message.Message.{Message}
+use Rattle.sip_route.specs.Examples.{sample_realm}
+use Rattle.sip_policy.specs.declared.user.User.{User}
 use Rattle.sip_policy.specs.Examples.{user_of, mufasas_a1}
 use Rattle.sip_auth.specs.Examples.{request_with, used_often}
 use Rattle.sip_auth.specs.Proof.{Proof, proof_of}

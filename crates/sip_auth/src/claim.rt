@@ -1,10 +1,10 @@
 ghost use Rattle.std.specs.Prelude.{◌≡◌};
-ghost use Rattle.sip_nonces.specs.digest.Credential.{shown};
-ghost use Rattle.sip_nonces.specs.digest.Protection.{seen};
+ghost use Rattle.sip_digest.specs.Credential.{shown};
+ghost use Rattle.sip_digest.specs.Protection.{seen};
 
 use crate::quality::Quality;
-use sip_credentials::view::Value;
-use sip_nonces::digest::{Algorithm, Credential, Protection};
+use sip_digest::{Algorithm, Credential, Protection};
+use sip_message_fields::Value;
 use std::marker::Model;
 
 /// What credentials claim for a request, as parts of what was read: a user's name, and the credential that is to

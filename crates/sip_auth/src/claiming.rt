@@ -3,10 +3,10 @@ ghost use Rattle.sip_auth.specs.Proof.{algorithm_of, protection_of, is_protected
 
 use crate::claim::Claim;
 use crate::quality::Quality;
-use sip_credentials::Credentials;
-use sip_credentials::view::Value;
-use sip_nonces::digest::Algorithm;
-use sip_policy::text::{same_bytes, same_no_case};
+use sip_digest::Algorithm;
+use sip_header_credentials::Credentials;
+use sip_message_fields::Value;
+use sip_text::{same_bytes, same_no_case};
 
 /// The algorithm of a name, in any case; MD5 where none is named (RFC 2617 3.2.1; RFC 8760 2.1).
 fn algorithm_of(name: &Option<Value<'_>>) -> Option<Algorithm>

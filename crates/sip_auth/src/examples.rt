@@ -1,6 +1,6 @@
 ghost use Rattle.std.specs.Prelude.{◌≡◌, [], codes, true, false, Some, None};
-ghost use Rattle.sip_credentials.specs.field.declared.field_name.FieldName.TheVariants as Name;
-ghost use Rattle.sip_way.specs.Examples.{sample_realm};
+ghost use Rattle.sip_message_fields.specs.declared.field_name.FieldName.TheVariants as Name;
+ghost use Rattle.sip_route.specs.Examples.{sample_realm};
 ghost use Rattle.sip_policy.specs.Examples.{mufasas_a1, alices_a1, sample_users};
 ghost use Rattle.sip_auth.specs.Proof.{Proof, proof_of, proven, is_stale, used};
 ghost use Rattle.sip_auth.specs.Sha256Examples as ByBoth;

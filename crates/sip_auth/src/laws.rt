@@ -1,11 +1,11 @@
 ghost use Rattle.std.specs.Prelude.{◌≡◌, ◌≢◌, ◌↔◌, ℕ, List, map, Some, None, false};
 ghost use Rattle.std.specs.List.{AllByRecursion};
-ghost use Rattle.sip_nonces.specs.digest.declared.algorithm.Algorithm.TheVariants.{Md5, Sha256};
-ghost use Rattle.sip_nonces.specs.digest.Credential.{Credential};
-ghost use Rattle.sip_nonces.specs.declared.nonces.Nonce.{Nonce};
-ghost use Rattle.sip_credentials.specs.form.declared.message.Message.{Message};
-ghost use Rattle.sip_credentials.specs.declared.credentials.Credentials.{Credentials};
-ghost use Rattle.sip_policy.specs.users.declared.user.User.{User};
+ghost use Rattle.sip_digest.specs.declared.algorithm.Algorithm.TheVariants.{Md5, Sha256};
+ghost use Rattle.sip_digest.specs.Credential.{Credential};
+ghost use Rattle.sip_digest.specs.declared.nonces.Nonce.{Nonce};
+ghost use Rattle.sip_message_form.specs.declared.message.Message.{Message};
+ghost use Rattle.sip_header_credentials.specs.declared.credentials.Credentials.{Credentials};
+ghost use Rattle.sip_policy.specs.declared.user.User.{User};
 ghost use Rattle.sip_auth.specs.Offer.{offers_sha256, HasMd5Alone, with_md5_alone};
 ghost use Rattle.sip_auth.specs.Proof.{Proof, Claim, claim_of, proof_from, proof_of};
 ghost use Rattle.sip_auth.specs.RightAnswer.{IsRightAnswer};

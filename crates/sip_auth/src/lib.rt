@@ -17,20 +17,3 @@ mod uris;
 pub use offer::offers_sha256;
 pub use proof::Proof;
 pub use proving::proof_of;
-
-/// Of `sip_view`.
-pub mod view {
-    pub use sip_credentials::view::ViewFields;
-}
-
-/// Of `sip_policy`.
-pub mod policy {
-    pub use sip_policy::{
-        Decision, Operation, Rules, Ruling, is_own_domain, is_users_address, minute_of,
-    };
-}
-
-/// Of `sip_way`.
-pub mod way {
-    pub use sip_way::{Own, Way};
-}

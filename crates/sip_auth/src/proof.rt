@@ -3,7 +3,7 @@ ghost use Rattle.sip_auth.specs.Proof.{judged, proven, is_stale, used};
 
 use crate::claim::Claim;
 use crate::finding::Finding;
-use sip_nonces::{Nonces, Worth};
+use sip_digest::{Nonces, Worth};
 use std::marker::Model;
 
 /// Whom a request proves to come from: a user by a credential; or a user, but for the nonce of it; or nobody. The

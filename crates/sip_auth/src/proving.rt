@@ -6,9 +6,8 @@ use crate::claiming::claim_of;
 use crate::proof::Proof;
 use crate::realm::{credentials_field, first_for_realm};
 use crate::uris::is_equal_uri;
-use sip_credentials::form::{View, ViewStart};
-use sip_nonces::Nonces;
-use sip_nonces::digest::Algorithm;
+use sip_digest::{Algorithm, Nonces};
+use sip_message_form::{View, ViewStart};
 use sip_policy::{User, Users};
 use std::alloc::{AllocError, Global};
 

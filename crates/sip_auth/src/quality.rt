@@ -1,5 +1,5 @@
-use sip_credentials::view::Value;
-use sip_nonces::digest::Protection;
+use sip_digest::Protection;
+use sip_message_fields::Value;
 use std::marker::Model;
 
 /// The quality of protection `auth` of credentials, as parts of what was read, seen as what an answer says of itself:
@@ -17,7 +17,7 @@ impl<'v> Drop for Quality<'v> {
 }
 
 impl<'v> Model for Quality<'v> {
-    ghost use Rattle.sip_nonces.specs.digest.Protection.{Protection};
+    ghost use Rattle.sip_digest.specs.Protection.{Protection};
 
     ghost Value = { Protection };
 
@@ -26,7 +26,7 @@ impl<'v> Model for Quality<'v> {
 
 impl<'v> Quality<'v> {
     ghost use Rattle.std.specs.Prelude.{◌≡◌, Some};
-    ghost use Rattle.sip_nonces.specs.digest.Protection.{seen};
+    ghost use Rattle.sip_digest.specs.Protection.{seen};
 
     /// This count and this nonce.
     pub fn new(nc: Value<'v>, cnonce: Value<'v>) -> Self

@@ -1,12 +1,11 @@
 ghost use Rattle.std.specs.Prelude.{◌≡◌, IfOk};
-ghost use Rattle.sip_credentials.specs.field.Values.{values_of};
-ghost use Rattle.sip_credentials.specs.Credentials as Said;
+ghost use Rattle.sip_message_fields.specs.Values.{values_of};
+ghost use Rattle.sip_header_credentials.specs.Credentials as Said;
 ghost use Rattle.sip_auth.specs.Proof.{for_realm, first_for_realm, credentials_field};
 
-use sip_credentials::field::FieldName;
-use sip_credentials::view::{Value, ViewField};
-use sip_credentials::{Credentials, credentials_of};
-use sip_policy::text::same_bytes;
+use sip_header_credentials::{Credentials, credentials_of};
+use sip_message_fields::{FieldName, Value, ViewField};
+use sip_text::same_bytes;
 use std::alloc::{AllocError, Global};
 
 /// The field for credentials of requests of a method (RFC 3261 22.2, 22.3).

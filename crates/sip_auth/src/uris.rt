@@ -1,12 +1,12 @@
 ghost use Rattle.std.specs.Prelude.{◌≡◌, IfOk};
 ghost use Rattle.std.specs.Result.{result_ok};
-ghost use Rattle.sip_policy.specs.uri.Reading.{reading_of};
-ghost use Rattle.sip_way.specs.equality.Equality.{same};
+ghost use Rattle.sip_uri.specs.Reading.{reading_of};
+ghost use Rattle.sip_uri_equality.specs.Equality.{same};
 ghost use Rattle.sip_auth.specs.Proof.{is_equal_uri};
 
-use sip_policy::uri::{Uri, UriError, parse_uri};
-use sip_way::equality::laws::equality_is_reflexive;
-use sip_way::equality::same;
+use sip_uri::{Uri, UriError, parse_uri};
+use sip_uri_equality::laws::equality_is_reflexive;
+use sip_uri_equality::same;
 use std::alloc::{AllocError, Global};
 
 /// The SIP URI that bytes write, if they write one.

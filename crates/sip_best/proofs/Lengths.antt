@@ -4,9 +4,9 @@ use Rattle.std.specs.List.{flat_map}
 use Rattle.std.proofs.lemmas.Grind.{flat_map-append}
 use Rattle.std.proofs.lemmas.List.{drop_more}
 use Rattle.std.proofs.lemmas.Bool.Decides.{nat_tests}
-use Rattle.sip_form.specs.field.declared.field.Field.{Field}
-use Rattle.sip_form.specs.declared.message.Message.{Message}
-use Rattle.sip_form.specs.Text.{field_text, field_line, text_of}
+use Rattle.sip_message_fields.specs.declared.field.Field.{Field}
+use Rattle.sip_message_form.specs.declared.message.Message.{Message}
+use Rattle.sip_message_form.specs.Text.{field_text, field_line, text_of}
 use Rattle.sip_best.specs.Best.{with_field, fits, taking_along}
 
 text_grows : (a b c d e : List ℕ) (fields : List Field) (field : Field) → length (a ++ flat_map field_text (fields ++ field ∷ []) ++ b ++ c ++ d ++ e) ≡ length (a ++ flat_map field_text fields ++ b ++ c ++ d ++ e) + length (field_text field)

@@ -1,11 +1,11 @@
 -- The answer that goes up when all branches have a final one and no 2xx went up (RFC 3261 16.7 steps 6 and 7).
 use Rattle.std.specs.Prelude.{◌≡◌, ℕ, Bool, false, ◌||◌, ◌==◌, not, nat_le, List, [], ◌∷◌, ◌++◌, length, filter, Option, Some, None, option_map, if◌then◌else◌}
 use Rattle.std.specs.List.{AllByRecursion, list_any, flat_map}
-use Rattle.sip_form.specs.field.declared.field_name.FieldName.TheVariants.{WwwAuthenticate, ProxyAuthenticate}
-use Rattle.sip_form.specs.field.declared.field.Field.{Field}
-use Rattle.sip_form.specs.declared.message.Message.{Message}
-use Rattle.sip_form.specs.field.FieldName.{is_same_name}
-use Rattle.sip_form.specs.Text.{text_of}
+use Rattle.sip_message_fields.specs.declared.field_name.FieldName.TheVariants.{WwwAuthenticate, ProxyAuthenticate}
+use Rattle.sip_message_fields.specs.declared.field.Field.{Field}
+use Rattle.sip_message_form.specs.declared.message.Message.{Message}
+use Rattle.sip_message_fields.specs.FieldName.{is_same_name}
+use Rattle.sip_message_form.specs.Text.{text_of}
 use Rattle.sip_best.specs.declared.final_answer.Final.{Final}
 use Rattle.sip_best.specs.Ranks.{outranks}
 

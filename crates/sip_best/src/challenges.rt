@@ -1,12 +1,11 @@
 ghost use Rattle.std.specs.Prelude.{◌≡◌, length, filter, min, ◌-◌, ◌^◌, IfOk};
 ghost use Rattle.std.specs.List.{flat_map};
-ghost use Rattle.sip_form.specs.Text.{field_text, text_of};
+ghost use Rattle.sip_message_form.specs.Text.{field_text, text_of};
 ghost use Rattle.sip_best.specs.Best.{is_challenge_status, is_challenge_field, challenges_of, taking_along};
 
 use crate::final_answer::Final;
-use sip_form::Kept;
-use sip_form::field::FieldName;
-use sip_form::view::{ViewField, ViewFields};
+use sip_message_fields::{FieldName, ViewField, ViewFields};
+use sip_message_form::Kept;
 use std::alloc::{AllocError, Global};
 
 /// The greatest number of bytes that a datagram holds.

@@ -6,9 +6,9 @@ ghost use Rattle.sip_best.specs.Best.{chosen_of, is_challenge_status, challenges
 use crate::challenges::{challenges_in, fields_along, is_challenge_status};
 use crate::final_answer::Final;
 use crate::rank::better;
-use sip_form::Kept;
-use sip_form::view::ViewField;
-use sip_shared::Shared;
+use sip_base::Shared;
+use sip_message_fields::ViewField;
+use sip_message_form::Kept;
 use std::alloc::{AllocError, Global};
 
 /// The answer that goes up of some, and those that came before it and behind it.

@@ -1,5 +1,5 @@
-use sip_form::Kept;
-use sip_shared::Shared;
+use sip_base::Shared;
+use sip_message_form::Kept;
 
 /// The final answer of a branch: its status, and the message that came, without its top Via. No message
 /// came where the answer is made here (RFC 3261 16.7 and 16.8). A clone shares the message.

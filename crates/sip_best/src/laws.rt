@@ -1,7 +1,7 @@
 ghost use Rattle.std.specs.Prelude.{◌≡◌, ◌↔◌, ◌≤◌, List, ◌∷◌, length, true, Some, IsSome};
-ghost use Rattle.sip_form.specs.field.declared.field.Field.{Field};
-ghost use Rattle.sip_form.specs.declared.message.Message.{Message};
-ghost use Rattle.sip_form.specs.Text.{text_of};
+ghost use Rattle.sip_message_fields.specs.declared.field.Field.{Field};
+ghost use Rattle.sip_message_form.specs.declared.message.Message.{Message};
+ghost use Rattle.sip_message_form.specs.Text.{text_of};
 ghost use Rattle.sip_best.specs.declared.final_answer.Final.{Final};
 ghost use Rattle.sip_best.specs.Ranks.{Outranks, outranks};
 ghost use Rattle.sip_best.specs.Best.{chosen_of, IsChosen, best_of, taking_along};

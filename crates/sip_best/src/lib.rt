@@ -12,28 +12,3 @@ mod rank;
 pub use choice::best;
 pub use final_answer::Final;
 pub use rank::better;
-
-/// Of `sip_shared`.
-pub mod shared {
-    pub use sip_shared::Shared;
-}
-
-/// Of `sip_text`.
-pub mod text {
-    pub use sip_form::text::{Bytes, Items, Text};
-}
-
-/// Of `sip_field`.
-pub mod field {
-    pub use sip_form::field::{Field, FieldName, Fields};
-}
-
-/// Of `sip_view`.
-pub mod view {
-    pub use sip_form::view::{ViewField, ViewFields};
-}
-
-/// Of `sip_form`.
-pub mod form {
-    pub use sip_form::{Kept, View, ViewStart, write_view};
-}

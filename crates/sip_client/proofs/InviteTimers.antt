@@ -1,9 +1,9 @@
 -- The timers of the client transaction of an INVITE.
 use Rattle.std.proofs.Common.{◌≡◌, true, [], ◌∷◌, ◌⊎◌, inl, inr, refl, sym, ap}
-use Rattle.sip_transaction.specs.Machine.{Starts, KeepsTimers, IsOneOf}
+use Rattle.sip_timers.specs.Machine.{Starts, KeepsTimers, IsOneOf}
 use Rattle.sip_client.specs.ClientInvite.{Heard, success, failure, fired, heard, row, runs, invite_machine}
-use Rattle.sip_transaction.specs.declared.letter.Letter.{Letter}
-use Rattle.sip_transaction.specs.declared.letter.Letter.TheVariants.{A, B, D, M}
+use Rattle.sip_timers.specs.declared.letter.Letter.{Letter}
+use Rattle.sip_timers.specs.declared.letter.Letter.TheVariants.{A, B, D, M}
 use Rattle.sip_client.specs.declared.client_invite.ClientInvite.{ClientInvite}
 use Rattle.sip_client.specs.declared.client_invite.ClientInvite.TheVariants.{Calling, Proceeding, Completed, Accepted, Terminated}
 

@@ -1,6 +1,6 @@
 -- What the actions of a client transaction start and send.
 use Rattle.std.specs.Prelude.{ℕ, Bool, true, false, Option, Some, None}
-use Rattle.sip_transaction.specs.declared.letter.Letter.{Letter}
+use Rattle.sip_timers.specs.declared.letter.Letter.{Letter}
 use Rattle.sip_client.specs.declared.actions.Action.{Action}
 use Rattle.sip_client.specs.declared.actions.Action.TheVariants.{Send, SendAgain, AckAgain, Start}
 

@@ -1,13 +1,13 @@
 -- The client transaction of an INVITE: RFC 3261 17.1.1 and figure 5, with the Accepted state of RFC 6026
 -- 7.2. Times are in milliseconds.
 use Rattle.std.specs.Prelude.{ℕ, ◌≤◌, ◌*◌, min, Bool, true, false, ◌&&◌, nat_le, if◌then◌else◌, List, [], ◌∷◌, Option, Some, None}
-use Rattle.sip_transaction.specs.Machine.{Machine}
-use Rattle.sip_transaction.specs.declared.letter.Letter.{Letter}
+use Rattle.sip_timers.specs.Machine.{Machine}
+use Rattle.sip_timers.specs.declared.letter.Letter.{Letter}
 use Rattle.sip_client.specs.Action.{start_of, sends_request}
 use Rattle.sip_client.specs.declared.actions.Action.{Action}
 use Rattle.sip_client.specs.declared.actions.Action.TheVariants.{Send, SendAgain, Ack, AckAgain, Up, Start}
 use Rattle.sip_client.specs.declared.actions.Report.TheVariants.{Response, Timeout, Unavailable}
-use Rattle.sip_transaction.specs.declared.letter.Letter.TheVariants.{A, B, D, M}
+use Rattle.sip_timers.specs.declared.letter.Letter.TheVariants.{A, B, D, M}
 use Rattle.sip_client.specs.declared.client_invite.ClientInvite.{ClientInvite}
 use Rattle.sip_client.specs.declared.client_invite.ClientInvite.TheVariants.{Calling, Proceeding, Completed, Accepted, Terminated}
 use Rattle.sip_client.specs.declared.client_invite.ClientInviteInput.{ClientInviteInput}

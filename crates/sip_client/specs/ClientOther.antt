@@ -1,13 +1,13 @@
 -- The client transaction of a request that isn't an INVITE: RFC 3261 17.1.2 and figure 6. Times are in
 -- milliseconds.
 use Rattle.std.specs.Prelude.{ℕ, ◌*◌, min, Bool, true, false, ◌&&◌, nat_le, if◌then◌else◌, List, [], ◌∷◌, Option, Some, None}
-use Rattle.sip_transaction.specs.Machine.{Machine}
-use Rattle.sip_transaction.specs.declared.letter.Letter.{Letter}
+use Rattle.sip_timers.specs.Machine.{Machine}
+use Rattle.sip_timers.specs.declared.letter.Letter.{Letter}
 use Rattle.sip_client.specs.Action.{start_of, sends_request}
 use Rattle.sip_client.specs.declared.actions.Action.{Action}
 use Rattle.sip_client.specs.declared.actions.Action.TheVariants.{Send, SendAgain, Up, Start}
 use Rattle.sip_client.specs.declared.actions.Report.TheVariants.{Response, Timeout, Unavailable}
-use Rattle.sip_transaction.specs.declared.letter.Letter.TheVariants.{E, F, K}
+use Rattle.sip_timers.specs.declared.letter.Letter.TheVariants.{E, F, K}
 use Rattle.sip_client.specs.declared.client_other.ClientOther.{ClientOther}
 use Rattle.sip_client.specs.declared.client_other.ClientOther.TheVariants.{Trying, Proceeding, Completed, Terminated}
 use Rattle.sip_client.specs.declared.client_other.ClientOtherInput.{ClientOtherInput}

@@ -1,4 +1,4 @@
-use sip_transaction::Letter;
+use sip_timers::Letter;
 
 /// What goes up to the core.
 #[derive(Clone, Copy)]

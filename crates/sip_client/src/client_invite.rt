@@ -2,7 +2,7 @@ ghost use Rattle.std.specs.Prelude.{◌≡◌};
 ghost use Rattle.sip_client.specs.ClientInvite.{client_invite, start, runs};
 
 use crate::actions::{Action, Report};
-use sip_transaction::{Actions, Letter, T1, doubled};
+use sip_timers::{Actions, Letter, T1, doubled};
 
 /// A client transaction of an INVITE (RFC 3261 17.1.1, with the Accepted state of RFC 6026 7.2).
 ///

@@ -2,7 +2,7 @@ ghost use Rattle.std.specs.Prelude.{◌≡◌};
 ghost use Rattle.sip_client.specs.ClientOther.{client_other, start, runs};
 
 use crate::actions::{Action, Report};
-use sip_transaction::{Actions, Letter, T1, T2, T4, doubled};
+use sip_timers::{Actions, Letter, T1, T2, T4, doubled};
 
 /// A client transaction of a request that isn't an INVITE (RFC 3261 17.1.2).
 ///

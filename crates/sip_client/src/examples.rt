@@ -1,5 +1,5 @@
 ghost use Rattle.std.specs.Prelude.{◌≡◌, [], ◌∷◌, drop};
-ghost use Rattle.sip_transaction.specs.Lives.{left_alone, sends};
+ghost use Rattle.sip_timers.specs.Lives.{left_alone, sends};
 ghost use Rattle.sip_client.specs.ClientInvite.{start, invite_machine};
 ghost use Rattle.sip_client.specs.ClientOther.{start as start_other, other_machine};
 ghost use Rattle.sip_client.specs.declared.actions.Action.TheVariants.{Up};

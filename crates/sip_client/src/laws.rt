@@ -1,8 +1,8 @@
 ghost use Rattle.std.specs.Prelude.{◌≡◌, [], ◌∷◌, true, false, None};
 ghost use Rattle.std.specs.List.{list_any};
-ghost use Rattle.sip_transaction.specs.declared.letter.Letter.TheVariants.{A, B, D, E, F, K, M};
-ghost use Rattle.sip_transaction.specs.Machine.{IsOneOf, KeepsTimers};
-ghost use Rattle.sip_transaction.specs.Resends.{Begins, SendsAgainBy, SendsOnlyBy};
+ghost use Rattle.sip_timers.specs.declared.letter.Letter.TheVariants.{A, B, D, E, F, K, M};
+ghost use Rattle.sip_timers.specs.Machine.{IsOneOf, KeepsTimers};
+ghost use Rattle.sip_timers.specs.Resends.{Begins, SendsAgainBy, SendsOnlyBy};
 ghost use Rattle.sip_client.specs.Action.{acks_again};
 ghost use Rattle.sip_client.specs.ClientInvite.{start, invite_machine, wait_a, IsFailure};
 ghost use Rattle.sip_client.specs.ClientOther.{start as start_other, other_machine, wait_e};
@@ -12,7 +12,7 @@ ghost use Rattle.sip_client.specs.declared.client_other.ClientOther.TheVariants.
 
 use crate::client_invite::{ClientInvite, ClientInviteInput};
 use crate::client_other::ClientOther;
-use sip_transaction::Letter;
+use sip_timers::Letter;
 
 /// The timers of an INVITE's transaction run as its table starts them, and no other does.
 pub fn invite_timers(state: ClientInvite, letter: Letter)

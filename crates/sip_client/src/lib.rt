@@ -1,6 +1,7 @@
-//! The two client transactions of RFC 3261 17.1 as machines: from its state and what it hears, each
-//! answers with its next state and what is to be done. They hold no message, read no clock and take no
-//! memory: whoever runs one sends what it says and sets the timers that it names.
+//! Not in the program: the two client transactions of RFC 3261 17.1 as machines, which are the definition that
+//! the phases of a branch (`Phase` of `sip_state`) are proved to fit, in `model_transactions`.
+//! From its state and what it hears, each machine answers with its next state and what is to be done. It holds no
+//! message, reads no clock and takes no memory. Who changes a timer of the server changes both.
 #![tactic(auto)]
 
 mod actions;
@@ -12,8 +13,3 @@ pub mod laws;
 pub use actions::{Action, Report};
 pub use client_invite::{ClientInvite, ClientInviteInput};
 pub use client_other::{ClientOther, ClientOtherInput};
-
-/// Of `sip_transaction`.
-pub mod transaction {
-    pub use sip_transaction::Letter;
-}

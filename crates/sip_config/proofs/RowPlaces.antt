@@ -8,15 +8,15 @@ use Rattle.toml.specs.Data.{Data, Items, no_items, item, Members, get_member}
 use Rattle.toml.specs.View.{view, items_view}
 use Rattle.toml.specs.declared.value.Value.{Value}
 use Rattle.toml.proofs.Views.{items_view-drop}
-use Rattle.sip_rulebook.specs.text.Words.{without_case}
-use Rattle.sip_rulebook.specs.hops.declared.host_address.HostAddress.{HostAddress}
-use Rattle.sip_rulebook.specs.hops.HostAddress.{is_row_for}
-use Rattle.sip_rulebook.specs.values.declared.error.ConfigError.{ConfigError}
-use Rattle.sip_rulebook.specs.values.declared.error.ConfigError.TheVariants.{BadValue}
-use Rattle.sip_rulebook.specs.values.declared.grammar.Grammar.TheVariants.{Host}
-use Rattle.sip_rulebook.specs.values.Refusals.{◌>>=◌, confirmed}
-use Rattle.sip_rulebook.specs.values.Values.{needed, text_as, address_of, table_of}
-use Rattle.sip_rulebook.specs.values.Rows.{rows_after}
+use Rattle.sip_text.specs.Words.{without_case}
+use Rattle.sip_hops.specs.declared.host_address.HostAddress.{HostAddress}
+use Rattle.sip_hops.specs.HostAddress.{is_row_for}
+use Rattle.sip_config_rules.specs.declared.error.ConfigError.{ConfigError}
+use Rattle.sip_config_rules.specs.declared.error.ConfigError.TheVariants.{BadValue}
+use Rattle.sip_config_rules.specs.declared.grammar.Grammar.TheVariants.{Host}
+use Rattle.sip_config_rules.specs.Refusals.{◌>>=◌, confirmed}
+use Rattle.sip_config_rules.specs.Values.{needed, text_as, address_of, table_of}
+use Rattle.sip_config_rules.specs.Rows.{rows_after}
 use Rattle.sip_config.specs.HostAddresses.{port_in, new_row}
 use Rattle.sip_config.specs.Places.{place_of, is_place, row_besides, rows_besides}
 

@@ -2,21 +2,21 @@
 use Rattle.std.specs.Prelude.{ℕ, not, List, codes, Option, None, Some, Result, Ok, Err}
 use Rattle.toml.specs.Data.{Members}
 use Rattle.toml.specs.Parse.{parse_document}
-use Rattle.sip_rulebook.specs.policy.users.declared.user.User.{User}
-use Rattle.sip_rulebook.specs.policy.declared.rule.Rule.{Rule}
-use Rattle.sip_rulebook.specs.hops.declared.hop.Hop.{Hop}
-use Rattle.sip_rulebook.specs.hops.declared.host_address.HostAddress.{HostAddress}
-use Rattle.sip_settings.specs.declared.config.Config.{Config}
-use Rattle.sip_rulebook.specs.values.declared.error.ConfigError.{ConfigError}
-use Rattle.sip_rulebook.specs.values.declared.error.ConfigError.TheVariants.{BadToml, BadValue, TooMany}
+use Rattle.sip_policy.specs.declared.user.User.{User}
+use Rattle.sip_policy.specs.declared.rule.Rule.{Rule}
+use Rattle.sip_hops.specs.declared.hop.Hop.{Hop}
+use Rattle.sip_hops.specs.declared.host_address.HostAddress.{HostAddress}
+use Rattle.sip_config_types.specs.declared.config.Config.{Config}
+use Rattle.sip_config_rules.specs.declared.error.ConfigError.{ConfigError}
+use Rattle.sip_config_rules.specs.declared.error.ConfigError.TheVariants.{BadToml, BadValue, TooMany}
 use Rattle.sip_config.specs.declared.head.Head.{Head}
-use Rattle.sip_rulebook.specs.values.Refusals.{◌>>=◌, confirmed}
-use Rattle.sip_rulebook.specs.values.Values.{items_at}
+use Rattle.sip_config_rules.specs.Refusals.{◌>>=◌, confirmed}
+use Rattle.sip_config_rules.specs.Values.{items_at}
 use Rattle.sip_config.specs.Head.{head_of}
 use Rattle.sip_config.specs.Users.{users_at}
 use Rattle.sip_config.specs.Hops.{hops_at}
 use Rattle.sip_config.specs.HostAddresses.{host_addresses_at}
-use Rattle.sip_rulebook.specs.Rules.{rule_lines, rules_of}
+use Rattle.sip_config_rules.specs.Rules.{rule_lines, rules_of}
 use Rattle.sip_config.specs.Keys.{knows_all}
 use Rattle.sip_config.specs.Limits.{has_too_many}
 

@@ -1,16 +1,16 @@
 -- What holds of every configuration that a file states.
 use Rattle.std.specs.Prelude.{◌≡◌, ℕ, ◌≤◌, Bool, true, ◌&&◌, ◌==◌, not, nat_le, nat_lt, List, [], ◌∷◌, length, map}
 use Rattle.std.specs.List.{list_all, list_any}
-use Rattle.sip_rulebook.specs.host.Host.{is_host}
-use Rattle.sip_rulebook.specs.hops.declared.hop.Hop.{Hop}
-use Rattle.sip_rulebook.specs.policy.users.declared.user.User.{User}
-use Rattle.sip_rulebook.specs.policy.declared.rule.Rule.{Rule}
-use Rattle.sip_rulebook.specs.policy.declared.rule_verdict.RuleVerdict.{RuleVerdict}
-use Rattle.sip_rulebook.specs.policy.Rule.{is_numbered}
-use Rattle.sip_rulebook.specs.policy.Users.{have_own_names}
-use Rattle.sip_settings.specs.declared.config.Config.{Config}
-use Rattle.sip_rulebook.specs.values.Grammar.{is_realm, is_host_name, is_own_host_name, is_name}
-use Rattle.sip_rulebook.specs.Rules.{names_known_group}
+use Rattle.sip_uri.specs.Host.{is_host}
+use Rattle.sip_hops.specs.declared.hop.Hop.{Hop}
+use Rattle.sip_policy.specs.declared.user.User.{User}
+use Rattle.sip_policy.specs.declared.rule.Rule.{Rule}
+use Rattle.sip_policy.specs.declared.rule_verdict.RuleVerdict.{RuleVerdict}
+use Rattle.sip_policy.specs.Rule.{is_numbered}
+use Rattle.sip_policy.specs.Users.{have_own_names}
+use Rattle.sip_config_types.specs.declared.config.Config.{Config}
+use Rattle.sip_config_rules.specs.Grammar.{is_realm, is_host_name, is_own_host_name, is_name}
+use Rattle.sip_config_rules.specs.Rules.{names_known_group}
 
 -- whether no number stands twice
 abbrev pub numbers_differ : List ℕ → Bool

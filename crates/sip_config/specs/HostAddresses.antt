@@ -2,14 +2,14 @@
 use Rattle.std.specs.Prelude.{ℕ, not, List, [], codes, Option, None, Some, Result, Ok}
 use Rattle.std.specs.List.{list_any}
 use Rattle.toml.specs.Data.{Data, Members, get_member}
-use Rattle.sip_rulebook.specs.hops.declared.host_address.HostAddress.{HostAddress}
-use Rattle.sip_rulebook.specs.hops.HostAddress.{is_row_for}
-use Rattle.sip_rulebook.specs.values.declared.error.ConfigError.{ConfigError}
-use Rattle.sip_rulebook.specs.values.declared.error.ConfigError.TheVariants.{BadValue}
-use Rattle.sip_rulebook.specs.values.declared.grammar.Grammar.TheVariants.{Host}
-use Rattle.sip_rulebook.specs.values.Refusals.{◌>>=◌, confirmed}
-use Rattle.sip_rulebook.specs.values.Values.{needed, text_as, address_of, port_of, items_at}
-use Rattle.sip_rulebook.specs.values.Rows.{rows_after}
+use Rattle.sip_hops.specs.declared.host_address.HostAddress.{HostAddress}
+use Rattle.sip_hops.specs.HostAddress.{is_row_for}
+use Rattle.sip_config_rules.specs.declared.error.ConfigError.{ConfigError}
+use Rattle.sip_config_rules.specs.declared.error.ConfigError.TheVariants.{BadValue}
+use Rattle.sip_config_rules.specs.declared.grammar.Grammar.TheVariants.{Host}
+use Rattle.sip_config_rules.specs.Refusals.{◌>>=◌, confirmed}
+use Rattle.sip_config_rules.specs.Values.{needed, text_as, address_of, port_of, items_at}
+use Rattle.sip_config_rules.specs.Rows.{rows_after}
 
 -- a port, 5060 where none is there (RFC 3261 19.1.2)
 abbrev pub port_in : Option Data → Result ℕ ConfigError

@@ -3,13 +3,13 @@ use Rattle.std.specs.Prelude.{ℕ, Bool, ◌&&◌, ◌==◌, not, List, [], ◌�
 use Rattle.std.specs.List.{list_any}
 use Rattle.std.specs.Str.{bytes_eq}
 use Rattle.toml.specs.Data.{Items, no_items, item, Members, get_member}
-use Rattle.sip_rulebook.specs.text.Words.{without_case}
-use Rattle.sip_rulebook.specs.hops.declared.host_address.HostAddress.{HostAddress}
-use Rattle.sip_rulebook.specs.values.declared.error.ConfigError.{ConfigError}
-use Rattle.sip_rulebook.specs.values.declared.error.ConfigError.TheVariants.{BadValue}
-use Rattle.sip_rulebook.specs.values.declared.grammar.Grammar.TheVariants.{Host}
-use Rattle.sip_rulebook.specs.values.Refusals.{◌>>=◌, confirmed}
-use Rattle.sip_rulebook.specs.values.Values.{needed, text_as, address_of, table_of}
+use Rattle.sip_text.specs.Words.{without_case}
+use Rattle.sip_hops.specs.declared.host_address.HostAddress.{HostAddress}
+use Rattle.sip_config_rules.specs.declared.error.ConfigError.{ConfigError}
+use Rattle.sip_config_rules.specs.declared.error.ConfigError.TheVariants.{BadValue}
+use Rattle.sip_config_rules.specs.declared.grammar.Grammar.TheVariants.{Host}
+use Rattle.sip_config_rules.specs.Refusals.{◌>>=◌, confirmed}
+use Rattle.sip_config_rules.specs.Values.{needed, text_as, address_of, table_of}
 use Rattle.sip_config.specs.HostAddresses.{port_in}
 
 -- the host that a row is for, its letters small ones, and the port

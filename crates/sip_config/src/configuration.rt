@@ -1,6 +1,6 @@
 ghost use Rattle.std.specs.Prelude.{◌≡◌};
 ghost use Rattle.toml.specs.View.{table_view};
-ghost use Rattle.sip_rulebook.specs.values.Refusals.{Reads};
+ghost use Rattle.sip_config_rules.specs.Refusals.{Reads};
 ghost use Rattle.sip_config.specs.Configuration as Definitions;
 
 use crate::head::{Head, head_of};
@@ -9,14 +9,13 @@ use crate::host_addresses::host_addresses_at;
 use crate::keys::knows_all;
 use crate::limits::has_too_many;
 use crate::users::users_at;
-use sip_rulebook::hops::{Hop, HostAddress};
-use sip_rulebook::host::Addr;
-use sip_rulebook::policy::{Rule, Users};
-use sip_rulebook::text::Items;
-use sip_rulebook::values::{ConfigError, confirm, items_at};
-use sip_rulebook::{check_rules, rules_of};
-use sip_settings::Config;
-use sip_settings::way::Own;
+use sip_config_rules::{ConfigError, check_rules, confirm, items_at, rules_of};
+use sip_config_types::Config;
+use sip_hops::{Hop, HostAddress};
+use sip_policy::{Rule, Users};
+use sip_route::Own;
+use sip_text::Items;
+use sip_uri::Addr;
 use std::alloc::Global;
 use toml::Table;
 

@@ -1,8 +1,8 @@
 ghost use Rattle.std.specs.Prelude.{◌≡◌, ◌++◌, [], codes, pos, Ok, Err};
 ghost use Rattle.toml.specs.Parse.{parse_document};
-ghost use Rattle.sip_rulebook.specs.policy.Examples.{rules_with, by_day};
-ghost use Rattle.sip_settings.specs.Sample.{sample};
-ghost use Rattle.sip_rulebook.specs.values.declared.error.ConfigError.TheVariants as Refusal;
+ghost use Rattle.sip_policy.specs.Examples.{rules_with, by_day};
+ghost use Rattle.sip_config_types.specs.Sample.{sample};
+ghost use Rattle.sip_config_rules.specs.declared.error.ConfigError.TheVariants as Refusal;
 ghost use Rattle.sip_config.specs.Configuration.{stated_in};
 ghost use Rattle.sip_config.specs.Examples as Texts;
 

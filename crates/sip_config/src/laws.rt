@@ -1,6 +1,6 @@
 ghost use Rattle.std.specs.Prelude.{◌≡◌, Option, Ok};
 ghost use Rattle.toml.specs.Data.{Members};
-ghost use Rattle.sip_settings.specs.declared.config.Config.{Config};
+ghost use Rattle.sip_config_types.specs.declared.config.Config.{Config};
 ghost use Rattle.sip_config.specs.Configuration.{configuration_of};
 ghost use Rattle.sip_config.specs.Configured.{IsConfigured, IsWithinLimits};
 

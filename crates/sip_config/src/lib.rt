@@ -15,4 +15,4 @@ mod places;
 mod users;
 
 pub use configuration::read_config;
-pub use sip_rulebook::values::ConfigError;
+pub use sip_config_rules::ConfigError;

@@ -1,12 +1,12 @@
 ghost use Rattle.std.specs.Prelude.{◌≡◌, ℕ, List, [], ◌∷◌, ◌++◌, not, map, if◌then◌else◌, IfOk, IfErr, OnErr};
 ghost use Rattle.std.specs.List.{list_any};
-ghost use Rattle.sip_rulebook.specs.text.Words.{without_case};
-ghost use Rattle.sip_rulebook.specs.values.declared.error.ConfigError.TheVariants.{NoMemory};
+ghost use Rattle.sip_text.specs.Words.{without_case};
+ghost use Rattle.sip_config_rules.specs.declared.error.ConfigError.TheVariants.{NoMemory};
 ghost use Rattle.sip_config.specs.Places.{is_place};
 
 use indexmap::IndexSet;
-use sip_rulebook::text::lower_case;
-use sip_rulebook::values::ConfigError;
+use sip_config_rules::ConfigError;
+use sip_text::lower_case;
 use std::alloc::Global;
 use std::marker::Model;
 

@@ -1,2 +1,1 @@
-pub mod ByNumbers
-pub use Rattle.sip_state.proofs as of_state
+pub mod Joined

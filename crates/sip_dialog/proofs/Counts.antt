@@ -3,7 +3,7 @@ use Rattle.std.proofs.Common.{◌≡◌, ◌≤◌, List, [], ◌∷◌, ◌++�
 use Rattle.std.specs.Prelude.{◌||◌}
 use Rattle.std.specs.List.{list_any}
 use Rattle.std.proofs.lemmas.Bool.Decides.{nat_tests}
-use Rattle.sip_header.specs.host.declared.addr.Addr.{Addr}
+use Rattle.sip_uri.specs.declared.addr.Addr.{Addr}
 use Rattle.sip_dialog.specs.Addresses.{is_same_addr, with_address, with_addresses}
 
 one_more : (held : List Addr) (a : Addr) → length held ≤ 16 → length (with_address held a) ≤ 16

@@ -3,16 +3,16 @@ use Rattle.std.specs.Prelude.{Bool, ◌&&◌, ◌||◌, ◌==◌, nat_le, List, 
 use Rattle.std.specs.Option.{option_and_then}
 use Rattle.std.specs.List.{list_any, filter_map}
 use Rattle.std.specs.Str.{bytes_eq}
-use Rattle.sip_header.specs.uri.declared.uri.Uri.{Uri}
-use Rattle.sip_header.specs.field.declared.field.Field.{Field}
-use Rattle.sip_header.specs.field.declared.field_name.FieldName.TheVariants as Name
-use Rattle.sip_header.specs.field.FieldName.{is_same_name}
+use Rattle.sip_uri.specs.declared.uri.Uri.{Uri}
+use Rattle.sip_message_fields.specs.declared.field.Field.{Field}
+use Rattle.sip_message_fields.specs.declared.field_name.FieldName.TheVariants as Name
+use Rattle.sip_message_fields.specs.FieldName.{is_same_name}
 use Rattle.sip_header.specs.declared.name_addr.AnyUri.{AnyUri}
 use Rattle.sip_header.specs.declared.name_addr.AnyUri.TheVariants.{Sip, Other}
 use Rattle.sip_header.specs.declared.name_addr.NameAddr.{NameAddr}
 use Rattle.sip_header.specs.NameAddr.{name_addr_of}
 use Rattle.sip_header.specs.Route.{route_of}
-use Rattle.sip_header.specs.host.declared.addr.Addr.{Addr}
+use Rattle.sip_uri.specs.declared.addr.Addr.{Addr}
 
 -- whether two addresses are one
 abbrev pub is_same_addr : Addr → Addr → Bool

@@ -3,8 +3,8 @@ use Rattle.std.specs.Prelude.{ℕ, Bool, ◌&&◌, ◌||◌, List, [], Option, o
 use Rattle.std.specs.Option.{option_and_then, unwrap_or}
 use Rattle.std.specs.Result.{result_ok}
 use Rattle.std.specs.Str.{bytes_eq}
-use Rattle.sip_header.specs.field.declared.field.Field.{Field}
-use Rattle.sip_header.specs.field.declared.field_name.FieldName.TheVariants as Name
+use Rattle.sip_message_fields.specs.declared.field.Field.{Field}
+use Rattle.sip_message_fields.specs.declared.field_name.FieldName.TheVariants as Name
 use Rattle.sip_header.specs.declared.core_fields.CoreFields.{CoreFields}
 use Rattle.sip_header.specs.declared.name_addr.NameAddr.{NameAddr}
 use Rattle.sip_header.specs.CoreFields.{name_addr_in}

@@ -1,7 +1,7 @@
 -- The dialogs that a proxy knows: how they are learnt, renewed and ended (this project's profile of RFC 3261 12).
 use Rattle.std.specs.Prelude.{◌≡◌, ◌<◌, ℕ, ◌-◌, Bool, true, ◌&&◌, ◌||◌, ◌==◌, not, nat_lt, nat_le, List, [], ◌∷◌, ◌++◌, length, map, filter, Contains, if◌then◌else◌}
 use Rattle.std.specs.List.{list_any}
-use Rattle.sip_header.specs.host.declared.addr.Addr.{Addr}
+use Rattle.sip_uri.specs.declared.addr.Addr.{Addr}
 use Rattle.sip_dialog.specs.declared.dialog.DialogId.{DialogId}
 use Rattle.sip_dialog.specs.declared.dialog.Dialog.{Dialog}
 use Rattle.sip_dialog.specs.declared.dialog.InviteAnswer.{InviteAnswer}

@@ -1,6 +1,6 @@
 -- The dialog of the worked examples: a call of x's to help.
 use Rattle.std.specs.Prelude.{ℕ, List, [], ◌∷◌, codes, true, false}
-use Rattle.sip_header.specs.host.declared.addr.Addr.{Addr}
+use Rattle.sip_uri.specs.declared.addr.Addr.{Addr}
 use Rattle.sip_dialog.specs.declared.dialog.DialogId.{DialogId}
 use Rattle.sip_dialog.specs.declared.dialog.Dialog.{Dialog}
 use Rattle.sip_dialog.specs.declared.dialog.InviteAnswer.{InviteAnswer}

@@ -8,6 +8,3 @@ pub mod Naming
 pub mod SameNames
 pub mod Table
 pub mod Rows
-pub use Rattle.sip_header.specs.host
-pub use Rattle.sip_header.specs.uri
-pub use Rattle.sip_header.specs as header

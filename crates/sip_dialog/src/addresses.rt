@@ -2,7 +2,7 @@ ghost use Rattle.std.specs.Prelude.{◌≡◌, ◌≤◌, [], length};
 ghost use Rattle.std.specs.List.{list_any};
 ghost use Rattle.sip_dialog.specs.Addresses.{is_same_addr, with_address, with_addresses};
 
-use sip_header::host::Addr;
+use sip_uri::Addr;
 use std::marker::Model;
 
 /// How many addresses a dialog holds.
@@ -25,7 +25,7 @@ pub(crate) struct Addresses {
 
 impl Model for Addresses {
     ghost use Rattle.std.specs.Prelude.{List, ◌≤◌, take};
-    ghost use Rattle.sip_header.specs.host.declared.addr.Addr.{Addr};
+    ghost use Rattle.sip_uri.specs.declared.addr.Addr.{Addr};
 
     ghost Value = { List Addr };
 

@@ -1,5 +1,5 @@
-use sip_header::host::Addr;
-use sip_header::text::{Bytes, Items};
+use sip_text::{Bytes, Items};
+use sip_uri::Addr;
 
 /// What names a dialog (RFC 3261 12): its Call-ID and both tags, as a message of it has them. A From
 /// without a tag has an empty one.

@@ -6,7 +6,7 @@ ghost use Rattle.sip_dialog.specs.Sameness.{SameDialogs};
 use crate::dialog::{DialogId, InviteAnswer};
 use crate::error::DialogError;
 use crate::rows::Rows;
-use sip_header::host::Addr;
+use sip_uri::Addr;
 use std::alloc::Global;
 use std::marker::Model;
 

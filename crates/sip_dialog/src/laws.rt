@@ -1,5 +1,5 @@
 ghost use Rattle.std.specs.Prelude.{◌≡◌, ◌↔◌, ◌≤◌, ℕ, List, length, true};
-ghost use Rattle.sip_header.specs.host.declared.addr.Addr.{Addr};
+ghost use Rattle.sip_uri.specs.declared.addr.Addr.{Addr};
 ghost use Rattle.sip_dialog.specs.declared.dialog.DialogId.{DialogId};
 ghost use Rattle.sip_dialog.specs.declared.dialog.Dialog.{Dialog};
 ghost use Rattle.sip_dialog.specs.declared.dialog.InviteAnswer.{InviteAnswer};

@@ -17,18 +17,3 @@ pub use dialog::{Dialog, DialogId, InviteAnswer};
 pub use dialogs::Dialogs;
 pub use error::DialogError;
 pub use naming::is_same_dialog;
-
-/// Of `sip_host`.
-pub mod host {
-    pub use sip_header::host::Addr;
-}
-
-/// Of `sip_uri`.
-pub mod uri {
-    pub use sip_header::uri::{Aor, Uri, write_uri};
-}
-
-/// Of `sip_header`.
-pub mod header {
-    pub use sip_header::{HeaderError, core_of, tag_of, via_of};
-}

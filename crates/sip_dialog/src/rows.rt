@@ -10,8 +10,8 @@ use crate::dialog::{DialogId, InviteAnswer};
 use crate::error::DialogError;
 use crate::standing::Standing;
 use indexmap::IndexMap;
-use sip_hasher::Keyed;
-use sip_header::host::Addr;
+use sip_base::Keyed;
+use sip_uri::Addr;
 use std::alloc::{AllocError, Global};
 use std::marker::Model;
 

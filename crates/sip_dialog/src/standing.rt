@@ -7,7 +7,7 @@ ghost use Rattle.sip_dialog.specs.Rows.{dialog_of, is_recent};
 
 use crate::addresses::Addresses;
 use crate::dialog::{DialogId, InviteAnswer};
-use sip_header::host::Addr;
+use sip_uri::Addr;
 
 /// How long a dialog is known after its last request, in milliseconds: twelve hours.
 const LIFE: u64 = 43_200_000;

@@ -3,3 +3,6 @@ pub mod Protection
 pub mod Answers
 pub mod HexNumber
 pub mod Credential
+pub mod NonceText
+pub mod Nonces
+pub mod Rows

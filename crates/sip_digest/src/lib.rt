@@ -1,4 +1,5 @@
-//! Digest access authentication: the answers that prove a password, and what credentials say.
+//! Digest access authentication (RFC 2617, RFC 8760): the answers that prove a password, and what credentials say; and the
+//! nonces that were issued in challenges, with what a credential is worth against them (RFC 2617 3.2.1, 3.2.2 and 3.3).
 #![tactic(auto)]
 
 mod algorithm;
@@ -7,10 +8,16 @@ mod credential;
 pub mod examples;
 mod hashing;
 mod hex_numbers;
+pub mod laws;
+pub mod nonce_examples;
+mod nonce_texts;
+mod nonces;
 mod protection;
 
 pub use algorithm::Algorithm;
 pub use answers::{a1, a1_sha256, answer, answer_sha256};
 pub use credential::Credential;
 pub use hex_numbers::hex_number;
+pub use nonce_texts::{nonce_text, word_of};
+pub use nonces::{Nonce, Nonces, Worth};
 pub use protection::Protection;

@@ -1,9 +1,9 @@
 -- Worked examples.
 use Rattle.std.specs.Prelude.{ℕ, List, [], ◌∷◌, codes}
-use Rattle.sip_credentials.specs.field.declared.field_name.FieldName.TheVariants as Name
-use Rattle.sip_credentials.specs.form.declared.message.Start.TheVariants.{Request}
-use Rattle.sip_credentials.specs.form.declared.message.Message.{Message}
-use Rattle.sip_credentials.specs.host.declared.addr.Addr.{Addr}
+use Rattle.sip_message_fields.specs.declared.field_name.FieldName.TheVariants as Name
+use Rattle.sip_message_form.specs.declared.message.Start.TheVariants.{Request}
+use Rattle.sip_message_form.specs.declared.message.Message.{Message}
+use Rattle.sip_uri.specs.declared.addr.Addr.{Addr}
 
 -- 127.0.0.1:5070
 abbrev pub client : Addr

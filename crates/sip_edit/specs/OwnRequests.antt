@@ -1,17 +1,19 @@
 -- The requests that this server makes: ACK of a final answer that is no 2xx, and CANCEL.
 use Rattle.std.specs.Prelude.{ℕ, List, [], ◌∷◌, ◌++◌, decimal, codes, Option, Some, None, option_map}
 use Rattle.std.specs.Option.{option_and_then, option_to_list}
-use Rattle.sip_credentials.specs.field.declared.field_name.FieldName.TheVariants as Name
-use Rattle.sip_credentials.specs.field.declared.field.Field.{Field}
-use Rattle.sip_credentials.specs.form.declared.message.Start.TheVariants.{Request}
-use Rattle.sip_credentials.specs.form.declared.message.Message.{Message}
-use Rattle.sip_credentials.specs.field.Named.{all_named}
-use Rattle.sip_credentials.specs.header.declared.cseq.CSeq.{CSeq}
-use Rattle.sip_credentials.specs.header.CSeq.{cseq_of}
-use Rattle.sip_credentials.specs.field.Values.{first_value}
-use Rattle.sip_way.specs.Way.{request_uri}
-use Rattle.sip_credentials.specs.FirstField.{first_of}
-use Rattle.sip_edit.specs.Onward.{seventy}
+use Rattle.sip_message_fields.specs.declared.field_name.FieldName.TheVariants as Name
+use Rattle.sip_message_fields.specs.declared.field.Field.{Field}
+use Rattle.sip_message_form.specs.declared.message.Start.TheVariants.{Request}
+use Rattle.sip_message_form.specs.declared.message.Message.{Message}
+use Rattle.sip_message_fields.specs.Named.{all_named, first_of}
+use Rattle.sip_header.specs.declared.cseq.CSeq.{CSeq}
+use Rattle.sip_header.specs.CSeq.{cseq_of}
+use Rattle.sip_message_fields.specs.Values.{first_value}
+use Rattle.sip_route.specs.Way.{request_uri}
+
+-- a Max-Forwards of 70 (RFC 3261 8.1.1.6)
+abbrev pub seventy : Field
+seventy = record { name = Name.MaxForwards; value = codes "70" }
 
 -- a CSeq with the number of another
 abbrev pub cseq_with : List ℕ → Option CSeq → List Field

@@ -1,11 +1,11 @@
 -- The Via that this server puts on top of what it sends, and takes off what comes back.
 use Rattle.std.specs.Prelude.{ℕ, List, ◌++◌, decimal, codes}
 use Rattle.sip_text.specs.Numbers.{hex_text}
-use Rattle.sip_credentials.specs.field.declared.field_name.FieldName.TheVariants as Name
-use Rattle.sip_credentials.specs.field.declared.field.Field.{Field}
-use Rattle.sip_credentials.specs.form.declared.message.Message.{Message}
-use Rattle.sip_way.specs.declared.own.Own.{Own}
-use Rattle.sip_credentials.specs.field.Values.{without_first}
+use Rattle.sip_message_fields.specs.declared.field_name.FieldName.TheVariants as Name
+use Rattle.sip_message_fields.specs.declared.field.Field.{Field}
+use Rattle.sip_message_form.specs.declared.message.Message.{Message}
+use Rattle.sip_route.specs.declared.own.Own.{Own}
+use Rattle.sip_message_fields.specs.Values.{without_first}
 
 -- The branch to a target: the magic cookie, the boot word in sixteen small hexadecimal digits, the number of the datagram that brought the request, and the
 -- target's number from 1 (RFC 3261 8.1.1.7, 16.6 step 8, in this project's profile).

@@ -3,8 +3,6 @@ ghost use Rattle.sip_edit.specs.Examples;
 ghost use Rattle.sip_edit.specs.ReceivedRequest.{response_address};
 ghost use Rattle.sip_edit.specs.TopVia.{received_via};
 
-pub mod onward;
-
 /// A Via with `rport` whose sent-by is a name.
 pub fn rport_example()
     ensures { received_via (codes "SIP/2.0/UDP pc.host.com:5070;branch=z9hG4bKinv1;rport") Examples.client ≡ codes "SIP/2.0/UDP pc.host.com:5070;branch=z9hG4bKinv1;rport=5070;received=127.0.0.1" }

@@ -1,7 +1,6 @@
 //! What a server changes of a message that goes on: the source of a request in its top Via, and where its
 //! responses go; the own Via and its branch, and a response without it; the ACK and the CANCEL of a request that
-//! was sent; and, as definitions, the request as it goes to a target (RFC 3261 9.1, 16.6, 16.7, 17.1.1.3, 18.2.1
-//! and 18.2.2; RFC 3581 4).
+//! was sent (RFC 3261 9.1, 16.6, 16.7, 17.1.1.3, 18.2.1 and 18.2.2; RFC 3581 4).
 #![tactic(auto)]
 
 mod branch_id;
@@ -17,46 +16,3 @@ pub use own_requests::{ack_of, ack_with, cancel_of};
 pub use own_via::{branch_text, own_via_value, pop_via};
 pub use received_request::{response_address, with_top_via};
 pub use top_via::received_via;
-
-/// Of `sip_text`.
-pub mod text {
-    pub use sip_text::Bytes;
-}
-
-/// Of `sip_field`.
-pub mod field {
-    pub use sip_credentials::field::{Field, FieldName};
-}
-
-/// Of `sip_uri`.
-pub mod uri {
-    pub use sip_credentials::uri::{UriError, parse_uri, write_uri};
-}
-
-/// Of `sip_view`.
-pub mod view {
-    pub use sip_credentials::view::{Value, ViewField, ViewFields};
-}
-
-/// Of `sip_form`.
-pub mod form {
-    pub use sip_credentials::form::{
-        Field, FieldName, Fields, KnownName, Value, View, ViewField, ViewFields, ViewName,
-        ViewStart, write_view,
-    };
-}
-
-/// Of `sip_header`.
-pub mod header {
-    pub use sip_credentials::header::{MaxForwards, max_forwards_of, name_addr_of, tag_of};
-}
-
-/// Of `sip_credentials`.
-pub mod credentials {
-    pub use sip_credentials::credentials_of;
-}
-
-/// Of `sip_way`.
-pub mod way {
-    pub use sip_way::{Own, RoutesKept, kept_routes, uri_left};
-}

@@ -1,19 +1,16 @@
 ghost use Rattle.std.specs.Prelude.{◌≡◌, ◌++◌, ◌∷◌, [], decimal, codes, option_map, IfOk, OnOk};
 ghost use Rattle.std.specs.Option.{option_and_then, option_to_list};
-ghost use Rattle.sip_credentials.specs.field.declared.field_name.FieldName.TheVariants as Name;
-ghost use Rattle.sip_credentials.specs.field.Named.{all_named};
-ghost use Rattle.sip_credentials.specs.field.Values.{first_value};
-ghost use Rattle.sip_credentials.specs.form.ViewStart.{start_seen};
-ghost use Rattle.sip_credentials.specs.header.CSeq as CSeqs;
-ghost use Rattle.sip_way.specs.Way as Ways;
-ghost use Rattle.sip_credentials.specs.FirstField.{first_of};
-ghost use Rattle.sip_edit.specs.Onward.{seventy};
+ghost use Rattle.sip_message_fields.specs.declared.field_name.FieldName.TheVariants as Name;
+ghost use Rattle.sip_message_fields.specs.Named.{all_named, first_of};
+ghost use Rattle.sip_message_fields.specs.Values.{first_value};
+ghost use Rattle.sip_message_form.specs.ViewStart.{start_seen};
+ghost use Rattle.sip_header.specs.CSeq as CSeqs;
+ghost use Rattle.sip_route.specs.Way as Ways;
 ghost use Rattle.sip_edit.specs.OwnRequests;
 
-use sip_credentials::form::{
-    FieldName, KnownName, Value, View, ViewField, ViewFields, ViewName, ViewStart,
-};
-use sip_credentials::header::cseq_of;
+use sip_header::cseq_of;
+use sip_message_fields::{FieldName, KnownName, Value, ViewField, ViewFields, ViewName};
+use sip_message_form::{View, ViewStart};
 use sip_text::Bytes;
 use std::alloc::{AllocError, Global};
 
@@ -49,7 +46,7 @@ fn put_given<'v>(out: &mut ViewFields<'v>, field: Option<ViewField<'v>>) -> Resu
 
 /// Adds the Max-Forwards of a new request (RFC 3261 8.1.1.6).
 fn put_seventy(out: &mut ViewFields<'_>) -> Result<(), AllocError>
-    ensures { OnOk result (out.new ≡ out.old ++ seventy ∷ []) }
+    ensures { OnOk result (out.new ≡ out.old ++ OwnRequests.seventy ∷ []) }
 {
     let name = ViewName::of_name(KnownName::MaxForwards);
     out.push(ViewField::new(name, Value::of_part(b"70")))

@@ -1,10 +1,11 @@
 ghost use Rattle.std.specs.Prelude.{◌≡◌, IfOk};
-ghost use Rattle.sip_credentials.specs.field.Values;
+ghost use Rattle.sip_message_fields.specs.Values;
 ghost use Rattle.sip_edit.specs.OwnVia;
 
-use sip_credentials::form::{FieldName, View, ViewField, ViewFields};
+use sip_message_fields::{FieldName, ViewField, ViewFields};
+use sip_message_form::View;
+use sip_route::Own;
 use sip_text::{Bytes, hex_text};
-use sip_way::Own;
 use std::alloc::{AllocError, Global};
 
 /// The most bytes of a branch: the magic cookie, 16 hexadecimal digits, and two numbers, each behind a `.`.

@@ -1,11 +1,12 @@
 ghost use Rattle.std.specs.Prelude.{◌≡◌, IfOk, option_map};
-ghost use Rattle.sip_credentials.specs.field.declared.field_name.FieldName.TheVariants as Name;
-ghost use Rattle.sip_credentials.specs.field.Values.{with_first};
+ghost use Rattle.sip_message_fields.specs.declared.field_name.FieldName.TheVariants as Name;
+ghost use Rattle.sip_message_fields.specs.Values.{with_first};
 ghost use Rattle.sip_edit.specs.ReceivedRequest.{address_by, response_port};
 
-use sip_credentials::form::{FieldName, View};
-use sip_credentials::header::{Via, parameter_of};
-use sip_credentials::host::Addr;
+use sip_header::{Via, parameter_of};
+use sip_message_fields::FieldName;
+use sip_message_form::View;
+use sip_uri::Addr;
 use std::alloc::{AllocError, Global};
 
 /// A request whose top Via has another value, as `received_via` gives it (RFC 3261 18.2.1). No byte is copied.

@@ -2,9 +2,9 @@ ghost use Rattle.std.specs.Prelude.{◌≡◌, ◌++◌, length, decimal, codes,
 ghost use Rattle.sip_text.specs.Cuts.{parts_at};
 ghost use Rattle.sip_edit.specs.TopVia;
 
-use sip_credentials::header::Via;
-use sip_credentials::host::{Addr, ip_text};
+use sip_header::Via;
 use sip_text::{Buffer, Bytes, first_part, same_no_case, without_blanks};
+use sip_uri::{Addr, ip_text};
 use std::alloc::{AllocError, Global};
 
 /// The most bytes that a Via gets from its source: the port of an `rport`, and a `received`.

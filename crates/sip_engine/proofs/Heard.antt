@@ -1,18 +1,18 @@
 -- The effect of a datagram that says a message, by the verdict on it.
 use Rattle.std.proofs.Common.{◌≡◌, ◌∙◌, ℕ, Bool, false, cond, List, [], Option, ap, subst, bytes_eq, codes}
 use Rattle.std.specs.Option.{option_map_or}
-use Rattle.sip_firing.specs.proxy.event.declared.event.StepOut.{StepOut}
-use Rattle.sip_firing.specs.proxy.form.declared.message.Message.{Message}
-use Rattle.sip_firing.specs.proxy.host.declared.addr.Addr.{Addr}
-use Rattle.sip_firing.specs.proxy.location.Sameness.{SameBindings}
-use Rattle.sip_firing.specs.proxy.model.Effect.{Effect, counted, datagram_effect, effect_of, nothing, method_of}
-use Rattle.sip_firing.specs.proxy.model.Step.{arrival_of, originals, retransmissions}
-use Rattle.sip_firing.specs.proxy.retransmission.Retransmission.{answers_again}
-use Rattle.sip_firing.specs.proxy.state.SameState.{SameState}
-use Rattle.sip_firing.specs.proxy.state.declared.open_request.OpenRequest.{OpenRequest}
-use Rattle.sip_firing.specs.proxy.state.declared.proxy_state.ProxyState.{ProxyState}
-use Rattle.sip_firing.specs.proxy.state.declared.server.Server.{Server}
-use Rattle.sip_firing.specs.proxy.verdict.Verdict as Verdict
+use Rattle.sip_event.specs.declared.event.StepOut.{StepOut}
+use Rattle.sip_message_form.specs.declared.message.Message.{Message}
+use Rattle.sip_uri.specs.declared.addr.Addr.{Addr}
+use Rattle.sip_location.specs.Sameness.{SameBindings}
+use Rattle.sip_model.specs.steps_model.Effect.{Effect, counted, datagram_effect, effect_of, nothing, method_of}
+use Rattle.sip_model.specs.steps_model.Step.{arrival_of, originals, retransmissions}
+use Rattle.sip_core.specs.context_model.Retransmission.{answers_again}
+use Rattle.sip_core.specs.state.SameState.{SameState}
+use Rattle.sip_core.specs.state.declared.open_request.OpenRequest.{OpenRequest}
+use Rattle.sip_core.specs.state.declared.proxy_state.ProxyState.{ProxyState}
+use Rattle.sip_core.specs.state.declared.server.Server.{Server}
+use Rattle.sip_core.specs.verdict_model.Verdict as Verdict
 use Rattle.sip_engine.specs.Hearing.{Hears}
 
 module _ (server : Server) (old new : ProxyState) (at word : ℕ) (from : Addr) (bytes : List ℕ) (m : Message) (v : Verdict.Verdict) (out : StepOut) where

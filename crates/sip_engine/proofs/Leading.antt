@@ -1,14 +1,14 @@
 -- A step leads on from a state that steps lead to, and is one for a moment that goes back.
 use Rattle.std.proofs.Common.{◌≡◌, ◌∙◌, ◌≤◌, ◌⊎◌, inl, inr, ℕ, List, ◌∷◌, Result, Ok, Err, IfOk, OnErr, refl, sym, subst}
 use Rattle.std.proofs.Math.Nat.{le-max_left, max-eq_right}
-use Rattle.sip_firing.specs.proxy.event.declared.event.StepOut.{StepOut}
-use Rattle.sip_firing.specs.proxy.host.declared.addr.Addr.{Addr}
-use Rattle.sip_firing.specs.proxy.model.Effect.{datagram_effect}
-use Rattle.sip_firing.specs.proxy.model.Step.{Act, Does, Passing, IsDeadline, IsDelivery, IsQuiet, IsResend, IsStep, IsTime, NoneAgainBy, NoneBy, arrival_of, moment_of}
-use Rattle.sip_firing.specs.proxy.state.declared.proxy_state.ProxyState.{ProxyState}
-use Rattle.sip_firing.specs.proxy.state.declared.server.Server.{Server}
-use Rattle.sip_firing.specs.proxy.timers.declared.timer.Timer.{Timer}
-use Rattle.sip_firing.specs.Timers.{IsFiredFirst, IsOfTimer}
+use Rattle.sip_event.specs.declared.event.StepOut.{StepOut}
+use Rattle.sip_uri.specs.declared.addr.Addr.{Addr}
+use Rattle.sip_model.specs.steps_model.Effect.{datagram_effect}
+use Rattle.sip_model.specs.steps_model.Step.{Act, Does, Passing, IsDeadline, IsDelivery, IsQuiet, IsResend, IsStep, IsTime, NoneAgainBy, NoneBy, arrival_of, moment_of}
+use Rattle.sip_core.specs.state.declared.proxy_state.ProxyState.{ProxyState}
+use Rattle.sip_core.specs.state.declared.server.Server.{Server}
+use Rattle.sip_timers.specs.declared.timer.Timer.{Timer}
+use Rattle.sip_engine_time.specs.Timers.{IsFiredFirst, IsOfTimer}
 use Rattle.sip_engine.specs.Engine.{IsReached}
 use Rattle.sip_engine.specs.declared.error.StepError.{StepError}
 

@@ -1,3 +1,6 @@
+mod Judged
+mod Taken
+mod Places
 mod Leading
 mod Numbered
 mod Waiting

@@ -2,12 +2,12 @@
 use Rattle.std.proofs.Common.{◌≡◌, ◌≤◌, ◌<◌, ℕ, List, [], ◌∷◌, Option, Some, None, MatchOption, IfSome, nat_lt, Bool, true, false, refl, arith}
 use Rattle.std.specs.List.{AllByRecursion}
 use Rattle.std.proofs.lemmas.Bool.Decides.{nat_tests}
-use Rattle.sip_firing.specs.Next.{IsNext}
-use Rattle.sip_firing.specs.proxy.fork.Due.{IsNothingDue}
-use Rattle.sip_firing.specs.proxy.model.Step.{NoneAgainBefore, NoneAgainBy, NoneBefore, NoneBy}
-use Rattle.sip_firing.specs.proxy.retransmission.Retransmission.{resends}
-use Rattle.sip_firing.specs.proxy.state.State.{deadlines}
-use Rattle.sip_firing.specs.proxy.state.declared.open_request.OpenRequest.{OpenRequest}
+use Rattle.sip_engine_time.specs.Next.{IsNext}
+use Rattle.sip_engine_time.specs.fork.Due.{IsNothingDue}
+use Rattle.sip_model.specs.steps_model.Step.{NoneAgainBefore, NoneAgainBy, NoneBefore, NoneBy}
+use Rattle.sip_core.specs.context_model.Retransmission.{resends}
+use Rattle.sip_core.specs.state.State.{deadlines}
+use Rattle.sip_core.specs.state.declared.open_request.OpenRequest.{OpenRequest}
 
 not_by : (moment due : ℕ) → due < moment → (dues : List ℕ) → AllByRecursion (λ (d : ℕ). moment ≤ d) dues → AllByRecursion (λ (d : ℕ). due < d) dues
 not_by moment due lt [] h = tt

@@ -1,10 +1,10 @@
 -- What a running server is.
 use Rattle.std.specs.Prelude.{ℕ, List}
-use Rattle.sip_firing.specs.proxy.model.Run.{Link, IsChain}
-use Rattle.sip_firing.specs.proxy.state.State.{first_state}
-use Rattle.sip_firing.specs.proxy.state.declared.proxy_state.ProxyState.{ProxyState}
-use Rattle.sip_firing.specs.proxy.state.declared.server.Server.{Server}
-use Rattle.sip_firing.specs.proxy.timers.declared.timer.Timer.{Timer}
+use Rattle.sip_model.specs.Run.{Link, IsChain}
+use Rattle.sip_core.specs.state.State.{first_state}
+use Rattle.sip_core.specs.state.declared.proxy_state.ProxyState.{ProxyState}
+use Rattle.sip_core.specs.state.declared.server.Server.{Server}
+use Rattle.sip_timers.specs.declared.timer.Timer.{Timer}
 
 -- the configured server, the state that it is in, and the timers that stand, in the order in which they fire
 pub record Engine : Type 0 where

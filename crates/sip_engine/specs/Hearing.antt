@@ -1,13 +1,13 @@
 -- The step of a datagram that says a message.
 use Rattle.std.specs.Prelude.{◌≡◌, ℕ, List, Some}
-use Rattle.sip_firing.specs.proxy.event.declared.event.Event.TheVariants.{Datagram}
-use Rattle.sip_firing.specs.proxy.event.declared.event.StepOut.{StepOut}
-use Rattle.sip_firing.specs.proxy.form.declared.message.Message.{Message}
-use Rattle.sip_firing.specs.proxy.host.declared.addr.Addr.{Addr}
-use Rattle.sip_firing.specs.proxy.model.Step.{Given, IsStep, arrival_of}
-use Rattle.sip_firing.specs.proxy.state.declared.proxy_state.ProxyState.{ProxyState}
-use Rattle.sip_firing.specs.proxy.state.declared.server.Server.{Server}
-use Rattle.sip_firing.specs.proxy.verdict.Verdict.{Verdict, verdict_of}
+use Rattle.sip_event.specs.declared.event.Event.TheVariants.{Datagram}
+use Rattle.sip_event.specs.declared.event.StepOut.{StepOut}
+use Rattle.sip_message_form.specs.declared.message.Message.{Message}
+use Rattle.sip_uri.specs.declared.addr.Addr.{Addr}
+use Rattle.sip_model.specs.steps_model.Step.{Given, IsStep, arrival_of}
+use Rattle.sip_core.specs.state.declared.proxy_state.ProxyState.{ProxyState}
+use Rattle.sip_core.specs.state.declared.server.Server.{Server}
+use Rattle.sip_core.specs.verdict_model.Verdict.{Verdict, verdict_of}
 
 -- A step is that of a datagram whose bytes say a message, and this is the verdict on it.
 pub record Hears (server : Server) (old : ProxyState) (at word : ℕ) (from : Addr) (bytes : List ℕ) (m : Message) (verdict : Verdict) (out : StepOut) (new : ProxyState) : Type 0 where

@@ -1,13 +1,31 @@
-//! The server: a registrar and a stateful proxy, which performs no input or output. Datagrams, moments and faults of sending are
-//! handed in, packets and records are handed out (RFC 3261 10, 16, 17). Each call is exactly one step of the model, or is
-//! refused with nothing changed.
+//! The server: a registrar and a stateful proxy, which performs no input or output. Datagrams, moments and faults of sending
+//! are handed in, packets and records are handed out (RFC 3261 10, 16, 17). Each call is exactly one step of the model, or is
+//! refused with nothing changed. A datagram is read, what it belongs to is found, and one step is taken for it, whole or not
+//! at all: the bytes say a message or are dropped; a response finds the branch that it is to; a request finds the open one
+//! with its key, or is new, and is judged (`take_datagram`).
 #![tactic(auto)]
 
+mod answering;
+mod asking;
+mod datagram;
+mod delivery_laws;
 mod engine;
 mod error;
+mod going;
 mod histories;
+mod keeping;
+mod known;
 pub mod laws;
+mod new;
+mod responses;
+mod served;
 mod stepping;
 
+pub use datagram::take_datagram;
 pub use engine::Engine;
 pub use error::StepError;
+
+/// Of `sip_model`.
+pub mod model {
+    pub use sip_model::{laws, runs};
+}

@@ -1,24 +1,24 @@
 ghost use Rattle.std.specs.Prelude.{◌≡◌, ◌≤◌, ◌<◌, ◌^◌, ◌⊎◌, ℕ, false, None, Err, IsOk, IfOk, IfErr, IfSome, OnErr};
-ghost use Rattle.sip_firing.specs.proxy.event.declared.event.Event.TheVariants.{Datagram, Fault};
-ghost use Rattle.sip_firing.specs.Faults.{failed_of};
-ghost use Rattle.sip_firing.specs.Next.{IsNext};
-ghost use Rattle.sip_firing.specs.Timers.{IsFiredFirst};
-ghost use Rattle.sip_firing.specs.proxy.model.Step.{Given, Passing, IsDeadline, IsResend, IsStep, IsTime, NoneAgainBefore, NoneAgainBy, NoneBefore, NoneBy, moment_of};
+ghost use Rattle.sip_event.specs.declared.event.Event.TheVariants.{Datagram, Fault};
+ghost use Rattle.sip_engine_time.specs.Faults.{failed_of};
+ghost use Rattle.sip_engine_time.specs.Next.{IsNext};
+ghost use Rattle.sip_engine_time.specs.Timers.{IsFiredFirst};
+ghost use Rattle.sip_model.specs.steps_model.Step.{Given, Passing, IsDeadline, IsResend, IsStep, IsTime, NoneAgainBefore, NoneAgainBy, NoneBefore, NoneBy, moment_of};
 ghost use Rattle.sip_engine.specs.Engine.{IsReached};
 ghost use Rattle.sip_engine.specs.StepError.{is_too_large, refusal_at, refusal_of};
 ghost use Rattle.sip_engine.specs.declared.error.StepError.TheVariants.{NoMemory};
 
 use crate::error::StepError;
 use crate::histories::reached_states_are_sound;
-use sip_delivery::take_datagram;
-use sip_firing as firing;
-use sip_firing::event::{StepOut, Ticket};
-use sip_firing::host::Addr;
-use sip_firing::judge::Judge;
-use sip_firing::opening::Arrival;
-use sip_firing::policy::Rules;
-use sip_firing::proxy::Proxy;
-use sip_firing::timers::Timers;
+use crate::take_datagram;
+use sip_core::Judge;
+use sip_engine_time as firing;
+use sip_engine_time::context_opening::Arrival;
+use sip_engine_time::proxy::Proxy;
+use sip_event::{StepOut, Ticket};
+use sip_policy::Rules;
+use sip_timers::Timers;
+use sip_uri::Addr;
 use std::alloc::Global;
 
 /// The first moment, and the first number of a datagram, that is too large.

@@ -1,7 +1,7 @@
 use crate::packet::{Packet, Ticket};
 use sip_audit::Record;
-use sip_audit::host::Addr;
-use sip_audit::text::{Bytes, Items};
+use sip_text::{Bytes, Items};
+use sip_uri::Addr;
 
 /// What a server starts with: the word that its branches and To tags begin with, the number of its first
 /// datagram, and what its maps of keys that peers choose are hashed with.

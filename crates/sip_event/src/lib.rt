@@ -6,8 +6,3 @@ mod packet;
 
 pub use event::{Boot, Event, StepOut};
 pub use packet::{Packet, Ticket};
-
-/// Of `sip_audit`.
-pub mod audit {
-    pub use sip_audit::{Operation, Outcome, Record};
-}

@@ -1,5 +1,5 @@
-use sip_audit::host::Addr;
-use sip_audit::text::Bytes;
+use sip_text::Bytes;
+use sip_uri::Addr;
 
 /// To which request a packet belongs: the number of the datagram that brought the request, and the
 /// number of the branch, from 1; 0 names a packet that isn't a branch's request.

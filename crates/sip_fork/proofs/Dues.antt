@@ -5,10 +5,10 @@ use Rattle.std.proofs.lemmas.Bool.Decides.{nat_tests}
 use Rattle.std.proofs.lemmas.List.Quantifiers.{position-Some}
 use Rattle.std.proofs.lemmas.Option.{get_or_from_slice_get}
 use Rattle.sip_timers.specs.declared.timer.Owner.{Owner}
-use Rattle.sip_model.specs.state.declared.branch.Branch.{Branch}
-use Rattle.sip_model.specs.state.declared.open_request.OpenRequest.{OpenRequest}
-use Rattle.sip_model.specs.state.State.{phase_deadline}
-use Rattle.sip_model.specs.retransmission.Retransmission.{branch_due}
+use Rattle.sip_dialog_lessons.specs.state.declared.branch.Branch.{Branch}
+use Rattle.sip_dialog_lessons.specs.state.declared.open_request.OpenRequest.{OpenRequest}
+use Rattle.sip_dialog_lessons.specs.state.State.{phase_deadline}
+use Rattle.model_steps.specs.context_model.Retransmission.{branch_due}
 use Rattle.sip_fork.specs.Due.{IsBranchAt, IsBranchOf, is_at, is_branch_due, is_either, is_of}
 
 pub at_is : (moment : Option ℕ) (due : ℕ) → is_at moment due ≡ true → moment ≡ Some due

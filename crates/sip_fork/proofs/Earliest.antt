@@ -11,9 +11,9 @@ use Rattle.std.proofs.lemmas.Option.{slice_get_within, slice_get-map, get_or_fro
 use Rattle.sip_timers.specs.declared.timer.Name.{Name}
 use Rattle.sip_timers.specs.declared.timer.Timer.{Timer}
 use Rattle.sip_timers.specs.Timers.{AreOrdered, first_named}
-use Rattle.sip_model.specs.state.declared.open_request.OpenRequest.{OpenRequest}
-use Rattle.sip_keeping.specs.request.Named.{named_by}
-use Rattle.sip_keeping.specs.request.declared.request.Request.{Request}
+use Rattle.sip_dialog_lessons.specs.state.declared.open_request.OpenRequest.{OpenRequest}
+use Rattle.sip_request.specs.Named.{named_by}
+use Rattle.sip_request.specs.declared.request.Request.{Request}
 use Rattle.sip_fork.specs.Contexts.{AreTied}
 use Rattle.sip_fork.specs.Due.{IsDue, IsFirst, IsNotDue, IsNothingDue, IsOfFirst, IsOfOwner}
 use Rattle.sip_fork.specs.Queue.{IsQueue}
@@ -83,11 +83,11 @@ module _ (timing : Timing) (pending : List Timer) (reached : ℕ) (rows : List R
     late_at i r at m some = late m (omega (arith, some, get_or-le-sum_by (λ (x : Request). count_by (due_then m) (named_by x)) rows i r (slice_get_within rows i r at), at_place (due_then m) rows i r at))
 
     -- the request of the first timer is open
-    pub first_found : IsSome (position (λ (r : Request). eqb r.context.number name.request) rows)
+    pub first_found : IsSome (position (λ (r : Request). eqb r.open_request.number name.request) rows)
     first_found = is_found due name.owner name.request rows stands
 
     -- something of the part that the timer names is due then
-    pub first_due : (i : ℕ) (r : Request) → AllPairs (λ (a b : Request). a.context.number < b.context.number) rows → slice_get rows i ≡ Some r → r.context.number ≡ name.request → IsNotDue r.context due name.owner → ⊥
+    pub first_due : (i : ℕ) (r : Request) → AllPairs (λ (a b : Request). a.open_request.number < b.open_request.number) rows → slice_get rows i ≡ Some r → r.open_request.number ≡ name.request → IsNotDue r.open_request due name.owner → ⊥
     first_due i r rise at same none =
         omega (
           arith,
@@ -97,30 +97,30 @@ module _ (timing : Timing) (pending : List Timer) (reached : ℕ) (rows : List R
         )
 
     -- and nothing before
-    pub is_first : (i : ℕ) (r : Request) (what : Due) → slice_get rows i ≡ Some r → IsDue r.context due what → IsFirst (contexts rows) (record { due = due; place = i; what = what })
+    pub is_first : (i : ℕ) (r : Request) (what : Due) → slice_get rows i ≡ Some r → IsDue r.open_request due what → IsFirst (contexts rows) (record { due = due; place = i; what = what })
     is_first i r what at is = record {
-      within = omega (arith, slice_get_within rows i r at, length-map rows (λ (x : Request). x.context));
-      due = λ x there. subst (λ (y : OpenRequest). IsDue y due what) (some_same r.context x (sym (ap (option_map (λ (y : Request). y.context)) at) ∙ sym (slice_get-map (λ (y : Request). y.context) rows i) ∙ there)) is;
+      within = omega (arith, slice_get_within rows i r at, length-map rows (λ (x : Request). x.open_request));
+      due = λ x there. subst (λ (y : OpenRequest). IsDue y due what) (some_same r.open_request x (sym (ap (option_map (λ (y : Request). y.open_request)) at) ∙ sym (slice_get-map (λ (y : Request). y.open_request) rows i) ∙ there)) is;
       none_before = none_before timing reached due rows tied.kept late;
       none_again = none_again_before timing reached due rows tied.kept late;
     }
 
 -- it is of the timer at the head
 pub of_first : (pending : List Timer) (rows : List Request) (due : ℕ) (name : Name) → first_named pending ≡ Some (due, name) → (i : ℕ) (r : Request) (what : Due) → slice_get rows i ≡ Some r
-    → r.context.number ≡ name.request → IsOfOwner r.context name.owner what → IsOfFirst pending (contexts rows) (record { due = due; place = i; what = what })
+    → r.open_request.number ≡ name.request → IsOfOwner r.open_request name.owner what → IsOfFirst pending (contexts rows) (record { due = due; place = i; what = what })
 of_first [] rows due name e i r what at same is = absurd (cc)
 of_first (t ∷ ts) rows due name e i r what at same is =
     let both : (t.due, t.name) ≡ (due, name) = some_same {X = ℕ × Name} (t.due, t.name) (due, name) e in
     let named : name ≡ t.name = sym (ap (λ (x : ℕ × Name). x.1) both) in
-    let seen : (x : OpenRequest) → slice_get (contexts rows) i ≡ Some x → r.context ≡ x =
-    λ x there. some_same r.context x (sym (ap (option_map (λ (y : Request). y.context)) at) ∙ sym (slice_get-map (λ (y : Request). y.context) rows i) ∙ there) in
+    let seen : (x : OpenRequest) → slice_get (contexts rows) i ≡ Some x → r.open_request ≡ x =
+    λ x there. some_same r.open_request x (sym (ap (option_map (λ (y : Request). y.open_request)) at) ∙ sym (slice_get-map (λ (y : Request). y.open_request) rows i) ∙ there) in
     record {
       timer = t;
       later = ts;
       stands = refl;
       due = sym (ap (λ (x : ℕ × Name). x.0) both);
       request = λ x there. subst (λ (y : OpenRequest). y.number ≡ t.name.request) (seen x there) (same ∙ ap (λ (n : Name). n.request) named);
-      part = λ x there. subst (λ (y : OpenRequest). IsOfOwner y t.name.owner what) (seen x there) (subst (λ (n : Name). IsOfOwner r.context n.owner what) named is);
+      part = λ x there. subst (λ (y : OpenRequest). IsOfOwner y t.name.owner what) (seen x there) (subst (λ (n : Name). IsOfOwner r.open_request n.owner what) named is);
     }
 
 -- ---- what calls answer
@@ -131,8 +131,8 @@ some_of None none not = absurd (not none)
 some_of (Some x) none not = refl
 
 -- what was found has the number
-pub number_there : (number : ℕ) (rows : List Request) (i : ℕ) (r : Request) → position (λ (x : Request). eqb x.context.number number) rows ≡ Some i → slice_get rows i ≡ Some r → r.context.number ≡ number
+pub number_there : (number : ℕ) (rows : List Request) (i : ℕ) (r : Request) → position (λ (x : Request). eqb x.open_request.number number) rows ≡ Some i → slice_get rows i ≡ Some r → r.open_request.number ≡ number
 number_there number rows i r found at =
-    let is = position-Some (λ (x : Request). eqb x.context.number number) rows i r found in
-    let passes : eqb r.context.number number ≡ true = subst (λ (x : Request). eqb x.context.number number ≡ true) (get_or_from_slice_get rows i r r at) is.1 in
+    let is = position-Some (λ (x : Request). eqb x.open_request.number number) rows i r found in
+    let passes : eqb r.open_request.number number ≡ true = subst (λ (x : Request). eqb x.open_request.number number ≡ true) (get_or_from_slice_get rows i r r at) is.1 in
     grind (arith, nat_tests, passes)

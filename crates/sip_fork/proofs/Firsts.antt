@@ -8,11 +8,11 @@ use Rattle.std.proofs.lemmas.List.Sums.{sum_by-cons}
 use Rattle.sip_timers.specs.declared.timer.Timer.{Timer}
 use Rattle.sip_timers.specs.Timers.{AreOrdered, due_before}
 use Rattle.sip_fork.proofs.Lists.{count-cons, count_le, all_append, all_weaker}
-use Rattle.sip_model.specs.state.State.{deadlines_of}
-use Rattle.sip_model.specs.retransmission.Retransmission.{resends_of}
-use Rattle.sip_model.specs.Step.{NoneBefore, NoneAgainBefore}
-use Rattle.sip_keeping.specs.request.Named.{named_by}
-use Rattle.sip_keeping.specs.request.declared.request.Request.{Request}
+use Rattle.sip_dialog_lessons.specs.state.State.{deadlines_of}
+use Rattle.model_steps.specs.context_model.Retransmission.{resends_of}
+use Rattle.model_steps.specs.Step.{NoneBefore, NoneAgainBefore}
+use Rattle.sip_request.specs.Named.{named_by}
+use Rattle.sip_request.specs.declared.request.Request.{Request}
 use Rattle.sip_fork.specs.Contexts.{IsKept}
 use Rattle.sip_fork.proofs.Moments.{due_then, deadlines_named, resends_named}
 use Rattle.sip_fork.specs.Timing.{Timing}
@@ -39,16 +39,16 @@ module _ (timing : Timing) (reached bound : ℕ) where
   late_tail : (r : Request) (rows : List Request) → Late (r ∷ rows) → Late rows
   late_tail r rows late m some = late m (omega (arith, some, sum_by-cons (λ (x : Request). count_by (due_then m) (named_by x)) r rows))
 
-  pub none_before : (rows : List Request) → All (IsKept reached) rows → Late rows → NoneBefore bound (map (λ (r : Request). r.context) rows)
+  pub none_before : (rows : List Request) → All (IsKept reached) rows → Late rows → NoneBefore bound (map (λ (r : Request). r.open_request) rows)
   none_before [] kept late = tt
   none_before (r ∷ rows) kept late =
-      all_append (λ (m : ℕ). bound ≤ m) (deadlines_of r.context) (flat_map deadlines_of (map (λ (x : Request). x.context) rows))
-      (all_weaker (λ (m : ℕ). 1 ≤ count_by (due_then m) (named_by r)) (λ (m : ℕ). bound ≤ m) (late_head r rows late) (deadlines_of r.context) (deadlines_named timing reached r (All-head (IsKept reached) r rows kept)))
+      all_append (λ (m : ℕ). bound ≤ m) (deadlines_of r.open_request) (flat_map deadlines_of (map (λ (x : Request). x.open_request) rows))
+      (all_weaker (λ (m : ℕ). 1 ≤ count_by (due_then m) (named_by r)) (λ (m : ℕ). bound ≤ m) (late_head r rows late) (deadlines_of r.open_request) (deadlines_named timing reached r (All-head (IsKept reached) r rows kept)))
       (none_before rows (All-tail (IsKept reached) r rows kept) (late_tail r rows late))
 
-  pub none_again_before : (rows : List Request) → All (IsKept reached) rows → Late rows → NoneAgainBefore bound (map (λ (r : Request). r.context) rows)
+  pub none_again_before : (rows : List Request) → All (IsKept reached) rows → Late rows → NoneAgainBefore bound (map (λ (r : Request). r.open_request) rows)
   none_again_before [] kept late = tt
   none_again_before (r ∷ rows) kept late =
-      all_append (λ (m : ℕ). bound ≤ m) (resends_of r.context) (flat_map resends_of (map (λ (x : Request). x.context) rows))
-      (all_weaker (λ (m : ℕ). 1 ≤ count_by (due_then m) (named_by r)) (λ (m : ℕ). bound ≤ m) (late_head r rows late) (resends_of r.context) (resends_named timing reached r (All-head (IsKept reached) r rows kept)))
+      all_append (λ (m : ℕ). bound ≤ m) (resends_of r.open_request) (flat_map resends_of (map (λ (x : Request). x.open_request) rows))
+      (all_weaker (λ (m : ℕ). 1 ≤ count_by (due_then m) (named_by r)) (λ (m : ℕ). bound ≤ m) (late_head r rows late) (resends_of r.open_request) (resends_named timing reached r (All-head (IsKept reached) r rows kept)))
       (none_again_before rows (All-tail (IsKept reached) r rows kept) (late_tail r rows late))

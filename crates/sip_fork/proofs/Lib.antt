@@ -1,3 +1,6 @@
+pub mod Same
+pub mod Once
+pub mod Copied
 mod Dues
 mod Earliest
 mod Firsts
@@ -6,7 +9,7 @@ mod Lists
 mod Mapped
 mod Moments
 mod Named
-mod Nearness
+mod NearTimes
 mod OnTime
 mod Ordering
 mod Parts

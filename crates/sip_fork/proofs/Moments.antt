@@ -5,17 +5,17 @@ use Rattle.std.specs.Option.{option_to_list}
 use Rattle.std.specs.List.{AllByRecursion, filter_map, cons_option}
 use Rattle.sip_timers.specs.declared.timer.Owner.TheVariants as Of
 use Rattle.sip_timers.specs.declared.timer.Timer.{Timer}
-use Rattle.sip_model.specs.state.declared.branch.Branch.{Branch}
-use Rattle.sip_model.specs.state.declared.open_request.OpenRequest.{OpenRequest}
-use Rattle.sip_model.specs.state.State.{is_invite, phase_deadline, side_deadline, deadlines_of}
-use Rattle.sip_model.specs.retransmission.Retransmission.{answer_due, branch_due, resends_of}
-use Rattle.sip_keeping.specs.ties.Ties.{branch_timers, branches_timers, due_at, owner_of, part_timers, side_timers}
-use Rattle.sip_keeping.specs.ties.declared.timer_keys.TimerKeys.{TimerKeys}
+use Rattle.sip_dialog_lessons.specs.state.declared.branch.Branch.{Branch}
+use Rattle.sip_dialog_lessons.specs.state.declared.open_request.OpenRequest.{OpenRequest}
+use Rattle.sip_dialog_lessons.specs.state.State.{is_invite, phase_deadline, side_deadline, deadlines_of}
+use Rattle.model_steps.specs.context_model.Retransmission.{answer_due, branch_due, resends_of}
+use Rattle.sip_request.specs.transactions_model.Ties.{branch_timers, branches_timers, due_at, owner_of, part_timers, side_timers}
+use Rattle.sip_request.specs.transactions_model.declared.timer_keys.TimerKeys.{TimerKeys}
 use Rattle.sip_fork.proofs.Lists.{count-append, all_append, all_weaker}
 use Rattle.sip_fork.proofs.Parts.{count_part}
-use Rattle.sip_keeping.specs.fitting.Fits.{BranchFits}
-use Rattle.sip_keeping.specs.request.Named.{named_by}
-use Rattle.sip_keeping.specs.request.declared.request.Request.{Request}
+use Rattle.sip_request.specs.transactions_model.Fits.{BranchFits}
+use Rattle.sip_request.specs.Named.{named_by}
+use Rattle.sip_request.specs.declared.request.Request.{Request}
 use Rattle.sip_fork.specs.Contexts.{IsKept}
 use Rattle.sip_fork.specs.Timing.{Timing}
 
@@ -50,36 +50,36 @@ branch_moments r f Q has (b ∷ bs) (key ∷ keys) long all = by_moment (f b) re
 
 module _ (timing : Timing) (reached : ℕ) (r : Request) (kept : IsKept reached r) where
   abbrev of_side : List Timer
-  of_side = part_timers r.context.number Of.Server r.side (side_timers r.context)
+  of_side = part_timers r.open_request.number Of.Server r.side (side_timers r.open_request)
 
   abbrev of_branches : List Timer
-  of_branches = branches_timers r.context r.context.branches r.branches
+  of_branches = branches_timers r.open_request r.open_request.branches r.branches
 
   abbrev Named : ℕ → Type 0
   Named m = 1 ≤ count_by (due_then m) (named_by r)
 
-  side_named : (m : ℕ) → 1 ≤ due_at m (side_timers r.context) → Named m
+  side_named : (m : ℕ) → 1 ≤ due_at m (side_timers r.open_request) → Named m
   side_named m h =
-      let counted : count_by (due_then m) of_side ≡ due_at m (side_timers r.context) = count_part (due_then m) r.context.number Of.Server r.side (side_timers r.context) in
+      let counted : count_by (due_then m) of_side ≡ due_at m (side_timers r.open_request) = count_part (due_then m) r.open_request.number Of.Server r.side (side_timers r.open_request) in
       omega (arith, h, counted, count-append (due_then m) of_side of_branches)
 
-  option_named : (o : Option ℕ) → ((m : ℕ) → o ≡ Some m → 1 ≤ due_at m (side_timers r.context)) → AllByRecursion Named (option_to_list o)
+  option_named : (o : Option ℕ) → ((m : ℕ) → o ≡ Some m → 1 ≤ due_at m (side_timers r.open_request)) → AllByRecursion Named (option_to_list o)
   option_named None f = tt
   option_named (Some m) f = (side_named m (f m refl), tt)
 
-  branches_named : (f : Branch → Option ℕ) → ((b : Branch) (due : ℕ) → BranchFits (is_invite r.context) b → f b ≡ Some due → 1 ≤ due_at due (branch_timers r.context b)) → AllByRecursion Named (filter_map f r.context.branches)
+  branches_named : (f : Branch → Option ℕ) → ((b : Branch) (due : ℕ) → BranchFits (is_invite r.open_request) b → f b ≡ Some due → 1 ≤ due_at due (branch_timers r.open_request b)) → AllByRecursion Named (filter_map f r.open_request.branches)
   branches_named f has =
-      all_weaker (λ (m : ℕ). 1 ≤ count_by (due_then m) of_branches) Named (λ m h. omega (arith, h, count-append (due_then m) of_side of_branches)) (filter_map f r.context.branches)
-      (branch_moments r.context f (BranchFits (is_invite r.context)) has r.context.branches r.branches kept.keys kept.fits.branches)
+      all_weaker (λ (m : ℕ). 1 ≤ count_by (due_then m) of_branches) Named (λ m h. omega (arith, h, count-append (due_then m) of_side of_branches)) (filter_map f r.open_request.branches)
+      (branch_moments r.open_request f (BranchFits (is_invite r.open_request)) has r.open_request.branches r.branches kept.keys kept.fits.branches)
 
-  pub deadlines_named : AllByRecursion (λ (m : ℕ). 1 ≤ count_by (due_then m) (named_by r)) (deadlines_of r.context)
+  pub deadlines_named : AllByRecursion (λ (m : ℕ). 1 ≤ count_by (due_then m) (named_by r)) (deadlines_of r.open_request)
   deadlines_named =
-      all_append Named (option_to_list (side_deadline r.context.side)) (filter_map (λ (b : Branch). phase_deadline b.phase) r.context.branches)
-      (option_named (side_deadline r.context.side) (λ m e. timing.side_ends r.context m kept.fits e))
-      (branches_named (λ (b : Branch). phase_deadline b.phase) (λ b due fits e. timing.branch_ends r.context b due fits e))
+      all_append Named (option_to_list (side_deadline r.open_request.side)) (filter_map (λ (b : Branch). phase_deadline b.phase) r.open_request.branches)
+      (option_named (side_deadline r.open_request.side) (λ m e. timing.side_ends r.open_request m kept.fits e))
+      (branches_named (λ (b : Branch). phase_deadline b.phase) (λ b due fits e. timing.branch_ends r.open_request b due fits e))
 
-  pub resends_named : AllByRecursion (λ (m : ℕ). 1 ≤ count_by (due_then m) (named_by r)) (resends_of r.context)
+  pub resends_named : AllByRecursion (λ (m : ℕ). 1 ≤ count_by (due_then m) (named_by r)) (resends_of r.open_request)
   resends_named =
-      all_append Named (option_to_list (answer_due r.context)) (filter_map (branch_due r.context) r.context.branches)
-      (option_named (answer_due r.context) (λ m e. timing.answer_again r.context m e))
-      (branches_named (branch_due r.context) (λ b due fits e. timing.branch_again r.context b due e))
+      all_append Named (option_to_list (answer_due r.open_request)) (filter_map (branch_due r.open_request) r.open_request.branches)
+      (option_named (answer_due r.open_request) (λ m e. timing.answer_again r.open_request m e))
+      (branches_named (branch_due r.open_request) (λ b due fits e. timing.branch_again r.open_request b due e))

@@ -7,22 +7,22 @@ use Rattle.std.proofs.lemmas.Bool.Decides.{nat_tests}
 use Rattle.std.proofs.lemmas.List.Elements.{All-head, All-tail}
 use Rattle.std.proofs.lemmas.List.Sums.{sum_by-le, fails_before_first}
 use Rattle.std.proofs.lemmas.Option.{slice_get_within, get_or_from_slice_get}
-use Rattle.sip_keeping.specs.ties.transaction.declared.letter.Letter.{Letter}
+use Rattle.sip_timers.specs.declared.letter.Letter.{Letter}
 use Rattle.sip_timers.specs.declared.timer.Owner.{Owner}
 use Rattle.sip_timers.specs.declared.timer.Owner.TheVariants as Of
 use Rattle.sip_timers.specs.declared.timer.Timer.{Timer}
-use Rattle.sip_model.specs.state.declared.branch.Branch.{Branch}
-use Rattle.sip_model.specs.state.declared.open_request.OpenRequest.{OpenRequest}
-use Rattle.sip_model.specs.state.State.{is_invite, phase_deadline, side_deadline}
-use Rattle.sip_model.specs.retransmission.Retransmission.{answer_due, branch_due}
-use Rattle.sip_keeping.specs.ties.Ties.{IsFor, due_at, branch_timers, branches_timers, owner_of, part_timers, side_timers}
-use Rattle.sip_keeping.specs.ties.declared.timer_keys.TimerKeys.{TimerKeys}
+use Rattle.sip_dialog_lessons.specs.state.declared.branch.Branch.{Branch}
+use Rattle.sip_dialog_lessons.specs.state.declared.open_request.OpenRequest.{OpenRequest}
+use Rattle.sip_dialog_lessons.specs.state.State.{is_invite, phase_deadline, side_deadline}
+use Rattle.model_steps.specs.context_model.Retransmission.{answer_due, branch_due}
+use Rattle.sip_request.specs.transactions_model.Ties.{IsFor, due_at, branch_timers, branches_timers, owner_of, part_timers, side_timers}
+use Rattle.sip_request.specs.transactions_model.declared.timer_keys.TimerKeys.{TimerKeys}
 use Rattle.sip_fork.proofs.Lists.{count-append}
 use Rattle.sip_fork.proofs.Parts.{count_part}
-use Rattle.sip_keeping.specs.request.Named.{named_by}
-use Rattle.sip_keeping.specs.request.declared.request.Request.{Request}
+use Rattle.sip_request.specs.Named.{named_by}
+use Rattle.sip_request.specs.declared.request.Request.{Request}
 use Rattle.sip_fork.specs.Due.{IsNotDue, is_at, is_branch_due, is_either, is_of, is_part}
-use Rattle.sip_keeping.specs.fitting.Fits.{BranchFits}
+use Rattle.sip_request.specs.transactions_model.Fits.{BranchFits}
 use Rattle.sip_fork.specs.Contexts.{IsKept}
 use Rattle.sip_fork.specs.Timing.{Timing}
 use Rattle.sip_fork.proofs.Moments.{due_then}
@@ -128,12 +128,12 @@ module _ (due : ℕ) (owner : Owner) (number : ℕ) where
   -- ---- a request
 
   -- another request names none of them
-  pub other_request : (r : Request) → eqb r.context.number number ≡ false → count_by (is_timer due owner number) (named_by r) ≡ 0
+  pub other_request : (r : Request) → eqb r.open_request.number number ≡ false → count_by (is_timer due owner number) (named_by r) ≡ 0
   other_request r differs =
-      let other : (w : Owner) → (is_owner owner w && eqb r.context.number number) ≡ false = λ w. ap (λ (x : Bool). is_owner owner w && x) differs ∙ fails (is_owner owner w) in
-      let of_side : List Timer = part_timers r.context.number Of.Server r.side (side_timers r.context) in
-      let of_branches : List Timer = branches_timers r.context r.context.branches r.branches in
-      omega (arith, none_of_others r.context.number Of.Server r.side (side_timers r.context) (other Of.Server), branches_of_others r.context r.context.branches r.branches other, count-append (is_timer due owner number) of_side of_branches)
+      let other : (w : Owner) → (is_owner owner w && eqb r.open_request.number number) ≡ false = λ w. ap (λ (x : Bool). is_owner owner w && x) differs ∙ fails (is_owner owner w) in
+      let of_side : List Timer = part_timers r.open_request.number Of.Server r.side (side_timers r.open_request) in
+      let of_branches : List Timer = branches_timers r.open_request r.open_request.branches r.branches in
+      omega (arith, none_of_others r.open_request.number Of.Server r.side (side_timers r.open_request) (other Of.Server), branches_of_others r.open_request r.open_request.branches r.branches other, count-append (is_timer due owner number) of_side of_branches)
     where
       fails : (b : Bool) → (b && false) ≡ false
       fails true = refl
@@ -149,32 +149,32 @@ none_found test xs none k d lt = by_test (nat_lt (position_or_len test xs) (leng
 -- a request of whose part nothing is due then names none of them
 module _ (timing : Timing) (due number reached : ℕ) (r : Request) (kept : IsKept reached r) (late : (m : ℕ) → 1 ≤ count_by (due_then m) (named_by r) → due ≤ m) where
   abbrev of_side : List Timer
-  of_side = part_timers r.context.number Of.Server r.side (side_timers r.context)
+  of_side = part_timers r.open_request.number Of.Server r.side (side_timers r.open_request)
 
   abbrev of_branches : List Timer
-  of_branches = branches_timers r.context r.context.branches r.branches
+  of_branches = branches_timers r.open_request r.open_request.branches r.branches
 
-  late_side : (until : ℕ) → side_deadline r.context.side ≡ Some until → due ≤ until
+  late_side : (until : ℕ) → side_deadline r.open_request.side ≡ Some until → due ≤ until
   late_side until e =
-      let moments : count_by (due_then until) of_side ≡ due_at until (side_timers r.context) = count_part (due_then until) r.context.number Of.Server r.side (side_timers r.context) in
-      late until (omega (arith, timing.side_ends r.context until kept.fits e, moments, count-append (due_then until) of_side of_branches))
+      let moments : count_by (due_then until) of_side ≡ due_at until (side_timers r.open_request) = count_part (due_then until) r.open_request.number Of.Server r.side (side_timers r.open_request) in
+      late until (omega (arith, timing.side_ends r.open_request until kept.fits e, moments, count-append (due_then until) of_side of_branches))
 
   late_branches : (m : ℕ) → 1 ≤ count_by (due_then m) of_branches → due ≤ m
   late_branches m some = late m (omega (arith, some, count-append (due_then m) of_side of_branches))
 
-  of_owner : (owner : Owner) → All (λ (b : Branch). is_branch_due r.context owner due b ≡ false) r.context.branches → count_by (is_timer due owner number) of_side ≡ 0 → count_by (is_timer due owner number) (named_by r) ≡ 0
+  of_owner : (owner : Owner) → All (λ (b : Branch). is_branch_due r.open_request owner due b ≡ false) r.open_request.branches → count_by (is_timer due owner number) of_side ≡ 0 → count_by (is_timer due owner number) (named_by r) ≡ 0
   of_owner owner none side =
-      omega (arith, side, branches_none due owner number timing r.context r.context.branches r.branches kept.fits.branches none late_branches, count-append (is_timer due owner number) of_side of_branches)
+      omega (arith, side, branches_none due owner number timing r.open_request r.open_request.branches r.branches kept.fits.branches none late_branches, count-append (is_timer due owner number) of_side of_branches)
 
-  pub row_none : (owner : Owner) → IsNotDue r.context due owner → count_by (is_timer due owner number) (named_by r) ≡ 0
+  pub row_none : (owner : Owner) → IsNotDue r.open_request due owner → count_by (is_timer due owner number) (named_by r) ≡ 0
   row_none Of.Server none =
       of_owner Of.Server (λ i d lt. refl)
-      (none_then due Of.Server number r.context.number Of.Server r.side (side_timers r.context)
-      (part_none due Of.Server number (answer_due r.context) (side_deadline r.context.side) (side_timers r.context) (timing.side_reasons r.context) none late_side))
+      (none_then due Of.Server number r.open_request.number Of.Server r.side (side_timers r.open_request)
+      (part_none due Of.Server number (answer_due r.open_request) (side_deadline r.open_request.side) (side_timers r.open_request) (timing.side_reasons r.open_request) none late_side))
   row_none (Of.Branch n) none =
-      of_owner (Of.Branch n) (none_found (is_branch_due r.context (Of.Branch n) due) r.context.branches none) (none_of_others due (Of.Branch n) number r.context.number Of.Server r.side (side_timers r.context) refl)
+      of_owner (Of.Branch n) (none_found (is_branch_due r.open_request (Of.Branch n) due) r.open_request.branches none) (none_of_others due (Of.Branch n) number r.open_request.number Of.Server r.side (side_timers r.open_request) refl)
   row_none (Of.Cancel n) none =
-      of_owner (Of.Cancel n) (none_found (is_branch_due r.context (Of.Cancel n) due) r.context.branches none) (none_of_others due (Of.Cancel n) number r.context.number Of.Server r.side (side_timers r.context) refl)
+      of_owner (Of.Cancel n) (none_found (is_branch_due r.open_request (Of.Cancel n) due) r.open_request.branches none) (none_of_others due (Of.Cancel n) number r.open_request.number Of.Server r.side (side_timers r.open_request) refl)
 
 -- ---- rows
 
@@ -185,17 +185,17 @@ sum_none f rows none =
 
 -- where a timer of a request's part stands, such a request is found by its number
 pub is_found : (due : ℕ) (owner : Owner) (number : ℕ) (rows : List Request) → 1 ≤ sum_by (λ (r : Request). count_by (is_timer due owner number) (named_by r)) rows
-    → IsSome (position (λ (r : Request). eqb r.context.number number) rows)
-is_found due owner number rows some = by_place (position (λ (r : Request). eqb r.context.number number) rows) refl where
-  by_place : (o : Option ℕ) → position (λ (r : Request). eqb r.context.number number) rows ≡ o → IsSome o
+    → IsSome (position (λ (r : Request). eqb r.open_request.number number) rows)
+is_found due owner number rows some = by_place (position (λ (r : Request). eqb r.open_request.number number) rows) refl where
+  by_place : (o : Option ℕ) → position (λ (r : Request). eqb r.open_request.number number) rows ≡ o → IsSome o
   by_place (Some i) e = refl
   by_place None e =
-      let none : All (λ (r : Request). count_by (is_timer due owner number) (named_by r) ≡ 0) rows = λ i d lt. other_request due owner number (get_or rows i d) (none_found (λ (r : Request). eqb r.context.number number) rows e i d lt) in
+      let none : All (λ (r : Request). count_by (is_timer due owner number) (named_by r) ≡ 0) rows = λ i d lt. other_request due owner number (get_or rows i d) (none_found (λ (r : Request). eqb r.open_request.number number) rows e i d lt) in
       absurd (omega (arith, some, sum_none (λ (r : Request). count_by (is_timer due owner number) (named_by r)) rows none))
 
 -- and something of that part is due
-pub is_due : (due : ℕ) (owner : Owner) (number reached : ℕ) (rows : List Request) (i : ℕ) (r : Request) → AllPairs (λ (a b : Request). a.context.number < b.context.number) rows → slice_get rows i ≡ Some r
-    → r.context.number ≡ number → count_by (is_timer due owner number) (named_by r) ≡ 0 → sum_by (λ (x : Request). count_by (is_timer due owner number) (named_by x)) rows ≡ 0
+pub is_due : (due : ℕ) (owner : Owner) (number reached : ℕ) (rows : List Request) (i : ℕ) (r : Request) → AllPairs (λ (a b : Request). a.open_request.number < b.open_request.number) rows → slice_get rows i ≡ Some r
+    → r.open_request.number ≡ number → count_by (is_timer due owner number) (named_by r) ≡ 0 → sum_by (λ (x : Request). count_by (is_timer due owner number) (named_by x)) rows ≡ 0
 is_due due owner number reached rows i r rise at same none = sum_none (λ (x : Request). count_by (is_timer due owner number) (named_by x)) rows (λ j d lt. by_place j d lt (cases_lt j i) (cases_lt i j)) where
   here : (d : Request) → get_or rows i d ≡ r
   here d = get_or_from_slice_get rows i r d at
@@ -204,12 +204,12 @@ is_due due owner number reached rows i r rise at same none = sum_none (λ (x : R
   differs a b is (inl lt) = grind (arith, nat_tests, is, lt)
   differs a b is (inr lt) = grind (arith, nat_tests, is, lt)
 
-  number_here : (d : Request) → (get_or rows i d).context.number ≡ number
-  number_here d = ap (λ (x : Request). x.context.number) (here d) ∙ same
+  number_here : (d : Request) → (get_or rows i d).open_request.number ≡ number
+  number_here d = ap (λ (x : Request). x.open_request.number) (here d) ∙ same
 
   by_place : (j : ℕ) (d : Request) → j < length rows → (j < i) ⊎ (i ≤ j) → (i < j) ⊎ (j ≤ i) → count_by (is_timer due owner number) (named_by (get_or rows j d)) ≡ 0
-  by_place j d lt (inl before) _ = other_request due owner number (get_or rows j d) (differs (get_or rows j d).context.number (get_or rows i d).context.number (number_here d) (inl (rise j i d before (slice_get_within rows i r at))))
-  by_place j d lt (inr late) (inl behind) = other_request due owner number (get_or rows j d) (differs (get_or rows j d).context.number (get_or rows i d).context.number (number_here d) (inr (rise i j d behind lt)))
+  by_place j d lt (inl before) _ = other_request due owner number (get_or rows j d) (differs (get_or rows j d).open_request.number (get_or rows i d).open_request.number (number_here d) (inl (rise j i d before (slice_get_within rows i r at))))
+  by_place j d lt (inr late) (inl behind) = other_request due owner number (get_or rows j d) (differs (get_or rows j d).open_request.number (get_or rows i d).open_request.number (number_here d) (inr (rise i j d behind lt)))
   by_place j d lt (inr late) (inr early) =
       let e : j ≡ i = omega (arith, late, early) in
       subst (λ (x : Request). count_by (is_timer due owner number) (named_by x) ≡ 0) (sym (ap (λ (k : ℕ). get_or rows k d) e ∙ here d)) none

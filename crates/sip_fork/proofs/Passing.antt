@@ -5,20 +5,20 @@ use Rattle.std.specs.Option.{option_to_list}
 use Rattle.std.specs.List.{AllByRecursion, filter_map, cons_option, sum_by}
 use Rattle.std.proofs.lemmas.Bool.Decides.{nat_tests}
 use Rattle.std.proofs.lemmas.List.Sums.{sum_by-cons}
-use Rattle.sip_keeping.specs.ties.transaction.declared.letter.Letter.{Letter}
+use Rattle.sip_timers.specs.declared.letter.Letter.{Letter}
 use Rattle.sip_timers.specs.declared.timer.Owner.TheVariants as Of
 use Rattle.sip_timers.specs.declared.timer.Timer.{Timer}
-use Rattle.sip_model.specs.state.declared.branch.Branch.{Branch}
-use Rattle.sip_model.specs.state.declared.open_request.OpenRequest.{OpenRequest}
-use Rattle.sip_model.specs.state.State.{phase_deadline, side_deadline, deadlines_of}
-use Rattle.sip_model.specs.retransmission.Retransmission.{answer_due, branch_due, resends_of}
-use Rattle.sip_keeping.specs.ties.Ties.{branch_timers, branches_timers, owner_of, part_timers, side_timers}
-use Rattle.sip_keeping.specs.ties.declared.timer_keys.TimerKeys.{TimerKeys}
+use Rattle.sip_dialog_lessons.specs.state.declared.branch.Branch.{Branch}
+use Rattle.sip_dialog_lessons.specs.state.declared.open_request.OpenRequest.{OpenRequest}
+use Rattle.sip_dialog_lessons.specs.state.State.{phase_deadline, side_deadline, deadlines_of}
+use Rattle.model_steps.specs.context_model.Retransmission.{answer_due, branch_due, resends_of}
+use Rattle.sip_request.specs.transactions_model.Ties.{branch_timers, branches_timers, owner_of, part_timers, side_timers}
+use Rattle.sip_request.specs.transactions_model.declared.timer_keys.TimerKeys.{TimerKeys}
 use Rattle.sip_fork.proofs.Lists.{count-append}
 use Rattle.sip_fork.proofs.Parts.{count_part}
-use Rattle.sip_model.specs.Step.{NoneBefore, NoneAgainBefore}
-use Rattle.sip_keeping.specs.request.Named.{named_by}
-use Rattle.sip_keeping.specs.request.declared.request.Request.{Request}
+use Rattle.model_steps.specs.Step.{NoneBefore, NoneAgainBefore}
+use Rattle.sip_request.specs.Named.{named_by}
+use Rattle.sip_request.specs.declared.request.Request.{Request}
 use Rattle.sip_fork.specs.Timing.{Timing}
 use Rattle.sip_fork.proofs.Reasons.{none_of_part}
 
@@ -73,9 +73,9 @@ module _ (timing : Timing) (k : ℕ) where
         branch_passes r bs keys (of_rest Later (phase_deadline b.phase) (filter_map (λ (x : Branch). phase_deadline x.phase) bs) ends) (of_rest Later (branch_due r b) (filter_map (branch_due r) bs) again),
       )
 
-  row_passes : (r : Request) → AllByRecursion Later (deadlines_of r.context) → AllByRecursion Later (resends_of r.context) → count_by by_then (named_by r) ≡ 0
+  row_passes : (r : Request) → AllByRecursion Later (deadlines_of r.open_request) → AllByRecursion Later (resends_of r.open_request) → count_by by_then (named_by r) ≡ 0
   row_passes r ends again =
-      let call : OpenRequest = r.context in
+      let call : OpenRequest = r.open_request in
       let of_side : List Timer = part_timers call.number Of.Server r.side (side_timers call) in
       let of_branches : List Timer = branches_timers call call.branches r.branches in
       let side_ends : AllByRecursion Later (option_to_list (side_deadline call.side)) = front Later (option_to_list (side_deadline call.side)) (filter_map (λ (b : Branch). phase_deadline b.phase) call.branches) ends in
@@ -89,14 +89,14 @@ module _ (timing : Timing) (k : ℕ) where
       (λ m until e lt. fails m (let le : k + 1 ≤ until = of_option Later (side_deadline call.side) side_ends until e in omega (arith, le, lt))) in
       omega (arith, moments, none, branch_passes call call.branches r.branches branch_ends branch_again, count-append by_then of_side of_branches)
 
-  pub rows_pass : (rows : List Request) → NoneBefore (k + 1) (map (λ (r : Request). r.context) rows) → NoneAgainBefore (k + 1) (map (λ (r : Request). r.context) rows)
+  pub rows_pass : (rows : List Request) → NoneBefore (k + 1) (map (λ (r : Request). r.open_request) rows) → NoneAgainBefore (k + 1) (map (λ (r : Request). r.open_request) rows)
       → sum_by (λ (r : Request). count_by (λ (t : Timer). leb t.due k) (named_by r)) rows ≡ 0
   rows_pass [] ends again = refl
   rows_pass (r ∷ rows) ends again =
-      let others : List OpenRequest = map (λ (x : Request). x.context) rows in
+      let others : List OpenRequest = map (λ (x : Request). x.open_request) rows in
       omega (
         arith,
         sum_by-cons (λ (x : Request). count_by (λ (t : Timer). leb t.due k) (named_by x)) r rows,
-        row_passes r (front Later (deadlines_of r.context) (flat_map deadlines_of others) ends) (front Later (resends_of r.context) (flat_map resends_of others) again),
-        rows_pass rows (back Later (deadlines_of r.context) (flat_map deadlines_of others) ends) (back Later (resends_of r.context) (flat_map resends_of others) again),
+        row_passes r (front Later (deadlines_of r.open_request) (flat_map deadlines_of others) ends) (front Later (resends_of r.open_request) (flat_map resends_of others) again),
+        rows_pass rows (back Later (deadlines_of r.open_request) (flat_map deadlines_of others) ends) (back Later (resends_of r.open_request) (flat_map resends_of others) again),
       )

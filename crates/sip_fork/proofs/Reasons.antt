@@ -2,9 +2,9 @@
 use Rattle.std.proofs.Common.{◌≡◌, ℕ, ◌<◌, ◌≤◌, Bool, true, false, cond, List, [], ◌∷◌, Option, Some, refl, arith}
 use Rattle.std.specs.Prelude.{◌&&◌, count_by}
 use Rattle.std.specs.List.{AllByRecursion}
-use Rattle.sip_keeping.specs.ties.transaction.declared.letter.Letter.{Letter}
+use Rattle.sip_timers.specs.declared.letter.Letter.{Letter}
 use Rattle.sip_fork.proofs.Lists.{count-cons, count_le, none_passes}
-use Rattle.sip_keeping.specs.ties.Ties.{IsFor, GoesAgain, Ends, Behind}
+use Rattle.sip_request.specs.transactions_model.Ties.{IsFor, GoesAgain, Ends, Behind}
 
 -- a test fails at each moment of a part's timers
 one_fails : (q : ℕ → Bool) (again deadline : Option ℕ) (t : Letter × ℕ) → IsFor again deadline t → ((m : ℕ) → again ≡ Some m → q m ≡ false) → ((m : ℕ) → deadline ≡ Some m → q m ≡ false)

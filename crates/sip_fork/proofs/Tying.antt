@@ -7,18 +7,18 @@ use Rattle.std.proofs.lemmas.List.Elements.{All-get_or, All-append, All-take, Al
 use Rattle.std.proofs.lemmas.List.Sums.{sum_by_push, sum_by-set, sum_by-remove, get_or-le-sum_by}
 use Rattle.std.proofs.lemmas.Option.{slice_get_within, slice_get-map, get_or_from_slice_get}
 use Rattle.sip_timers.specs.declared.timer.Timer.{Timer}
-use Rattle.sip_keeping.specs.running.Moves.{IsHeld, Moves}
-use Rattle.sip_model.specs.state.declared.open_request.OpenRequest.{OpenRequest}
-use Rattle.sip_model.specs.state.State.{has_left}
-use Rattle.sip_model.specs.Effect.{replaced}
+use Rattle.sip_timers.specs.Moves.{IsHeld, Moves}
+use Rattle.sip_dialog_lessons.specs.state.declared.open_request.OpenRequest.{OpenRequest}
+use Rattle.sip_dialog_lessons.specs.state.State.{has_left}
+use Rattle.model_steps.specs.Effect.{replaced}
 use Rattle.sip_fork.proofs.Walks.{removed_at, replaced_at}
-use Rattle.sip_model.specs.context.BranchById.{HasNumbers}
-use Rattle.sip_keeping.specs.request.Named.{HasKeys, IsReady, named_by}
-use Rattle.sip_keeping.specs.request.Near.{IsNear}
-use Rattle.sip_keeping.specs.request.declared.request.Plan.{Plan}
-use Rattle.sip_keeping.specs.request.declared.request.Request.{Request}
+use Rattle.model_steps.specs.context_model.BranchById.{HasNumbers}
+use Rattle.sip_request.specs.Named.{HasKeys, IsReady, named_by}
+use Rattle.sip_request.specs.Near.{IsNear}
+use Rattle.sip_request.specs.declared.request.Plan.{Plan}
+use Rattle.sip_request.specs.declared.request.Request.{Request}
 use Rattle.sip_fork.specs.Contexts.{AreTied, IsFitting, IsKept}
-use Rattle.sip_fork.proofs.Nearness.{IsNear-within}
+use Rattle.sip_fork.proofs.NearTimes.{IsNear-within}
 use Rattle.sip_fork.proofs.Mapped.{position-map}
 
 -- what a request names at a place
@@ -38,11 +38,11 @@ held_at pending reached rows i r h at = record {
 }
 
 -- its moments are numbers of 64 bits
-pub timed_at : (pending : List Timer) (reached : ℕ) (rows : List Request) (i : ℕ) (r : Request) → AreTied pending reached rows → slice_get rows i ≡ Some r → IsNear (2 ^ 64) r.context
+pub timed_at : (pending : List Timer) (reached : ℕ) (rows : List Request) (i : ℕ) (r : Request) → AreTied pending reached rows → slice_get rows i ≡ Some r → IsNear (2 ^ 64) r.open_request
 timed_at pending reached rows i r h at =
     let kept : IsKept reached r = kept_at pending reached rows i r h at in
     let early : reached < 2 ^ 62 = h.early in
-    IsNear-within (reached + 1) (2 ^ 64) (omega (arith, early)) r.context kept.within
+    IsNear-within (reached + 1) (2 ^ 64) (omega (arith, early)) r.open_request kept.within
 
 -- a request that fits can be kept
 pub ready : (pending : List Timer) (reached room : ℕ) (rows : List Request) (plan : Plan) → AreTied pending reached rows → HasKeys plan.request plan.keys → IsFitting reached room plan.request → IsReady reached room plan
@@ -55,7 +55,7 @@ ready pending reached room rows plan h keys fitting =
       moments = omega (arith, early);
     }
 
-pub kept_new : (reached room : ℕ) (r : Request) (next : OpenRequest) → r.context ≡ next → HasKeys r.context r.branches → HasNumbers next → IsFitting reached room next → IsKept reached r
+pub kept_new : (reached room : ℕ) (r : Request) (next : OpenRequest) → r.open_request ≡ next → HasKeys r.open_request r.branches → HasNumbers next → IsFitting reached room next → IsKept reached r
 kept_new reached room r next is keys numbers fitting = record { keys = keys; fits = rw is fitting.fits; within = rw is fitting.within; numbers = rw is numbers }
 
 -- one was closed
@@ -89,14 +89,14 @@ opened old new reached later rows next h still kept m = rw still (record {
 -- ---- what the model says
 
 -- what is seen of a list in which one takes another's place
-pub set-map : (rows : List Request) (i : ℕ) (next : Request) → map (λ (r : Request). r.context) (set rows i next) ≡ set (map (λ (r : Request). r.context) rows) i next.context
+pub set-map : (rows : List Request) (i : ℕ) (next : Request) → map (λ (r : Request). r.open_request) (set rows i next) ≡ set (map (λ (r : Request). r.open_request) rows) i next.open_request
 set-map [] i next = refl
 set-map (r ∷ rows) zero next = refl
-set-map (r ∷ rows) (suc i) next = ap (λ (xs : List OpenRequest). r.context ∷ xs) (set-map rows i next)
+set-map (r ∷ rows) (suc i) next = ap (λ (xs : List OpenRequest). r.open_request ∷ xs) (set-map rows i next)
 
-remove-map : (rows : List Request) (i : ℕ) → map (λ (r : Request). r.context) (remove rows i) ≡ remove (map (λ (r : Request). r.context) rows) i
+remove-map : (rows : List Request) (i : ℕ) → map (λ (r : Request). r.open_request) (remove rows i) ≡ remove (map (λ (r : Request). r.open_request) rows) i
 remove-map rows i =
-    let f : Request → OpenRequest = λ r. r.context in
+    let f : Request → OpenRequest = λ r. r.open_request in
     map-append f (take i rows) (drop (suc i) rows) ∙ ap (λ xs. xs ++ map f (drop (suc i) rows)) (sym (take-map f i rows)) ∙ ap (λ ys. take i (map f rows) ++ ys) (sym (drop-map f (suc i) rows))
 
 walks_out : (next : OpenRequest) → has_left next ≡ true → (x : OpenRequest) (xs : List OpenRequest) → replaced next (x ∷ xs) ≡ cond (eqb x.number next.number) xs (x ∷ replaced next xs)
@@ -106,32 +106,32 @@ walks_in : (next : OpenRequest) → has_left next ≡ false → (x : OpenRequest
 walks_in next stays x xs = ap (λ (t : Bool). cond (eqb x.number next.number) (cond t xs (next ∷ xs)) (x ∷ replaced next xs)) stays
 
 -- one that has left is taken out
-pub replaced_out : (next : OpenRequest) (rows : List Request) (i : ℕ) → has_left next ≡ true → position (λ (x : OpenRequest). eqb x.number next.number) (map (λ (r : Request). r.context) rows) ≡ Some i
-    → map (λ (r : Request). r.context) (remove rows i) ≡ replaced next (map (λ (r : Request). r.context) rows)
+pub replaced_out : (next : OpenRequest) (rows : List Request) (i : ℕ) → has_left next ≡ true → position (λ (x : OpenRequest). eqb x.number next.number) (map (λ (r : Request). r.open_request) rows) ≡ Some i
+    → map (λ (r : Request). r.open_request) (remove rows i) ≡ replaced next (map (λ (r : Request). r.open_request) rows)
 replaced_out next rows i left found =
-    remove-map rows i ∙ sym (removed_at (λ (x : OpenRequest). eqb x.number next.number) (replaced next) (walks_out next left) (map (λ (r : Request). r.context) rows) i next found)
+    remove-map rows i ∙ sym (removed_at (λ (x : OpenRequest). eqb x.number next.number) (replaced next) (walks_out next left) (map (λ (r : Request). r.open_request) rows) i next found)
 
 -- another one takes its place again
 pub replaced_in : (next : OpenRequest) (requests : List OpenRequest) (i : ℕ) → has_left next ≡ false → position (λ (x : OpenRequest). eqb x.number next.number) requests ≡ Some i → set requests i next ≡ replaced next requests
 replaced_in next requests i stays found = sym (replaced_at (λ (x : OpenRequest). eqb x.number next.number) (replaced next) next (walks_in next stays) requests i found)
 
 -- the place of a request of this number
-pub place_of : (next : OpenRequest) (rows : List Request) (i : ℕ) (r : Request) → next.number ≡ r.context.number → position (λ (x : Request). eqb x.context.number r.context.number) rows ≡ Some i
-    → position (λ (x : OpenRequest). eqb x.number next.number) (map (λ (r : Request). r.context) rows) ≡ Some i
+pub place_of : (next : OpenRequest) (rows : List Request) (i : ℕ) (r : Request) → next.number ≡ r.open_request.number → position (λ (x : Request). eqb x.open_request.number r.open_request.number) rows ≡ Some i
+    → position (λ (x : OpenRequest). eqb x.number next.number) (map (λ (r : Request). r.open_request) rows) ≡ Some i
 place_of next rows i r same found =
-    position-map (λ (x : Request). x.context) (λ (x : OpenRequest). eqb x.number next.number) rows ∙ subst (λ (n : ℕ). position (λ (x : Request). eqb x.context.number n) rows ≡ Some i) (sym same) found
+    position-map (λ (x : Request). x.open_request) (λ (x : OpenRequest). eqb x.number next.number) rows ∙ subst (λ (n : ℕ). position (λ (x : Request). eqb x.open_request.number n) rows ≡ Some i) (sym same) found
 
 -- ---- what is seen of the rows
 
 abbrev pub contexts : List Request → List OpenRequest
-contexts rows = map (λ (r : Request). r.context) rows
+contexts rows = map (λ (r : Request). r.open_request) rows
 
-pub seen_changed : (rows new : List Request) (i : ℕ) (next : Request) (request : OpenRequest) → new ≡ set rows i next → next.context ≡ request → contexts new ≡ set (contexts rows) i request
+pub seen_changed : (rows new : List Request) (i : ℕ) (next : Request) (request : OpenRequest) → new ≡ set rows i next → next.open_request ≡ request → contexts new ≡ set (contexts rows) i request
 seen_changed rows new i next request e is = ap (λ (xs : List Request). contexts xs) e ∙ set-map rows i next ∙ ap (λ (x : OpenRequest). set (contexts rows) i x) is
 
-pub seen_opened : (rows new : List Request) (next : Request) (request : OpenRequest) → new ≡ rows ++ next ∷ [] → next.context ≡ request → contexts new ≡ contexts rows ++ request ∷ []
-seen_opened rows new next request e is = ap (λ (xs : List Request). contexts xs) e ∙ map-append (λ (r : Request). r.context) rows (next ∷ []) ∙ ap (λ (x : OpenRequest). contexts rows ++ x ∷ []) is
+pub seen_opened : (rows new : List Request) (next : Request) (request : OpenRequest) → new ≡ rows ++ next ∷ [] → next.open_request ≡ request → contexts new ≡ contexts rows ++ request ∷ []
+seen_opened rows new next request e is = ap (λ (xs : List Request). contexts xs) e ∙ map-append (λ (r : Request). r.open_request) rows (next ∷ []) ∙ ap (λ (x : OpenRequest). contexts rows ++ x ∷ []) is
 
 -- what is seen at a place
-pub seen_at : (rows : List Request) (i : ℕ) (r : Request) → slice_get rows i ≡ Some r → slice_get (contexts rows) i ≡ Some r.context
-seen_at rows i r at = slice_get-map (λ (x : Request). x.context) rows i ∙ ap (option_map (λ (x : Request). x.context)) at
+pub seen_at : (rows : List Request) (i : ℕ) (r : Request) → slice_get rows i ≡ Some r → slice_get (contexts rows) i ≡ Some r.open_request
+seen_at rows i r at = slice_get-map (λ (x : Request). x.open_request) rows i ∙ ap (option_map (λ (x : Request). x.open_request)) at

@@ -3,14 +3,14 @@ use Rattle.std.specs.Prelude.{ℕ, ◌≡◌, ◌<◌, ◌≤◌, ◌+◌, ◌^�
 use Rattle.std.specs.List.{All, sum_by}
 use Rattle.sip_timers.specs.declared.timer.Timer.{Timer}
 use Rattle.sip_timers.specs.Timers.{KeysDiffer}
-use Rattle.sip_model.specs.state.declared.open_request.OpenRequest.{OpenRequest}
-use Rattle.sip_model.specs.context.BranchById.{HasNumbers}
-use Rattle.sip_keeping.specs.moments.Near.{IsWithin}
-use Rattle.sip_keeping.specs.fitting.Fits.{Fits}
-use Rattle.sip_keeping.specs.request.declared.request.Request.{Request}
-use Rattle.sip_keeping.specs.request.Named.{HasKeys, named_by}
-use Rattle.sip_keeping.specs.request.Near.{most_timers}
-use Rattle.sip_keeping.specs.request.declared.request.Plan.{Plan}
+use Rattle.sip_dialog_lessons.specs.state.declared.open_request.OpenRequest.{OpenRequest}
+use Rattle.model_steps.specs.context_model.BranchById.{HasNumbers}
+use Rattle.sip_request.specs.transactions_model.Near.{IsWithin}
+use Rattle.sip_request.specs.transactions_model.Fits.{Fits}
+use Rattle.sip_request.specs.declared.request.Request.{Request}
+use Rattle.sip_request.specs.Named.{HasKeys, named_by}
+use Rattle.sip_request.specs.Near.{most_timers}
+use Rattle.sip_request.specs.declared.request.Plan.{Plan}
 
 -- What the table of open requests shows: them, in rising order of their numbers; the timers that stand, in the order in
 -- which they fire; the last moment that came, and the greatest by which timers were told that they aren't due; and for how
@@ -40,10 +40,10 @@ pub record IsFitting (reached free : ℕ) (r : OpenRequest) : Type 0 where
 -- An open request is kept: its numbers are of their types, each branch has its keys, its parts fit their transactions, and
 -- its moments are near the next one that may come.
 pub record IsKept (reached : ℕ) (r : Request) : Type 0 where
-  pub keys : HasKeys r.context r.branches
-  pub fits : Fits r.context
-  pub within : IsWithin (reached + 1) r.context
-  pub numbers : HasNumbers r.context
+  pub keys : HasKeys r.open_request r.branches
+  pub fits : Fits r.open_request
+  pub within : IsWithin (reached + 1) r.open_request
+  pub numbers : HasNumbers r.open_request
 
 -- Exactly the timers that open requests name stand, by every test as many, no two with one key; each request is kept; and
 -- moments are far below the end of their numbers.
@@ -68,4 +68,4 @@ pub record AreOnTime (moment reached : ℕ) (requests : List OpenRequest) : Type
 -- The whole: exactly the timers that open requests name stand, and all moments are near.
 pub record AreWhole (pending : List Timer) (moment reached : ℕ) (rows : List Request) : Type 0 where
   pub tied : AreTied pending reached rows
-  pub on_time : AreOnTime moment reached (map (λ (r : Request). r.context) rows)
+  pub on_time : AreOnTime moment reached (map (λ (r : Request). r.open_request) rows)

@@ -3,11 +3,11 @@ use Rattle.std.specs.Prelude.{ℕ, ◌≡◌, ◌<◌, ◌&&◌, ◌||◌, ◌==
 use Rattle.sip_timers.specs.declared.timer.Timer.{Timer}
 use Rattle.sip_timers.specs.declared.timer.Owner.{Owner}
 use Rattle.sip_timers.specs.declared.timer.Owner.TheVariants as Of
-use Rattle.sip_model.specs.state.declared.branch.Branch.{Branch}
-use Rattle.sip_model.specs.state.declared.open_request.OpenRequest.{OpenRequest}
-use Rattle.sip_model.specs.state.State.{phase_deadline, side_deadline}
-use Rattle.sip_model.specs.retransmission.Retransmission.{answer_due, branch_due}
-use Rattle.sip_model.specs.Step.{NoneBefore, NoneAgainBefore}
+use Rattle.sip_dialog_lessons.specs.state.declared.branch.Branch.{Branch}
+use Rattle.sip_dialog_lessons.specs.state.declared.open_request.OpenRequest.{OpenRequest}
+use Rattle.sip_dialog_lessons.specs.state.State.{phase_deadline, side_deadline}
+use Rattle.model_steps.specs.context_model.Retransmission.{answer_due, branch_due}
+use Rattle.model_steps.specs.Step.{NoneBefore, NoneAgainBefore}
 use Rattle.sip_fork.specs.declared.due.Due.{Due}
 use Rattle.sip_fork.specs.declared.due.Due.TheVariants as What
 use Rattle.sip_fork.specs.declared.due.First.{First}

@@ -1,20 +1,20 @@
 ghost use Rattle.std.specs.Prelude.{◌≡◌, ◌≤◌, ◌<◌, ◌^◌, IfOk, IfErr, OnOk};
 ghost use Rattle.std.specs.List.{AllByRecursion, list_all};
-ghost use Rattle.sip_model.specs.context.BranchById.{HasNumbers};
-ghost use Rattle.sip_model.specs.state.State as States;
-ghost use Rattle.sip_model.specs.state.declared.branch.Branch.{Branch};
-ghost use Rattle.sip_keeping.specs.request.Named.{HasKeys};
-ghost use Rattle.sip_keeping.specs.request.Near.{most_timers};
+ghost use Rattle.model_steps.specs.context_model.BranchById.{HasNumbers};
+ghost use Rattle.sip_dialog_lessons.specs.state.State as States;
+ghost use Rattle.sip_dialog_lessons.specs.state.declared.branch.Branch.{Branch};
+ghost use Rattle.sip_request.specs.Named.{HasKeys};
+ghost use Rattle.sip_request.specs.Near.{most_timers};
 ghost use Rattle.sip_timers.specs.declared.error.TimerError.TheVariants.{NoMemory};
 
 use crate::row::Standing;
-use sip_keeping::inputs::Sending;
-use sip_keeping::request::{Plan, Request};
-use sip_keeping::ties::TimerKeys;
-use sip_model::state::{Branch, OpenRequest, Phase, Side};
-use sip_model::text::Items;
-use sip_table::Held;
+use sip_context::Sending;
+use sip_dialog_lessons::state::{Branch, OpenRequest, Phase, Side};
+use sip_request::transactions_model::TimerKeys;
+use sip_request::{Plan, Request};
+use sip_text::Items;
 use sip_timers::{TimerError, Timers};
+use sip_transaction_table::Held;
 use std::alloc::{AllocError, Global};
 use std::marker::Model;
 
@@ -26,7 +26,7 @@ pub struct Change {
 }
 
 impl Model for Change {
-    ghost use Rattle.sip_model.specs.state.declared.open_request.OpenRequest.{OpenRequest};
+    ghost use Rattle.sip_dialog_lessons.specs.state.declared.open_request.OpenRequest.{OpenRequest};
     ghost use Rattle.sip_fork.specs.Contexts.{IsPrepared};
 
     ghost Value = { OpenRequest };
@@ -45,7 +45,7 @@ pub struct Opening {
 }
 
 impl Model for Opening {
-    ghost use Rattle.sip_model.specs.state.declared.open_request.OpenRequest.{OpenRequest};
+    ghost use Rattle.sip_dialog_lessons.specs.state.declared.open_request.OpenRequest.{OpenRequest};
 
     ghost Value = { OpenRequest };
 
@@ -67,28 +67,28 @@ const NO_KEYS: TimerKeys = TimerKeys {
 };
 
 /// A closed request of the same number and key, without answers and branches.
-fn closed_like(alloc: Global, call: &OpenRequest) -> Result<OpenRequest, AllocError> {
-    let key = call.key.clone()?;
-    let request = call.request.clone()?;
+fn closed_like(alloc: Global, open_request: &OpenRequest) -> Result<OpenRequest, AllocError> {
+    let key = open_request.key.clone()?;
+    let request = open_request.request.clone()?;
     Ok(OpenRequest {
         key,
         request,
-        source: call.source,
-        number: call.number,
-        arrived_at: call.arrived_at,
+        source: open_request.source,
+        number: open_request.number,
+        arrived_at: open_request.arrived_at,
         answer: None,
         side: Side::Closed,
-        again: call.again,
+        again: open_request.again,
         finals: Items::new(alloc),
         branches: Items::new(alloc),
     })
 }
 
 /// Memory for a request, in which a closed one stands until it is opened.
-fn place_for(alloc: Global, call: &OpenRequest) -> Result<Held<Standing>, AllocError> {
-    let context = closed_like(alloc, call)?;
+fn place_for(alloc: Global, open_request: &OpenRequest) -> Result<Held<Standing>, AllocError> {
+    let open_request = closed_like(alloc, open_request)?;
     let request = Request {
-        context,
+        open_request,
         side: NO_KEYS,
         branches: Items::new(alloc),
     };
@@ -105,10 +105,10 @@ fn have_ended(branches: &[Branch]) -> bool
 }
 
 /// Whether a request stays open no longer.
-fn has_left(call: &OpenRequest) -> bool
-    ensures { result ≡ States.has_left call.now }
+fn has_left(request: &OpenRequest) -> bool
+    ensures { result ≡ States.has_left request.now }
 {
-    matches!(call.side, Side::Closed) && have_ended(call.branches.as_slice())
+    matches!(request.side, Side::Closed) && have_ended(request.branches.as_slice())
 }
 
 /// The number of a branch is one of 32 bits.
@@ -129,12 +129,12 @@ fn numbers_fit(branches: &[Branch])
 }
 
 /// The number of a request is one of 64 bits, and those of its branches are of 32.
-fn has_numbers(call: &OpenRequest) -> u64
-    ensures same { result ≡ call.now.number }
-    ensures fits { HasNumbers call.now }
+fn has_numbers(request: &OpenRequest) -> u64
+    ensures same { result ≡ request.now.number }
+    ensures fits { HasNumbers request.now }
 {
-    numbers_fit(call.branches.as_slice());
-    call.number
+    numbers_fit(request.branches.as_slice());
+    request.number
 }
 
 impl Change {

@@ -1,40 +1,39 @@
 ghost use Rattle.std.specs.Prelude.{◌≡◌, ◌<◌, ◌≤◌, ◌==◌, [], ℕ, false, ◌+◌, ◌-◌, ◌^◌, max, length, position, find, nat_le, slice_get, option_map, None, Some, IfOk, IfErr, IfSome, OnOk, MatchOption};
 ghost use Rattle.std.specs.List.{All, AllPairs};
 ghost use Rattle.std.specs.Option.{option_and_then};
-ghost use Rattle.sip_model.specs.key.Key.{same_key};
+ghost use Rattle.sip_transaction_table.specs.Key.{same_key};
 ghost use Rattle.sip_timers.specs.declared.error.TimerError.TheVariants.{NoMemory};
-ghost use Rattle.sip_model.specs.state.State.{has_key, with_one_more};
-ghost use Rattle.sip_model.specs.state.declared.open_request.OpenRequest.{OpenRequest};
-ghost use Rattle.sip_model.specs.verdict.Verdict.{is_cancelled_by};
-ghost use Rattle.sip_model.specs.context.FoundBranch.{found_branch};
-ghost use Rattle.sip_model.specs.state.declared.branch.Branch.{Branch};
-ghost use Rattle.sip_model.specs.Effect.{replaced};
-ghost use Rattle.sip_model.specs.Step.{NoneBefore, NoneAgainBefore};
-ghost use Rattle.sip_keeping.specs.Keeping.{IsKeptAs, IsOf};
-ghost use Rattle.sip_keeping.specs.moments.Near.{IsWithin};
-ghost use Rattle.sip_keeping.specs.request.Near.{most_timers};
-ghost use Rattle.sip_keeping.specs.inputs.Inputs.{outcome, outcome_of};
+ghost use Rattle.sip_dialog_lessons.specs.state.State.{has_key, with_one_more};
+ghost use Rattle.sip_dialog_lessons.specs.state.declared.open_request.OpenRequest.{OpenRequest};
+ghost use Rattle.model_steps.specs.verdict_model.Verdict.{is_cancelled_by};
+ghost use Rattle.model_steps.specs.context_model.FoundBranch.{found_branch};
+ghost use Rattle.sip_dialog_lessons.specs.state.declared.branch.Branch.{Branch};
+ghost use Rattle.model_steps.specs.Effect.{replaced};
+ghost use Rattle.model_steps.specs.Step.{NoneBefore, NoneAgainBefore};
+ghost use Rattle.sip_fork.specs.Keeping.{IsKeptAs, IsOf};
+ghost use Rattle.sip_request.specs.transactions_model.Near.{IsWithin};
+ghost use Rattle.sip_request.specs.Near.{most_timers};
+ghost use Rattle.sip_context.specs.Inputs.{outcome, outcome_of};
 ghost use Rattle.sip_fork.specs.Contexts.{IsFitting, IsSame};
 ghost use Rattle.sip_fork.specs.Due.{IsFirst, IsNothingDue, IsOfFirst};
 ghost use Rattle.sip_fork.specs.Places.{branch_at};
 
+use crate::Planned;
 use crate::change::{Change, Opening, Prepared};
 use crate::due::{First, what_at};
+use crate::keeping::{inputs_fit, inputs_keep};
 use crate::lookup::place_of_sent;
 use crate::moving::{change_row, close_row, open_row};
 use crate::queue::Queue;
 use crate::row::Standing;
 use crate::timing::timers_stand_for_moments;
-use sip_keeping::Planned;
-use sip_keeping::inputs::Input;
-use sip_keeping::keeping::{inputs_fit, inputs_keep};
-use sip_keeping::moments::bounds::time_passes;
-use sip_model::context::laws::found_by_numbers;
-use sip_model::edit::branch_of_text;
-use sip_model::key::Key;
-use sip_model::state::{OpenRequest, Server};
-use sip_table::Table;
+use model_steps::context_model::laws::found_by_numbers;
+use sip_context::Input;
+use sip_dialog_lessons::state::{OpenRequest, Server};
+use sip_edit::branch_of_text;
+use sip_request::transactions_model::bounds::time_passes;
 use sip_timers::{TimerError, Timers};
+use sip_transaction_table::{Key, Table};
 use std::alloc::{AllocError, Global};
 use std::marker::Model;
 
@@ -59,12 +58,12 @@ impl<T: Timers> Drop for Contexts<T> {
 
 impl<T: Timers> Model for Contexts<T> {
     ghost use Rattle.std.specs.Prelude.{map};
-    ghost use Rattle.sip_keeping.specs.request.declared.request.Request.{Request};
+    ghost use Rattle.sip_request.specs.declared.request.Request.{Request};
     ghost use Rattle.sip_fork.specs.Contexts.{Contexts, AreWhole};
 
     ghost Value = { Contexts };
 
-    ghost view = { λ c. record { requests = map (λ (r : Request). r.context) c.table.rows; pending = c.timers.pending; moment = c.moment; reached = c.timers.reached; places = c.table.room; room = c.timers.room } };
+    ghost view = { λ c. record { requests = map (λ (r : Request). r.open_request) c.table.rows; pending = c.timers.pending; moment = c.moment; reached = c.timers.reached; places = c.table.room; room = c.timers.room } };
 
     ghost invariant = { λ c. AreWhole c.timers.pending c.moment c.timers.reached c.table.rows };
 }
@@ -118,7 +117,7 @@ impl<T: Timers> Contexts<T> {
         requires { place < length self.now.requests }
         ensures { slice_get self.now.requests place ≡ Some result.now }
     {
-        &self.table.get(place).request.context
+        &self.table.get(place).request.open_request
     }
 
     /// The place of the open request with a number, by bisection.
@@ -209,7 +208,7 @@ impl<T: Timers> Contexts<T> {
         inputs_keep();
         let _moment = self.moment;
         let row = self.table.get(place);
-        let planned = Planned::of(alloc, server, now, &row.request.context, input)?;
+        let planned = Planned::of(alloc, server, now, &row.request.open_request, input)?;
         let change = Change::of_plan(planned.plan);
         Ok(Prepared {
             change,
@@ -282,7 +281,7 @@ impl<T: Timers> Contexts<T> {
         let (due, name) = self.timers.first()?;
         let place = self.table.find_number(name.request).unwrap();
         let row = self.table.get(place);
-        let what = what_at(&row.request.context, name.owner, due).unwrap();
+        let what = what_at(&row.request.open_request, name.owner, due).unwrap();
         Some(First { due, place, what })
     }
 

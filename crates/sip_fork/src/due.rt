@@ -1,11 +1,11 @@
 ghost use Rattle.std.specs.Prelude.{◌≡◌, false, position, None, IfSome, IfNone};
-ghost use Rattle.sip_model.specs.state.State.{side_deadline, phase_deadline};
-ghost use Rattle.sip_model.specs.retransmission.Retransmission.{answer_due, branch_due};
+ghost use Rattle.sip_dialog_lessons.specs.state.State.{side_deadline, phase_deadline};
+ghost use Rattle.model_steps.specs.context_model.Retransmission.{answer_due, branch_due};
 ghost use Rattle.sip_fork.specs.Due.{IsDue, IsNotDue, IsOfOwner, is_at, is_branch_due, is_either, is_of};
 ghost use Rattle.sip_timers.specs.declared.timer.Owner.TheVariants.{Server};
 
-use sip_keeping::resend::{answer_due, branch_due};
-use sip_model::state::{Branch, OpenRequest, Phase, Side};
+use sip_context::context_resend::{answer_due, branch_due};
+use sip_dialog_lessons::state::{Branch, OpenRequest, Phase, Side};
 use sip_timers::Owner;
 
 /// What of an open request is due: something goes again, or a deadline passes, of its answering side or of the branch at
@@ -78,65 +78,69 @@ fn is_of(owner: Owner, branch: &Branch) -> bool
 
 /// What of the answering side is due at a moment.
 #[tactic(auto, using(crate::proofs::Dues::at_is, crate::proofs::Dues::neither))]
-fn answer_what(call: &OpenRequest, due: u64) -> Option<Due>
-    ensures some { IfSome result (IsDue call.now due) }
-    ensures side { IfSome result (IsOfOwner call.now Server) }
-    ensures none { IfNone result (is_either (answer_due call.now) (side_deadline call.now.side) due ≡ false) }
+fn answer_what(request: &OpenRequest, due: u64) -> Option<Due>
+    ensures some { IfSome result (IsDue request.now due) }
+    ensures side { IfSome result (IsOfOwner request.now Server) }
+    ensures none { IfNone result (is_either (answer_due request.now) (side_deadline request.now.side) due ≡ false) }
 {
-    if is_at(answer_due(call), due) {
+    if is_at(answer_due(request), due) {
         return Some(Due::AnswerAgain);
     }
-    if is_at(side_deadline(call.side), due) {
+    if is_at(side_deadline(request.side), due) {
         return Some(Due::AnswerEnds);
     }
     None
 }
 
 /// Whether something of a branch of this owner is due at a moment.
-fn is_branch_due(call: &OpenRequest, owner: Owner, due: u64, branch: &Branch) -> bool
-    ensures { result ≡ is_branch_due call.now owner due branch.now }
+fn is_branch_due(request: &OpenRequest, owner: Owner, due: u64, branch: &Branch) -> bool
+    ensures { result ≡ is_branch_due request.now owner due branch.now }
 {
     if !is_of(owner, branch) {
         return false;
     }
-    if is_at(branch_due(call, branch), due) {
+    if is_at(branch_due(request, branch), due) {
         return true;
     }
     is_at(phase_deadline(branch.phase), due)
 }
 
 /// The place of the first branch of this owner of which something is due at a moment.
-fn place_of(call: &OpenRequest, owner: Owner, due: u64) -> Option<usize>
-    ensures { result ≡ position (is_branch_due call.now owner due) call.now.branches }
+fn place_of(request: &OpenRequest, owner: Owner, due: u64) -> Option<usize>
+    ensures { result ≡ position (is_branch_due request.now owner due) request.now.branches }
 {
-    call.branches
+    request
+        .branches
         .as_slice()
         .iter()
-        .position(|branch| is_branch_due(call, owner, due, branch))
+        .position(|branch| is_branch_due(request, owner, due, branch))
 }
 
 /// What of a branch of this owner is due at a moment.
-fn branch_what(call: &OpenRequest, owner: Owner, due: u64) -> Option<Due>
-    ensures some { IfSome result (IsDue call.now due) }
-    ensures part { IfSome result (IsOfOwner call.now owner) }
-    ensures none { IfNone result (position (is_branch_due call.now owner due) call.now.branches ≡ None) }
+fn branch_what(request: &OpenRequest, owner: Owner, due: u64) -> Option<Due>
+    ensures some { IfSome result (IsDue request.now due) }
+    ensures part { IfSome result (IsOfOwner request.now owner) }
+    ensures none { IfNone result (position (is_branch_due request.now owner due) request.now.branches ≡ None) }
 {
-    let place = place_of(call, owner, due)?;
-    if is_at(branch_due(call, &call.branches.as_slice()[place]), due) {
+    let place = place_of(request, owner, due)?;
+    if is_at(
+        branch_due(request, &request.branches.as_slice()[place]),
+        due,
+    ) {
         return Some(Due::BranchAgain { place });
     }
     Some(Due::BranchEnds { place })
 }
 
 /// What of a part of an open request is due at a moment, if something is.
-pub(crate) fn what_at(call: &OpenRequest, owner: Owner, due: u64) -> Option<Due>
-    ensures some { IfSome result (IsDue call.now due) }
-    ensures part { IfSome result (IsOfOwner call.now owner) }
-    ensures none { IfNone result (IsNotDue call.now due owner) }
+pub(crate) fn what_at(request: &OpenRequest, owner: Owner, due: u64) -> Option<Due>
+    ensures some { IfSome result (IsDue request.now due) }
+    ensures part { IfSome result (IsOfOwner request.now owner) }
+    ensures none { IfNone result (IsNotDue request.now due owner) }
 {
     match owner {
-        Owner::Server => answer_what(call, due),
-        Owner::Branch(_) => branch_what(call, owner, due),
-        Owner::Cancel(_) => branch_what(call, owner, due),
+        Owner::Server => answer_what(request, due),
+        Owner::Branch(_) => branch_what(request, owner, due),
+        Owner::Cancel(_) => branch_what(request, owner, due),
     }
 }

@@ -1,14 +1,21 @@
 //! The table of open requests with their timers (RFC 3261 16: response contexts; 17): which request is open under a key
 //! or a number, which one a CANCEL names, which branch a response is to, what is due first, and how a request is opened,
-//! changed and closed. Exactly the timers that open requests name stand, in the order in which they fire. Nothing that
-//! changes a request takes memory: who plans reserves before. No moment is read here; who reaches one says so.
+//! changed and closed. Exactly the timers that open requests name stand, in the order in which they fire. Whatever happens
+//! to an open request is planned here first, and leaves it as it is to be kept: its parts fit their transactions, its
+//! moments are near that of the last event, and its number and key stay. Nothing that changes a request takes memory: who
+//! plans reserves before. No moment is read here; who reaches one says so.
 #![tactic(auto)]
 
 mod change;
 mod contexts;
+pub mod dialogs;
 mod due;
+pub mod keeping;
 mod lookup;
 mod moving;
+pub mod nearness;
+pub mod openings;
+mod planning;
 mod queue;
 mod row;
 mod timing;
@@ -16,18 +23,14 @@ mod timing;
 pub use change::{Change, Opening, Prepared};
 pub use contexts::Contexts;
 pub use due::{Due, First};
+pub use planning::Planned;
 
-/// Of `sip_timers`.
-pub mod timers {
-    pub use sip_timers::Timers;
+/// Of `sip_context`.
+pub mod context {
+    pub use sip_context::Input;
 }
 
-/// Of `sip_inputs`.
-pub mod inputs {
-    pub use sip_keeping::inputs::Input;
-}
-
-/// Of `sip_keeping`.
-pub mod keeping {
-    pub use sip_keeping::moments;
+/// Of `sip_context_events`.
+pub mod context_events {
+    pub use sip_context::context_events::{Sent, is_accepted};
 }

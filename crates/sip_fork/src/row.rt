@@ -1,10 +1,9 @@
 ghost use Rattle.std.specs.Prelude.{◌≡◌};
-ghost use Rattle.sip_model.specs.verdict.Verdict;
+ghost use Rattle.model_steps.specs.verdict_model.Verdict;
 
-use sip_keeping::request::Request;
-use sip_model::key::Key;
-use sip_model::state::OpenRequest;
-use sip_table::Row;
+use sip_dialog_lessons::state::OpenRequest;
+use sip_request::Request;
+use sip_transaction_table::{Key, Row};
 use std::marker::Model;
 
 /// An open request as a row of the table, seen as the request.
@@ -14,7 +13,7 @@ pub(crate) struct Standing {
 }
 
 impl Model for Standing {
-    ghost use Rattle.sip_keeping.specs.request.declared.request.Request.{Request};
+    ghost use Rattle.sip_request.specs.declared.request.Request.{Request};
 
     ghost Value = { Request };
 
@@ -23,10 +22,10 @@ impl Model for Standing {
 
 /// Whether a CANCEL with a key may name an open request: neither ACK nor CANCEL, with the same branch and sent-by
 /// (RFC 3261 9.2).
-fn is_named_by(call: &OpenRequest, cancel: &Key) -> bool
-    ensures { result ≡ Verdict.is_cancelled_by cancel.now call.now }
+fn is_named_by(request: &OpenRequest, cancel: &Key) -> bool
+    ensures { result ≡ Verdict.is_cancelled_by cancel.now request.now }
 {
-    let key = call.key.get();
+    let key = request.key.get();
     if key.branch.as_slice() != cancel.branch.as_slice() {
         return false;
     }
@@ -46,21 +45,21 @@ fn is_named_by(call: &OpenRequest, cancel: &Key) -> bool
 }
 
 impl Row for Standing {
-    ghost number = { λ r. r.context.number };
+    ghost number = { λ r. r.open_request.number };
 
-    ghost key = { λ r. r.context.key };
+    ghost key = { λ r. r.open_request.key };
 
-    ghost is_cancelled_by = { λ key r. Verdict.is_cancelled_by key r.context };
+    ghost is_cancelled_by = { λ key r. Verdict.is_cancelled_by key r.open_request };
 
     fn number(&self) -> u64 {
-        self.request.context.number
+        self.request.open_request.number
     }
 
     fn key(&self) -> &Key {
-        self.request.context.key.get()
+        self.request.open_request.key.get()
     }
 
     fn is_cancelled_by(&self, cancel: &Key) -> bool {
-        is_named_by(&self.request.context, cancel)
+        is_named_by(&self.request.open_request, cancel)
     }
 }

@@ -1,7 +1,7 @@
 ghost use Rattle.sip_fork.specs.Timing.{Timing};
 
-use sip_keeping::fitting::machines::{branches_have_states, sides_have_states};
-use sip_keeping::ties::ties::{moments_are_named, timers_have_reasons};
+use sip_request::transactions_model::machines::{branches_have_states, sides_have_states};
+use sip_request::transactions_model::ties::{moments_are_named, timers_have_reasons};
 
 /// Why the timers of open requests stand, and which moments they stand for.
 pub(crate) fn timers_stand_for_moments()

@@ -2,26 +2,26 @@
 use Rattle.std.proofs.Common.{◌≡◌, ◌∙◌, ℕ, ◌+◌, ◌≤◌, ◌<◌, ◌^◌, Bool, true, List, [], ◌++◌, sym, ap, subst, arith}
 use Rattle.std.specs.Prelude.{count_by, nat_lt}
 use Rattle.std.proofs.lemmas.Bool.Decides.{nat_tests}
-use Rattle.sip_opening.specs.form.declared.message.Message.{Message}
-use Rattle.sip_opening.specs.key.declared.key.Key.{Key}
-use Rattle.sip_opening.specs.hops.declared.host_address.HostAddress.{HostAddress}
-use Rattle.sip_opening.specs.dialog.declared.dialog.Dialog.{Dialog}
-use Rattle.sip_opening.specs.dialog.declared.dialog.DialogId.{DialogId}
-use Rattle.sip_opening.specs.event.declared.packet.Packet.{Packet}
-use Rattle.sip_opening.specs.state.Arrival.{Arrival}
-use Rattle.sip_opening.specs.state.declared.server.Server.{Server}
-use Rattle.sip_opening.specs.state.declared.branch.Branch.{Branch}
-use Rattle.sip_opening.specs.state.declared.open_request.OpenRequest.{OpenRequest}
-use Rattle.sip_opening.specs.state.declared.open_request.Upward.{Upward}
-use Rattle.sip_opening.specs.state.Dialogs.{after_request, after_answers, after_leaving}
-use Rattle.sip_opening.specs.context.Opening.{forking, opening}
-use Rattle.sip_opening.specs.model.Effect.{change_packets, opening_packets, dialogs_after}
-use Rattle.sip_learning.specs.declared.lesson.Lesson.{Lesson}
-use Rattle.sip_learning.specs.Lessons.{after_lessons, beginnings}
-use Rattle.sip_learning.specs.Telling.{Adds, is_early_or_success}
-use Rattle.sip_inputs.specs.declared.input.Input.{Input}
-use Rattle.sip_inputs.specs.declared.sending.Sending.{Sending}
-use Rattle.sip_inputs.specs.Inputs.{Outcome, outcome, outcome_of}
+use Rattle.sip_message_form.specs.declared.message.Message.{Message}
+use Rattle.sip_transaction_table.specs.declared.key.Key.{Key}
+use Rattle.sip_hops.specs.declared.host_address.HostAddress.{HostAddress}
+use Rattle.sip_dialog.specs.declared.dialog.Dialog.{Dialog}
+use Rattle.sip_dialog.specs.declared.dialog.DialogId.{DialogId}
+use Rattle.sip_event.specs.declared.packet.Packet.{Packet}
+use Rattle.sip_dialog_lessons.specs.state.Arrival.{Arrival}
+use Rattle.sip_dialog_lessons.specs.state.declared.server.Server.{Server}
+use Rattle.sip_dialog_lessons.specs.state.declared.branch.Branch.{Branch}
+use Rattle.sip_dialog_lessons.specs.state.declared.open_request.OpenRequest.{OpenRequest}
+use Rattle.sip_dialog_lessons.specs.state.declared.open_request.Upward.{Upward}
+use Rattle.sip_dialog_lessons.specs.state.Dialogs.{after_request, after_answers, after_leaving}
+use Rattle.sip_context_opening.specs.context_model.Opening.{forking, opening}
+use Rattle.sip_context_opening.specs.steps_model.Effect.{change_packets, opening_packets, dialogs_after}
+use Rattle.sip_dialog_lessons.specs.declared.lesson.Lesson.{Lesson}
+use Rattle.sip_dialog_lessons.specs.Lessons.{after_lessons, beginnings}
+use Rattle.sip_dialog_lessons.specs.Telling.{Adds, is_early_or_success}
+use Rattle.sip_context.specs.declared.input.Input.{Input}
+use Rattle.sip_context.specs.declared.sending.Sending.{Sending}
+use Rattle.sip_context.specs.Inputs.{Outcome, outcome, outcome_of}
 use Rattle.sip_forwarding.specs.declared.changing.Drafted.{Drafted}
 use Rattle.sip_forwarding.specs.Forwarding.{AreSent, IsDraft, IsInputTo, IsOpenable, Teach, change_of}
 use Rattle.sip_forwarding.proofs.Few.{input_begins_one, opening_begins_none}

@@ -3,27 +3,27 @@ use Rattle.std.proofs.Common.{◌≡◌, ◌∙◌, ℕ, zero, suc, ◌+◌, ◌
 use Rattle.std.specs.Prelude.{◌||◌, count_by, filter, nat_le, option_map}
 use Rattle.std.specs.List.{AllByRecursion, list_all}
 use Rattle.std.proofs.lemmas.Bool.Decides.{nat_tests}
-use Rattle.sip_opening.specs.form.declared.message.Message.{Message}
-use Rattle.sip_opening.specs.event.declared.packet.Packet.{Packet}
-use Rattle.sip_opening.specs.best.declared.final_answer.Final.{Final}
-use Rattle.sip_opening.specs.best.Best.{is_unbeaten, picked, chosen_of, challenging, is_challenge_status, going_up, best_of}
-use Rattle.sip_opening.specs.state.Arrival.{Arrival}
-use Rattle.sip_opening.specs.state.declared.server.Server.{Server}
-use Rattle.sip_opening.specs.state.declared.branch.Phase.{Phase}
-use Rattle.sip_opening.specs.state.declared.branch.Phase.TheVariants.{Unheard, Heard, Cancelled, Done, Ended}
-use Rattle.sip_opening.specs.state.declared.branch.Branch.{Branch}
-use Rattle.sip_opening.specs.state.declared.open_request.Side.{Side}
-use Rattle.sip_opening.specs.state.declared.open_request.Side.TheVariants.{Answering, Closing, Acknowledged, Closed}
-use Rattle.sip_opening.specs.state.declared.open_request.OpenRequest.{OpenRequest}
-use Rattle.sip_opening.specs.state.declared.open_request.Upward.{Upward}
-use Rattle.sip_opening.specs.state.State.{is_invite, is_answering, is_final, is_provisional, is_success}
-use Rattle.sip_opening.specs.context.Branches.{Change, settled, answered, upward_list, upward_of, best_upward, all_final, turned, phased, with_phase, invite_heard, other_heard, heard, relayed_from, relayed_provisional, relayed_success, is_accepted, further, with_answer, acks_of, responded, target_responded, cancel_responded, branch_overdue, given_up, marked}
-use Rattle.sip_opening.specs.context.Sending.{made_answer}
-use Rattle.sip_opening.specs.context.Opening.{unsent, forking, trying, tried, opening, is_tried}
-use Rattle.sip_learning.specs.Telling.{is_early_or_success}
-use Rattle.sip_inputs.specs.declared.input.Input.{Input}
-use Rattle.sip_inputs.specs.declared.input.Input.TheVariants.{Response, BranchDeadline, SideDeadline, SendFault, Cancel, Ack, BranchAgain, AnswerAgain}
-use Rattle.sip_inputs.specs.Inputs.{outcome_of}
+use Rattle.sip_message_form.specs.declared.message.Message.{Message}
+use Rattle.sip_event.specs.declared.packet.Packet.{Packet}
+use Rattle.sip_best.specs.declared.final_answer.Final.{Final}
+use Rattle.sip_best.specs.Best.{is_unbeaten, picked, chosen_of, challenging, is_challenge_status, going_up, best_of}
+use Rattle.sip_dialog_lessons.specs.state.Arrival.{Arrival}
+use Rattle.sip_dialog_lessons.specs.state.declared.server.Server.{Server}
+use Rattle.sip_dialog_lessons.specs.state.declared.branch.Phase.{Phase}
+use Rattle.sip_dialog_lessons.specs.state.declared.branch.Phase.TheVariants.{Unheard, Heard, Cancelled, Done, Ended}
+use Rattle.sip_dialog_lessons.specs.state.declared.branch.Branch.{Branch}
+use Rattle.sip_dialog_lessons.specs.state.declared.open_request.Side.{Side}
+use Rattle.sip_dialog_lessons.specs.state.declared.open_request.Side.TheVariants.{Answering, Closing, Acknowledged, Closed}
+use Rattle.sip_dialog_lessons.specs.state.declared.open_request.OpenRequest.{OpenRequest}
+use Rattle.sip_dialog_lessons.specs.state.declared.open_request.Upward.{Upward}
+use Rattle.sip_dialog_lessons.specs.state.State.{is_invite, is_answering, is_final, is_provisional, is_success}
+use Rattle.sip_context_opening.specs.context_model.Branches.{Change, settled, answered, upward_list, upward_of, best_upward, all_final, turned, phased, with_phase, invite_heard, other_heard, heard, relayed_from, relayed_provisional, relayed_success, is_accepted, further, with_answer, acks_of, responded, target_responded, cancel_responded, branch_overdue, given_up, marked}
+use Rattle.sip_context_opening.specs.context_model.Sending.{made_answer}
+use Rattle.sip_context_opening.specs.context_model.Opening.{unsent, forking, trying, tried, opening, is_tried}
+use Rattle.sip_dialog_lessons.specs.Telling.{is_early_or_success}
+use Rattle.sip_context.specs.declared.input.Input.{Input}
+use Rattle.sip_context.specs.declared.input.Input.TheVariants.{Response, BranchDeadline, SideDeadline, SendFault, Cancel, Ack, BranchAgain, AnswerAgain}
+use Rattle.sip_context.specs.Inputs.{outcome_of}
 use Rattle.sip_forwarding.specs.Forwarding.{IsInputTo}
 
 -- how many of what goes to the caller may make a dialog known

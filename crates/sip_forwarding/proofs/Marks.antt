@@ -2,31 +2,31 @@
 use Rattle.std.proofs.Common.{◌≡◌, ◌∙◌, ℕ, ◌+◌, Bool, true, false, not, ◌&&◌, cond, List, [], ◌∷◌, ◌++◌, flat_map, Option, Some, None, refl, ap}
 use Rattle.std.specs.Option.{option_map_or}
 use Rattle.std.specs.List.{AllByRecursion}
-use Rattle.sip_opening.specs.host.declared.addr.Addr.{Addr}
-use Rattle.sip_opening.specs.form.declared.message.Message.{Message}
-use Rattle.sip_opening.specs.field.declared.field_name.FieldName.TheVariants as Name
-use Rattle.sip_opening.specs.field.Values.{first_value}
-use Rattle.sip_opening.specs.form.Text.{text_of}
-use Rattle.sip_opening.specs.edit.OwnRequests.{ack_with}
-use Rattle.sip_opening.specs.event.declared.packet.Packet.{Packet}
-use Rattle.sip_opening.specs.state.declared.server.Server.{Server}
-use Rattle.sip_opening.specs.state.declared.branch.Phase.{Phase}
-use Rattle.sip_opening.specs.state.declared.branch.Phase.TheVariants.{Unheard, Heard, Cancelled, Done, Ended}
-use Rattle.sip_opening.specs.state.declared.branch.Branch.{Branch}
-use Rattle.sip_opening.specs.state.declared.open_request.LastAnswer.{LastAnswer}
-use Rattle.sip_opening.specs.state.declared.open_request.Side.TheVariants.{Closed}
-use Rattle.sip_opening.specs.state.declared.open_request.OpenRequest.{OpenRequest}
-use Rattle.sip_opening.specs.state.declared.open_request.Upward.{Upward}
-use Rattle.sip_opening.specs.state.State.{is_invite, is_answering, is_failure, is_final, is_provisional, is_success}
-use Rattle.sip_opening.specs.context.Sending.{answer_to, to_branch, branch_packets, ack_packets, sent_of, ticket_branch, request_of}
-use Rattle.sip_opening.specs.context.Branches.{Change, settled, after_upward, best_upward, new_cancels, responded, target_responded, cancel_responded, acks_of, relayed_provisional, relayed_success, further, with_phase, with_answer, heard, other_heard, marked, given_up, branch_overdue}
-use Rattle.sip_opening.specs.context.Opening.{opening, tried, trying}
-use Rattle.sip_opening.specs.model.retransmission.Retransmission.{answers_again, is_lasting, acks_again}
-use Rattle.sip_opening.specs.model.Effect.{upward_packets, change_packets, opening_packets}
-use Rattle.sip_opening.specs.model.Step.{originals, retransmissions}
-use Rattle.sip_inputs.specs.declared.input.Input.{Input}
-use Rattle.sip_inputs.specs.declared.input.Input.TheVariants.{Response, BranchDeadline, SideDeadline, SendFault, Cancel, Ack, BranchAgain, AnswerAgain}
-use Rattle.sip_inputs.specs.Inputs.{outcome_of}
+use Rattle.sip_uri.specs.declared.addr.Addr.{Addr}
+use Rattle.sip_message_form.specs.declared.message.Message.{Message}
+use Rattle.sip_message_fields.specs.declared.field_name.FieldName.TheVariants as Name
+use Rattle.sip_message_fields.specs.Values.{first_value}
+use Rattle.sip_message_form.specs.Text.{text_of}
+use Rattle.sip_edit.specs.OwnRequests.{ack_with}
+use Rattle.sip_event.specs.declared.packet.Packet.{Packet}
+use Rattle.sip_dialog_lessons.specs.state.declared.server.Server.{Server}
+use Rattle.sip_dialog_lessons.specs.state.declared.branch.Phase.{Phase}
+use Rattle.sip_dialog_lessons.specs.state.declared.branch.Phase.TheVariants.{Unheard, Heard, Cancelled, Done, Ended}
+use Rattle.sip_dialog_lessons.specs.state.declared.branch.Branch.{Branch}
+use Rattle.sip_dialog_lessons.specs.state.declared.open_request.LastAnswer.{LastAnswer}
+use Rattle.sip_dialog_lessons.specs.state.declared.open_request.Side.TheVariants.{Closed}
+use Rattle.sip_dialog_lessons.specs.state.declared.open_request.OpenRequest.{OpenRequest}
+use Rattle.sip_dialog_lessons.specs.state.declared.open_request.Upward.{Upward}
+use Rattle.sip_dialog_lessons.specs.state.State.{is_invite, is_answering, is_failure, is_final, is_provisional, is_success}
+use Rattle.sip_context_opening.specs.context_model.Sending.{answer_to, to_branch, branch_packets, ack_packets, sent_of, ticket_branch, request_of}
+use Rattle.sip_context_opening.specs.context_model.Branches.{Change, settled, after_upward, best_upward, new_cancels, responded, target_responded, cancel_responded, acks_of, relayed_provisional, relayed_success, further, with_phase, with_answer, heard, other_heard, marked, given_up, branch_overdue}
+use Rattle.sip_context_opening.specs.context_model.Opening.{opening, tried, trying}
+use Rattle.sip_context_opening.specs.context_model.Retransmission.{answers_again, is_lasting, acks_again}
+use Rattle.sip_context_opening.specs.steps_model.Effect.{upward_packets, change_packets, opening_packets}
+use Rattle.sip_context_opening.specs.steps_model.Step.{originals, retransmissions}
+use Rattle.sip_context.specs.declared.input.Input.{Input}
+use Rattle.sip_context.specs.declared.input.Input.TheVariants.{Response, BranchDeadline, SideDeadline, SendFault, Cancel, Ack, BranchAgain, AnswerAgain}
+use Rattle.sip_context.specs.Inputs.{outcome_of}
 use Rattle.sip_forwarding.specs.Forwarding.{AreSent, change_of}
 
 -- packets that go out for the first time, or all again

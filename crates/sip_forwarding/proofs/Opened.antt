@@ -1,18 +1,18 @@
 -- What the first packets leave of a request, and what dialogs learn of them.
 use Rattle.std.proofs.Common.{◌≡◌, ◌∙◌, ℕ, List, [], ◌∷◌, Option, Some, None, refl, ap}
 use Rattle.std.specs.Option.{unwrap_or}
-use Rattle.sip_opening.specs.form.declared.message.Message.{Message}
-use Rattle.sip_opening.specs.key.declared.key.Key.{Key}
-use Rattle.sip_opening.specs.key.Key.{key_of}
-use Rattle.sip_opening.specs.state.Arrival.{Arrival}
-use Rattle.sip_opening.specs.state.declared.server.Server.{Server}
-use Rattle.sip_opening.specs.state.declared.branch.Branch.{Branch}
-use Rattle.sip_opening.specs.state.declared.open_request.OpenRequest.{OpenRequest}
-use Rattle.sip_opening.specs.state.declared.open_request.Upward.{Upward}
-use Rattle.sip_opening.specs.context.Branches.{answered, after_upward, best_upward}
-use Rattle.sip_opening.specs.context.Opening.{request_key, forking, trying, tried, opening}
-use Rattle.sip_fitting.specs.Fits.{Fits}
-use Rattle.sip_moments.specs.Near.{IsWithin}
+use Rattle.sip_message_form.specs.declared.message.Message.{Message}
+use Rattle.sip_transaction_table.specs.declared.key.Key.{Key}
+use Rattle.sip_transaction_table.specs.Key.{key_of}
+use Rattle.sip_dialog_lessons.specs.state.Arrival.{Arrival}
+use Rattle.sip_dialog_lessons.specs.state.declared.server.Server.{Server}
+use Rattle.sip_dialog_lessons.specs.state.declared.branch.Branch.{Branch}
+use Rattle.sip_dialog_lessons.specs.state.declared.open_request.OpenRequest.{OpenRequest}
+use Rattle.sip_dialog_lessons.specs.state.declared.open_request.Upward.{Upward}
+use Rattle.sip_context_opening.specs.context_model.Branches.{answered, after_upward, best_upward}
+use Rattle.sip_context_opening.specs.context_model.Opening.{request_key, forking, trying, tried, opening}
+use Rattle.model_transactions.specs.Fits.{Fits}
+use Rattle.model_transactions.specs.Near.{IsWithin}
 use Rattle.sip_forwarding.specs.Forwarding.{IsOpenable}
 
 -- ---- the number and the key stay

@@ -1,27 +1,27 @@
 -- What is drafted of a request that is sent on (RFC 3261 16.6, 16.11, 16.12), and of an event of an open request, before anything is changed.
 use Rattle.std.specs.Prelude.{◌≡◌, ◌≤◌, ℕ, List, [], ◌∷◌, Contains}
-use Rattle.sip_opening.specs.form.declared.message.Message.{Message}
-use Rattle.sip_opening.specs.host.declared.addr.Addr.{Addr}
-use Rattle.sip_opening.specs.hops.declared.host_address.HostAddress.{HostAddress}
-use Rattle.sip_opening.specs.key.declared.key.Key.{Key}
-use Rattle.sip_opening.specs.dialog.declared.dialog.Dialog.{Dialog}
-use Rattle.sip_opening.specs.event.declared.packet.Packet.{Packet}
-use Rattle.sip_opening.specs.targets.declared.targets.Targets.{Targets}
-use Rattle.sip_opening.specs.targets.Targets.{target_list}
-use Rattle.sip_opening.specs.state.Arrival.{Arrival}
-use Rattle.sip_opening.specs.state.declared.server.Server.{Server}
-use Rattle.sip_opening.specs.state.declared.open_request.OpenRequest.{OpenRequest}
-use Rattle.sip_opening.specs.context.Branches.{Change}
-use Rattle.sip_opening.specs.context.Opening.{branches_from, dialog_branch, forking}
-use Rattle.sip_opening.specs.model.Effect.{change_packets, dialogs_after}
-use Rattle.sip_opening.specs.model.Step.{originals, retransmissions}
-use Rattle.sip_learning.specs.declared.lesson.Lesson.{Lesson}
-use Rattle.sip_learning.specs.Lessons.{after_lessons, beginnings}
-use Rattle.sip_inputs.specs.declared.input.Input.{Input}
-use Rattle.sip_inputs.specs.declared.input.Input.TheVariants.{Response, BranchDeadline, SideDeadline, SendFault, Cancel, Ack, BranchAgain, AnswerAgain}
-use Rattle.sip_inputs.specs.Inputs.{Outcome}
-use Rattle.sip_fitting.specs.Fits.{Fits}
-use Rattle.sip_moments.specs.Near.{IsWithin}
+use Rattle.sip_message_form.specs.declared.message.Message.{Message}
+use Rattle.sip_uri.specs.declared.addr.Addr.{Addr}
+use Rattle.sip_hops.specs.declared.host_address.HostAddress.{HostAddress}
+use Rattle.sip_transaction_table.specs.declared.key.Key.{Key}
+use Rattle.sip_dialog.specs.declared.dialog.Dialog.{Dialog}
+use Rattle.sip_event.specs.declared.packet.Packet.{Packet}
+use Rattle.sip_targets.specs.declared.targets.Targets.{Targets}
+use Rattle.sip_targets.specs.Targets.{target_list}
+use Rattle.sip_dialog_lessons.specs.state.Arrival.{Arrival}
+use Rattle.sip_dialog_lessons.specs.state.declared.server.Server.{Server}
+use Rattle.sip_dialog_lessons.specs.state.declared.open_request.OpenRequest.{OpenRequest}
+use Rattle.sip_context_opening.specs.context_model.Branches.{Change}
+use Rattle.sip_context_opening.specs.context_model.Opening.{branches_from, dialog_branch, forking}
+use Rattle.sip_context_opening.specs.steps_model.Effect.{change_packets, dialogs_after}
+use Rattle.sip_context_opening.specs.steps_model.Step.{originals, retransmissions}
+use Rattle.sip_dialog_lessons.specs.declared.lesson.Lesson.{Lesson}
+use Rattle.sip_dialog_lessons.specs.Lessons.{after_lessons, beginnings}
+use Rattle.sip_context.specs.declared.input.Input.{Input}
+use Rattle.sip_context.specs.declared.input.Input.TheVariants.{Response, BranchDeadline, SideDeadline, SendFault, Cancel, Ack, BranchAgain, AnswerAgain}
+use Rattle.sip_context.specs.Inputs.{Outcome}
+use Rattle.model_transactions.specs.Fits.{Fits}
+use Rattle.model_transactions.specs.Near.{IsWithin}
 use Rattle.sip_forwarding.specs.declared.changing.Drafted.{Drafted}
 
 -- ---- requests

@@ -1,21 +1,21 @@
 ghost use Rattle.std.specs.Prelude.{◌≡◌, ◌≤◌, ◌++◌, ℕ, count_by, IfOk, OnOk};
-ghost use Rattle.sip_opening.specs.state.declared.server.Server.{Server};
-ghost use Rattle.sip_opening.specs.state.declared.open_request.OpenRequest.{OpenRequest};
-ghost use Rattle.sip_opening.specs.model.Effect as Effects;
-ghost use Rattle.sip_learning.specs.Lessons.{beginnings};
-ghost use Rattle.sip_learning.specs.Telling.{is_early_or_success};
-ghost use Rattle.sip_inputs.specs.declared.input.Input.{Input};
-ghost use Rattle.sip_inputs.specs.Inputs.{outcome, outcome_of};
+ghost use Rattle.sip_dialog_lessons.specs.state.declared.server.Server.{Server};
+ghost use Rattle.sip_dialog_lessons.specs.state.declared.open_request.OpenRequest.{OpenRequest};
+ghost use Rattle.sip_context_opening.specs.steps_model.Effect as Effects;
+ghost use Rattle.sip_dialog_lessons.specs.Lessons.{beginnings};
+ghost use Rattle.sip_dialog_lessons.specs.Telling.{is_early_or_success};
+ghost use Rattle.sip_context.specs.declared.input.Input.{Input};
+ghost use Rattle.sip_context.specs.Inputs.{outcome, outcome_of};
 ghost use Rattle.sip_forwarding.specs.Forwarding.{IsDraft, IsInputTo, Teach, change_of};
 
-use sip_inputs::Sending;
-use sip_inputs::processing::Sent;
-use sip_learning::Lessons;
-use sip_opening::change_packets;
-use sip_opening::event::Packet;
-use sip_opening::hops::Hops;
-use sip_opening::state::{OpenRequest, Upward};
-use sip_opening::text::Items;
+use sip_context::Sending;
+use sip_context_opening::change_packets;
+use sip_context_opening::context_events::Sent;
+use sip_dialog_lessons::Lessons;
+use sip_dialog_lessons::state::{OpenRequest, Upward};
+use sip_event::Packet;
+use sip_hops::Hops;
+use sip_text::Items;
 use std::alloc::{AllocError, Global};
 
 /// What is sent where an open request changes, and what the dialogs learn of it, before anything is changed.

@@ -1,28 +1,28 @@
 ghost use Rattle.std.specs.Prelude.{◌≡◌, ◌≤◌, ◌<◌, ◌+◌, ◌^◌, [], length, nat_lt, count_by, Some, IfOk};
-ghost use Rattle.sip_opening.specs.key.Key.{key_of};
-ghost use Rattle.sip_opening.specs.targets.Targets.{target_list};
-ghost use Rattle.sip_opening.specs.Arrivals.{arrival_of};
-ghost use Rattle.sip_opening.specs.state.Dialogs.{after_request};
-ghost use Rattle.sip_opening.specs.context.Opening as Openings;
-ghost use Rattle.sip_opening.specs.model.Effect.{opening_packets, dialogs_after};
-ghost use Rattle.sip_learning.specs.Lessons.{beginnings};
-ghost use Rattle.sip_learning.specs.Telling.{Adds, is_early_or_success};
+ghost use Rattle.sip_transaction_table.specs.Key.{key_of};
+ghost use Rattle.sip_targets.specs.Targets.{target_list};
+ghost use Rattle.sip_context_opening.specs.Arrivals.{arrival_of};
+ghost use Rattle.sip_dialog_lessons.specs.state.Dialogs.{after_request};
+ghost use Rattle.sip_context_opening.specs.context_model.Opening as Openings;
+ghost use Rattle.sip_context_opening.specs.steps_model.Effect.{opening_packets, dialogs_after};
+ghost use Rattle.sip_dialog_lessons.specs.Lessons.{beginnings};
+ghost use Rattle.sip_dialog_lessons.specs.Telling.{Adds, is_early_or_success};
 ghost use Rattle.sip_forwarding.specs.Forwarding.{AreSent, IsOpenable, Teach, call_to, call_within};
 
 use crate::laws::opens;
 use crate::renewing::renewing;
-use sip_learning::Lessons;
-use sip_opening::dialog::DialogId;
-use sip_opening::event::Packet;
-use sip_opening::heard::Heard;
-use sip_opening::hops::Hops;
-use sip_opening::host::Addr;
-use sip_opening::key::Key;
-use sip_opening::shared::Shared;
-use sip_opening::state::{OpenRequest, Server};
-use sip_opening::targets::Targets;
-use sip_opening::text::Items;
-use sip_opening::{Arrival, fork_to, fork_within, take_opening};
+use sip_base::Shared;
+use sip_context_opening::context_request::Heard;
+use sip_context_opening::{Arrival, fork_to, fork_within, take_opening};
+use sip_dialog::DialogId;
+use sip_dialog_lessons::Lessons;
+use sip_dialog_lessons::state::{OpenRequest, Server};
+use sip_event::Packet;
+use sip_hops::Hops;
+use sip_targets::Targets;
+use sip_text::Items;
+use sip_transaction_table::Key;
+use sip_uri::Addr;
 use std::alloc::{AllocError, Global};
 
 /// A request that is sent on, before anything is changed: what is sent, in its order; the request, which is open from
@@ -40,23 +40,23 @@ fn begun(
     server: &Server,
     hops: &Hops,
     now: u64,
-    call: OpenRequest,
+    open_request: OpenRequest,
     lessons: Lessons,
 ) -> Result<Forwarded, AllocError>
     requires { now + 32000 < 2 ^ 64 }
-    ensures packets { IfOk result (λ forwarded. forwarded.packets ≡ opening_packets server.now now call) }
-    ensures request { IfOk result (λ forwarded. forwarded.request ≡ (Openings.opening server.now now call).request) }
-    ensures told { IfOk result (λ forwarded. Adds hops.now.addresses lessons forwarded.lessons (λ other moment dialogs. dialogs_after other moment (Openings.opening server.now now call) dialogs)) }
-    ensures room { IfOk result (λ forwarded. beginnings forwarded.lessons ≤ beginnings lessons + count_by is_early_or_success (Openings.opening server.now now call).upward) }
+    ensures packets { IfOk result (λ forwarded. forwarded.packets ≡ opening_packets server.now now open_request) }
+    ensures request { IfOk result (λ forwarded. forwarded.request ≡ (Openings.opening server.now now open_request).request) }
+    ensures told { IfOk result (λ forwarded. Adds hops.now.addresses lessons forwarded.lessons (λ other moment dialogs. dialogs_after other moment (Openings.opening server.now now open_request) dialogs)) }
+    ensures room { IfOk result (λ forwarded. beginnings forwarded.lessons ≤ beginnings lessons + count_by is_early_or_success (Openings.opening server.now now open_request).upward) }
 {
-    let mut call = call;
+    let mut open_request = open_request;
     let mut lessons = lessons;
     let mut packets = Items::new(alloc);
-    let upward = take_opening(alloc, server, now, &mut call, &mut packets)?;
-    lessons.add_change(alloc, hops, &call, upward.as_slice())?;
+    let upward = take_opening(alloc, server, now, &mut open_request, &mut packets)?;
+    lessons.add_change(alloc, hops, &open_request, upward.as_slice())?;
     Ok(Forwarded {
         packets,
-        request: call,
+        request: open_request,
         lessons,
     })
 }
@@ -97,8 +97,15 @@ pub fn forward_to(
         return Err(AllocError);
     }
     opens();
-    let call = fork_to(alloc, arrival, key, request, targets)?;
-    let forwarded = begun(alloc, server, hops, arrival.now, call, Lessons::new(alloc))?;
+    let open_request = fork_to(alloc, arrival, key, request, targets)?;
+    let forwarded = begun(
+        alloc,
+        server,
+        hops,
+        arrival.now,
+        open_request,
+        Lessons::new(alloc),
+    )?;
     Ok(forwarded)
 }
 
@@ -142,7 +149,7 @@ pub fn forward_within(
 {
     opens();
     let lessons = renewing_kept(alloc, hops, id, request.get())?;
-    let call = fork_within(alloc, server, arrival, key, request, address)?;
-    let forwarded = begun(alloc, server, hops, arrival.now, call, lessons)?;
+    let open_request = fork_within(alloc, server, arrival, key, request, address)?;
+    let forwarded = begun(alloc, server, hops, arrival.now, open_request, lessons)?;
     Ok(forwarded)
 }

@@ -1,16 +1,16 @@
 ghost use Rattle.std.specs.Prelude.{◌≡◌, Some};
-ghost use Rattle.sip_opening.specs.form.declared.message.Message.{Message};
-ghost use Rattle.sip_opening.specs.host.declared.addr.Addr.{Addr};
-ghost use Rattle.sip_opening.specs.key.declared.key.Key.{Key};
-ghost use Rattle.sip_opening.specs.key.Key.{key_of};
-ghost use Rattle.sip_opening.specs.targets.declared.targets.Targets.{Targets};
-ghost use Rattle.sip_opening.specs.state.Arrival.{Arrival};
-ghost use Rattle.sip_opening.specs.state.declared.server.Server.{Server};
-ghost use Rattle.sip_opening.specs.context.Opening.{opening};
+ghost use Rattle.sip_message_form.specs.declared.message.Message.{Message};
+ghost use Rattle.sip_uri.specs.declared.addr.Addr.{Addr};
+ghost use Rattle.sip_transaction_table.specs.declared.key.Key.{Key};
+ghost use Rattle.sip_transaction_table.specs.Key.{key_of};
+ghost use Rattle.sip_targets.specs.declared.targets.Targets.{Targets};
+ghost use Rattle.sip_dialog_lessons.specs.state.Arrival.{Arrival};
+ghost use Rattle.sip_dialog_lessons.specs.state.declared.server.Server.{Server};
+ghost use Rattle.sip_context_opening.specs.context_model.Opening.{opening};
 ghost use Rattle.sip_forwarding.specs.Forwarding.{IsOpenable, call_to, call_within};
 
-use sip_fitting::events::opens_fitting;
-use sip_moments::openings::sent_on;
+use model_transactions::fitting_events::opens_fitting;
+use model_transactions::openings::sent_on;
 
 /// A request that came and is sent to its targets, or on in its dialog, can be opened once its first packets go.
 pub(crate) fn opens()

@@ -1,19 +1,19 @@
 ghost use Rattle.std.specs.Prelude.{◌≡◌, [], IfOk};
-ghost use Rattle.sip_opening.specs.Arrivals.{arrival_of};
-ghost use Rattle.sip_opening.specs.state.Dialogs.{after_request};
-ghost use Rattle.sip_opening.specs.model.Effect as Effects;
-ghost use Rattle.sip_learning.specs.Lessons.{beginnings};
-ghost use Rattle.sip_learning.specs.Telling.{Adds};
+ghost use Rattle.sip_context_opening.specs.Arrivals.{arrival_of};
+ghost use Rattle.sip_dialog_lessons.specs.state.Dialogs.{after_request};
+ghost use Rattle.sip_context_opening.specs.steps_model.Effect as Effects;
+ghost use Rattle.sip_dialog_lessons.specs.Lessons.{beginnings};
+ghost use Rattle.sip_dialog_lessons.specs.Telling.{Adds};
 ghost use Rattle.sip_forwarding.specs.Forwarding.{Teach};
 
-use sip_learning::Lessons;
-use sip_opening::dialog::DialogId;
-use sip_opening::event::Packet;
-use sip_opening::form::View;
-use sip_opening::hops::Hops;
-use sip_opening::host::Addr;
-use sip_opening::state::Server;
-use sip_opening::{Arrival, ack_packet};
+use sip_context_opening::{Arrival, ack_packet};
+use sip_dialog::DialogId;
+use sip_dialog_lessons::Lessons;
+use sip_dialog_lessons::state::Server;
+use sip_event::Packet;
+use sip_hops::Hops;
+use sip_message_form::View;
+use sip_uri::Addr;
 use std::alloc::{AllocError, Global};
 
 /// What a request of a dialog that is sent on tells that dialog (RFC 3261 12.2).

@@ -17,7 +17,7 @@ use Rattle.sip_uri.specs.declared.scheme.Scheme.TheVariants as Named
 use Rattle.sip_uri.specs.declared.user.UserInfo.{UserInfo}
 use Rattle.sip_uri.specs.declared.uri.Uri.{Uri}
 use Rattle.sip_uri.specs.Scheme.{is_scheme_byte, is_scheme_name, scheme_of}
-use Rattle.sip_uri.specs.host.Host.{place_of, is_not}
+use Rattle.sip_uri.specs.Host.{place_of, is_not}
 use Rattle.sip_uri.specs.Reading.{◌>>=◌, userinfo_of, user_from, user_of, parameters_behind, headers_behind, before_parameters, parameter_text_of, header_text_of, rest_of, reading_of}
 use Rattle.sip_text.specs.Splits.{split_at_byte, in_front}
 use Rattle.sip_uri.proofs.Tests as Tests

@@ -1,13 +1,13 @@
 -- The one value of a field, by its first value and their number.
 use Rattle.std.proofs.Common.{◌≡◌, ℕ, ◌<◌, ◌≤◌, Bool, true, false, cond, List, [], ◌∷◌, length, Option, Some, None, Ok, Err, Result, refl, sym, ap, ◌∙◌, arith}
-use Rattle.sip_form.specs.field.declared.field_name.FieldName.{FieldName}
-use Rattle.sip_form.specs.field.declared.field.Field.{Field}
+use Rattle.sip_message_fields.specs.declared.field_name.FieldName.{FieldName}
+use Rattle.sip_message_fields.specs.declared.field.Field.{Field}
 use Rattle.sip_header.specs.declared.error.HeaderError.TheVariants.{Missing, Malformed}
-use Rattle.sip_form.specs.field.Values.{values_of, first_value}
+use Rattle.sip_message_fields.specs.Values.{values_of, first_value}
 use Rattle.std.specs.Prelude.{map, option_map}
 use Rattle.std.specs.Option.{ok_or}
-use Rattle.sip_form.specs.field.FieldName.{is_same_name}
-use Rattle.sip_form.specs.field.Named.{first_named, all_named}
+use Rattle.sip_message_fields.specs.FieldName.{is_same_name}
+use Rattle.sip_message_fields.specs.Named.{first_named, all_named}
 use Rattle.sip_header.specs.declared.error.HeaderError.{HeaderError}
 use Rattle.sip_header.specs.declared.name_addr.NameAddr.{NameAddr}
 use Rattle.sip_header.specs.NameAddr.{name_addr_of}

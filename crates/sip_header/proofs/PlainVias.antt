@@ -6,8 +6,8 @@ use Rattle.sip_text.specs.Words.{is_token_byte, is_token_text, token_at, behind_
 use Rattle.sip_text.specs.Lists.{is_blank, trimmed}
 use Rattle.sip_text.specs.Cuts.{is_full, behind_word, parts_at, parts_behind}
 use Rattle.sip_text.proofs.Trims as Trims
-use Rattle.sip_uri.specs.host.Host.{is_place_byte, place_of, host_port_of, IsPlaceAt}
-use Rattle.sip_uri.specs.host.Port.{port_number, port_value}
+use Rattle.sip_uri.specs.Host.{is_place_byte, place_of, host_port_of, IsPlaceAt}
+use Rattle.sip_uri.specs.Port.{port_number, port_value}
 use Rattle.sip_header.specs.declared.parameters.Parameter.{Parameter}
 use Rattle.sip_header.specs.declared.via.Sender.{Sender}
 use Rattle.sip_header.specs.Parameters.{parameters_in, closing}

@@ -12,8 +12,3 @@ pub mod Route
 pub mod PlainAddress
 pub mod FieldExamples
 pub mod HeaderError
-pub use Rattle.sip_text.specs as text
-pub use Rattle.sip_form.specs.field
-pub use Rattle.sip_uri.specs.host
-pub use Rattle.sip_uri.specs as uri
-pub use Rattle.sip_form.specs as form

@@ -6,7 +6,7 @@ use Rattle.sip_text.specs.Words.{is_token_text, is_same_text}
 use Rattle.sip_text.specs.Lists.{trimmed}
 use Rattle.sip_text.specs.Escapes.{unquoted}
 use Rattle.sip_text.specs.Cuts.{split_outside, parts_at, parts_behind}
-use Rattle.sip_uri.specs.host.Host.{is_host}
+use Rattle.sip_uri.specs.Host.{is_host}
 use Rattle.sip_header.specs.declared.parameters.Parameter.{Parameter}
 
 -- a token, a host or quoted text

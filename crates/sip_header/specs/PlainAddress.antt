@@ -1,6 +1,6 @@
 -- Addresses in the form that most have.
 use Rattle.std.specs.Prelude.{◌≡◌, ◌⊎◌, ℕ, List, [], Option, Some, option_map}
-use Rattle.sip_uri.specs.host.Port.{port_value}
+use Rattle.sip_uri.specs.Port.{port_value}
 use Rattle.sip_uri.specs.PlainPlace.{loose_routing}
 use Rattle.sip_uri.specs.declared.scheme.Scheme.TheVariants as Scheme
 use Rattle.sip_uri.specs.declared.uri.Uri.{Uri}

@@ -6,7 +6,7 @@ use Rattle.std.specs.Str.{byte}
 use Rattle.sip_text.specs.Words.{is_token_byte, is_token_text, is_same_text}
 use Rattle.sip_text.specs.Lists.{trimmed}
 use Rattle.sip_text.specs.Cuts.{split_outside, parts_at, IsParted, word_at, behind_word}
-use Rattle.sip_uri.specs.host.Host.{host_port_of, is_place_byte}
+use Rattle.sip_uri.specs.Host.{host_port_of, is_place_byte}
 use Rattle.sip_header.specs.Parameters.{parameters_in, IsParameter}
 use Rattle.sip_header.specs.declared.parameters.Parameter.{Parameter}
 use Rattle.sip_header.specs.declared.via.Sender.{Sender}

@@ -4,9 +4,8 @@ ghost use Rattle.sip_header.specs.CoreFields.{Gives, only_value, name_addr_in, c
 use crate::cseq::{CSeq, cseq_of};
 use crate::error::HeaderError;
 use crate::name_addr::{NameAddr, name_addr_of};
-use sip_form::View;
-use sip_form::field::FieldName;
-use sip_form::view::ViewFields;
+use sip_message_fields::{FieldName, ViewFields};
+use sip_message_form::View;
 use sip_text::Text;
 use std::alloc::Global;
 

@@ -28,25 +28,3 @@ pub use parameters::{Parameter, Parameters, branch_of, parameter_of, tag_of, val
 pub use plain_address::bracketed_place;
 pub use route::route_of;
 pub use via::{Via, via_of};
-
-/// Of `sip_text`.
-pub mod text {
-    pub use sip_text::{Bytes, Items, lower_case, same_bytes};
-}
-
-/// Of `sip_host`.
-pub mod host {
-    pub use sip_uri::host::{Addr, ip_text};
-}
-
-/// Of `sip_uri`.
-pub mod uri {
-    pub use sip_uri::{Aor, Uri, UriError, parse_uri, write_uri};
-}
-
-/// Of `sip_form`.
-pub mod form {
-    pub use sip_form::field::{Field, FieldName, Fields, KnownName};
-    pub use sip_form::view::{Value, ViewField, ViewFields, ViewName};
-    pub use sip_form::{View, ViewStart, write_view};
-}

@@ -4,7 +4,7 @@ ghost use Rattle.sip_text.specs.Cuts.{parts_at, split_outside};
 ghost use Rattle.sip_header.specs.NameAddr.{is_opaque_byte, is_opaque, other_of, any_uri_of, with_parameters, is_bare_byte, bare_in, is_word_byte, is_display, behind_bracket, bracketed_by, name_addr_of};
 
 use crate::parameters::{Parameters, parameters_from};
-use sip_form::view::Value;
+use sip_message_fields::Value;
 use sip_text::{Text, first_part, is_quoted, split_outside, without_blanks};
 use sip_uri::{Uri, UriError, parse_uri, write_uri};
 use std::alloc::{AllocError, Global};

@@ -8,7 +8,7 @@ ghost use Rattle.sip_header.specs.Parameters.{is_value, needs_value, bare_parame
 use sip_text::{
     Text, first_part, is_quoted, is_token, same_no_case, split_outside, split_token, without_blanks,
 };
-use sip_uri::host::is_host;
+use sip_uri::is_host;
 use std::marker::Model;
 
 /// A header parameter: its name, and its value as it was written, quotes included.

@@ -6,7 +6,7 @@ use sip_text::{
     Text, first_part, is_token, same_bytes, same_no_case, split_outside, split_token, split_word,
     without_blanks,
 };
-use sip_uri::host::{host_port, place_at};
+use sip_uri::{host_port, place_at};
 use std::alloc::{AllocError, Global};
 
 /// What a Via says.

@@ -4,7 +4,7 @@ use Rattle.std.specs.Prelude.{◌==◌, ◌&&◌, find, nat_eq}
 use Rattle.std.specs.Cmp.Lexicographic.{bytes_decides}
 use Rattle.std.proofs.lemmas.Bool.{eqb-true, eq-eqb}
 use Rattle.std.proofs.lemmas.List.{drop-drop, drop_more}
-use Rattle.sip_equality.specs.text.Words.{without_case, is_same_text}
+use Rattle.sip_text.specs.Words.{without_case, is_same_text}
 use Rattle.sip_hops.specs.declared.host_address.HostAddress.{HostAddress}
 use Rattle.sip_hops.specs.HostAddress.{is_row_for}
 use Rattle.sip_hops.specs.Code.{code_of, row_code, place_of, LeadOn, AreChained}

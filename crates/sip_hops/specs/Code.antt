@@ -1,6 +1,6 @@
 -- The codes by which rows are found. No address depends on them.
 use Rattle.std.specs.Prelude.{◌≡◌, ◌≤◌, ℕ, ◌+◌, ◌*◌, ◌%◌, ◌^◌, ◌==◌, bit_xor, if◌then◌else◌, List, [], ◌∷◌, length, fold, drop, slice_index_or, Option, Some, None}
-use Rattle.sip_equality.specs.text.Words.{without_case}
+use Rattle.sip_text.specs.Words.{without_case}
 use Rattle.sip_hops.specs.declared.host_address.HostAddress.{HostAddress}
 
 -- a code with one part more (FNV-1a, 64 bits)

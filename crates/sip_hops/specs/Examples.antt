@@ -1,8 +1,8 @@
 -- The sample configuration's address table and hops, and the URIs of the worked examples.
 use Rattle.std.specs.Prelude.{ℕ, List, [], ◌∷◌, codes, Some}
-use Rattle.sip_equality.specs.uri.declared.uri.Uri.{Uri}
-use Rattle.sip_equality.specs.uri.Examples.{user_at}
-use Rattle.sip_equality.specs.host.declared.addr.Addr.{Addr}
+use Rattle.sip_uri.specs.declared.uri.Uri.{Uri}
+use Rattle.sip_uri.specs.Examples.{user_at}
+use Rattle.sip_uri.specs.declared.addr.Addr.{Addr}
 use Rattle.sip_hops.specs.declared.host_address.HostAddress.{HostAddress}
 use Rattle.sip_hops.specs.declared.hop.Hop.{Hop}
 

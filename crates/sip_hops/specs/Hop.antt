@@ -1,6 +1,6 @@
 -- Hops that rules send to (this project's profile).
 use Rattle.std.specs.Prelude.{ℕ, List, slice_get, Option, option_map}
-use Rattle.sip_equality.specs.host.declared.addr.Addr.{Addr}
+use Rattle.sip_uri.specs.declared.addr.Addr.{Addr}
 use Rattle.sip_hops.specs.declared.hop.Hop.{Hop}
 
 -- the address of the hop at a place of the list, counted from 0

@@ -2,16 +2,16 @@
 use Rattle.std.specs.Prelude.{ℕ, Bool, true, false, ◌&&◌, ◌||◌, ◌==◌, not, if◌then◌else◌, find, List, codes, Option, Some, None, option_map}
 use Rattle.std.specs.Option.{option_and_then}
 use Rattle.std.specs.List.{list_any}
-use Rattle.sip_equality.specs.text.Words.{is_same_text}
-use Rattle.sip_equality.specs.uri.declared.scheme.Scheme.{Scheme}
-use Rattle.sip_equality.specs.uri.declared.scheme.Scheme.TheVariants.{Sip, Sips}
-use Rattle.sip_equality.specs.uri.declared.parameters.Parameter.{Parameter}
-use Rattle.sip_equality.specs.uri.declared.uri.Uri.{Uri}
-use Rattle.sip_equality.specs.host.Port.{port_value}
-use Rattle.sip_equality.specs.Equality.{says_same_no_case}
-use Rattle.sip_equality.specs.host.declared.addr.Addr.{Addr}
+use Rattle.sip_text.specs.Words.{is_same_text}
+use Rattle.sip_uri.specs.declared.scheme.Scheme.{Scheme}
+use Rattle.sip_uri.specs.declared.scheme.Scheme.TheVariants.{Sip, Sips}
+use Rattle.sip_uri.specs.declared.parameters.Parameter.{Parameter}
+use Rattle.sip_uri.specs.declared.uri.Uri.{Uri}
+use Rattle.sip_uri.specs.Port.{port_value}
+use Rattle.sip_uri_equality.specs.Equality.{says_same_no_case}
+use Rattle.sip_uri.specs.declared.addr.Addr.{Addr}
 use Rattle.sip_hops.specs.declared.host_address.HostAddress.{HostAddress}
-use Rattle.sip_equality.specs.host.Addresses.{ip_of}
+use Rattle.sip_uri.specs.Addresses.{ip_of}
 
 -- whether a transport is udp, in any case, escapes resolved
 abbrev pub is_udp : Option (List ℕ) → Bool

@@ -6,8 +6,8 @@ ghost use Rattle.sip_hops.specs.HostAddress.{is_row_for};
 use crate::code::code_of;
 use crate::host_address::HostAddress;
 use indexmap::IndexMap;
-use sip_equality::host::Addr;
-use sip_equality::text::{Items, same_no_case};
+use sip_text::{Items, same_no_case};
+use sip_uri::Addr;
 use std::alloc::{AllocError, Global};
 use std::marker::Model;
 

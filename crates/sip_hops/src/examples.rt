@@ -1,7 +1,7 @@
 ghost use Rattle.std.specs.Prelude.{◌≡◌, [], ◌∷◌, codes, Some, None};
-ghost use Rattle.sip_equality.specs.uri.declared.scheme.Scheme.{Scheme};
-ghost use Rattle.sip_equality.specs.uri.Examples.{user_at, with_parameter, valued};
-ghost use Rattle.sip_equality.specs.host.Addresses.{ip_of};
+ghost use Rattle.sip_uri.specs.declared.scheme.Scheme.{Scheme};
+ghost use Rattle.sip_uri.specs.Examples.{user_at, with_parameter, valued};
+ghost use Rattle.sip_uri.specs.Addresses.{ip_of};
 ghost use Rattle.sip_hops.specs.HostAddress.{address_of};
 ghost use Rattle.sip_hops.specs.Hop.{hop_of};
 ghost use Rattle.sip_hops.specs.Examples.{sample_addresses, sample_hops, pc, by_number, at_port, local};

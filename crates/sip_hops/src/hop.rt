@@ -1,5 +1,5 @@
-use sip_equality::host::Addr;
-use sip_equality::text::Bytes;
+use sip_text::Bytes;
+use sip_uri::Addr;
 
 /// A hop to which rules send, as a gateway to another network. No two of a list have one name; who reads a
 /// configuration turns the name in a rule into a place of the list.

@@ -8,9 +8,8 @@ use crate::error::HopsError;
 use crate::hop::Hop;
 use crate::host_address::HostAddress;
 use crate::way::{is_by_udp, port_or_default};
-use sip_equality::host::{Addr, ip_of};
-use sip_equality::text::Items;
-use sip_equality::uri::Uri;
+use sip_text::Items;
+use sip_uri::{Addr, Uri, ip_of};
 use std::alloc::Global;
 use std::marker::Model;
 

@@ -1,5 +1,5 @@
-use sip_equality::host::Addr;
-use sip_equality::text::Bytes;
+use sip_text::Bytes;
+use sip_uri::Addr;
 
 /// A row of the address table: where requests for a host and a port go. No two rows have one host and port.
 #[derive(Debug, Drop)]

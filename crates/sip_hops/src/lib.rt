@@ -16,8 +16,3 @@ pub use hop::Hop;
 pub use hops::Hops;
 pub use host_address::HostAddress;
 pub use way::{is_by_udp, port_or_default};
-
-/// Of `sip_equality`.
-pub mod equality {
-    pub use sip_equality::says_same_no_case;
-}

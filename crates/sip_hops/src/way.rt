@@ -2,10 +2,9 @@ ghost use Rattle.std.specs.Prelude.{◌≡◌};
 ghost use Rattle.std.specs.List.{list_any};
 ghost use Rattle.sip_hops.specs.HostAddress as Definitions;
 
-use sip_equality::host::port_value;
-use sip_equality::says_same_no_case;
-use sip_equality::text::Bytes;
-use sip_equality::uri::{Parameter, Scheme, Uri};
+use sip_text::Bytes;
+use sip_uri::{Parameter, Scheme, Uri, port_value};
+use sip_uri_equality::says_same_no_case;
 
 /// Whether a transport is udp, in any case, escapes resolved. One without a value is not.
 fn is_udp(value: &Option<Bytes>) -> bool

@@ -7,8 +7,8 @@ use Rattle.std.specs.Map.{keys_of, lookup}
 use Rattle.std.proofs.lemmas.Bool.Decides.{nat_tests}
 use Rattle.std.proofs.lemmas.List.Elements.{filter-append}
 use Rattle.std.proofs.lemmas.Map.Keys.{IsDistinct-tail, IsDistinct-head}
-use Rattle.sip_equality.specs.uri.declared.aor.Aor.{Aor}
-use Rattle.sip_equality.specs.uri.Aor.{is_same_aor}
+use Rattle.sip_uri.specs.declared.aor.Aor.{Aor}
+use Rattle.sip_uri.specs.Aor.{is_same_aor}
 use Rattle.sip_location.specs.Binding.{is_of}
 use Rattle.sip_location.specs.KeptBinding.{KeptBinding}
 use Rattle.sip_location.specs.Locations.{of_aor}

@@ -2,8 +2,8 @@
 use Rattle.std.proofs.Common.{◌≡◌, ℕ, suc, List, [], ◌∷◌, length, cond, Bool, true, false, refl, ap, subst}
 use Rattle.std.specs.Prelude.{filter, map, nat_lt}
 use Rattle.std.specs.List.{AllByRecursion}
-use Rattle.sip_equality.specs.uri.declared.aor.Aor.{Aor}
-use Rattle.sip_equality.specs.uri.Aor.{is_same_aor}
+use Rattle.sip_uri.specs.declared.aor.Aor.{Aor}
+use Rattle.sip_uri.specs.Aor.{is_same_aor}
 use Rattle.sip_location.specs.declared.binding.Binding.{Binding}
 use Rattle.sip_location.specs.Binding.{is_of, is_live, live}
 use Rattle.sip_location.specs.KeptBinding.{KeptBinding, binding_of, kept_of}

@@ -2,8 +2,8 @@
 use Rattle.std.proofs.Common.{◌≡◌, ℕ, List, [], ◌∷◌, ◌++◌, length, cond, ltb, Bool, true, false, refl, sym, ◌∙◌, ap, subst, Ok, Err, inl, inr}
 use Rattle.std.specs.Prelude.{filter, ◌&&◌, Result, IsOk}
 use Rattle.std.specs.List.{AllByRecursion}
-use Rattle.sip_equality.specs.uri.declared.aor.Aor.{Aor}
-use Rattle.sip_equality.specs.uri.Aor.{is_same_aor}
+use Rattle.sip_uri.specs.declared.aor.Aor.{Aor}
+use Rattle.sip_uri.specs.Aor.{is_same_aor}
 use Rattle.sip_location.specs.declared.binding.Binding.{Binding}
 use Rattle.sip_location.specs.declared.error.LocationError.{LocationError}
 use Rattle.sip_location.specs.declared.error.LocationError.TheVariants.{BadStar, TooBrief, OldCSeq, TooMany}

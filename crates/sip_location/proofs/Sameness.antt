@@ -3,7 +3,7 @@ use Rattle.std.proofs.Common.{◌≡◌, ℕ, ◌≤◌, List, [], ◌∷◌, �
 use Rattle.std.specs.Prelude.{filter, not, ◌&&◌, Result}
 use Rattle.std.proofs.lemmas.Bool.Decides.{nat_tests}
 use Rattle.std.proofs.lemmas.List.Elements.{filter-append}
-use Rattle.sip_equality.specs.uri.declared.aor.Aor.{Aor}
+use Rattle.sip_uri.specs.declared.aor.Aor.{Aor}
 use Rattle.sip_location.specs.declared.binding.Binding.{Binding}
 use Rattle.sip_location.specs.declared.error.LocationError.{LocationError}
 use Rattle.sip_location.specs.declared.error.LocationError.TheVariants.{BadStar, TooBrief, OldCSeq, TooMany}
@@ -11,7 +11,7 @@ use Rattle.sip_location.specs.declared.registration.Registration.{Registration}
 use Rattle.sip_location.specs.Binding.{is_live, is_of, live, of_others}
 use Rattle.sip_location.specs.Sameness.{SameBindings, SameOutcome}
 use Rattle.sip_location.specs.Registration.{has_bad_star, is_too_brief, has_old_cseq, after_contacts, edited, updated, asks_nothing, registered}
-use Rattle.sip_equality.specs.uri.Aor.{is_same_aor}
+use Rattle.sip_uri.specs.Aor.{is_same_aor}
 use Rattle.sip_location.proofs.Updates.{same_is, same_itself, live_edited, live_elsewhere}
 
 -- rows that say the same from a moment on do so from a later one on

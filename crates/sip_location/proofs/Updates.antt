@@ -7,10 +7,10 @@ use Rattle.std.specs.Str.{bytes_eq}
 use Rattle.std.proofs.lemmas.Bool.Decides.{nat_tests}
 use Rattle.std.proofs.lemmas.Slice.Eq.{bytes_eq-Decides}
 use Rattle.std.proofs.lemmas.List.Elements.{filter-append, filter_passes, All-weaker}
-use Rattle.sip_equality.specs.uri.declared.aor.Aor.{Aor}
-use Rattle.sip_equality.specs.uri.declared.uri.Uri.{Uri}
-use Rattle.sip_equality.specs.uri.Aor.{is_same_aor}
-use Rattle.sip_equality.specs.Equality.{same}
+use Rattle.sip_uri.specs.declared.aor.Aor.{Aor}
+use Rattle.sip_uri.specs.declared.uri.Uri.{Uri}
+use Rattle.sip_uri.specs.Aor.{is_same_aor}
+use Rattle.sip_uri_equality.specs.Equality.{same}
 use Rattle.sip_header.specs.declared.contact_item.ContactItem.{ContactItem}
 use Rattle.sip_header.specs.declared.contact_item.ContactItem.TheVariants.{Star, Address}
 use Rattle.sip_header.specs.NameAddr.{sip_uri}

@@ -1,9 +1,9 @@
 -- Bindings of addresses of record to contacts (RFC 3261 10.3).
 use Rattle.std.specs.Prelude.{ℕ, ◌+◌, ◌-◌, ◌/◌, Bool, ◌&&◌, not, nat_lt, List, [], ◌∷◌, map, filter, if◌then◌else◌}
-use Rattle.sip_equality.specs.uri.declared.aor.Aor.{Aor}
-use Rattle.sip_equality.specs.uri.declared.uri.Uri.{Uri}
-use Rattle.sip_equality.specs.uri.Aor.{is_same_aor}
-use Rattle.sip_equality.specs.Equality.{same}
+use Rattle.sip_uri.specs.declared.aor.Aor.{Aor}
+use Rattle.sip_uri.specs.declared.uri.Uri.{Uri}
+use Rattle.sip_uri.specs.Aor.{is_same_aor}
+use Rattle.sip_uri_equality.specs.Equality.{same}
 use Rattle.sip_location.specs.declared.binding.Binding.{Binding}
 
 -- a binding is live while its expiry is above the moment (RFC 3261 10.3: expiration)

@@ -1,9 +1,9 @@
 -- Bindings and registrations of the worked examples.
 use Rattle.std.specs.Prelude.{ℕ, List, [], ◌∷◌, map, codes, Some, Result}
 use Rattle.std.specs.Result.{result_map_both}
-use Rattle.sip_equality.specs.uri.declared.aor.Aor.{Aor}
-use Rattle.sip_equality.specs.uri.declared.uri.Uri.{Uri}
-use Rattle.sip_equality.specs.uri.Examples.{user_at, bob, carol_secured, carol_unsecured}
+use Rattle.sip_uri.specs.declared.aor.Aor.{Aor}
+use Rattle.sip_uri.specs.declared.uri.Uri.{Uri}
+use Rattle.sip_uri.specs.Examples.{user_at, bob, carol_secured, carol_unsecured}
 use Rattle.sip_header.specs.declared.expires.Expires.TheVariants.{Absent, Seconds}
 use Rattle.sip_header.specs.declared.name_addr.AnyUri.TheVariants.{Sip, Other}
 use Rattle.sip_header.specs.declared.contact_item.ContactItem.{ContactItem}

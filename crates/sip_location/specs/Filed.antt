@@ -3,8 +3,8 @@ use Rattle.std.specs.Prelude.{◌≡◌, false, List, [], map}
 use Rattle.std.specs.Option.{unwrap_or}
 use Rattle.std.specs.List.{flat_map, IsDistinct}
 use Rattle.std.specs.Map.{keys_of, lookup}
-use Rattle.sip_equality.specs.uri.declared.aor.Aor.{Aor}
-use Rattle.sip_equality.specs.uri.Aor.{is_same_aor}
+use Rattle.sip_uri.specs.declared.aor.Aor.{Aor}
+use Rattle.sip_uri.specs.Aor.{is_same_aor}
 use Rattle.sip_location.specs.declared.binding.Binding.{Binding}
 use Rattle.sip_location.specs.KeptBinding.{KeptBinding, binding_of}
 use Rattle.sip_location.specs.Locations.{of_aor}

@@ -2,14 +2,14 @@
 use Rattle.std.specs.Prelude.{List, [], Option, option_map}
 use Rattle.std.specs.Option.{unwrap_or}
 use Rattle.std.specs.List.{filter_map}
-use Rattle.sip_equality.specs.uri.declared.uri.Uri.{Uri}
-use Rattle.sip_equality.specs.uri.declared.aor.Aor.{Aor}
-use Rattle.sip_equality.specs.uri.Aor.{aor_of}
-use Rattle.sip_header.specs.field.declared.field.Field.{Field}
-use Rattle.sip_header.specs.field.declared.field_name.FieldName.TheVariants as Name
+use Rattle.sip_uri.specs.declared.uri.Uri.{Uri}
+use Rattle.sip_uri.specs.declared.aor.Aor.{Aor}
+use Rattle.sip_uri.specs.Aor.{aor_of}
+use Rattle.sip_message_fields.specs.declared.field.Field.{Field}
+use Rattle.sip_message_fields.specs.declared.field_name.FieldName.TheVariants as Name
 use Rattle.sip_header.specs.declared.contact_item.ContactItem.{ContactItem}
 use Rattle.sip_header.specs.declared.core_fields.CoreFields.{CoreFields}
-use Rattle.sip_header.specs.field.Values.{values_of}
+use Rattle.sip_message_fields.specs.Values.{values_of}
 use Rattle.sip_header.specs.NameAddr.{sip_uri}
 use Rattle.sip_header.specs.ContactItem.{contact_of}
 use Rattle.sip_header.specs.Expires.{expires_of}

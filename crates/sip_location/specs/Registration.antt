@@ -3,8 +3,8 @@ use Rattle.std.specs.Prelude.{ℕ, ◌+◌, ◌*◌, Bool, true, false, ◌&&◌
 use Rattle.std.specs.Option.{option_map_or}
 use Rattle.std.specs.List.{list_any}
 use Rattle.std.specs.Str.{bytes_eq}
-use Rattle.sip_equality.specs.uri.declared.uri.Uri.{Uri}
-use Rattle.sip_equality.specs.Equality.{same}
+use Rattle.sip_uri.specs.declared.uri.Uri.{Uri}
+use Rattle.sip_uri_equality.specs.Equality.{same}
 use Rattle.sip_header.specs.declared.expires.Expires.{Expires}
 use Rattle.sip_header.specs.declared.contact_item.ContactItem.{ContactItem}
 use Rattle.sip_header.specs.declared.contact_item.ContactItem.TheVariants.{Star, Address}

@@ -1,6 +1,6 @@
 -- When rows say the same of every address of record.
 use Rattle.std.specs.Prelude.{◌≡◌, ◌≤◌, ℕ, List, Result, Ok, Err}
-use Rattle.sip_equality.specs.uri.declared.aor.Aor.{Aor}
+use Rattle.sip_uri.specs.declared.aor.Aor.{Aor}
 use Rattle.sip_location.specs.declared.binding.Binding.{Binding}
 use Rattle.sip_location.specs.declared.error.LocationError.{LocationError}
 use Rattle.sip_location.specs.Binding.{live}

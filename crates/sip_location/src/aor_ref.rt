@@ -1,6 +1,6 @@
 ghost use Rattle.std.specs.Prelude.{◌≡◌};
 
-use sip_equality::uri::Aor;
+use sip_uri::Aor;
 use std::marker::Model;
 
 /// An address of record, lent.
@@ -11,7 +11,7 @@ pub struct AorRef<'a> {
 }
 
 impl<'a> Model for AorRef<'a> {
-    ghost use Rattle.sip_equality.specs.uri.declared.aor.Aor.{Aor};
+    ghost use Rattle.sip_uri.specs.declared.aor.Aor.{Aor};
 
     ghost Value = { Aor };
 

@@ -3,15 +3,14 @@ ghost use Rattle.sip_uri.specs.Uri.{text_of};
 
 use crate::aor_ref::AorRef;
 use crate::row::Row;
-use sip_equality::text::Bytes;
-use sip_equality::uri::{Aor, Uri};
+use sip_text::Bytes;
+use sip_uri::{Aor, Uri};
 use std::alloc::{AllocError, Global};
 use std::marker::Model;
 
 /// A binding as contracts see it: an address of record, the URI of a contact where its user can be reached, the Call-ID
 /// and the CSeq number of the REGISTER that made it, and the moment at which it expires, in milliseconds
 /// (RFC 3261 10.3). The location service keeps none of them in this form: it lends them as [`BindingRef`].
-#[derive(Clone)]
 pub struct Binding {
     pub aor: Aor,
     pub uri: Uri,

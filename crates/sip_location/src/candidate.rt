@@ -5,9 +5,8 @@ ghost use Rattle.sip_location.specs.Registration as Definitions;
 
 use crate::registration::Registration;
 use crate::row::Row;
-use sip_equality::Ordered;
-use sip_equality::uri::Aor;
-use sip_uri::write_uri;
+use sip_uri::{Aor, write_uri};
+use sip_uri_equality::Ordered;
 use std::alloc::{AllocError, Global};
 use std::marker::Model;
 

@@ -1,11 +1,11 @@
 ghost use Rattle.std.specs.Prelude.{◌≡◌, ◌<◌, [], not, length, IfOk, OnOk};
 ghost use Rattle.std.specs.List.{list_any, position_or_len};
-ghost use Rattle.sip_equality.specs.Equality as Equality;
+ghost use Rattle.sip_uri_equality.specs.Equality as Equality;
 ghost use Rattle.sip_location.specs.Binding.{without_contact, put};
 
 use crate::candidate::Candidate;
 use crate::standing::Standing;
-use sip_equality::Ordered;
+use sip_uri_equality::Ordered;
 use std::alloc::{AllocError, Global};
 use std::marker::Model;
 

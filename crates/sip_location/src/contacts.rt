@@ -3,8 +3,8 @@ ghost use Rattle.std.specs.List.{filter_map};
 ghost use Rattle.sip_header.specs.ContactItem.{contact_of};
 ghost use Rattle.sip_location.specs.ReadContacts.{AreValidContacts};
 
-use sip_equality::text::Items;
 use sip_header::{ContactItem, contact_of};
+use sip_text::Items;
 use std::alloc::{AllocError, Global};
 use std::marker::Model;
 

@@ -10,9 +10,9 @@ use crate::candidate::Candidate;
 use crate::candidates::Candidates;
 use crate::interval::seconds_for;
 use crate::registration::Registration;
-use sip_equality::Ordered;
 use sip_header::{AnyUri, ContactItem};
 use sip_uri::Uri;
+use sip_uri_equality::Ordered;
 use std::alloc::{AllocError, Global};
 
 /// Binds a URI for some seconds, or removes what is equal to it for 0.

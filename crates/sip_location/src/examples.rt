@@ -1,5 +1,5 @@
 ghost use Rattle.std.specs.Prelude.{◌≡◌, [], ◌∷◌, ◌++◌, codes, Ok, Err};
-ghost use Rattle.sip_equality.specs.uri.Examples as Uris;
+ghost use Rattle.sip_uri.specs.Examples as Uris;
 ghost use Rattle.sip_header.specs.declared.expires.Expires.TheVariants.{Absent, Malformed, Seconds};
 ghost use Rattle.sip_header.specs.declared.contact_item.ContactItem.TheVariants.{Star};
 ghost use Rattle.sip_location.specs.declared.error.LocationError.TheVariants.{BadStar, TooBrief, OldCSeq, TooMany};

@@ -2,13 +2,13 @@ ghost use Rattle.std.specs.Prelude.{◌≡◌, ◌++◌, IfOk};
 ghost use Rattle.std.specs.Hash as fed;
 ghost use Rattle.std.specs.Cmp.Rules.{comparing, hashing};
 ghost use Rattle.std.proofs.Common.{rules};
-ghost use Rattle.sip_equality.specs.uri.Aor.{is_same_aor};
+ghost use Rattle.sip_uri.specs.Aor.{is_same_aor};
 
 use crate::aor_ref::AorRef;
 use crate::block::joined;
 use indexmap::Equivalent;
-use sip_equality::text::same_bytes;
-use sip_equality::uri::Aor;
+use sip_text::same_bytes;
+use sip_uri::Aor;
 use std::alloc::{AllocError, Global};
 use std::boxed::BoxedSlice;
 use std::hash::{Hash, Hasher};
@@ -24,7 +24,7 @@ pub(crate) struct FiledAor {
 impl Model for FiledAor {
     ghost use Rattle.std.specs.Prelude.{◌≤◌, length, take, drop};
     ghost use Rattle.std.specs.Box.{boxed_slice_items};
-    ghost use Rattle.sip_equality.specs.uri.declared.aor.Aor.{Aor};
+    ghost use Rattle.sip_uri.specs.declared.aor.Aor.{Aor};
 
     ghost Value = { Aor };
 

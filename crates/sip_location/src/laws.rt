@@ -1,11 +1,11 @@
 ghost use Rattle.std.specs.Prelude.{◌≡◌, ◌≢◌, ◌<◌, ◌≤◌, ℕ, List, length, All, Ok, false};
-ghost use Rattle.sip_equality.specs.uri.declared.aor.Aor.{Aor};
+ghost use Rattle.sip_uri.specs.declared.aor.Aor.{Aor};
 ghost use Rattle.sip_location.specs.declared.binding.Binding.{Binding};
 ghost use Rattle.sip_location.specs.declared.registration.Registration.{Registration};
 ghost use Rattle.sip_location.specs.Binding.{live};
 ghost use Rattle.sip_location.specs.Registration.{edited, registered};
 ghost use Rattle.sip_location.specs.Sameness.{SameBindings, SameOutcome};
-ghost use Rattle.sip_equality.specs.uri.Aor.{is_same_aor};
+ghost use Rattle.sip_uri.specs.Aor.{is_same_aor};
 
 /// No live binding has expired.
 pub fn live_bindings_have_not_expired()

@@ -1,7 +1,7 @@
 ghost use Rattle.std.specs.Prelude.{◌≡◌, ◌≤◌, ◌<◌, ◌^◌, ℕ, List, [], true, false, nat_lt, length, filter, Ok, IsOk, IfOk, IfErr, OnOk, OnErr};
 ghost use Rattle.indexmap.specs.IndexMap.{spare};
-ghost use Rattle.sip_equality.specs.uri.declared.aor.Aor.{Aor};
-ghost use Rattle.sip_equality.specs.uri.Aor.{is_same_aor};
+ghost use Rattle.sip_uri.specs.declared.aor.Aor.{Aor};
+ghost use Rattle.sip_uri.specs.Aor.{is_same_aor};
 ghost use Rattle.sip_location.specs.declared.binding.Binding.{Binding};
 ghost use Rattle.sip_location.specs.declared.error.LocationError.TheVariants.{NoMemory};
 ghost use Rattle.sip_location.specs.declared.registration.Registration.{Registration};
@@ -24,7 +24,7 @@ use crate::row::Row;
 use crate::rows::Rows;
 use crate::standing::{Standing, is_live_row, standing_of};
 use indexmap::IndexMap;
-use sip_equality::uri::Aor;
+use sip_uri::Aor;
 use std::alloc::Global;
 use std::marker::Model;
 

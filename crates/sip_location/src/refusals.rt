@@ -1,6 +1,6 @@
 //! Why a REGISTER is refused (RFC 3261 10.3 steps 6 and 7).
 ghost use Rattle.std.specs.Prelude.{◌≡◌, ◌&&◌, is_some, IfOk};
-ghost use Rattle.sip_equality.specs.Equality as Equality;
+ghost use Rattle.sip_uri_equality.specs.Equality as Equality;
 ghost use Rattle.sip_location.specs.Newer.{is_of_call};
 ghost use Rattle.std.specs.List.{list_any};
 ghost use Rattle.sip_header.specs.NameAddr.{sip_uri};
@@ -9,9 +9,9 @@ ghost use Rattle.sip_location.specs.Registration as Definitions;
 use crate::candidate::Candidate;
 use crate::interval::{is_brief, is_zero, seconds_for};
 use crate::registration::Registration;
-use sip_equality::Ordered;
-use sip_equality::text::same_bytes;
 use sip_header::{AnyUri, ContactItem, Expires};
+use sip_text::same_bytes;
+use sip_uri_equality::Ordered;
 use std::alloc::{AllocError, Global};
 
 fn is_star(contact: &ContactItem<'_>) -> bool

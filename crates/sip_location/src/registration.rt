@@ -1,7 +1,7 @@
 use crate::contacts::Contacts;
-use sip_equality::text::Text;
-use sip_equality::uri::Aor;
 use sip_header::Expires;
+use sip_text::Text;
+use sip_uri::Aor;
 
 /// What a registrar reads of a REGISTER (RFC 3261 10.3). Without contacts it is a query.
 #[derive(Drop)]

@@ -5,9 +5,8 @@ ghost use Rattle.sip_location.specs.KeptBinding.{binding_of};
 
 use crate::candidate::Candidate;
 use crate::row::Row;
-use sip_equality::Ordered;
-use sip_equality::uri::Aor;
-use sip_uri::Uri;
+use sip_uri::{Aor, Uri};
+use sip_uri_equality::Ordered;
 use std::alloc::{AllocError, Global};
 use std::marker::Model;
 

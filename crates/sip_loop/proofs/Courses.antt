@@ -2,19 +2,19 @@
 use Rattle.std.proofs.Common.{◌≡◌, ◌⊎◌, inl, inr, ℕ, ◌≤◌, List, [], ◌∷◌, ◌++◌, reverse, Option, None, Some, refl, sym, ◌∙◌, ap, ap₂, subst, arith, append-nil, append_assoc}
 use Rattle.std.proofs.lemmas.List.{reverse-append}
 use Rattle.std.proofs.lemmas.Grind.{flat_map-append}
-use Rattle.sip_link.specs.declared.datagram.Given.{Given}
-use Rattle.sip_link.specs.declared.datagram.Sending.{Sending}
-use Rattle.sip_link.specs.declared.datagram.Sending.TheVariants.{Went, Failed}
-use Rattle.sip_link.specs.Told.{and_then}
+use Rattle.sip_loop_link.specs.declared.datagram.Given.{Given}
+use Rattle.sip_loop_link.specs.declared.datagram.Sending.{Sending}
+use Rattle.sip_loop_link.specs.declared.datagram.Sending.TheVariants.{Went, Failed}
+use Rattle.sip_loop_link.specs.Told.{and_then}
 use Rattle.sip_event.specs.declared.event.Event.{Event}
 use Rattle.sip_event.specs.declared.event.Event.TheVariants.{Fault}
 use Rattle.sip_event.specs.declared.event.StepOut.{StepOut}
 use Rattle.sip_event.specs.declared.packet.Packet.{Packet}
-use Rattle.sip_model.specs.audit.declared.record.Record.{Record}
-use Rattle.sip_model.specs.state.declared.server.Server.{Server}
-use Rattle.sip_model.specs.state.declared.proxy_state.ProxyState.{ProxyState}
-use Rattle.sip_model.specs.Step.{Given as ForEvent, Passing, IsStep, moment_of}
-use Rattle.sip_model.specs.Run.{Link, IsRun, event_moment, events_of, steps_of}
+use Rattle.sip_audit.specs.declared.record.Record.{Record}
+use Rattle.model_bounds.specs.state.declared.server.Server.{Server}
+use Rattle.model_bounds.specs.state.declared.proxy_state.ProxyState.{ProxyState}
+use Rattle.model_bounds.specs.steps_model.Step.{Given as ForEvent, Passing, IsStep, moment_of}
+use Rattle.model_bounds.specs.model.Run.{Link, IsRun, event_moment, events_of, steps_of}
 use Rattle.sip_loop.specs.Serving.{Turn, Doing, Fires, Takes, Sends, Faults, IsWaiting, turns_in, events_in, steps_in, given_in, event_of_turn, reading_of, last_moment, records_of, told_more}
 use Rattle.sip_loop.specs.Courses.{HasRunOf, Leads, Hands, Course}
 use Rattle.sip_run.proofs.RunOn.{run_on}

@@ -6,15 +6,15 @@ use Rattle.sip_event.specs.declared.event.Event.TheVariants.{Fault}
 use Rattle.sip_event.specs.declared.event.StepOut.{StepOut}
 use Rattle.sip_event.specs.declared.packet.Packet.{Packet}
 use Rattle.sip_event.specs.declared.packet.Ticket.{Ticket}
-use Rattle.sip_model.specs.state.declared.branch.Branch.{Branch}
-use Rattle.sip_model.specs.state.declared.open_request.OpenRequest.{OpenRequest}
-use Rattle.sip_model.specs.state.declared.proxy_state.ProxyState.{ProxyState}
-use Rattle.sip_model.specs.state.declared.server.Server.{Server}
-use Rattle.sip_model.specs.Step.{Given as ForEvent, IsFault, IsStep, failed_branch, failed_request, fault_effect, is_failed, moment_of}
-use Rattle.sip_model.specs.Ends.{sends_left}
-use Rattle.sip_link.specs.declared.datagram.Given.{Given}
-use Rattle.sip_link.specs.declared.datagram.Sending.TheVariants.{Went, Failed}
-use Rattle.sip_link.specs.Told.{and_then}
+use Rattle.model_bounds.specs.state.declared.branch.Branch.{Branch}
+use Rattle.model_bounds.specs.state.declared.open_request.OpenRequest.{OpenRequest}
+use Rattle.model_bounds.specs.state.declared.proxy_state.ProxyState.{ProxyState}
+use Rattle.model_bounds.specs.state.declared.server.Server.{Server}
+use Rattle.model_bounds.specs.steps_model.Step.{Given as ForEvent, IsFault, IsStep, failed_branch, failed_request, fault_effect, is_failed, moment_of}
+use Rattle.model_bounds.specs.model.Ends.{sends_left}
+use Rattle.sip_loop_link.specs.declared.datagram.Given.{Given}
+use Rattle.sip_loop_link.specs.declared.datagram.Sending.TheVariants.{Went, Failed}
+use Rattle.sip_loop_link.specs.Told.{and_then}
 use Rattle.sip_loop.specs.Courses.{Hands, HandsSome, IsNoFurther, TakesFault}
 use Rattle.sip_loop.proofs.Courses.{hands_failed, hands_fault, hands_nothing, hands_on, hands_went, told_one}
 

@@ -2,22 +2,22 @@
 use Rattle.std.proofs.Common.{◌≡◌, ◌⊎◌, inl, inr, ℕ, ◌+◌, ◌≤◌, ◌<◌, List, [], ◌∷◌, ◌++◌, map, reverse, Option, None, Some, Result, Ok, Err, IfErr, OnErr, refl, sym, ◌∙◌, ap, subst, arith, append-nil, append_assoc}
 use Rattle.std.specs.Prelude.{IfSome, IsSome}
 use Rattle.rand_core.specs.Stream.{Stream}
-use Rattle.sip_link.specs.declared.datagram.Given.{Given}
-use Rattle.sip_link.specs.declared.datagram.Heard.{Heard}
-use Rattle.sip_link.specs.Told.{and_then}
+use Rattle.sip_loop_link.specs.declared.datagram.Given.{Given}
+use Rattle.sip_loop_link.specs.declared.datagram.Heard.{Heard}
+use Rattle.sip_loop_link.specs.Told.{and_then}
 use Rattle.sip_event.specs.declared.event.Event.TheVariants.{Datagram, Time}
 use Rattle.sip_event.specs.declared.event.StepOut.{StepOut}
 use Rattle.sip_event.specs.declared.packet.Packet.{Packet}
-use Rattle.sip_model.specs.host.declared.addr.Addr.{Addr}
-use Rattle.sip_model.specs.audit.declared.record.Record.{Record}
-use Rattle.sip_model.specs.state.declared.server.Server.{Server}
-use Rattle.sip_model.specs.state.declared.proxy_state.ProxyState.{ProxyState}
-use Rattle.sip_model.specs.state.State.{first_state}
-use Rattle.sip_model.specs.Step.{Act, Given as ForEvent, Passing, IsDeadline, IsResend, IsStep, moment_of}
-use Rattle.sip_model.specs.Run.{Link, IsChain, event_moment}
-use Rattle.sip_engine.specs.declared.error.StepError.{StepError}
-use Rattle.sip_engine.specs.declared.error.StepError.TheVariants as steps
-use Rattle.sip_engine.specs.StepError.{refusal_at}
+use Rattle.sip_uri.specs.declared.addr.Addr.{Addr}
+use Rattle.sip_audit.specs.declared.record.Record.{Record}
+use Rattle.model_bounds.specs.state.declared.server.Server.{Server}
+use Rattle.model_bounds.specs.state.declared.proxy_state.ProxyState.{ProxyState}
+use Rattle.model_bounds.specs.state.State.{first_state}
+use Rattle.model_bounds.specs.steps_model.Step.{Act, Given as ForEvent, Passing, IsDeadline, IsResend, IsStep, moment_of}
+use Rattle.model_bounds.specs.model.Run.{Link, IsChain, event_moment}
+use Rattle.sip_run.specs.engine.declared.error.StepError.{StepError}
+use Rattle.sip_run.specs.engine.declared.error.StepError.TheVariants as steps
+use Rattle.sip_run.specs.engine.StepError.{refusal_at}
 use Rattle.sip_run.specs.Due.{Fires, NothingDueBy}
 use Rattle.sip_run.specs.Refusals.{refusal_of_event}
 use Rattle.sip_loop.specs.ServeErrors.{refusal_of_step}

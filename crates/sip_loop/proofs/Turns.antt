@@ -3,16 +3,16 @@ use Rattle.std.proofs.Common.{Bool, true, false, cond, ◌≡◌, inl, ℕ, zero
 use Rattle.std.specs.Prelude.{nat_lt}
 use Rattle.std.proofs.lemmas.List.{reverse-append, map-append, length-map}
 use Rattle.rand_core.specs.Stream.{Stream}
-use Rattle.sip_link.specs.declared.datagram.Given.{Given}
-use Rattle.sip_link.specs.Told.{and_counted, counted, most}
+use Rattle.sip_loop_link.specs.declared.datagram.Given.{Given}
+use Rattle.sip_loop_link.specs.Told.{and_counted, counted, most}
 use Rattle.sip_event.specs.declared.packet.Packet.{Packet}
-use Rattle.sip_model.specs.audit.declared.record.Record.{Record}
-use Rattle.sip_model.specs.state.declared.server.Server.{Server}
-use Rattle.sip_model.specs.state.declared.proxy_state.ProxyState.{ProxyState}
-use Rattle.sip_model.specs.state.State.{first_state}
-use Rattle.sip_model.specs.Run.{Link, IsChain}
-use Rattle.sip_model.specs.Access.{Access}
-use Rattle.sip_bounds.specs.Bounds.{IsBounded}
+use Rattle.sip_audit.specs.declared.record.Record.{Record}
+use Rattle.model_bounds.specs.state.declared.server.Server.{Server}
+use Rattle.model_bounds.specs.state.declared.proxy_state.ProxyState.{ProxyState}
+use Rattle.model_bounds.specs.state.State.{first_state}
+use Rattle.model_bounds.specs.model.Run.{Link, IsChain}
+use Rattle.model_bounds.specs.model.Access.{Access}
+use Rattle.model_bounds.specs.Bounds.{IsBounded}
 use Rattle.sip_loop.specs.Counts.{counted_times, IsAskedWithin}
 use Rattle.sip_loop.specs.Serving.{Turn, Silence, Arrival, Doing, Told, Progress, Whole, Read, Begun, AreDrawn, AreTold, IsServed, IsToldMore, IsUnserved, IsWaiting, Serves, begun, given_in, heard_in, passed_to, reading_of, readings_in, told_more, turns_in}
 use Rattle.sip_loop.specs.Courses.{Breaks, Course, Goes, HasRunOf, Leads, Turns}

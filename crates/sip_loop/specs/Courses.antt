@@ -1,16 +1,16 @@
 -- How serving goes on, piece by piece: what each piece does leads on from whatever was done before it.
 use Rattle.std.specs.Prelude.{ℕ, ◌≡◌, ◌≤◌, ◌+◌, ◌⊎◌, List, [], ◌∷◌, ◌++◌, map, reverse, length, Option, Some, None}
 use Rattle.rand_core.specs.Stream.{Stream}
-use Rattle.sip_link.specs.declared.datagram.Given.{Given}
-use Rattle.sip_link.specs.declared.datagram.Heard.{Heard}
+use Rattle.sip_loop_link.specs.declared.datagram.Given.{Given}
+use Rattle.sip_loop_link.specs.declared.datagram.Heard.{Heard}
 use Rattle.sip_event.specs.declared.event.StepOut.{StepOut}
 use Rattle.sip_event.specs.declared.packet.Packet.{Packet}
-use Rattle.sip_model.specs.audit.declared.record.Record.{Record}
-use Rattle.sip_model.specs.state.declared.server.Server.{Server}
-use Rattle.sip_model.specs.state.declared.proxy_state.ProxyState.{ProxyState}
-use Rattle.sip_model.specs.Run.{Link, IsRun}
-use Rattle.sip_model.specs.Step.{Given as ForEvent, Passing, IsStep}
-use Rattle.sip_model.specs.Ends.{sends_left, steps_left}
+use Rattle.sip_audit.specs.declared.record.Record.{Record}
+use Rattle.model_bounds.specs.state.declared.server.Server.{Server}
+use Rattle.model_bounds.specs.state.declared.proxy_state.ProxyState.{ProxyState}
+use Rattle.model_bounds.specs.model.Run.{Link, IsRun}
+use Rattle.model_bounds.specs.steps_model.Step.{Given as ForEvent, Passing, IsStep}
+use Rattle.model_bounds.specs.model.Ends.{sends_left, steps_left}
 use Rattle.sip_event.specs.declared.event.Event.TheVariants.{Fault}
 use Rattle.sip_event.specs.declared.packet.Ticket.{Ticket}
 use Rattle.sip_loop.specs.Serving.{Turn, Doing, Told, Progress, Whole, Read, Begun, AreDrawn, AreTold, IsWaiting, IsWhy, begun, event_of_turn, events_in, given_in, heard_in, last_moment, passed_to, reading_of, readings_in, records_of, steps_in, told_more, turns_in}

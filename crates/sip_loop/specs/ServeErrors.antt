@@ -1,7 +1,7 @@
 -- The numbers of the refusals of serving.
 use Rattle.std.specs.Prelude.{ℕ}
-use Rattle.sip_engine.specs.declared.error.StepError.{StepError}
-use Rattle.sip_engine.specs.declared.error.StepError.TheVariants as steps
+use Rattle.sip_run.specs.engine.declared.error.StepError.{StepError}
+use Rattle.sip_run.specs.engine.declared.error.StepError.TheVariants as steps
 use Rattle.sip_loop.specs.declared.served.ServeError.{ServeError}
 use Rattle.sip_loop.specs.declared.served.ServeError.TheVariants.{NoMemory, Link, Step}
 

@@ -2,23 +2,23 @@
 use Rattle.std.specs.Prelude.{ℕ, ◌≡◌, ◌≤◌, ◌+◌, ◌*◌, ◌^◌, ⊤, List, [], ◌∷◌, ◌++◌, map, reverse, length, Option, Some, None, IsSome}
 use Rattle.std.specs.List.{flat_map}
 use Rattle.rand_core.specs.Stream.{Stream, next_u64}
-use Rattle.sip_link.specs.declared.datagram.Given.{Given}
-use Rattle.sip_link.specs.declared.datagram.Heard.{Heard}
-use Rattle.sip_link.specs.declared.datagram.Sending.{Sending}
-use Rattle.sip_link.specs.declared.datagram.Sending.TheVariants.{Went, Failed}
+use Rattle.sip_loop_link.specs.declared.datagram.Given.{Given}
+use Rattle.sip_loop_link.specs.declared.datagram.Heard.{Heard}
+use Rattle.sip_loop_link.specs.declared.datagram.Sending.{Sending}
+use Rattle.sip_loop_link.specs.declared.datagram.Sending.TheVariants.{Went, Failed}
 use Rattle.sip_event.specs.declared.event.Event.{Event}
 use Rattle.sip_event.specs.declared.event.Event.TheVariants.{Datagram, Time, Fault}
 use Rattle.sip_event.specs.declared.event.StepOut.{StepOut}
 use Rattle.sip_event.specs.declared.packet.Packet.{Packet}
-use Rattle.sip_model.specs.audit.declared.record.Record.{Record}
-use Rattle.sip_model.specs.state.declared.server.Server.{Server}
-use Rattle.sip_model.specs.state.declared.proxy_state.ProxyState.{ProxyState}
-use Rattle.sip_model.specs.state.State.{first_state}
-use Rattle.sip_model.specs.Step.{moment_of}
-use Rattle.sip_model.specs.Run.{Link, IsChain, IsRun}
-use Rattle.sip_model.specs.Access.{Access}
-use Rattle.sip_bounds.specs.Bounds.{IsBounded}
-use Rattle.sip_engine.specs.StepError.{refusal_at}
+use Rattle.sip_audit.specs.declared.record.Record.{Record}
+use Rattle.model_bounds.specs.state.declared.server.Server.{Server}
+use Rattle.model_bounds.specs.state.declared.proxy_state.ProxyState.{ProxyState}
+use Rattle.model_bounds.specs.state.State.{first_state}
+use Rattle.model_bounds.specs.steps_model.Step.{moment_of}
+use Rattle.model_bounds.specs.model.Run.{Link, IsChain, IsRun}
+use Rattle.model_bounds.specs.model.Access.{Access}
+use Rattle.model_bounds.specs.Bounds.{IsBounded}
+use Rattle.sip_run.specs.engine.StepError.{refusal_at}
 use Rattle.sip_run.specs.Due.{NothingDueBy}
 use Rattle.sip_run.specs.Refusals.{refusal_of_event}
 use Rattle.sip_loop.specs.declared.served.ServeError.{ServeError}

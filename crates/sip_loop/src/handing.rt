@@ -1,17 +1,17 @@
 ghost use Rattle.std.specs.Prelude.{◌≡◌, ◌<◌, ◌≤◌, ◌+◌, ◌++◌, [], ◌∷◌, drop, length, None, IfOk, IfErr, OnOk, OnErr};
-ghost use Rattle.sip_model.specs.Ends.{sends_left};
+ghost use Rattle.model_bounds.specs.model.Ends.{sends_left};
 ghost use Rattle.sip_loop.specs.Courses.{Hands, HandsSome, IsNoFurther, TakesFault};
 ghost use Rattle.sip_loop.specs.declared.served.ServeError.TheVariants.{NoMemory};
 
 use crate::served::ServeError;
-use sip_engine::Engine;
+use model_bounds::model::histories::steps_stand_at_their_moments;
+use model_bounds::model::order::no_deadline_passed;
+use model_bounds::model::runs::failed_sends_end;
 use sip_event::{Packet, StepOut, Ticket};
-use sip_link::{Link, Sending};
-use sip_model::histories::steps_stand_at_their_moments;
-use sip_model::order::no_deadline_passed;
-use sip_model::policy::Rules;
-use sip_model::runs::failed_sends_end;
-use sip_model::text::Items;
+use sip_loop_link::{Link, Sending};
+use sip_policy::Rules;
+use sip_run::engine::Engine;
+use sip_text::Items;
 use sip_timers::Timers;
 use std::alloc::AllocError;
 

@@ -12,5 +12,5 @@ pub use serving::serve;
 
 /// Of `sip_engine`.
 pub mod engine {
-    pub use sip_engine::{Engine, StepError};
+    pub use sip_run::engine::Engine;
 }

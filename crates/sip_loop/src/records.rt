@@ -1,7 +1,7 @@
 ghost use Rattle.std.specs.Prelude.{◌≡◌, ◌++◌, IfOk, OnOk};
 
-use sip_event::audit::Record;
-use sip_model::text::Items;
+use sip_audit::Record;
+use sip_text::Items;
 use sip_uri::Aor;
 use std::alloc::AllocError;
 

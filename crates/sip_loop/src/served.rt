@@ -2,10 +2,10 @@ ghost use Rattle.std.specs.Prelude.{◌≡◌};
 ghost use Rattle.sip_loop.specs.ServeErrors.{number_of_refusal, refusal_of_step};
 ghost use Rattle.sip_loop.specs.declared.served.ServeError.TheVariants.{NoMemory, Link};
 
-use sip_engine::StepError;
-use sip_event::audit::Record;
-use sip_link::LinkFault;
-use sip_model::text::Items;
+use sip_audit::Record;
+use sip_loop_link::LinkFault;
+use sip_run::engine::StepError;
+use sip_text::Items;
 use std::alloc::{AllocError, AllocFailed};
 use std::error::Error;
 use std::fmt;

@@ -1,8 +1,8 @@
 ghost use Rattle.std.specs.Prelude.{◌≡◌, ◌≤◌, ◌+◌, [], None, Some, Err, IfOk, IfErr, IfSome, IfNone, OnOk, OnErr};
-ghost use Rattle.sip_link.specs.Told.{counted};
+ghost use Rattle.sip_loop_link.specs.Told.{counted};
 ghost use Rattle.sip_loop.specs.Counts.{counted_times, IsAskedWithin};
-ghost use Rattle.sip_model.specs.Ends.{steps_left};
-ghost use Rattle.sip_model.specs.Step.{moment_of};
+ghost use Rattle.model_bounds.specs.model.Ends.{steps_left};
+ghost use Rattle.model_bounds.specs.steps_model.Step.{moment_of};
 ghost use Rattle.sip_run.specs.Due.{NothingDueBy};
 ghost use Rattle.sip_loop.specs.Courses.{Breaks, BreaksFiring, BreaksOff, BreaksTurn, Course, Goes, GoesOn, TakesDue, TakesTurn};
 ghost use Rattle.sip_loop.specs.Serving.{IsServed, IsUnserved, IsWhy, Read, behind_word, told_more, word_from};
@@ -11,17 +11,17 @@ ghost use Rattle.sip_loop.specs.declared.served.ServeError.TheVariants as Refusa
 use crate::handing::hand_out;
 use crate::records::add_records;
 use crate::served::{ServeError, Served};
+use model_bounds::bounds::every_history_is_bounded;
+use model_bounds::model::histories::{moment_rises, steps_stand_at_their_moments};
+use model_bounds::model::laws::every_history_has_access;
 use rand_core::Rng;
-use sip_bounds::bounds::every_history_is_bounded;
-use sip_engine::Engine;
+use sip_audit::Record;
 use sip_event::StepOut;
-use sip_event::audit::Record;
-use sip_link::{Clock, Link};
-use sip_model::histories::{moment_rises, steps_stand_at_their_moments};
-use sip_model::laws::every_history_has_access;
-use sip_model::policy::Rules;
-use sip_model::text::Items;
+use sip_loop_link::{Clock, Link};
+use sip_policy::Rules;
+use sip_run::engine::Engine;
 use sip_run::fire_next;
+use sip_text::Items;
 use sip_timers::Timers;
 use std::alloc::Global;
 

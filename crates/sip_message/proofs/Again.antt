@@ -10,13 +10,13 @@ use Rattle.std.proofs.lemmas.List.{append-nil, take_all}
 use Rattle.std.proofs.lemmas.Fmt.{decimal_is_IsNumeral, digits_decimal, digits_value-decimal}
 use Rattle.sip_text.specs.Words.{decimal_of}
 use Rattle.sip_text.proofs.Trims.{IsTight}
-use Rattle.sip_form.specs.field.declared.field.Field.{Field}
-use Rattle.sip_form.specs.field.declared.field_name.FieldName.TheVariants.{ContentLength}
-use Rattle.sip_form.specs.declared.message.Message.{Message}
+use Rattle.sip_message_fields.specs.declared.field.Field.{Field}
+use Rattle.sip_message_fields.specs.declared.field_name.FieldName.TheVariants.{ContentLength}
+use Rattle.sip_message_form.specs.declared.message.Message.{Message}
 use Rattle.sip_message.specs.Lines.{unfolded_on, unfolded, IsLine, as_lines}
 use Rattle.sip_message.specs.Field.{is_text, entries_of, kept}
 use Rattle.sip_message.specs.Body.{lengths, IsBody}
-use Rattle.sip_form.specs.Text.{start_text, field_line, field_text, text_of}
+use Rattle.sip_message_form.specs.Text.{start_text, field_line, field_text, text_of}
 use Rattle.sip_message.specs.Says.{Says, IsWithinLimits}
 use Rattle.sip_message.proofs.FieldsAgain.{and_both, all_weaker, no_blank, full_end, IsEntry, entry_again, entry_line, entries_are, IsKept, kept_are}
 use Rattle.sip_message.proofs.FieldLaws.{entries_zip, zip_entries}

@@ -4,16 +4,16 @@ use Rattle.std.specs.Prelude.{option_map, nat_lt, ◌↔◌, ◌⊎◌}
 use Rattle.std.specs.Option.{ok_or}
 use Rattle.std.specs.Result.{result_err}
 use Rattle.std.proofs.lemmas.Bool.{le-ltb}
-use Rattle.sip_form.specs.declared.error.ReadError.{ReadError}
-use Rattle.sip_form.specs.declared.error.ReadError.TheVariants.{NotSip, BadField, TooManyFields, TooLong, ShortBody}
-use Rattle.sip_form.specs.field.declared.field.Field.{Field}
-use Rattle.sip_form.specs.declared.message.Start.{Start}
-use Rattle.sip_form.specs.declared.message.Message.{Message}
+use Rattle.sip_message_form.specs.declared.error.ReadError.{ReadError}
+use Rattle.sip_message_form.specs.declared.error.ReadError.TheVariants.{NotSip, BadField, TooManyFields, TooLong, ShortBody}
+use Rattle.sip_message_fields.specs.declared.field.Field.{Field}
+use Rattle.sip_message_form.specs.declared.message.Start.{Start}
+use Rattle.sip_message_form.specs.declared.message.Message.{Message}
 use Rattle.sip_message.specs.Lines.{after_blanks, line_at, lines_at, unfolded, as_lines, head_at}
 use Rattle.sip_message.specs.Start.{start_of}
 use Rattle.sip_message.specs.Field.{entries_of, kept}
 use Rattle.sip_message.specs.Body.{lengths, one_length, is_short}
-use Rattle.sip_form.specs.Text.{text_of}
+use Rattle.sip_message_form.specs.Text.{text_of}
 use Rattle.sip_message.specs.Says.{IsHead, IsContent}
 use Rattle.sip_message.specs.Reading.{◌>>=◌, with_body, limited, message_from, datagram_of, reading_of, fault_of}
 use Rattle.sip_message.proofs.CutLaws.{cut_is, cut_first, lines_again}

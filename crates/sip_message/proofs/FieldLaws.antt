@@ -7,9 +7,9 @@ use Rattle.std.proofs.lemmas.List.{append-nil, take_at}
 use Rattle.sip_text.specs.Words.{is_token_byte, is_token_text}
 use Rattle.sip_text.specs.Lists.{is_blank, trimmed, end_trimmed}
 use Rattle.sip_text.proofs.Trims.{EndSplit, end_split, end_without, ends_full}
-use Rattle.sip_form.specs.field.declared.field.Field.{Field}
+use Rattle.sip_message_fields.specs.declared.field.Field.{Field}
 use Rattle.sip_text.specs.Splits.{split_at_byte}
-use Rattle.sip_form.specs.field.FieldName.{name_of}
+use Rattle.sip_message_fields.specs.FieldName.{name_of}
 use Rattle.sip_message.specs.Field.{is_text, field_from, field_of, entries_of, IsField}
 use Rattle.sip_message.specs.Named.{IsNamed}
 use Rattle.sip_message.proofs.CutLaws.{some_is}

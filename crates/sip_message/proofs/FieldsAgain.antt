@@ -9,15 +9,15 @@ use Rattle.sip_text.specs.Words.{is_token_byte, is_token_text}
 use Rattle.sip_text.specs.Lists.{is_blank, trimmed, end_trimmed, cut}
 use Rattle.sip_text.proofs.Trims.{IsTight, ends_full, tight_of, tight_behind, end_again}
 use Rattle.sip_text.proofs.ListItems.{IsItemOf, items_are, all_trimmed_pass}
-use Rattle.sip_form.specs.field.declared.field.Field.{Field}
-use Rattle.sip_form.specs.field.declared.field_name.FieldName.{FieldName}
-use Rattle.sip_form.specs.field.declared.field_name.FieldName.TheVariants.{Other}
+use Rattle.sip_message_fields.specs.declared.field.Field.{Field}
+use Rattle.sip_message_fields.specs.declared.field_name.FieldName.{FieldName}
+use Rattle.sip_message_fields.specs.declared.field_name.FieldName.TheVariants.{Other}
 use Rattle.sip_message.specs.Lines.{is_crlf, is_fold, IsOneLine, IsLine}
 use Rattle.sip_text.specs.Splits.{in_front, split_at_byte}
-use Rattle.sip_form.specs.field.FieldName.{spelling, Known, known_names, is_named, named_in, name_of, is_length, is_list}
+use Rattle.sip_message_fields.specs.FieldName.{spelling, Known, known_names, is_named, named_in, name_of, is_length, is_list}
 use Rattle.sip_message.specs.Start.{is_unbroken}
 use Rattle.sip_message.specs.Field.{is_text, field_from, field_of, entries_of, pieces, kept}
-use Rattle.sip_form.specs.Text.{field_line}
+use Rattle.sip_message_form.specs.Text.{field_line}
 use Rattle.sip_message.proofs.CutLaws.{some_is, pair_is}
 
 -- ---- bytes that pass a test

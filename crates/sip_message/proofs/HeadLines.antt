@@ -4,10 +4,10 @@ use Rattle.std.specs.Prelude.{option_map, MatchOption}
 use Rattle.std.specs.Option.{option_and_then, unwrap_or}
 use Rattle.std.proofs.lemmas.List.{append-nil}
 use denote.Ref.{Bor}
-use Rattle.sip_form.specs.field.declared.field.Field.{Field}
-use Rattle.sip_form.specs.declared.error.ReadError.{ReadError}
-use Rattle.sip_form.specs.declared.error.ReadError.TheVariants.{NoMemory, NotSip, BadField}
-use Rattle.sip_form.specs.view.Slice.{IsSliceOf, IsCutFrom, is_joined}
+use Rattle.sip_message_fields.specs.declared.field.Field.{Field}
+use Rattle.sip_message_form.specs.declared.error.ReadError.{ReadError}
+use Rattle.sip_message_form.specs.declared.error.ReadError.TheVariants.{NoMemory, NotSip, BadField}
+use Rattle.sip_message_fields.specs.Slice.{IsSliceOf, IsCutFrom, is_joined}
 use Rattle.sip_message.specs.declared.content.Content.{Content}
 use Rattle.sip_message.specs.declared.line_fault.LineFault.{LineFault}
 use Rattle.sip_message.specs.declared.line_fault.LineFault.TheVariants as Fault

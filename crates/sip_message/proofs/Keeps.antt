@@ -8,10 +8,10 @@ use denote.Ref.{Bor}
 use Rattle.sip_text.specs.declared.span.Span.{Span}
 use Rattle.sip_text.specs.Span.{part}
 use Rattle.sip_text.specs.Lists.{cut}
-use Rattle.sip_form.specs.view.Piece.{bytes_of}
-use Rattle.sip_form.specs.view.Slice.{IsPieceOf, IsPieceCutFrom, is_joined}
-use Rattle.sip_form.specs.field.declared.field.Field.{Field}
-use Rattle.sip_form.specs.field.FieldName.{is_length, is_list}
+use Rattle.sip_message_fields.specs.Piece.{bytes_of}
+use Rattle.sip_message_fields.specs.Slice.{IsPieceOf, IsPieceCutFrom, is_joined}
+use Rattle.sip_message_fields.specs.declared.field.Field.{Field}
+use Rattle.sip_message_fields.specs.FieldName.{is_length, is_list}
 use Rattle.sip_message.specs.declared.line_fault.LineFault.{LineFault}
 use Rattle.sip_message.specs.declared.part_field.PartField.{PartField}
 use Rattle.sip_message.specs.HeadContent.{IsFault}

@@ -3,11 +3,11 @@ use Rattle.std.proofs.Common.{◌≡◌, ◌⊎◌, ℕ, true, false, List, Opti
 use Rattle.std.specs.Prelude.{option_map}
 use Rattle.std.specs.Option.{option_and_then}
 use denote.Ref.{Bor}
-use Rattle.sip_form.specs.field.declared.field.Field.{Field}
-use Rattle.sip_form.specs.view.declared.piece.Piece.TheVariants as Whole
-use Rattle.sip_form.specs.field.declared.field_name.FieldName.{FieldName}
-use Rattle.sip_form.specs.field.FieldName.{is_length}
-use Rattle.sip_form.specs.view.Slice.{IsCutFrom, IsPieceCutFrom}
+use Rattle.sip_message_fields.specs.declared.field.Field.{Field}
+use Rattle.sip_message_fields.specs.declared.piece.Piece.TheVariants as Whole
+use Rattle.sip_message_fields.specs.declared.field_name.FieldName.{FieldName}
+use Rattle.sip_message_fields.specs.FieldName.{is_length}
+use Rattle.sip_message_fields.specs.Slice.{IsCutFrom, IsPieceCutFrom}
 use Rattle.sip_message.specs.declared.content.Content.{Content}
 use Rattle.sip_message.specs.declared.line.Line.{Line}
 use Rattle.sip_message.specs.declared.line.Line.TheVariants.{Part}

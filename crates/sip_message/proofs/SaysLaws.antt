@@ -6,16 +6,16 @@ use Rattle.std.specs.Option.{ok_or}
 use Rattle.std.proofs.lemmas.Bool.{ltb-false, le-ltb, lt-ltb}
 use Rattle.std.proofs.lemmas.List.{length-take, length-take-le}
 use Rattle.sip_text.specs.Words.{decimal_of}
-use Rattle.sip_form.specs.declared.error.ReadError.{ReadError}
-use Rattle.sip_form.specs.declared.error.ReadError.TheVariants.{NoMemory, TooLong, NotSip, BadField, TooManyFields, ShortBody}
-use Rattle.sip_form.specs.field.declared.field.Field.{Field}
-use Rattle.sip_form.specs.declared.message.Start.{Start}
-use Rattle.sip_form.specs.declared.message.Message.{Message}
+use Rattle.sip_message_form.specs.declared.error.ReadError.{ReadError}
+use Rattle.sip_message_form.specs.declared.error.ReadError.TheVariants.{NoMemory, TooLong, NotSip, BadField, TooManyFields, ShortBody}
+use Rattle.sip_message_fields.specs.declared.field.Field.{Field}
+use Rattle.sip_message_form.specs.declared.message.Start.{Start}
+use Rattle.sip_message_form.specs.declared.message.Message.{Message}
 use Rattle.sip_message.specs.Lines.{after_blanks, line_at, lines_at, unfolded, head_at, as_lines}
 use Rattle.sip_message.specs.Start.{start_of}
 use Rattle.sip_message.specs.Field.{entries_of, kept, IsField}
 use Rattle.sip_message.specs.Body.{lengths, one_length, body_of, is_short, IsBody}
-use Rattle.sip_form.specs.Text.{text_of}
+use Rattle.sip_message_form.specs.Text.{text_of}
 use Rattle.sip_message.specs.Says.{Says, IsWithinLimits}
 use Rattle.sip_message.specs.Reading.{◌>>=◌, Gives, with_body, limited, message_from, datagram_of, reading_of, fault_of}
 use Rattle.std.specs.List.{AllZip}

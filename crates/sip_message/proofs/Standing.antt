@@ -2,12 +2,12 @@
 use Rattle.std.proofs.Common.{◌≡◌, ◌⊎◌, ℕ, Bool, List, Option, Some, Result, Ok, Err, refl, sym, ap, subst, ◌∙◌, inl, inr}
 use Rattle.std.specs.Option.{option_and_then, ok_or}
 use denote.Ref.{Bor}
-use Rattle.sip_form.specs.field.declared.field.Field.{Field}
-use Rattle.sip_form.specs.declared.message.Start.{Start}
-use Rattle.sip_form.specs.declared.message.Message.{Message}
-use Rattle.sip_form.specs.declared.error.ReadError.{ReadError}
-use Rattle.sip_form.specs.declared.error.ReadError.TheVariants.{NoMemory, NotSip, BadField}
-use Rattle.sip_form.specs.view.Slice.{IsSliceOf, IsCutFrom}
+use Rattle.sip_message_fields.specs.declared.field.Field.{Field}
+use Rattle.sip_message_form.specs.declared.message.Start.{Start}
+use Rattle.sip_message_form.specs.declared.message.Message.{Message}
+use Rattle.sip_message_form.specs.declared.error.ReadError.{ReadError}
+use Rattle.sip_message_form.specs.declared.error.ReadError.TheVariants.{NoMemory, NotSip, BadField}
+use Rattle.sip_message_fields.specs.Slice.{IsSliceOf, IsCutFrom}
 use Rattle.sip_message.specs.declared.content.Content.{Content}
 use Rattle.sip_message.specs.declared.datagram_parts.Parts.{Parts}
 use Rattle.sip_message.specs.Lines.{after_blanks, line_at, head_at}

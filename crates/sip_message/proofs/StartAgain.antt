@@ -9,12 +9,12 @@ use Rattle.std.proofs.lemmas.Bool.{eqb-true, leb-true, ltb-true}
 use Rattle.std.proofs.lemmas.Str.Parse.{IsNumeralModel, numerals_by_value, digits_value_short}
 use Rattle.std.proofs.lemmas.Fmt.{decimal-digits_value}
 use Rattle.sip_text.specs.Words.{is_token_byte, is_token_text, decimal_of, is_same_text}
-use Rattle.sip_form.specs.declared.message.Start.{Start}
-use Rattle.sip_form.specs.declared.message.Start.TheVariants.{Request, Status}
+use Rattle.sip_message_form.specs.declared.message.Start.{Start}
+use Rattle.sip_message_form.specs.declared.message.Start.TheVariants.{Request, Status}
 use Rattle.sip_message.specs.Lines.{IsLine}
 use Rattle.sip_text.specs.Splits.{split_at_byte}
 use Rattle.sip_message.specs.Start.{is_visible, is_uri, is_number, is_pair, version_of, is_unbroken, is_code, status_of, request_of, start_from, start_of}
-use Rattle.sip_form.specs.Text.{start_text}
+use Rattle.sip_message_form.specs.Text.{start_text}
 use Rattle.sip_message.proofs.CutLaws.{some_is}
 use Rattle.sip_message.proofs.FieldsAgain.{and_both, all_join, differs, others, unbroken, split_again, split_is, one_line, token_bytes}
 

@@ -9,8 +9,8 @@ use Rattle.std.proofs.lemmas.Bool.{eqb-true, eq-eqb, leb-true, le-leb, ltb-true,
 use Rattle.std.proofs.lemmas.List.{take-append-drop, length-map}
 use Rattle.std.proofs.Math.Seq.{take-append_seam, drop-append_seam}
 use Rattle.sip_text.specs.Words.{is_token_byte, is_token_text, decimal_of, without_case, is_same_text}
-use Rattle.sip_form.specs.declared.message.Start.{Start}
-use Rattle.sip_form.specs.declared.message.Start.TheVariants.{Request, Status}
+use Rattle.sip_message_form.specs.declared.message.Start.{Start}
+use Rattle.sip_message_form.specs.declared.message.Start.TheVariants.{Request, Status}
 use Rattle.sip_text.specs.Splits.{split_at_byte}
 use Rattle.sip_message.specs.Start.{is_visible, is_uri, is_number, is_pair, version_of, is_unbroken, is_code, status_of, request_of, start_from, start_of, IsVersion, IsRequestLine, IsStatusLine, IsStart}
 use Rattle.sip_message.proofs.CutLaws.{some_is}

@@ -4,9 +4,9 @@ use Rattle.std.specs.Prelude.{option_map, MatchOption}
 use Rattle.std.proofs.lemmas.List.{take_all, length-take, length-drop}
 use denote.Ref.{Bor}
 use Rattle.sip_text.specs.Splits.{in_front}
-use Rattle.sip_form.specs.view.declared.piece.Piece.{Piece}
-use Rattle.sip_form.specs.view.declared.piece.Piece.TheVariants as Whole
-use Rattle.sip_form.specs.view.Slice.{IsSliceOf, IsCutFrom, IsPieceOf, is_joined}
+use Rattle.sip_message_fields.specs.declared.piece.Piece.{Piece}
+use Rattle.sip_message_fields.specs.declared.piece.Piece.TheVariants as Whole
+use Rattle.sip_message_fields.specs.Slice.{IsSliceOf, IsCutFrom, IsPieceOf, is_joined}
 use Rattle.sip_message.specs.declared.line.Line.{Line}
 use Rattle.sip_message.specs.declared.line.Line.TheVariants.{Part}
 use Rattle.sip_message.specs.Lines.{is_crlf, is_fold, joined, unfolded, line_at, lines_at, head_at, folds_of}

@@ -1,8 +1,8 @@
 -- Content-Length and the body (RFC 3261 7.4, 18.3, 20.14).
 use Rattle.std.specs.Prelude.{◌≡◌, ℕ, Bool, false, nat_lt, List, [], ◌∷◌, length, take, Option, Some, None, option_map, if◌then◌else◌}
 use Rattle.sip_text.specs.Words.{decimal_of}
-use Rattle.sip_form.specs.field.declared.field.Field.{Field}
-use Rattle.sip_form.specs.field.FieldName.{is_length}
+use Rattle.sip_message_fields.specs.declared.field.Field.{Field}
+use Rattle.sip_message_fields.specs.FieldName.{is_length}
 
 -- the values of Content-Length
 abbrev pub lengths : List Field → List (List ℕ)

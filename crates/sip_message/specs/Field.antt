@@ -5,9 +5,9 @@ use Rattle.std.specs.List.{AllByRecursion, list_all}
 use Rattle.std.specs.Str.{byte}
 use Rattle.sip_text.specs.Words.{is_token_text}
 use Rattle.sip_text.specs.Lists.{is_blank, trimmed, end_trimmed, cut}
-use Rattle.sip_form.specs.field.declared.field.Field.{Field}
+use Rattle.sip_message_fields.specs.declared.field.Field.{Field}
 use Rattle.sip_text.specs.Splits.{split_at_byte}
-use Rattle.sip_form.specs.field.FieldName.{name_of, is_length, is_list}
+use Rattle.sip_message_fields.specs.FieldName.{name_of, is_length, is_list}
 
 -- neither a control character other than tab nor DEL (this project's profile of TEXT-UTF8 in RFC 3261 25.1)
 abbrev pub is_text : ℕ → Bool

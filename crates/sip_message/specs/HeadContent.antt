@@ -3,11 +3,11 @@ use Rattle.std.specs.Prelude.{◌≡◌, ◌⊎◌, ℕ, Bool, false, List, [], 
 use Rattle.std.specs.Option.{option_and_then}
 use denote.Ref.{Bor}
 use Rattle.sip_text.specs.Words.{decimal_of}
-use Rattle.sip_form.specs.field.declared.field.Field.{Field}
-use Rattle.sip_form.specs.field.declared.field_name.FieldName.{FieldName}
-use Rattle.sip_form.specs.field.FieldName.{is_length}
-use Rattle.sip_form.specs.view.declared.piece.Piece.TheVariants.{Part}
-use Rattle.sip_form.specs.view.Slice.{IsSliceOf, IsCutFrom, IsPieceOf, IsPieceCutFrom}
+use Rattle.sip_message_fields.specs.declared.field.Field.{Field}
+use Rattle.sip_message_fields.specs.declared.field_name.FieldName.{FieldName}
+use Rattle.sip_message_fields.specs.FieldName.{is_length}
+use Rattle.sip_message_fields.specs.declared.piece.Piece.TheVariants.{Part}
+use Rattle.sip_message_fields.specs.Slice.{IsSliceOf, IsCutFrom, IsPieceOf, IsPieceCutFrom}
 use Rattle.sip_message.specs.declared.line.Line.{Line}
 use Rattle.sip_message.specs.declared.line_fault.LineFault.{LineFault}
 use Rattle.sip_message.specs.declared.line_fault.LineFault.TheVariants.{NoMemory}

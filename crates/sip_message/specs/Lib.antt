@@ -10,5 +10,3 @@ pub mod Named
 pub mod Line
 pub mod Parts
 pub mod HeadContent
-pub use Rattle.sip_form.specs.field
-pub use Rattle.sip_form.specs as form

@@ -1,10 +1,10 @@
 -- Lines of a head, each a part of the datagram, or bytes of its own once a fold was joined to it.
 use Rattle.std.specs.Prelude.{ℕ, Bool, List}
-use Rattle.sip_form.specs.view.declared.piece.Piece.{Piece}
-use Rattle.sip_form.specs.view.declared.piece.Piece.TheVariants.{Joined}
-use Rattle.sip_form.specs.view.declared.piece.Piece.TheVariants as Whole
-use Rattle.sip_form.specs.view.Piece.{bytes_of}
-use Rattle.sip_form.specs.view.Slice.{is_joined}
+use Rattle.sip_message_fields.specs.declared.piece.Piece.{Piece}
+use Rattle.sip_message_fields.specs.declared.piece.Piece.TheVariants.{Joined}
+use Rattle.sip_message_fields.specs.declared.piece.Piece.TheVariants as Whole
+use Rattle.sip_message_fields.specs.Piece.{bytes_of}
+use Rattle.sip_message_fields.specs.Slice.{is_joined}
 use Rattle.sip_message.specs.declared.line.Line.{Line}
 use Rattle.sip_message.specs.declared.line.Line.TheVariants.{Part, Unfolded}
 

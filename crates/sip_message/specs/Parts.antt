@@ -5,11 +5,11 @@ use Rattle.std.specs.List.{AllByRecursion}
 use denote.Ref.{Bor}
 use Rattle.sip_text.specs.declared.span.Span.{Span}
 use Rattle.sip_text.specs.Span.{part}
-use Rattle.sip_form.specs.field.declared.field.Field.{Field}
-use Rattle.sip_form.specs.declared.message.Message.{Message}
-use Rattle.sip_form.specs.ViewStart.{start_seen}
-use Rattle.sip_form.specs.view.Piece.{bytes_of}
-use Rattle.sip_form.specs.view.Slice.{IsSliceOf, IsPieceOf, is_joined}
+use Rattle.sip_message_fields.specs.declared.field.Field.{Field}
+use Rattle.sip_message_form.specs.declared.message.Message.{Message}
+use Rattle.sip_message_form.specs.ViewStart.{start_seen}
+use Rattle.sip_message_fields.specs.Piece.{bytes_of}
+use Rattle.sip_message_fields.specs.Slice.{IsSliceOf, IsPieceOf, is_joined}
 use Rattle.sip_message.specs.declared.part_field.PartField.{PartField}
 use Rattle.sip_message.specs.declared.datagram_parts.Parts.{Parts}
 use Rattle.sip_message.specs.Lines.{after_blanks, line_at, lines_at, unfolded, folds_of}

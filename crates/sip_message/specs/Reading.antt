@@ -2,16 +2,16 @@
 use Rattle.std.specs.Prelude.{◌≡◌, ◌⊎◌, ℕ, Bool, nat_lt, List, length, Option, Result, Ok, Err, if◌then◌else◌}
 use Rattle.std.specs.Option.{ok_or}
 use Rattle.std.specs.Result.{result_err}
-use Rattle.sip_form.specs.field.declared.field.Field.{Field}
-use Rattle.sip_form.specs.declared.message.Start.{Start}
-use Rattle.sip_form.specs.declared.message.Message.{Message}
-use Rattle.sip_form.specs.declared.error.ReadError.{ReadError}
-use Rattle.sip_form.specs.declared.error.ReadError.TheVariants.{NoMemory, TooLong, NotSip, BadField, TooManyFields, ShortBody}
+use Rattle.sip_message_fields.specs.declared.field.Field.{Field}
+use Rattle.sip_message_form.specs.declared.message.Start.{Start}
+use Rattle.sip_message_form.specs.declared.message.Message.{Message}
+use Rattle.sip_message_form.specs.declared.error.ReadError.{ReadError}
+use Rattle.sip_message_form.specs.declared.error.ReadError.TheVariants.{NoMemory, TooLong, NotSip, BadField, TooManyFields, ShortBody}
 use Rattle.sip_message.specs.Lines.{after_blanks, line_at, head_at}
 use Rattle.sip_message.specs.Start.{start_of}
 use Rattle.sip_message.specs.Field.{entries_of, kept}
 use Rattle.sip_message.specs.Body.{lengths, one_length, body_of, is_short}
-use Rattle.sip_form.specs.Text.{text_of}
+use Rattle.sip_message_form.specs.Text.{text_of}
 
 infixl 10 ◌>>=◌
 -- a step, and what follows it unless it is refused

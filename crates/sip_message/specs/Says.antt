@@ -1,14 +1,14 @@
 -- The grammar of a message as a relation: what it is that bytes say a message (RFC 3261 7, 25.1).
 use Rattle.std.specs.Prelude.{◌≡◌, ℕ, ◌≤◌, List, length, Option, Some}
 use Rattle.std.specs.List.{AllZip}
-use Rattle.sip_form.specs.field.declared.field.Field.{Field}
-use Rattle.sip_form.specs.declared.message.Start.{Start}
-use Rattle.sip_form.specs.declared.message.Message.{Message}
+use Rattle.sip_message_fields.specs.declared.field.Field.{Field}
+use Rattle.sip_message_form.specs.declared.message.Start.{Start}
+use Rattle.sip_message_form.specs.declared.message.Message.{Message}
 use Rattle.sip_message.specs.Lines.{unfolded, IsCut}
 use Rattle.sip_message.specs.Start.{IsStart}
 use Rattle.sip_message.specs.Field.{kept, IsField}
 use Rattle.sip_message.specs.Body.{lengths, IsBody, one_length}
-use Rattle.sip_form.specs.Text.{text_of}
+use Rattle.sip_message_form.specs.Text.{text_of}
 
 -- Bytes say a message: their first line is its start line; each further line, with its folds, writes a field, and what is kept of
 -- these are its fields; what follows the empty line is its body, as long as Content-Length says (RFC 3261 7).

@@ -6,8 +6,8 @@ use Rattle.std.specs.Str.{byte}
 use Rattle.std.specs.Char.{is_ascii_digit}
 use Rattle.sip_text.specs.Words.{is_token_text, decimal_of, is_same_text}
 use Rattle.sip_text.specs.Lists.{is_nil}
-use Rattle.sip_form.specs.declared.message.Start.{Start}
-use Rattle.sip_form.specs.declared.message.Start.TheVariants.{Request, Status}
+use Rattle.sip_message_form.specs.declared.message.Start.{Start}
+use Rattle.sip_message_form.specs.declared.message.Start.TheVariants.{Request, Status}
 use Rattle.sip_text.specs.Splits.{split_at_byte}
 
 -- a byte from `!` to `~` (VCHAR of RFC 2234 6.1, which RFC 3261 25.1 cites)

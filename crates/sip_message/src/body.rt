@@ -1,8 +1,8 @@
 ghost use Rattle.std.specs.Prelude.{◌≡◌};
-ghost use Rattle.sip_form.specs.view.Slice.{IsCutFrom};
+ghost use Rattle.sip_message_fields.specs.Slice.{IsCutFrom};
 ghost use Rattle.sip_message.specs.Body.{body_of, is_short};
 
-use sip_form::view::slice_before;
+use sip_message_fields::slice_before;
 
 /// The body of some length, of what follows the empty line (RFC 3261 18.3).
 pub(crate) fn body_part(length: Option<u64>, rest: &[u8]) -> &[u8]

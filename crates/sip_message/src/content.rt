@@ -3,15 +3,15 @@ ghost use Rattle.sip_message.specs.HeadContent.{IsFault, next_length, part_field
 ghost use Rattle.sip_message.specs.Lines.{head_at};
 ghost use Rattle.sip_message.specs.Parts.{field_seen};
 ghost use Rattle.sip_message.specs.Reading.{Gives, head_said};
-ghost use Rattle.sip_form.specs.declared.error.ReadError.TheVariants.{NoMemory, NotSip, BadField};
+ghost use Rattle.sip_message_form.specs.declared.error.ReadError.TheVariants.{NoMemory, NotSip, BadField};
 
 use crate::entries::{field_of_line, parts_of_line};
 use crate::keeping::{keep, keep_items};
 use crate::line_fault::LineFault;
 use crate::lines::{Slice, first_line, has_end, is_fold_line, whole_line};
 use crate::part_field::PartField;
-use sip_form::view::{Piece, ViewName};
-use sip_form::{ViewError, ViewRefusal};
+use sip_message_fields::{Piece, ViewName};
+use sip_message_form::{ViewError, ViewRefusal};
 use sip_text::{decimal, is_one_item};
 use std::alloc::Global;
 

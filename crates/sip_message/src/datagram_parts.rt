@@ -1,5 +1,5 @@
 use crate::part_field::PartField;
-use sip_form::ViewStart;
+use sip_message_form::ViewStart;
 
 /// A datagram taken apart: its first line, its fields, its body, and whether that is shorter than Content-Length says.
 #[derive(Drop)]

@@ -3,8 +3,8 @@ ghost use Rattle.std.specs.List.{list_all};
 ghost use Rattle.sip_text.specs.Lists.{trimmed, end_trimmed};
 ghost use Rattle.sip_text.specs.Words.{is_token_text};
 ghost use Rattle.sip_text.specs.Splits.{split_at_byte};
-ghost use Rattle.sip_form.specs.view.declared.piece.Piece.TheVariants.{Part, Joined};
-ghost use Rattle.sip_form.specs.view.Slice.{IsCutFrom, IsPieceCutFrom};
+ghost use Rattle.sip_message_fields.specs.declared.piece.Piece.TheVariants.{Part, Joined};
+ghost use Rattle.sip_message_fields.specs.Slice.{IsCutFrom, IsPieceCutFrom};
 ghost use Rattle.sip_message.specs.HeadContent.{IsFault};
 ghost use Rattle.sip_message.specs.Field.{is_text, field_from, field_of};
 ghost use Rattle.sip_message.specs.Line.{line_piece, line_bytes};
@@ -17,7 +17,7 @@ use crate::line::Line;
 use crate::line_fault::LineFault;
 use crate::part_field::PartField;
 use httparse::is_header_value;
-use sip_form::view::{Piece, ViewName, slice_before, slice_from};
+use sip_message_fields::{Piece, ViewName, slice_before, slice_from};
 use sip_text::{
     Buffer, is_token, split_once, split_token, without_end_blanks, without_front_blanks,
 };

@@ -4,8 +4,8 @@ ghost use Rattle.std.specs.List.{flat_map};
 ghost use Rattle.sip_message.specs.Lines.{head_at};
 ghost use Rattle.sip_message.specs.Field.{entries_of, kept};
 ghost use Rattle.sip_message.specs.Parts.{folds_said};
-ghost use Rattle.sip_form.specs.Text.{field_text};
-ghost use Rattle.sip_form.specs.field.declared.field_name.FieldName.TheVariants.{Subject};
+ghost use Rattle.sip_message_form.specs.Text.{field_text};
+ghost use Rattle.sip_message_fields.specs.declared.field_name.FieldName.TheVariants.{Subject};
 
 /// A compact `v` with two items is two Via fields and is written as two lines (RFC 3261 7.3.3 and 7.3.1), and a
 /// fold counts as one space (7.3.1).

@@ -3,7 +3,7 @@ ghost use Rattle.sip_text.specs.Words.{is_token_text};
 ghost use Rattle.sip_message.specs.Begins.{Begins};
 ghost use Rattle.sip_message.specs.Lines.{joined};
 
-use sip_form::view::slice_before;
+use sip_message_fields::slice_before;
 use sip_text::{without_end_blanks, without_front_blanks};
 use std::alloc::{AllocError, Global};
 

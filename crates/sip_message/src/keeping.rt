@@ -1,9 +1,9 @@
 ghost use Rattle.std.specs.Prelude.{◌≡◌, [], ◌∷◌, true, false, map, IfOk, OnOk, All, Some, MatchResult};
-ghost use Rattle.sip_form.specs.field.FieldName.{is_length, is_list};
+ghost use Rattle.sip_message_fields.specs.FieldName.{is_length, is_list};
 ghost use Rattle.sip_text.specs.Lists.{cut};
 ghost use Rattle.sip_text.specs.Span.{part, IsWithin};
-ghost use Rattle.sip_form.specs.view.Piece.{bytes_of};
-ghost use Rattle.sip_form.specs.view.Slice.{IsPieceCutFrom};
+ghost use Rattle.sip_message_fields.specs.Piece.{bytes_of};
+ghost use Rattle.sip_message_fields.specs.Slice.{IsPieceCutFrom};
 ghost use Rattle.sip_message.specs.HeadContent.{IsFault};
 ghost use Rattle.sip_message.specs.Field.{pieces};
 ghost use Rattle.sip_message.specs.Parts.{field_seen, IsKept, AreItemsKept};

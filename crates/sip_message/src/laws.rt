@@ -1,12 +1,12 @@
 ghost use Rattle.std.specs.Prelude.{◌≡◌, ◌<◌, ◌≤◌, ◌↔◌, List, ℕ, length, Option, Some, None};
-ghost use Rattle.sip_form.specs.Text.{text_of};
+ghost use Rattle.sip_message_form.specs.Text.{text_of};
 ghost use Rattle.sip_message.specs.Says.{Says, IsWithinLimits, IsHead, IsContent};
 ghost use Rattle.sip_message.specs.Reading.{with_body, limited, within_limits, reading_of, parts_of, fault_of};
 ghost use Rattle.sip_message.specs.Body.{is_short};
-ghost use Rattle.sip_form.specs.field.declared.field.Field.{Field};
-ghost use Rattle.sip_form.specs.declared.message.Start.{Start};
-ghost use Rattle.sip_form.specs.declared.message.Message.{Message};
-ghost use Rattle.sip_form.specs.declared.error.ReadError.TheVariants.{TooLong, NotSip, BadField};
+ghost use Rattle.sip_message_fields.specs.declared.field.Field.{Field};
+ghost use Rattle.sip_message_form.specs.declared.message.Start.{Start};
+ghost use Rattle.sip_message_form.specs.declared.message.Message.{Message};
+ghost use Rattle.sip_message_form.specs.declared.error.ReadError.TheVariants.{TooLong, NotSip, BadField};
 
 /// No two messages are said by one text.
 pub fn one_message()

@@ -24,15 +24,11 @@ pub use datagram_parts::Parts;
 pub use part_field::PartField;
 pub use parting::parts;
 pub use reading::read;
-pub use sip_form::field::{Field, FieldName, Fields};
-pub use sip_form::view::{Piece, Value, ViewField, ViewFields, ViewName};
-pub use sip_form::{
+pub use sip_message_fields::{
+    Field, FieldName, Fields, Piece, Value, ViewField, ViewFields, ViewName,
+};
+pub use sip_message_form::{
     Kept, Message, ReadError, Start, View, ViewError, ViewRefusal, ViewStart, write, write_view,
     written_length,
 };
 pub use viewing::view;
-
-/// Of `sip_form`.
-pub mod form {
-    pub use sip_form::{View, ViewStart};
-}

@@ -1,7 +1,7 @@
 ghost use Rattle.std.specs.Prelude.{◌≡◌};
 ghost use Rattle.sip_message.specs.declared.line_fault.LineFault.TheVariants.{NoMemory};
 
-use sip_form::{ViewError, ViewRefusal};
+use sip_message_form::{ViewError, ViewRefusal};
 use std::alloc::{AllocError, AllocFailed};
 
 /// Why a line of a head is not taken: a small thing, since it stands in what each step returns.

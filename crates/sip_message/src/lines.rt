@@ -1,12 +1,12 @@
 ghost use Rattle.std.specs.Prelude.{◌≡◌, ◌+◌, ◌<◌, slice_index, ◌∷◌, [], length, IfOk, IfSome, ℕ, MatchOption, option_map, true, false};
 ghost use Rattle.memchr.specs.Find.{OccursAt, FindsNeedle};
-ghost use Rattle.sip_form.specs.view.Slice.{IsCutFrom};
+ghost use Rattle.sip_message_fields.specs.Slice.{IsCutFrom};
 ghost use Rattle.sip_message.specs.HeadContent.{IsWhole};
 ghost use Rattle.sip_message.specs.Lines.{after_blanks, line_at, is_fold, head_at};
 
 use crate::line::Line;
 use memchr::memchr;
-use sip_form::view::{slice_before, slice_from};
+use sip_message_fields::{slice_before, slice_from};
 use sip_text::is_space_or_tab;
 use std::alloc::{AllocError, Global};
 

@@ -1,4 +1,4 @@
-use sip_form::view::{Piece, ViewName};
+use sip_message_fields::{Piece, ViewName};
 
 /// A field as it stands in a datagram: its name, and its value as a part of the datagram, or joined where its line
 /// has a fold.

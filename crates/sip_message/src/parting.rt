@@ -7,7 +7,7 @@ use crate::content::{Content, content_of_head};
 use crate::datagram_parts::Parts;
 use crate::lines::{first_line, without_blank_lines};
 use crate::start_line::start_of_line;
-use sip_form::{ViewError, ViewRefusal};
+use sip_message_form::{ViewError, ViewRefusal};
 use std::alloc::Global;
 
 /// The parts of bytes that aren't too many.

@@ -1,10 +1,10 @@
 ghost use Rattle.std.specs.Prelude.{◌≡◌, ◌⊎◌, IfOk, IfErr, Some, Ok};
 ghost use Rattle.sip_message.specs.Says.{Says, IsWithinLimits};
 ghost use Rattle.sip_message.specs.Reading.{Gives, reading_of, fault_of};
-ghost use Rattle.sip_form.specs.declared.error.ReadError.TheVariants.{NoMemory};
+ghost use Rattle.sip_message_form.specs.declared.error.ReadError.TheVariants.{NoMemory};
 
 use crate::viewing::view;
-use sip_form::{Message, ReadError};
+use sip_message_form::{Message, ReadError};
 use std::alloc::Global;
 
 /// The message of bytes.

@@ -4,12 +4,12 @@ ghost use Rattle.std.specs.Option.{ok_or, option_and_then};
 ghost use Rattle.std.specs.Char.{is_ascii_digit};
 ghost use Rattle.sip_text.specs.Splits.{split_at_byte};
 ghost use Rattle.sip_message.specs.Start.{is_visible, is_uri, is_number, is_pair, is_unbroken, version_of, status_of, request_of, start_from, start_of};
-ghost use Rattle.sip_form.specs.ViewStart.{start_seen};
+ghost use Rattle.sip_message_form.specs.ViewStart.{start_seen};
 ghost use Rattle.sip_message.specs.Reading.{Gives};
-ghost use Rattle.sip_form.specs.declared.error.ReadError.TheVariants.{NotSip};
+ghost use Rattle.sip_message_form.specs.declared.error.ReadError.TheVariants.{NotSip};
 
-use sip_form::view::Value;
-use sip_form::{ViewError, ViewRefusal, ViewStart};
+use sip_message_fields::Value;
+use sip_message_form::{ViewError, ViewRefusal, ViewStart};
 use sip_text::{Bytes, decimal, is_token, same_bytes, same_no_case, split_once};
 use std::alloc::Global;
 

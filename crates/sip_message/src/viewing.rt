@@ -2,14 +2,14 @@ ghost use Rattle.std.specs.Prelude.{◌≡◌, ◌⊎◌, IfOk, IfErr, Some, Ok}
 ghost use Rattle.sip_message.specs.Says.{Says, IsWithinLimits};
 ghost use Rattle.sip_message.specs.Reading.{Gives, limited, reading_of, fault_of};
 ghost use Rattle.sip_message.specs.Parts.{fields_seen, parts_seen};
-ghost use Rattle.sip_form.specs.declared.message.Message.{Message};
-ghost use Rattle.sip_form.specs.declared.error.ReadError.TheVariants.{NoMemory};
+ghost use Rattle.sip_message_form.specs.declared.message.Message.{Message};
+ghost use Rattle.sip_message_form.specs.declared.error.ReadError.TheVariants.{NoMemory};
 
 use crate::datagram_parts::Parts;
 use crate::part_field::PartField;
 use crate::parting::parts;
-use sip_form::view::{Value, ViewField, ViewFields};
-use sip_form::{View, ViewError, ViewRefusal};
+use sip_message_fields::{Value, ViewField, ViewFields};
+use sip_message_form::{View, ViewError, ViewRefusal};
 use std::alloc::{AllocError, Global};
 
 /// The view, if it is within the limits and its body is whole.

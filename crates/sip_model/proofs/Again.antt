@@ -1,18 +1,18 @@
 -- No moment at which something goes again is passed over; with the deadlines, what had to fire has fired.
 use Rattle.std.proofs.Common.{ℕ, ◌+◌, ◌≤◌, Bool, List, [], ◌∷◌, sym, subst, arith, filter_map, option_to_list}
 use Rattle.std.specs.List.{AllByRecursion}
-use Rattle.sip_verdict.specs.host.declared.addr.Addr.{Addr}
-use Rattle.sip_verdict.specs.event.declared.event.StepOut.{StepOut}
-use Rattle.sip_verdict.specs.event.declared.event.Event.TheVariants.{Datagram, Time, Fault}
-use Rattle.sip_verdict.specs.state.declared.server.Server.{Server}
-use Rattle.sip_verdict.specs.state.declared.branch.Branch.{Branch}
-use Rattle.sip_verdict.specs.state.declared.open_request.OpenRequest.{OpenRequest}
-use Rattle.sip_verdict.specs.state.declared.proxy_state.ProxyState.{ProxyState}
-use Rattle.sip_verdict.specs.state.State.{first_state, is_invite}
-use Rattle.sip_verdict.specs.state.SameState.{SameState}
-use Rattle.sip_verdict.specs.context.Branches.{acknowledged}
-use Rattle.sip_retransmission.specs.Retransmission.{answer_due, resends_of, resends}
-use Rattle.sip_model.specs.Step.{Act, Given, Passing, IsStep, NoneAgainBy, NoneAgainBefore, moment_of}
+use Rattle.sip_uri.specs.declared.addr.Addr.{Addr}
+use Rattle.sip_event.specs.declared.event.StepOut.{StepOut}
+use Rattle.sip_event.specs.declared.event.Event.TheVariants.{Datagram, Time, Fault}
+use Rattle.model_steps.specs.state.declared.server.Server.{Server}
+use Rattle.model_steps.specs.state.declared.branch.Branch.{Branch}
+use Rattle.model_steps.specs.state.declared.open_request.OpenRequest.{OpenRequest}
+use Rattle.model_steps.specs.state.declared.proxy_state.ProxyState.{ProxyState}
+use Rattle.model_steps.specs.state.State.{first_state, is_invite}
+use Rattle.model_steps.specs.state.SameState.{SameState}
+use Rattle.model_steps.specs.context_model.Branches.{acknowledged}
+use Rattle.model_steps.specs.context_model.Retransmission.{answer_due, resends_of, resends}
+use Rattle.model_steps.specs.Step.{Act, Given, Passing, IsStep, NoneAgainBy, NoneAgainBefore, moment_of}
 use Rattle.sip_model.specs.Run.{Link, IsChain}
 use Rattle.sip_model.specs.Order.{HasFired, FinalAnswer}
 use Rattle.sip_model.proofs.Places.{all_in, all_push, all_replaced}

@@ -1,33 +1,33 @@
 -- What a datagram does is the same in states that are the same.
 use Rattle.std.proofs.Common.{◌≡◌, ℕ, ◌≤◌, Bool, true, false, cond, List, [], ◌∷◌, refl, sym, subst, codes, Option, Some, None, bytes_eq}
 use Rattle.std.specs.Option.{option_map_or}
-use Rattle.sip_verdict.specs.field.declared.field.Field.{Field}
-use Rattle.sip_verdict.specs.form.declared.message.Message.{Message}
-use Rattle.sip_verdict.specs.location.declared.binding.Binding.{Binding}
-use Rattle.sip_verdict.specs.location.Sameness.{SameBindings}
-use Rattle.sip_verdict.proofs.of_context.of_state.of_location.Sameness.{same_later}
-use Rattle.sip_verdict.specs.targets.declared.targets.Targets.{Targets}
-use Rattle.sip_verdict.specs.dialog.declared.dialog.Dialog.{Dialog}
-use Rattle.sip_verdict.specs.dialog.Sameness.{SameDialogs}
-use Rattle.sip_verdict.proofs.of_context.of_state.of_dialog.Sameness.{dialogs_later}
-use Rattle.sip_verdict.specs.nonces.declared.nonces.Nonce.{Nonce}
-use Rattle.sip_verdict.specs.nonces.Nonces.{issued}
-use Rattle.sip_verdict.specs.auth.Proof.{used}
-use Rattle.sip_verdict.specs.context.audit.declared.record.Record.{Record}
-use Rattle.sip_verdict.specs.state.declared.server.Server.{Server}
-use Rattle.sip_verdict.specs.state.declared.open_request.OpenRequest.{OpenRequest}
-use Rattle.sip_verdict.specs.state.declared.proxy_state.ProxyState.{ProxyState}
-use Rattle.sip_verdict.specs.state.SameState.{SameState}
-use Rattle.sip_verdict.proofs.of_context.of_state.Sameness.{after_request_same}
-use Rattle.sip_verdict.specs.state.Arrival.{Arrival}
-use Rattle.sip_verdict.specs.declared.question.Question.{Question}
-use Rattle.sip_verdict.specs.Verdict.{Registered, Bound, Refused, Verdict, Drop, Respond, Copy, AckOn, Cancel, Answer, InDialog, Challenge, Deny, Send, Register, verdict_of}
-use Rattle.sip_verdict.specs.Sameness.{SameRegistered, SameVerdict, Alike, AlikeRegister, SameSaid}
-use Rattle.sip_verdict.proofs.Alike.{with_others, others_alone, verdicts_alike}
-use Rattle.sip_verdict.specs.context.Branches.{responded, cancelled, settled, acknowledged}
-use Rattle.sip_verdict.specs.context.Opening.{forking, branches_from, dialog_branch, tried, trying}
-use Rattle.sip_model.specs.Effect.{counted, nothing, replaced, replied, registering, refused, sending, forked, copied, method_of, effect_of, datagram_effect, contact_fields}
-use Rattle.sip_model.specs.SameEffect.{SameEffect}
+use Rattle.sip_message_fields.specs.declared.field.Field.{Field}
+use Rattle.sip_message_form.specs.declared.message.Message.{Message}
+use Rattle.sip_location.specs.declared.binding.Binding.{Binding}
+use Rattle.sip_location.specs.Sameness.{SameBindings}
+use Rattle.sip_location.proofs.Sameness.{same_later}
+use Rattle.sip_targets.specs.declared.targets.Targets.{Targets}
+use Rattle.sip_dialog.specs.declared.dialog.Dialog.{Dialog}
+use Rattle.sip_dialog.specs.Sameness.{SameDialogs}
+use Rattle.sip_dialog.proofs.Sameness.{dialogs_later}
+use Rattle.sip_digest.specs.declared.nonces.Nonce.{Nonce}
+use Rattle.sip_digest.specs.Nonces.{issued}
+use Rattle.sip_auth.specs.Proof.{used}
+use Rattle.sip_audit.specs.declared.record.Record.{Record}
+use Rattle.model_steps.specs.state.declared.server.Server.{Server}
+use Rattle.model_steps.specs.state.declared.open_request.OpenRequest.{OpenRequest}
+use Rattle.model_steps.specs.state.declared.proxy_state.ProxyState.{ProxyState}
+use Rattle.model_steps.specs.state.SameState.{SameState}
+use Rattle.model_steps.proofs.of_state.Sameness.{after_request_same}
+use Rattle.model_steps.specs.state.Arrival.{Arrival}
+use Rattle.model_steps.specs.verdict_model.declared.question.Question.{Question}
+use Rattle.model_steps.specs.verdict_model.Verdict.{Registered, Bound, Refused, Verdict, Drop, Respond, Copy, AckOn, Cancel, Answer, InDialog, Challenge, Deny, Send, Register, verdict_of}
+use Rattle.model_steps.specs.verdict_model.Sameness.{SameRegistered, SameVerdict, Alike, AlikeRegister, SameSaid}
+use Rattle.model_steps.proofs.of_verdict_model.Alike.{with_others, others_alone, verdicts_alike}
+use Rattle.model_steps.specs.context_model.Branches.{responded, cancelled, settled, acknowledged}
+use Rattle.model_steps.specs.context_model.Opening.{forking, branches_from, dialog_branch, tried, trying}
+use Rattle.model_steps.specs.Effect.{counted, nothing, replaced, replied, registering, answered_by_rule, sending, forked, copied, method_of, effect_of, datagram_effect, contact_fields}
+use Rattle.model_steps.specs.SameEffect.{SameEffect}
 use Rattle.sip_model.proofs.Sameness.{contact_fields_same, dialogs_after_same}
 
 -- ---- a verdict
@@ -79,7 +79,7 @@ module _ (server : Server) (a : Arrival) (m : Message) (s : ProxyState) (rows : 
   -- a REGISTER that was let through
   registering_alike : (q : Question) (id : ℕ) (left right : Registered) → SameRegistered a.now left right → SameEffect (registering server a m q id left one) (registering server a m q id right other)
   registering_alike q id (Bound left) (Bound right) h =
-      subst (λ (extras : List Field). SameEffect (registering server a m q id (Bound left) one) (refused server a m q id 200 extras (record other { bindings = right }))) (contact_fields_same a.now q.target left right h)
+      subst (λ (extras : List Field). SameEffect (registering server a m q id (Bound left) one) (answered_by_rule server a m q id 200 extras (record other { bindings = right }))) (contact_fields_same a.now q.target left right h)
       (bound_alike 200 (contact_fields a.now q.target left) _ (used s.nonces a.now q.proof) left right h)
   registering_alike q id (Bound left) (Refused status extras) h = absurd h
   registering_alike q id (Refused status extras) right h =

@@ -3,27 +3,27 @@ use Rattle.std.proofs.Common.{◌≡◌, inl, inr, ℕ, ◌+◌, ◌==◌, Bool,
 use Rattle.std.specs.List.{AllByRecursion}
 use Rattle.std.proofs.lemmas.Bool.Decides.{nat_tests}
 use Rattle.std.specs.Option.{option_map_or}
-use Rattle.sip_verdict.specs.form.declared.message.Message.{Message}
-use Rattle.sip_verdict.specs.message.Reading.{reading_of}
-use Rattle.sip_verdict.specs.host.declared.addr.Addr.{Addr}
-use Rattle.sip_verdict.specs.best.declared.final_answer.Final.{Final}
-use Rattle.sip_verdict.specs.best.Best.{best_of}
-use Rattle.sip_verdict.specs.targets.declared.targets.Targets.{Targets}
-use Rattle.sip_verdict.specs.event.declared.packet.Packet.{Packet}
-use Rattle.sip_verdict.specs.event.declared.packet.Ticket.{Ticket}
-use Rattle.sip_verdict.specs.event.declared.event.StepOut.{StepOut}
-use Rattle.sip_verdict.specs.event.declared.event.Event.TheVariants.{Datagram, Time, Fault}
-use Rattle.sip_verdict.specs.state.declared.server.Server.{Server}
-use Rattle.sip_verdict.specs.state.declared.branch.Branch.{Branch}
-use Rattle.sip_verdict.specs.state.declared.open_request.OpenRequest.{OpenRequest}
-use Rattle.sip_verdict.specs.state.declared.proxy_state.ProxyState.{ProxyState}
-use Rattle.sip_verdict.specs.state.State.{is_invite, is_answering}
-use Rattle.sip_verdict.specs.state.Arrival.{Arrival}
-use Rattle.sip_verdict.specs.context.Branches.{all_final, responded, cancelled, target_responded, cancel_responded}
-use Rattle.sip_verdict.specs.context.Opening.{branch_to, branches_from, dialog_branch, forking}
-use Rattle.sip_verdict.specs.Verdict.{Bound, Refused, Verdict, Drop, Respond, Copy, AckOn, Cancel, Answer, InDialog, Challenge, Deny, Send, Register, message_verdict, message_in, verdict_in}
-use Rattle.sip_model.specs.Effect.{counted, effect_of, nothing, change_packets, opening_packets}
-use Rattle.sip_model.specs.Step.{Act, Given, Passing, IsStep, originals, moment_of, arrival_of, is_failed, failed_branch, failed_request, fault_effect}
+use Rattle.sip_message_form.specs.declared.message.Message.{Message}
+use Rattle.sip_message.specs.Reading.{reading_of}
+use Rattle.sip_uri.specs.declared.addr.Addr.{Addr}
+use Rattle.sip_best.specs.declared.final_answer.Final.{Final}
+use Rattle.sip_best.specs.Best.{best_of}
+use Rattle.sip_targets.specs.declared.targets.Targets.{Targets}
+use Rattle.sip_event.specs.declared.packet.Packet.{Packet}
+use Rattle.sip_event.specs.declared.packet.Ticket.{Ticket}
+use Rattle.sip_event.specs.declared.event.StepOut.{StepOut}
+use Rattle.sip_event.specs.declared.event.Event.TheVariants.{Datagram, Time, Fault}
+use Rattle.model_steps.specs.state.declared.server.Server.{Server}
+use Rattle.model_steps.specs.state.declared.branch.Branch.{Branch}
+use Rattle.model_steps.specs.state.declared.open_request.OpenRequest.{OpenRequest}
+use Rattle.model_steps.specs.state.declared.proxy_state.ProxyState.{ProxyState}
+use Rattle.model_steps.specs.state.State.{is_invite, is_answering}
+use Rattle.model_steps.specs.state.Arrival.{Arrival}
+use Rattle.model_steps.specs.context_model.Branches.{all_final, responded, cancelled, target_responded, cancel_responded}
+use Rattle.model_steps.specs.context_model.Opening.{branch_to, branches_from, dialog_branch, forking}
+use Rattle.model_steps.specs.verdict_model.Verdict.{Bound, Refused, Verdict, Drop, Respond, Copy, AckOn, Cancel, Answer, InDialog, Challenge, Deny, Send, Register, message_verdict, message_in, verdict_in}
+use Rattle.model_steps.specs.Effect.{counted, effect_of, nothing, change_packets, opening_packets}
+use Rattle.model_steps.specs.Step.{Act, Given, Passing, IsStep, originals, moment_of, arrival_of, is_failed, failed_branch, failed_request, fault_effect}
 use Rattle.sip_model.specs.Run.{Link}
 use Rattle.sip_model.specs.Access.{IsSaidAt, WasCancelled, WasGivenUp, IsMadeLater, IsForOpen, ForNone, IsAllSent, sent_at_once, sent_for, sent_to_branches}
 use Rattle.sip_model.proofs.Lists.{all_contains, all_there, head_there}

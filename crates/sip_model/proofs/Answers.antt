@@ -3,15 +3,15 @@ use Rattle.std.proofs.Common.{◌≡◌, inl, inr, ℕ, ◌+◌, Bool, true, fal
 use Rattle.std.specs.List.{AllByRecursion}
 use Rattle.std.proofs.lemmas.Bool.Decides.{nat_tests}
 use Rattle.std.proofs.lemmas.List.Sums.{sum_by-append}
-use Rattle.sip_verdict.specs.best.Best.{best_of}
-use Rattle.sip_verdict.specs.event.declared.packet.Packet.{Packet}
-use Rattle.sip_verdict.specs.state.declared.server.Server.{Server}
-use Rattle.sip_verdict.specs.state.declared.open_request.Side.{Side}
-use Rattle.sip_verdict.specs.state.declared.open_request.OpenRequest.{OpenRequest}
-use Rattle.sip_verdict.specs.state.declared.open_request.Side.TheVariants.{Closing}
-use Rattle.sip_verdict.specs.state.State.{is_invite, is_answering, is_success, is_provisional}
-use Rattle.sip_verdict.specs.state.declared.open_request.Upward.{Upward}
-use Rattle.sip_verdict.specs.context.Branches.{Change, upward_of, all_final, best_upward, with_cancels, after_upward, upward_list, settled, has_success}
+use Rattle.sip_best.specs.Best.{best_of}
+use Rattle.sip_event.specs.declared.packet.Packet.{Packet}
+use Rattle.model_steps.specs.state.declared.server.Server.{Server}
+use Rattle.model_steps.specs.state.declared.open_request.Side.{Side}
+use Rattle.model_steps.specs.state.declared.open_request.OpenRequest.{OpenRequest}
+use Rattle.model_steps.specs.state.declared.open_request.Side.TheVariants.{Closing}
+use Rattle.model_steps.specs.state.State.{is_invite, is_answering, is_success, is_provisional}
+use Rattle.model_steps.specs.state.declared.open_request.Upward.{Upward}
+use Rattle.model_steps.specs.context_model.Branches.{Change, upward_of, all_final, best_upward, with_cancels, after_upward, upward_list, settled, has_success}
 use Rattle.sip_model.specs.Order.{is_final_answer, AddsSuccessesAlone, AnswersOnce}
 use Rattle.sip_model.proofs.Places.{count_cons, one_at, none_at}
 use Rattle.sip_model.proofs.Settling.{all_append}

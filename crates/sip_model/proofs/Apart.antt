@@ -1,10 +1,10 @@
 -- No two branches of a request go to one target: their numbers tell them apart.
 use Rattle.std.proofs.Common.{◌≡◌, inl, inr, ℕ, ◌+◌, ◌≤◌, ◌<◌, Bool, true, false, not, ◌&&◌, ◌==◌, cond, List, [], ◌∷◌, ◌++◌, map, flat_map, refl, sym, ap, ap₂, ◌∙◌, arith, count_by}
 use Rattle.std.proofs.lemmas.Bool.Decides.{nat_tests}
-use Rattle.sip_verdict.specs.targets.declared.target.Target.{Target}
-use Rattle.sip_verdict.specs.state.declared.branch.Branch.{Branch}
-use Rattle.sip_verdict.specs.context.Branches.{is_cancellable, cancel_branch, held_branch, with_cancel}
-use Rattle.sip_verdict.specs.context.Opening.{branch_to, branches_from}
+use Rattle.sip_targets.specs.declared.target.Target.{Target}
+use Rattle.model_steps.specs.state.declared.branch.Branch.{Branch}
+use Rattle.model_steps.specs.context_model.Branches.{is_cancellable, cancel_branch, held_branch, with_cancel}
+use Rattle.model_steps.specs.context_model.Opening.{branch_to, branches_from}
 use Rattle.sip_model.proofs.Places.{IsIn, count_cons, one_at, none_at, counts_in, same_number}
 
 -- whether a branch goes to the target of this number

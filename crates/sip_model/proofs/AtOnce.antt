@@ -1,23 +1,23 @@
 -- What a datagram is answered at once, or sent on as, is what the verdict on it says.
 use Rattle.std.proofs.Common.{◌≡◌, ℕ, ◌+◌, Bool, true, false, not, ◌&&◌, ◌||◌, cond, List, [], ◌∷◌, ◌++◌, map, filter, flat_map, Option, Some, None, is_some, option_map, refl, ap, ◌∙◌}
 use Rattle.std.specs.List.{AllByRecursion, list_any, list_all}
-use Rattle.sip_verdict.specs.form.declared.message.Message.{Message}
-use Rattle.sip_verdict.specs.best.declared.final_answer.Final.{Final}
-use Rattle.sip_verdict.specs.best.Ranks.{outranks}
-use Rattle.sip_verdict.specs.best.Best.{best_of, picked, is_unbeaten, going_up}
-use Rattle.sip_verdict.specs.targets.declared.target.Target.{Target}
-use Rattle.sip_verdict.specs.event.declared.packet.Packet.{Packet}
-use Rattle.sip_verdict.specs.state.declared.server.Server.{Server}
-use Rattle.sip_verdict.specs.state.declared.branch.Branch.{Branch}
-use Rattle.sip_verdict.specs.state.declared.branch.Phase.TheVariants.{Unheard, Ended}
-use Rattle.sip_verdict.specs.state.declared.open_request.OpenRequest.{OpenRequest}
-use Rattle.sip_verdict.specs.state.declared.open_request.Upward.{Upward}
-use Rattle.sip_verdict.specs.state.State.{is_invite, is_final, is_answering}
-use Rattle.sip_verdict.specs.context.Sending.{made_answer, branch_packets}
-use Rattle.sip_verdict.specs.context.Branches.{all_final, upward_of, upward_list, after_upward, answered, is_cancellable, cancel_branch, new_cancels, with_cancels, settled}
-use Rattle.sip_verdict.specs.context.Opening.{arriving, forking, branches_from, unsent, tried}
-use Rattle.sip_verdict.specs.state.Arrival.{Arrival}
-use Rattle.sip_model.specs.Effect.{change_packets, upward_packets, opening_packets}
+use Rattle.sip_message_form.specs.declared.message.Message.{Message}
+use Rattle.sip_best.specs.declared.final_answer.Final.{Final}
+use Rattle.sip_best.specs.Ranks.{outranks}
+use Rattle.sip_best.specs.Best.{best_of, picked, is_unbeaten, going_up}
+use Rattle.sip_targets.specs.declared.target.Target.{Target}
+use Rattle.sip_event.specs.declared.packet.Packet.{Packet}
+use Rattle.model_steps.specs.state.declared.server.Server.{Server}
+use Rattle.model_steps.specs.state.declared.branch.Branch.{Branch}
+use Rattle.model_steps.specs.state.declared.branch.Phase.TheVariants.{Unheard, Ended}
+use Rattle.model_steps.specs.state.declared.open_request.OpenRequest.{OpenRequest}
+use Rattle.model_steps.specs.state.declared.open_request.Upward.{Upward}
+use Rattle.model_steps.specs.state.State.{is_invite, is_final, is_answering}
+use Rattle.model_steps.specs.context_model.Sending.{made_answer, branch_packets}
+use Rattle.model_steps.specs.context_model.Branches.{all_final, upward_of, upward_list, after_upward, answered, is_cancellable, cancel_branch, new_cancels, with_cancels, settled}
+use Rattle.model_steps.specs.context_model.Opening.{arriving, forking, branches_from, unsent, tried}
+use Rattle.model_steps.specs.state.Arrival.{Arrival}
+use Rattle.model_steps.specs.Effect.{change_packets, upward_packets, opening_packets}
 use Rattle.sip_model.specs.Access.{has_address, answer_alone, sent_to_branches}
 
 -- ---- branches that are first sent

@@ -1,8 +1,8 @@
 -- Branches, and right behind each the CANCEL that it is sent.
 use Rattle.std.proofs.Common.{ℕ, Bool, true, false, cond, List, [], ◌∷◌, ◌++◌, flat_map}
 use Rattle.std.specs.List.{AllByRecursion}
-use Rattle.sip_verdict.specs.state.declared.branch.Branch.{Branch}
-use Rattle.sip_verdict.specs.context.Branches.{is_cancellable, cancel_branch, held_branch, with_cancel}
+use Rattle.model_steps.specs.state.declared.branch.Branch.{Branch}
+use Rattle.model_steps.specs.context_model.Branches.{is_cancellable, cancel_branch, held_branch, with_cancel}
 
 -- what holds of each branch, of one that is sent a CANCEL, and of the CANCEL, holds of all of them
 pub all_with_cancels : (P Q : Branch → Type 0) (now : ℕ) (bs : List Branch) → ((x : Branch) → P x → Q x) → ((x : Branch) → P x → Q (held_branch now x)) → ((x : Branch) → P x → Q (cancel_branch now x))

@@ -3,23 +3,23 @@ use Rattle.std.proofs.Common.{◌≡◌, ◌∙◌, ℕ, zero, suc, ◌+◌, ◌
 use Rattle.std.specs.Prelude.{◌-◌, option_map}
 use Rattle.std.specs.Option.{option_map_or}
 use Rattle.std.specs.List.{AllByRecursion, list_any}
-use Rattle.sip_verdict.specs.form.declared.message.Message.{Message}
-use Rattle.sip_verdict.specs.nonces.declared.nonces.Nonce.{Nonce}
-use Rattle.sip_verdict.specs.digest.Credential.{Credential, count_of}
-use Rattle.sip_verdict.specs.nonces.NonceText.{nonce_text, word_of}
-use Rattle.sip_verdict.specs.nonces.Nonces.{is_this, issued, counted}
-use Rattle.sip_verdict.specs.auth.Proof.{Proof, Right, Stale, Wrong, used, proof_of}
-use Rattle.sip_verdict.specs.auth.RightAnswer.{IsRightAnswer}
-use Rattle.sip_verdict.proofs.of_auth.RightAnswers.{right_rests}
-use Rattle.sip_verdict.specs.event.declared.event.StepOut.{StepOut}
-use Rattle.sip_verdict.specs.event.declared.event.Event.TheVariants.{Datagram, Time, Fault}
-use Rattle.sip_verdict.specs.state.declared.server.Server.{Server}
-use Rattle.sip_verdict.specs.state.declared.proxy_state.ProxyState.{ProxyState}
-use Rattle.sip_verdict.specs.state.State.{first_state}
-use Rattle.sip_verdict.specs.state.Arrival.{Arrival}
-use Rattle.sip_verdict.specs.declared.question.Question.{Question}
-use Rattle.sip_verdict.specs.Verdict.{Verdict, Drop, Respond, Copy, AckOn, Cancel, Answer, InDialog, Challenge, Deny, Send, Register, verdict_of}
-use Rattle.sip_model.specs.Step.{Act, Given, Passing, moment_of, arrival_of}
+use Rattle.sip_message_form.specs.declared.message.Message.{Message}
+use Rattle.sip_digest.specs.declared.nonces.Nonce.{Nonce}
+use Rattle.sip_digest.specs.Credential.{Credential, count_of}
+use Rattle.sip_digest.specs.NonceText.{nonce_text, word_of}
+use Rattle.sip_digest.specs.Nonces.{is_this, issued, counted}
+use Rattle.sip_auth.specs.Proof.{Proof, Right, Stale, Wrong, used, proof_of}
+use Rattle.sip_auth.specs.RightAnswer.{IsRightAnswer}
+use Rattle.sip_auth.proofs.RightAnswers.{right_rests}
+use Rattle.sip_event.specs.declared.event.StepOut.{StepOut}
+use Rattle.sip_event.specs.declared.event.Event.TheVariants.{Datagram, Time, Fault}
+use Rattle.model_steps.specs.state.declared.server.Server.{Server}
+use Rattle.model_steps.specs.state.declared.proxy_state.ProxyState.{ProxyState}
+use Rattle.model_steps.specs.state.State.{first_state}
+use Rattle.model_steps.specs.state.Arrival.{Arrival}
+use Rattle.model_steps.specs.verdict_model.declared.question.Question.{Question}
+use Rattle.model_steps.specs.verdict_model.Verdict.{Verdict, Drop, Respond, Copy, AckOn, Cancel, Answer, InDialog, Challenge, Deny, Send, Register, verdict_of}
+use Rattle.model_steps.specs.Step.{Act, Given, Passing, moment_of, arrival_of}
 use Rattle.sip_model.specs.Run.{Link, IsChain}
 use Rattle.sip_model.specs.Histories.{asked_in, Judged, judged_at, with_issued, nonces_by, nonces_after, WasChallenged}
 use Rattle.sip_model.proofs.Lists.{all_weaker, all_contains, head_there, tail_there}

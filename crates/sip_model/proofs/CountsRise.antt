@@ -2,32 +2,32 @@
 use Rattle.std.proofs.Common.{◌≡◌, ℕ, ◌+◌, ◌≤◌, Bool, true, false, cond, List, [], ◌∷◌, ◌++◌, find, Option, Some, None, refl, sym, subst, ◌∙◌, arith}
 use Rattle.std.specs.Prelude.{◌&&◌, is_some, option_map}
 use Rattle.std.specs.Option.{option_map_or, option_and_then}
-use Rattle.sip_verdict.specs.form.declared.message.Message.{Message}
-use Rattle.sip_verdict.specs.form.declared.message.Start.{Start}
-use Rattle.sip_verdict.specs.form.declared.message.Start.TheVariants.{Request, Status}
-use Rattle.sip_verdict.specs.message.Reading.{reading_of}
-use Rattle.sip_verdict.specs.header.declared.core_fields.CoreFields.{CoreFields}
-use Rattle.sip_verdict.specs.policy.declared.decision.Decision.{Decision}
-use Rattle.sip_verdict.specs.policy.users.declared.user.User.{User}
-use Rattle.sip_verdict.specs.policy.User.{is_named}
-use Rattle.sip_verdict.specs.nonces.declared.nonces.Nonce.{Nonce}
-use Rattle.sip_verdict.specs.nonces.declared.nonces.Worth.{Worth}
-use Rattle.sip_verdict.specs.nonces.declared.nonces.Worth.TheVariants as Worths
-use Rattle.sip_verdict.specs.digest.Credential.{Credential, count_of}
-use Rattle.sip_verdict.specs.nonces.Nonces.{worth_of}
-use Rattle.sip_verdict.specs.field.Values.{values_of}
-use Rattle.sip_verdict.specs.field.declared.field.Field.{Field}
-use Rattle.sip_verdict.specs.auth.Proof as Proofs
-use Rattle.sip_verdict.specs.auth.Proof.{Proof, Claim, proof_of, proof_in, proof_from, proof_by, proof_with_key, key_of, claim_of, first_for_realm, credentials_field, is_equal_uri}
-use Rattle.sip_verdict.specs.event.declared.event.Event.TheVariants.{Datagram, Time, Fault}
-use Rattle.sip_verdict.specs.state.declared.server.Server.{Server}
-use Rattle.sip_verdict.specs.state.declared.proxy_state.ProxyState.{ProxyState}
-use Rattle.sip_verdict.specs.state.State.{first_state}
-use Rattle.sip_verdict.specs.targets.declared.targets.Targets.{Targets}
-use Rattle.sip_verdict.specs.state.Arrival.{Arrival}
-use Rattle.sip_verdict.specs.declared.question.Question.{Question}
-use Rattle.sip_verdict.specs.Verdict.{Registered, Verdict, Drop, Respond, Copy, AckOn, Cancel, Answer, InDialog, Challenge, Deny, Send, Register, is_register, question_of, answer_of, registration_by, request_targets, decided, message_verdict, message_in, verdict_in}
-use Rattle.sip_model.specs.Step.{Act, Given, Passing, arrival_of}
+use Rattle.sip_message_form.specs.declared.message.Message.{Message}
+use Rattle.sip_message_form.specs.declared.message.Start.{Start}
+use Rattle.sip_message_form.specs.declared.message.Start.TheVariants.{Request, Status}
+use Rattle.sip_message.specs.Reading.{reading_of}
+use Rattle.sip_header.specs.declared.core_fields.CoreFields.{CoreFields}
+use Rattle.sip_policy.specs.declared.decision.Decision.{Decision}
+use Rattle.sip_policy.specs.declared.user.User.{User}
+use Rattle.sip_policy.specs.User.{is_named}
+use Rattle.sip_digest.specs.declared.nonces.Nonce.{Nonce}
+use Rattle.sip_digest.specs.declared.nonces.Worth.{Worth}
+use Rattle.sip_digest.specs.declared.nonces.Worth.TheVariants as Worths
+use Rattle.sip_digest.specs.Credential.{Credential, count_of}
+use Rattle.sip_digest.specs.Nonces.{worth_of}
+use Rattle.sip_message_fields.specs.Values.{values_of}
+use Rattle.sip_message_fields.specs.declared.field.Field.{Field}
+use Rattle.sip_auth.specs.Proof as Proofs
+use Rattle.sip_auth.specs.Proof.{Proof, Claim, proof_of, proof_in, proof_from, proof_by, proof_with_key, key_of, claim_of, first_for_realm, credentials_field, is_equal_uri}
+use Rattle.sip_event.specs.declared.event.Event.TheVariants.{Datagram, Time, Fault}
+use Rattle.model_steps.specs.state.declared.server.Server.{Server}
+use Rattle.model_steps.specs.state.declared.proxy_state.ProxyState.{ProxyState}
+use Rattle.model_steps.specs.state.State.{first_state}
+use Rattle.sip_targets.specs.declared.targets.Targets.{Targets}
+use Rattle.model_steps.specs.state.Arrival.{Arrival}
+use Rattle.model_steps.specs.verdict_model.declared.question.Question.{Question}
+use Rattle.model_steps.specs.verdict_model.Verdict.{Registered, Verdict, Drop, Respond, Copy, AckOn, Cancel, Answer, InDialog, Challenge, Deny, Send, Register, is_register, question_of, answer_of, registration_by, request_targets, decided, message_verdict, message_in, verdict_in}
+use Rattle.model_steps.specs.Step.{Act, Given, Passing, arrival_of}
 use Rattle.sip_model.specs.Run.{Link, IsChain}
 use Rattle.sip_model.specs.Histories.{asked_in, Judged, judged_at, nonces_by, issues_by, issues_of, right_count, right_counts, AreFalling}
 use Rattle.sip_model.proofs.Judging.{is_by_policy, judged, judged_verdict}

@@ -1,19 +1,19 @@
 -- No deadline is passed over: what stands after a step isn't before it, and later where all that was due fired.
 use Rattle.std.proofs.Common.{ℕ, ◌+◌, ◌≤◌, ◌<◌, Bool, true, false, cond, ◌&&◌, List, [], ◌∷◌, ◌++◌, Option, Some, None, sym, subst, arith, filter_map, option_to_list}
 use Rattle.std.specs.List.{AllByRecursion, cons_option}
-use Rattle.sip_verdict.specs.host.declared.addr.Addr.{Addr}
-use Rattle.sip_verdict.specs.event.declared.event.StepOut.{StepOut}
-use Rattle.sip_verdict.specs.event.declared.event.Event.TheVariants.{Datagram, Time}
-use Rattle.sip_verdict.specs.state.declared.server.Server.{Server}
-use Rattle.sip_verdict.specs.state.declared.open_request.Side.{Side}
-use Rattle.sip_verdict.specs.state.declared.branch.Branch.{Branch}
-use Rattle.sip_verdict.specs.state.declared.open_request.OpenRequest.{OpenRequest}
-use Rattle.sip_verdict.specs.state.declared.proxy_state.ProxyState.{ProxyState}
-use Rattle.sip_verdict.specs.state.declared.open_request.Side.TheVariants.{Answering, Closing, Acknowledged, Closed}
-use Rattle.sip_verdict.specs.state.State.{first_state, deadlines, deadlines_of, side_deadline, phase_deadline, is_invite}
-use Rattle.sip_verdict.specs.state.SameState.{SameState}
-use Rattle.sip_verdict.specs.context.Branches.{acknowledged, acknowledged_side, was_refused}
-use Rattle.sip_model.specs.Step.{Act, Given, IsStep, NoneBy, NoneBefore, moment_of}
+use Rattle.sip_uri.specs.declared.addr.Addr.{Addr}
+use Rattle.sip_event.specs.declared.event.StepOut.{StepOut}
+use Rattle.sip_event.specs.declared.event.Event.TheVariants.{Datagram, Time}
+use Rattle.model_steps.specs.state.declared.server.Server.{Server}
+use Rattle.model_steps.specs.state.declared.open_request.Side.{Side}
+use Rattle.model_steps.specs.state.declared.branch.Branch.{Branch}
+use Rattle.model_steps.specs.state.declared.open_request.OpenRequest.{OpenRequest}
+use Rattle.model_steps.specs.state.declared.proxy_state.ProxyState.{ProxyState}
+use Rattle.model_steps.specs.state.declared.open_request.Side.TheVariants.{Answering, Closing, Acknowledged, Closed}
+use Rattle.model_steps.specs.state.State.{first_state, deadlines, deadlines_of, side_deadline, phase_deadline, is_invite}
+use Rattle.model_steps.specs.state.SameState.{SameState}
+use Rattle.model_steps.specs.context_model.Branches.{acknowledged, acknowledged_side, was_refused}
+use Rattle.model_steps.specs.Step.{Act, Given, IsStep, NoneBy, NoneBefore, moment_of}
 use Rattle.sip_model.specs.Run.{Link, IsChain}
 use Rattle.sip_model.specs.Order.{FinalAnswer}
 use Rattle.sip_model.proofs.Places.{all_in, all_push, all_weaker, all_replaced}

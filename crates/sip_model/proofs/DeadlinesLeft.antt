@@ -2,20 +2,20 @@
 use Rattle.std.proofs.Common.{◌++◌, ◌≡◌, inl, inr, ℕ, ◌+◌, ◌≤◌, Bool, true, false, not, ◌&&◌, cond, ◌==◌, List, [], ◌∷◌, map, Option, Some, None, refl, sym, ap, subst, ◌∙◌, arith, sum_by, count_by, flat_map}
 use Rattle.std.proofs.lemmas.Bool.Decides.{nat_tests}
 use Rattle.std.proofs.lemmas.List.Sums.{sum_by-cons}
-use Rattle.sip_verdict.specs.state.declared.server.Server.{Server}
-use Rattle.sip_verdict.specs.state.declared.branch.Phase.{Phase}
-use Rattle.sip_verdict.specs.state.declared.open_request.Side.{Side}
-use Rattle.sip_verdict.specs.state.declared.branch.Branch.{Branch}
-use Rattle.sip_verdict.specs.state.declared.open_request.OpenRequest.{OpenRequest}
-use Rattle.sip_verdict.specs.state.declared.branch.Phase.TheVariants.{Unheard, Heard, Cancelled, Done, Ended}
-use Rattle.sip_verdict.specs.state.declared.open_request.Side.TheVariants.{Answering, Closing, Acknowledged, Closed}
-use Rattle.sip_verdict.specs.state.State.{is_invite, is_answering, phase_deadline, side_deadline, is_provisional}
-use Rattle.sip_verdict.specs.state.declared.open_request.Upward.{Upward}
-use Rattle.sip_verdict.specs.event.declared.packet.Packet.{Packet}
-use Rattle.sip_verdict.specs.state.declared.resend.Resend.{Resend}
-use Rattle.sip_retransmission.specs.Retransmission.{resent_branch, branch_next, IsResent, OfAnswer, OfRequest}
-use Rattle.sip_verdict.specs.context.Branches.{Change, is_same_branch, with_phase, given_up, best_upward, is_ready, is_cancellable, cancel_branch, after_upward, settled, target_overdue, side_overdue, turned, held_branch, with_cancel}
-use Rattle.sip_model.specs.Step.{IsOverdue, OfSide, OfBranch}
+use Rattle.model_steps.specs.state.declared.server.Server.{Server}
+use Rattle.model_steps.specs.state.declared.branch.Phase.{Phase}
+use Rattle.model_steps.specs.state.declared.open_request.Side.{Side}
+use Rattle.model_steps.specs.state.declared.branch.Branch.{Branch}
+use Rattle.model_steps.specs.state.declared.open_request.OpenRequest.{OpenRequest}
+use Rattle.model_steps.specs.state.declared.branch.Phase.TheVariants.{Unheard, Heard, Cancelled, Done, Ended}
+use Rattle.model_steps.specs.state.declared.open_request.Side.TheVariants.{Answering, Closing, Acknowledged, Closed}
+use Rattle.model_steps.specs.state.State.{is_invite, is_answering, phase_deadline, side_deadline, is_provisional}
+use Rattle.model_steps.specs.state.declared.open_request.Upward.{Upward}
+use Rattle.sip_event.specs.declared.packet.Packet.{Packet}
+use Rattle.model_steps.specs.state.declared.resend.Resend.{Resend}
+use Rattle.model_steps.specs.context_model.Retransmission.{resent_branch, branch_next, IsResent, OfAnswer, OfRequest}
+use Rattle.model_steps.specs.context_model.Branches.{Change, is_same_branch, with_phase, given_up, best_upward, is_ready, is_cancellable, cancel_branch, after_upward, settled, target_overdue, side_overdue, turned, held_branch, with_cancel}
+use Rattle.model_steps.specs.Step.{IsOverdue, OfSide, OfBranch}
 use Rattle.sip_model.specs.Order.{phase_left, side_left, deadlines_left}
 use Rattle.sip_model.proofs.Places.{IsIn, in_from_contains, count_cons, one_at, none_at}
 use Rattle.sip_model.proofs.Events.{wanting}

@@ -2,34 +2,34 @@
 use Rattle.std.proofs.Common.{◌≡◌, ◌∙◌, inr, ℕ, ◌+◌, ◌&&◌, ◌||◌, ◌==◌, not, List, [], ◌∷◌, ◌++◌, filter, flat_map, cond, Bool, true, false, refl, sym, ap, ap₂, subst, Contains, Option, Some, None, IfSome, option_map, true≢false, arith}
 use Rattle.std.specs.List.{AllByRecursion}
 use Rattle.std.specs.Option.{option_map_or}
-use Rattle.sip_verdict.specs.field.declared.field.Field.{Field}
-use Rattle.sip_verdict.specs.form.declared.message.Start.TheVariants.{Status}
-use Rattle.sip_verdict.specs.form.declared.message.Message.{Message}
-use Rattle.sip_verdict.specs.field.declared.field_name.FieldName.TheVariants as Name
-use Rattle.sip_verdict.specs.field.Values.{first_value}
-use Rattle.sip_verdict.specs.form.Text.{text_of}
-use Rattle.sip_verdict.specs.edit.OwnVia.{without_top_via}
-use Rattle.sip_verdict.specs.edit.OwnRequests.{cancel_of}
-use Rattle.sip_verdict.specs.location.declared.binding.Binding.{Binding}
-use Rattle.sip_verdict.specs.best.declared.final_answer.Final.{Final}
-use Rattle.sip_verdict.specs.best.Best.{best_of, is_challenge_status, taking_along}
-use Rattle.sip_verdict.specs.event.declared.packet.Packet.{Packet}
-use Rattle.sip_verdict.specs.state.declared.server.Server.{Server}
-use Rattle.sip_verdict.specs.state.declared.branch.Phase.{Phase}
-use Rattle.sip_verdict.specs.state.declared.branch.Branch.{Branch}
-use Rattle.sip_verdict.specs.state.declared.open_request.OpenRequest.{OpenRequest}
-use Rattle.sip_verdict.specs.state.declared.proxy_state.ProxyState.{ProxyState}
-use Rattle.sip_verdict.specs.state.declared.branch.Phase.TheVariants.{Unheard, Heard, Cancelled, Done, Ended}
-use Rattle.sip_verdict.specs.state.declared.open_request.Side.TheVariants.{Closed}
-use Rattle.sip_verdict.specs.state.State.{is_invite, is_final, is_answering, has_left, is_success, is_failure, is_provisional}
-use Rattle.sip_verdict.specs.context.Sending.{made_answer, answer_to, to_branch, request_of, branch_packets, ack_packets}
-use Rattle.sip_verdict.specs.state.declared.open_request.Upward.{Upward}
-use Rattle.sip_verdict.specs.context.Branches.{Change, with_phase, upward_of, all_final, best_upward, is_ready, is_cancellable, cancel_branch, new_cancels, with_cancels, after_upward, upward_list, settled, heard, other_heard, relayed_from, relayed_provisional, is_accepted, relayed_success, final_of, with_answer, acks_of, further, target_responded, cancel_responded, responded, branch_overdue, overdue, side_overdue, given_up, send_failed, marked, cancelled}
-use Rattle.sip_model.specs.Effect.{upward_packets, change_packets, replaced}
-use Rattle.sip_model.specs.Step.{Act}
+use Rattle.sip_message_fields.specs.declared.field.Field.{Field}
+use Rattle.sip_message_form.specs.declared.message.Start.TheVariants.{Status}
+use Rattle.sip_message_form.specs.declared.message.Message.{Message}
+use Rattle.sip_message_fields.specs.declared.field_name.FieldName.TheVariants as Name
+use Rattle.sip_message_fields.specs.Values.{first_value}
+use Rattle.sip_message_form.specs.Text.{text_of}
+use Rattle.sip_edit.specs.OwnVia.{without_top_via}
+use Rattle.sip_edit.specs.OwnRequests.{cancel_of}
+use Rattle.sip_location.specs.declared.binding.Binding.{Binding}
+use Rattle.sip_best.specs.declared.final_answer.Final.{Final}
+use Rattle.sip_best.specs.Best.{best_of, is_challenge_status, taking_along}
+use Rattle.sip_event.specs.declared.packet.Packet.{Packet}
+use Rattle.model_steps.specs.state.declared.server.Server.{Server}
+use Rattle.model_steps.specs.state.declared.branch.Phase.{Phase}
+use Rattle.model_steps.specs.state.declared.branch.Branch.{Branch}
+use Rattle.model_steps.specs.state.declared.open_request.OpenRequest.{OpenRequest}
+use Rattle.model_steps.specs.state.declared.proxy_state.ProxyState.{ProxyState}
+use Rattle.model_steps.specs.state.declared.branch.Phase.TheVariants.{Unheard, Heard, Cancelled, Done, Ended}
+use Rattle.model_steps.specs.state.declared.open_request.Side.TheVariants.{Closed}
+use Rattle.model_steps.specs.state.State.{is_invite, is_final, is_answering, has_left, is_success, is_failure, is_provisional}
+use Rattle.model_steps.specs.context_model.Sending.{made_answer, answer_to, to_branch, request_of, branch_packets, ack_packets}
+use Rattle.model_steps.specs.state.declared.open_request.Upward.{Upward}
+use Rattle.model_steps.specs.context_model.Branches.{Change, with_phase, upward_of, all_final, best_upward, is_ready, is_cancellable, cancel_branch, new_cancels, with_cancels, after_upward, upward_list, settled, heard, other_heard, relayed_from, relayed_provisional, is_accepted, relayed_success, final_of, with_answer, acks_of, further, target_responded, cancel_responded, responded, branch_overdue, overdue, side_overdue, given_up, send_failed, marked, cancelled}
+use Rattle.model_steps.specs.Effect.{upward_packets, change_packets, replaced}
+use Rattle.model_steps.specs.Step.{Act}
 use Rattle.sip_model.specs.Run.{Link}
-use Rattle.sip_verdict.specs.state.Arrival.{Arrival}
-use Rattle.sip_verdict.specs.Verdict.{responding}
+use Rattle.model_steps.specs.state.Arrival.{Arrival}
+use Rattle.model_steps.specs.verdict_model.Verdict.{responding}
 use Rattle.sip_model.specs.Access.{CameFor, IsTakenAlong, IsSaidAt, IsOpen, IsDenied, IsHeardNow, IsOwed, Answers, Forwards, Acknowledges, Cancels}
 use Rattle.sip_model.proofs.Places.{in_from_contains}
 use Rattle.sip_model.proofs.Apart.{TargetsDiffer, only_target}

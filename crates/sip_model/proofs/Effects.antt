@@ -1,38 +1,38 @@
 -- What a verdict on a datagram does sends what is owed.
 use Rattle.std.proofs.Common.{◌≡◌, ◌∙◌, ℕ, ◌+◌, ◌≤◌, ◌&&◌, not, is_some, List, [], ◌∷◌, ◌++◌, length, map, filter, flat_map, cond, codes, bytes_eq, Bool, true, false, refl, sym, ap, ap₂, subst, Contains, Option, Some, None, IfSome, true≢false, arith}
 use Rattle.std.specs.List.{AllByRecursion}
-use Rattle.sip_verdict.specs.uri.declared.aor.Aor.{Aor}
-use Rattle.sip_verdict.specs.field.declared.field.Field.{Field}
-use Rattle.sip_verdict.specs.form.declared.message.Message.{Message}
-use Rattle.sip_verdict.specs.form.Text.{text_of}
-use Rattle.sip_verdict.specs.header.declared.core_fields.CoreFields.{CoreFields}
-use Rattle.sip_verdict.specs.host.declared.addr.Addr.{Addr}
-use Rattle.sip_verdict.specs.reply.Extras.{denial_warning}
-use Rattle.sip_verdict.specs.edit.Onward.{onward_uri, with_record_route}
-use Rattle.sip_verdict.specs.policy.declared.decision.Decision.{Decision}
-use Rattle.sip_verdict.specs.policy.declared.operation.Operation.{Operation}
-use Rattle.sip_verdict.specs.best.declared.final_answer.Final.{Final}
-use Rattle.sip_verdict.specs.location.Binding.{live}
-use Rattle.sip_verdict.specs.targets.declared.target.Target.{Target}
-use Rattle.sip_verdict.specs.targets.declared.targets.Targets.{Targets}
-use Rattle.sip_verdict.specs.targets.Targets.{target_list}
-use Rattle.sip_verdict.specs.dialog.declared.dialog.DialogId.{DialogId}
-use Rattle.sip_verdict.specs.context.audit.declared.record.Record.{Record}
-use Rattle.sip_verdict.specs.event.declared.packet.Packet.{Packet}
-use Rattle.sip_verdict.specs.state.declared.server.Server.{Server}
-use Rattle.sip_verdict.specs.state.declared.branch.Branch.{Branch}
-use Rattle.sip_verdict.specs.state.declared.open_request.OpenRequest.{OpenRequest}
-use Rattle.sip_verdict.specs.state.declared.proxy_state.ProxyState.{ProxyState}
-use Rattle.sip_verdict.specs.state.State.{is_invite}
-use Rattle.sip_verdict.specs.context.Sending.{made_answer, branch_packets, request_of, onward_as, begins_dialog}
-use Rattle.sip_verdict.specs.state.declared.open_request.Upward.{Upward}
-use Rattle.sip_verdict.specs.context.Branches.{Change, settled, answered, responded, cancelled, acknowledged, is_ready, is_cancellable, cancel_branch, new_cancels}
-use Rattle.sip_verdict.specs.state.Arrival.{Arrival}
-use Rattle.sip_verdict.specs.declared.question.Question.{Question}
-use Rattle.sip_verdict.specs.Verdict.{Registered, Bound, Refused, Verdict, Drop, Respond, Copy, AckOn, Cancel, Answer, InDialog, Challenge, Deny, Send, Register, is_full, question_of, request_targets}
-use Rattle.sip_verdict.specs.context.Opening.{arriving, branches_from, unsent, forking, is_tried, trying, tried, dialog_branch}
-use Rattle.sip_model.specs.Effect.{upward_packets, change_packets, Effect, replaced, changed, nothing, opened, replied, is_registration, challenge_status, registering, forked, sent_to, sending, renewing, copied, cancelling, counted, asked, issuing, method_of, effect_of}
-use Rattle.sip_model.specs.Step.{Act}
+use Rattle.sip_uri.specs.declared.aor.Aor.{Aor}
+use Rattle.sip_message_fields.specs.declared.field.Field.{Field}
+use Rattle.sip_message_form.specs.declared.message.Message.{Message}
+use Rattle.sip_message_form.specs.Text.{text_of}
+use Rattle.sip_header.specs.declared.core_fields.CoreFields.{CoreFields}
+use Rattle.sip_uri.specs.declared.addr.Addr.{Addr}
+use Rattle.sip_edit_response.specs.Extras.{denial_warning}
+use Rattle.model_steps.specs.edit_onward.Onward.{onward_uri, with_record_route}
+use Rattle.sip_policy.specs.declared.decision.Decision.{Decision}
+use Rattle.sip_policy.specs.declared.operation.Operation.{Operation}
+use Rattle.sip_best.specs.declared.final_answer.Final.{Final}
+use Rattle.sip_location.specs.Binding.{live}
+use Rattle.sip_targets.specs.declared.target.Target.{Target}
+use Rattle.sip_targets.specs.declared.targets.Targets.{Targets}
+use Rattle.sip_targets.specs.Targets.{target_list}
+use Rattle.sip_dialog.specs.declared.dialog.DialogId.{DialogId}
+use Rattle.sip_audit.specs.declared.record.Record.{Record}
+use Rattle.sip_event.specs.declared.packet.Packet.{Packet}
+use Rattle.model_steps.specs.state.declared.server.Server.{Server}
+use Rattle.model_steps.specs.state.declared.branch.Branch.{Branch}
+use Rattle.model_steps.specs.state.declared.open_request.OpenRequest.{OpenRequest}
+use Rattle.model_steps.specs.state.declared.proxy_state.ProxyState.{ProxyState}
+use Rattle.model_steps.specs.state.State.{is_invite}
+use Rattle.model_steps.specs.context_model.Sending.{made_answer, branch_packets, request_of, onward_as, begins_dialog}
+use Rattle.model_steps.specs.state.declared.open_request.Upward.{Upward}
+use Rattle.model_steps.specs.context_model.Branches.{Change, settled, answered, responded, cancelled, acknowledged, is_ready, is_cancellable, cancel_branch, new_cancels}
+use Rattle.model_steps.specs.state.Arrival.{Arrival}
+use Rattle.model_steps.specs.verdict_model.declared.question.Question.{Question}
+use Rattle.model_steps.specs.verdict_model.Verdict.{Registered, Bound, Refused, Verdict, Drop, Respond, Copy, AckOn, Cancel, Answer, InDialog, Challenge, Deny, Send, Register, is_full, question_of, request_targets}
+use Rattle.model_steps.specs.context_model.Opening.{arriving, branches_from, unsent, forking, is_tried, trying, tried, dialog_branch}
+use Rattle.model_steps.specs.Effect.{upward_packets, change_packets, Effect, replaced, changed, nothing, opened, replied, is_registration, challenge_status, registering, forked, sent_to, sending, renewing, copied, cancelling, counted, asked, issuing, method_of, effect_of}
+use Rattle.model_steps.specs.Step.{Act}
 use Rattle.sip_model.specs.Run.{Link}
 use Rattle.sip_model.specs.Access.{CameFor, IsNewRequest, IsSaidAt, IsOpen, IsDenied, Brought, Before, ToTarget, Answers, InKnownDialog, decision_on, targets_on, requests_to}
 use Rattle.sip_model.proofs.Sixteen.{few_targets, numbered_to_sixteen}

@@ -1,22 +1,22 @@
 -- What the changes of an open request have in common: an event makes a request in between of it, which then settles.
 use Rattle.std.proofs.Common.{◌≡◌, ◌⊎◌, inl, inr, ℕ, ◌+◌, ◌≤◌, Bool, true, false, not, ◌&&◌, ◌||◌, cond, ◌==◌, List, [], ◌∷◌, ◌++◌, map, Option, Some, None, refl, sym, ap, ◌∙◌, arith, subst}
 use Rattle.std.specs.List.{AllByRecursion, list_any}
-use Rattle.sip_verdict.specs.form.declared.message.Message.{Message}
-use Rattle.sip_verdict.specs.best.declared.final_answer.Final.{Final}
-use Rattle.sip_verdict.specs.event.declared.packet.Packet.{Packet}
-use Rattle.sip_verdict.specs.state.declared.resend.Resend.{Resend}
-use Rattle.sip_verdict.specs.state.declared.server.Server.{Server}
-use Rattle.sip_verdict.specs.state.declared.branch.Phase.{Phase}
-use Rattle.sip_verdict.specs.state.declared.open_request.Side.{Side}
-use Rattle.sip_verdict.specs.state.declared.branch.Branch.{Branch}
-use Rattle.sip_verdict.specs.state.declared.open_request.OpenRequest.{OpenRequest}
-use Rattle.sip_verdict.specs.state.declared.branch.Phase.TheVariants.{Unheard, Heard, Cancelled, Done, Ended}
-use Rattle.sip_verdict.specs.state.declared.open_request.Side.TheVariants.{Answering, Closing, Acknowledged, Closed}
-use Rattle.sip_verdict.specs.state.State.{is_invite, is_final, is_answering, phase_deadline, side_deadline, is_success, is_decline, is_provisional}
-use Rattle.sip_verdict.specs.state.declared.open_request.Upward.{Upward}
-use Rattle.sip_retransmission.specs.Retransmission.{IsResent, OfAnswer, OfRequest, branch_next}
-use Rattle.sip_verdict.specs.context.Branches.{Change, is_same_branch, with_phase, with_final, marked, given_up, settled, invite_heard, other_heard, heard, relayed_from, relayed_provisional, relayed_success, is_accepted, further, with_answer, acks_of, final_of, linger, target_responded, cancel_responded, responded, target_overdue, side_overdue, turned, told_to}
-use Rattle.sip_model.specs.Step.{IsOverdue, OfSide, OfBranch}
+use Rattle.sip_message_form.specs.declared.message.Message.{Message}
+use Rattle.sip_best.specs.declared.final_answer.Final.{Final}
+use Rattle.sip_event.specs.declared.packet.Packet.{Packet}
+use Rattle.model_steps.specs.state.declared.resend.Resend.{Resend}
+use Rattle.model_steps.specs.state.declared.server.Server.{Server}
+use Rattle.model_steps.specs.state.declared.branch.Phase.{Phase}
+use Rattle.model_steps.specs.state.declared.open_request.Side.{Side}
+use Rattle.model_steps.specs.state.declared.branch.Branch.{Branch}
+use Rattle.model_steps.specs.state.declared.open_request.OpenRequest.{OpenRequest}
+use Rattle.model_steps.specs.state.declared.branch.Phase.TheVariants.{Unheard, Heard, Cancelled, Done, Ended}
+use Rattle.model_steps.specs.state.declared.open_request.Side.TheVariants.{Answering, Closing, Acknowledged, Closed}
+use Rattle.model_steps.specs.state.State.{is_invite, is_final, is_answering, phase_deadline, side_deadline, is_success, is_decline, is_provisional}
+use Rattle.model_steps.specs.state.declared.open_request.Upward.{Upward}
+use Rattle.model_steps.specs.context_model.Retransmission.{IsResent, OfAnswer, OfRequest, branch_next}
+use Rattle.model_steps.specs.context_model.Branches.{Change, is_same_branch, with_phase, with_final, marked, given_up, settled, invite_heard, other_heard, heard, relayed_from, relayed_provisional, relayed_success, is_accepted, further, with_answer, acks_of, final_of, linger, target_responded, cancel_responded, responded, target_overdue, side_overdue, turned, told_to}
+use Rattle.model_steps.specs.Step.{IsOverdue, OfSide, OfBranch}
 use Rattle.sip_model.specs.Order.{IsChangeOf, ByResponse, ByDeadline, ByFault, ByCancel}
 use Rattle.sip_model.proofs.Places.{IsIn, all_in, in_from_contains, contains_from_in}
 use Rattle.sip_model.proofs.Resending.{DueFrom, both_cancel, goes, IsBranchAgain, IsAgain, branch_again, phase_again, final_only, other_only, heard_only, marked_again, wanting_again, final_again, closed_again}

@@ -1,21 +1,21 @@
 -- What each change of an open request sends is what a step may send for it: deadlines, faults, and the caller's CANCEL.
 use Rattle.std.proofs.Common.{◌≡◌, inl, inr, ℕ, ◌+◌, ◌==◌, Bool, true, false, not, ◌&&◌, ◌||◌, cond, List, [], ◌∷◌, ◌++◌, map, Contains, Some, None, refl, sym, ap, ◌∙◌, true≢false, arith, find}
 use Rattle.std.proofs.lemmas.Bool.Decides.{nat_tests}
-use Rattle.sip_verdict.specs.form.declared.message.Message.{Message}
-use Rattle.sip_verdict.specs.best.declared.final_answer.Final.{Final}
-use Rattle.sip_verdict.specs.event.declared.packet.Ticket.{Ticket}
-use Rattle.sip_verdict.specs.event.declared.event.Event.TheVariants.{Fault}
-use Rattle.sip_verdict.specs.state.declared.server.Server.{Server}
-use Rattle.sip_verdict.specs.state.declared.branch.Branch.{Branch}
-use Rattle.sip_verdict.specs.state.declared.branch.Phase.{Phase}
-use Rattle.sip_verdict.specs.state.declared.branch.Phase.TheVariants.{Unheard, Heard, Cancelled, Done, Ended}
-use Rattle.sip_verdict.specs.state.declared.open_request.Side.TheVariants.{Closed}
-use Rattle.sip_verdict.specs.state.declared.open_request.OpenRequest.{OpenRequest}
-use Rattle.sip_verdict.specs.state.declared.proxy_state.ProxyState.{ProxyState}
-use Rattle.sip_verdict.specs.state.State.{is_invite, is_final, is_answering, is_provisional, phase_deadline}
-use Rattle.sip_verdict.specs.context.Branches.{Change, is_cancellable, is_unheard, is_same_branch, settled, turned, phased, with_phase, given_up, marked, marked_branch, other_heard, cancel_responded, target_overdue, overdue, send_failed, cancelled}
-use Rattle.sip_model.specs.Effect.{change_packets}
-use Rattle.sip_model.specs.Step.{Act, Given, IsOverdue, OfSide, OfBranch, is_failed}
+use Rattle.sip_message_form.specs.declared.message.Message.{Message}
+use Rattle.sip_best.specs.declared.final_answer.Final.{Final}
+use Rattle.sip_event.specs.declared.packet.Ticket.{Ticket}
+use Rattle.sip_event.specs.declared.event.Event.TheVariants.{Fault}
+use Rattle.model_steps.specs.state.declared.server.Server.{Server}
+use Rattle.model_steps.specs.state.declared.branch.Branch.{Branch}
+use Rattle.model_steps.specs.state.declared.branch.Phase.{Phase}
+use Rattle.model_steps.specs.state.declared.branch.Phase.TheVariants.{Unheard, Heard, Cancelled, Done, Ended}
+use Rattle.model_steps.specs.state.declared.open_request.Side.TheVariants.{Closed}
+use Rattle.model_steps.specs.state.declared.open_request.OpenRequest.{OpenRequest}
+use Rattle.model_steps.specs.state.declared.proxy_state.ProxyState.{ProxyState}
+use Rattle.model_steps.specs.state.State.{is_invite, is_final, is_answering, is_provisional, phase_deadline}
+use Rattle.model_steps.specs.context_model.Branches.{Change, is_cancellable, is_unheard, is_same_branch, settled, turned, phased, with_phase, given_up, marked, marked_branch, other_heard, cancel_responded, target_overdue, overdue, send_failed, cancelled}
+use Rattle.model_steps.specs.Effect.{change_packets}
+use Rattle.model_steps.specs.Step.{Act, Given, IsOverdue, OfSide, OfBranch, is_failed}
 use Rattle.sip_model.specs.Run.{Link}
 use Rattle.sip_model.specs.Access.{NoAck, EndsNow, BySilence, ByLaterSilence, ByCancel, ByFault, IsCancelledNow, ByCaller, WasCancelled}
 use Rattle.sip_model.proofs.Places.{contains_from_in, found_in}

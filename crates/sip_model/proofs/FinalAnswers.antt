@@ -2,10 +2,10 @@
 use Rattle.std.proofs.Common.{◌≡◌, inl, inr, ℕ, zero, suc, ◌≤◌, Bool, true, false, cond, ◌==◌, List, [], ◌∷◌, ◌++◌, length, map, filter, append-nil, refl, sym, ap, subst, ◌∙◌, arith, count_by}
 use Rattle.std.specs.List.{AllByRecursion}
 use Rattle.std.proofs.lemmas.List.Elements.{filter-append}
-use Rattle.sip_verdict.specs.state.declared.open_request.OpenRequest.{OpenRequest}
-use Rattle.sip_verdict.specs.state.State.{is_invite, is_answering, is_success}
-use Rattle.sip_verdict.specs.state.declared.open_request.Upward.{Upward}
-use Rattle.sip_verdict.specs.context.Branches.{Change, has_success}
+use Rattle.model_steps.specs.state.declared.open_request.OpenRequest.{OpenRequest}
+use Rattle.model_steps.specs.state.State.{is_invite, is_answering, is_success}
+use Rattle.model_steps.specs.state.declared.open_request.Upward.{Upward}
+use Rattle.model_steps.specs.context_model.Branches.{Change, has_success}
 use Rattle.sip_model.specs.Order.{is_final_answer, AddsSuccessesAlone, AnswersOnce, FinalAnswer, finals_up, change_finals, finals_to, IsAccepting, AreOneAnswer}
 use Rattle.sip_model.proofs.Places.{same_number, count_cons, one_at, none_at}
 use Rattle.sip_model.proofs.Settling.{all_append}

@@ -1,19 +1,19 @@
 -- What open requests keep: where their final answers come from, what goes up of these, and which branches are to be cancelled.
 use Rattle.std.proofs.Common.{◌≡◌, ℕ, ◌≤◌, ◌==◌, List, [], ◌∷◌, cond, Bool, true, false, refl, true≢false, ◌∙◌, ap, subst, sym, Contains, Option, Some, None, IfSome, option_map, arith}
 use Rattle.std.specs.List.{AllByRecursion, flat_map}
-use Rattle.sip_verdict.specs.field.declared.field_name.FieldName.{FieldName}
-use Rattle.sip_verdict.specs.field.declared.field_name.FieldName.TheVariants as Name
-use Rattle.sip_verdict.specs.field.declared.field.Field.{Field}
-use Rattle.sip_verdict.specs.form.declared.message.Message.{Message}
-use Rattle.sip_verdict.specs.field.FieldName.{is_same_name}
-use Rattle.sip_verdict.specs.field.Values.{without_first}
-use Rattle.sip_verdict.specs.edit.OwnVia.{without_top_via}
-use Rattle.sip_verdict.specs.best.declared.final_answer.Final.{Final}
-use Rattle.sip_verdict.specs.best.Best.{picked, chosen_of, is_unbeaten, is_challenge_status, is_challenge_field, challenge_fields, challenges_of, challenging, going_up, best_of, taking_along}
-use Rattle.sip_verdict.specs.state.declared.server.Server.{Server}
-use Rattle.sip_verdict.specs.state.declared.branch.Branch.{Branch}
-use Rattle.sip_verdict.specs.state.declared.open_request.OpenRequest.{OpenRequest}
-use Rattle.sip_verdict.specs.state.State.{is_invite}
+use Rattle.sip_message_fields.specs.declared.field_name.FieldName.{FieldName}
+use Rattle.sip_message_fields.specs.declared.field_name.FieldName.TheVariants as Name
+use Rattle.sip_message_fields.specs.declared.field.Field.{Field}
+use Rattle.sip_message_form.specs.declared.message.Message.{Message}
+use Rattle.sip_message_fields.specs.FieldName.{is_same_name}
+use Rattle.sip_message_fields.specs.Values.{without_first}
+use Rattle.sip_edit.specs.OwnVia.{without_top_via}
+use Rattle.sip_best.specs.declared.final_answer.Final.{Final}
+use Rattle.sip_best.specs.Best.{picked, chosen_of, is_unbeaten, is_challenge_status, is_challenge_field, challenge_fields, challenges_of, challenging, going_up, best_of, taking_along}
+use Rattle.model_steps.specs.state.declared.server.Server.{Server}
+use Rattle.model_steps.specs.state.declared.branch.Branch.{Branch}
+use Rattle.model_steps.specs.state.declared.open_request.OpenRequest.{OpenRequest}
+use Rattle.model_steps.specs.state.State.{is_invite}
 use Rattle.sip_model.specs.Run.{Link}
 use Rattle.sip_model.specs.Access.{CameFor, IsTakenAlong}
 use Rattle.sip_model.proofs.Apart.{TargetsDiffer}

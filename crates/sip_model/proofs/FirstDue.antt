@@ -2,16 +2,16 @@
 use Rattle.std.proofs.Common.{◌≡◌, ◌⊎◌, ◌∙◌, inl, inr, ℕ, ◌+◌, ◌≤◌, Bool, true, false, cond, ◌==◌, nat_le, List, [], ◌∷◌, map, Option, Some, None, refl, ap, arith, count_by}
 use Rattle.std.proofs.lemmas.Bool.Decides.{nat_tests}
 use Rattle.std.specs.List.{AllByRecursion}
-use Rattle.sip_verdict.specs.event.declared.packet.Packet.{Packet}
-use Rattle.sip_verdict.specs.state.declared.server.Server.{Server}
-use Rattle.sip_verdict.specs.state.declared.resend.Resend.{Resend}
-use Rattle.sip_verdict.specs.state.declared.branch.Branch.{Branch}
-use Rattle.sip_verdict.specs.state.declared.open_request.OpenRequest.{OpenRequest}
-use Rattle.sip_verdict.specs.state.State.{is_invite, phase_deadline, side_deadline}
-use Rattle.sip_verdict.specs.context.Branches.{Change, is_same_branch, overdue, side_overdue}
-use Rattle.sip_retransmission.specs.Retransmission.{answers_again, answer_due, answer_next, branch_next, insists, goes_again, resent_branch, with_resend, IsResent, OfAnswer, OfRequest}
-use Rattle.sip_verdict.specs.context.Sending.{branch_packets}
-use Rattle.sip_model.specs.Step.{IsOverdue, OfSide, OfBranch}
+use Rattle.sip_event.specs.declared.packet.Packet.{Packet}
+use Rattle.model_steps.specs.state.declared.server.Server.{Server}
+use Rattle.model_steps.specs.state.declared.resend.Resend.{Resend}
+use Rattle.model_steps.specs.state.declared.branch.Branch.{Branch}
+use Rattle.model_steps.specs.state.declared.open_request.OpenRequest.{OpenRequest}
+use Rattle.model_steps.specs.state.State.{is_invite, phase_deadline, side_deadline}
+use Rattle.model_steps.specs.context_model.Branches.{Change, is_same_branch, overdue, side_overdue}
+use Rattle.model_steps.specs.context_model.Retransmission.{answers_again, answer_due, answer_next, branch_next, insists, goes_again, resent_branch, with_resend, IsResent, OfAnswer, OfRequest}
+use Rattle.model_steps.specs.context_model.Sending.{branch_packets}
+use Rattle.model_steps.specs.Step.{IsOverdue, OfSide, OfBranch}
 use Rattle.sip_model.proofs.Places.{IsIn, contains_from_in, in_from_contains, all_weaker, count_cons, one_at, none_at}
 use Rattle.sip_model.proofs.Resending.{DueFrom, due_is, again_at, IsBranchAgain, IsAgain, branch_again, after_again, next_again}
 use Rattle.sip_model.proofs.DeadlinesLeft.{same_branch}

@@ -1,14 +1,14 @@
 -- The numbers of open requests and of their branches are in the ranges of their types.
 use Rattle.std.proofs.Common.{◌≡◌, ℕ, ◌≤◌, ◌<◌, ◌^◌, List, [], ◌∷◌, arith}
 use Rattle.std.specs.List.{AllByRecursion}
-use Rattle.sip_verdict.specs.state.declared.server.Server.{Server}
-use Rattle.sip_verdict.specs.state.declared.branch.Branch.{Branch}
-use Rattle.sip_verdict.specs.state.declared.open_request.OpenRequest.{OpenRequest}
-use Rattle.sip_verdict.specs.state.declared.proxy_state.ProxyState.{ProxyState}
-use Rattle.sip_verdict.specs.state.State.{first_state}
-use Rattle.sip_verdict.specs.context.FoundBranch.{found_branch}
-use Rattle.sip_verdict.specs.context.BranchById.{branch_by_id, HasNumbers}
-use Rattle.sip_verdict.proofs.of_context.ByNumbers.{by_numbers}
+use Rattle.model_steps.specs.state.declared.server.Server.{Server}
+use Rattle.model_steps.specs.state.declared.branch.Branch.{Branch}
+use Rattle.model_steps.specs.state.declared.open_request.OpenRequest.{OpenRequest}
+use Rattle.model_steps.specs.state.declared.proxy_state.ProxyState.{ProxyState}
+use Rattle.model_steps.specs.state.State.{first_state}
+use Rattle.model_steps.specs.context_model.FoundBranch.{found_branch}
+use Rattle.model_steps.specs.context_model.BranchById.{branch_by_id, HasNumbers}
+use Rattle.model_steps.proofs.of_context_model.ByNumbers.{by_numbers}
 use Rattle.sip_model.specs.Run.{Link, IsChain}
 use Rattle.sip_model.proofs.Places.{all_weaker}
 use Rattle.sip_model.proofs.Finals.{IsOfSixteen, IsHonestRequest, AreHonest}

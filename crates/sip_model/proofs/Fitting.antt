@@ -3,49 +3,49 @@ use Rattle.std.proofs.Common.{◌≡◌, ◌∙◌, ℕ, ◌&&◌, ◌||◌, not
 use Rattle.std.specs.List.{AllByRecursion}
 use Rattle.std.specs.Option.{option_map_or}
 use Rattle.std.specs.Result.{result_ok}
-use Rattle.sip_verdict.specs.field.declared.field_name.FieldName.TheVariants as Name
-use Rattle.sip_verdict.specs.field.declared.field.Field.{Field}
-use Rattle.sip_verdict.specs.form.declared.message.Start.{Start}
-use Rattle.sip_verdict.specs.form.declared.message.Start.TheVariants.{Request, Status}
-use Rattle.sip_verdict.specs.form.declared.message.Message.{Message}
-use Rattle.sip_verdict.specs.message.Reading.{reading_of}
-use Rattle.sip_verdict.specs.way.declared.own.Own.{Own}
-use Rattle.sip_verdict.specs.key.declared.key.Key.{Key}
-use Rattle.sip_verdict.specs.header.declared.cseq.CSeq.{CSeq}
-use Rattle.sip_verdict.specs.header.declared.core_fields.CoreFields.{CoreFields}
-use Rattle.sip_verdict.specs.key.Key.{key_of}
-use Rattle.sip_verdict.specs.field.Values.{values_of}
-use Rattle.sip_verdict.specs.header.CoreFields.{core_of, cseq_in}
-use Rattle.sip_verdict.specs.way.Way.{request_uri_of}
-use Rattle.sip_verdict.specs.policy.User.{is_users_address}
-use Rattle.sip_verdict.specs.host.declared.addr.Addr.{Addr}
-use Rattle.sip_verdict.specs.policy.declared.decision.Decision.{Decision}
-use Rattle.sip_verdict.specs.location.declared.binding.Binding.{Binding}
-use Rattle.sip_verdict.specs.location.declared.error.LocationError.{LocationError}
-use Rattle.sip_verdict.specs.location.declared.error.LocationError.TheVariants.{NoMemory, BadStar, TooBrief, OldCSeq, TooMany}
-use Rattle.sip_verdict.specs.location.Registration.{registered}
-use Rattle.sip_verdict.specs.targets.declared.targets.Targets.{Targets}
-use Rattle.sip_verdict.specs.validate.Candidate.{Candidate}
-use Rattle.sip_verdict.specs.validate.Refusal.{Row, rows, refusal, candidate_by, candidate_of, refusal_of, is_bad_request}
-use Rattle.sip_verdict.specs.dialog.declared.dialog.DialogId.{DialogId}
-use Rattle.sip_verdict.specs.dialog.Dialogs.{IsInDialog, is_in_dialog}
+use Rattle.sip_message_fields.specs.declared.field_name.FieldName.TheVariants as Name
+use Rattle.sip_message_fields.specs.declared.field.Field.{Field}
+use Rattle.sip_message_form.specs.declared.message.Start.{Start}
+use Rattle.sip_message_form.specs.declared.message.Start.TheVariants.{Request, Status}
+use Rattle.sip_message_form.specs.declared.message.Message.{Message}
+use Rattle.sip_message.specs.Reading.{reading_of}
+use Rattle.sip_route.specs.declared.own.Own.{Own}
+use Rattle.sip_transaction_table.specs.declared.key.Key.{Key}
+use Rattle.sip_header.specs.declared.cseq.CSeq.{CSeq}
+use Rattle.sip_header.specs.declared.core_fields.CoreFields.{CoreFields}
+use Rattle.sip_transaction_table.specs.Key.{key_of}
+use Rattle.sip_message_fields.specs.Values.{values_of}
+use Rattle.sip_header.specs.CoreFields.{core_of, cseq_in}
+use Rattle.sip_route.specs.Way.{request_uri_of}
+use Rattle.sip_policy.specs.User.{is_users_address}
+use Rattle.sip_uri.specs.declared.addr.Addr.{Addr}
+use Rattle.sip_policy.specs.declared.decision.Decision.{Decision}
+use Rattle.sip_location.specs.declared.binding.Binding.{Binding}
+use Rattle.sip_location.specs.declared.error.LocationError.{LocationError}
+use Rattle.sip_location.specs.declared.error.LocationError.TheVariants.{NoMemory, BadStar, TooBrief, OldCSeq, TooMany}
+use Rattle.sip_location.specs.Registration.{registered}
+use Rattle.sip_targets.specs.declared.targets.Targets.{Targets}
+use Rattle.sip_validate.specs.Candidate.{Candidate}
+use Rattle.sip_validate.specs.Refusal.{Row, rows, refusal, candidate_by, candidate_of, refusal_of, is_bad_request}
+use Rattle.sip_dialog.specs.declared.dialog.DialogId.{DialogId}
+use Rattle.sip_dialog.specs.Dialogs.{IsInDialog, is_in_dialog}
 use Rattle.std.proofs.lemmas.Slice.Eq.{bytes_eq-Decides}
-use Rattle.sip_verdict.specs.dialog.DialogId.{id_of}
-use Rattle.sip_verdict.proofs.of_context.of_state.of_dialog.Tests.{test_says}
-use Rattle.sip_verdict.specs.state.declared.server.Server.{Server}
-use Rattle.sip_verdict.specs.location.Registering.{registration_of, to_aor}
-use Rattle.sip_verdict.specs.state.declared.branch.Branch.{Branch}
-use Rattle.sip_verdict.specs.state.declared.open_request.OpenRequest.{OpenRequest}
-use Rattle.sip_verdict.specs.state.declared.proxy_state.ProxyState.{ProxyState}
-use Rattle.sip_verdict.specs.state.State.{has_key, is_provisional}
-use Rattle.sip_verdict.specs.state.Dialogs.{dialog_of}
-use Rattle.sip_verdict.specs.context.Branches.{is_accepted}
-use Rattle.sip_verdict.specs.context.FoundBranch.{is_branch, branch_in, found_branch}
-use Rattle.sip_verdict.specs.state.Arrival.{Arrival}
-use Rattle.sip_verdict.specs.declared.question.Question.{Question}
-use Rattle.sip_verdict.specs.Verdict.{Registered, Bound, Refused, Verdict, Drop, Respond, Copy, AckOn, Cancel, Answer, InDialog, Challenge, Deny, Send, Register, is_many, response_verdict, top_branch, responding, next_address, within_at, within, ack_verdict, is_full, is_cancelled_by, found_for_cancel, cancel_verdict, is_register, question_of, registered_by, registration_by, is_own_uri, request_targets, decided, policy_verdict, is_outside, core_verdict, checked_verdict, new_verdict, by_open, by_key, by_start, message_verdict, message_in}
-use Rattle.sip_model.specs.Effect.{method_of}
-use Rattle.sip_model.specs.Step.{Act}
+use Rattle.sip_dialog.specs.DialogId.{id_of}
+use Rattle.sip_dialog.proofs.Tests.{test_says}
+use Rattle.model_steps.specs.state.declared.server.Server.{Server}
+use Rattle.sip_location.specs.Registering.{registration_of, to_aor}
+use Rattle.model_steps.specs.state.declared.branch.Branch.{Branch}
+use Rattle.model_steps.specs.state.declared.open_request.OpenRequest.{OpenRequest}
+use Rattle.model_steps.specs.state.declared.proxy_state.ProxyState.{ProxyState}
+use Rattle.model_steps.specs.state.State.{has_key, is_provisional}
+use Rattle.model_steps.specs.state.Dialogs.{dialog_of}
+use Rattle.model_steps.specs.context_model.Branches.{is_accepted}
+use Rattle.model_steps.specs.context_model.FoundBranch.{is_branch, branch_in, found_branch}
+use Rattle.model_steps.specs.state.Arrival.{Arrival}
+use Rattle.model_steps.specs.verdict_model.declared.question.Question.{Question}
+use Rattle.model_steps.specs.verdict_model.Verdict.{Registered, Bound, Refused, Verdict, Drop, Respond, Copy, AckOn, Cancel, Answer, InDialog, Challenge, Deny, Send, Register, is_many, response_verdict, top_branch, responding, next_address, within_at, within, ack_verdict, is_full, is_cancelled_by, found_for_cancel, cancel_verdict, is_register, question_of, registered_by, registration_by, is_own_uri, request_targets, decided, policy_verdict, is_outside, core_verdict, checked_verdict, new_verdict, by_open, by_key, by_start, message_verdict, message_in}
+use Rattle.model_steps.specs.Effect.{method_of}
+use Rattle.model_steps.specs.Step.{Act}
 use Rattle.sip_model.specs.Access.{IsNewRequest, IsSaidAt, IsWithin, decision_on, rule_of}
 use Rattle.sip_model.proofs.Lists.{all_find, all_there}
 

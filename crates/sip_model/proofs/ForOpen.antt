@@ -1,22 +1,22 @@
 -- What a change of an open request sends is what a step may send for it: an ACK, an answer, and CANCELs.
 use Rattle.std.proofs.Common.{◌≡◌, inl, ℕ, Bool, true, false, not, ◌&&◌, ◌||◌, cond, List, [], ◌∷◌, ◌++◌, filter, flat_map, Contains, Option, Some, None, option_map, refl, sym, ap, subst, ◌∙◌, true≢false}
 use Rattle.std.specs.List.{AllByRecursion}
-use Rattle.sip_verdict.specs.form.declared.message.Message.{Message}
-use Rattle.sip_verdict.specs.form.Text.{text_of}
-use Rattle.sip_verdict.specs.best.declared.final_answer.Final.{Final}
-use Rattle.sip_verdict.specs.best.Best.{best_of}
-use Rattle.sip_verdict.specs.event.declared.packet.Packet.{Packet}
-use Rattle.sip_verdict.specs.state.declared.server.Server.{Server}
-use Rattle.sip_verdict.specs.state.declared.branch.Branch.{Branch}
-use Rattle.sip_verdict.specs.state.declared.branch.Phase.{Phase}
-use Rattle.sip_verdict.specs.state.declared.open_request.OpenRequest.{OpenRequest}
-use Rattle.sip_verdict.specs.state.declared.open_request.Upward.{Upward}
-use Rattle.sip_verdict.specs.state.declared.proxy_state.ProxyState.{ProxyState}
-use Rattle.sip_verdict.specs.state.State.{is_invite, is_final, is_answering}
-use Rattle.sip_verdict.specs.context.Sending.{answer_to}
-use Rattle.sip_verdict.specs.context.Branches.{all_final, best_upward, upward_of, upward_list, after_upward, is_cancellable, is_ready, is_unheard, settled, relayed_from}
-use Rattle.sip_model.specs.Effect.{change_packets, upward_packets}
-use Rattle.sip_model.specs.Step.{Act}
+use Rattle.sip_message_form.specs.declared.message.Message.{Message}
+use Rattle.sip_message_form.specs.Text.{text_of}
+use Rattle.sip_best.specs.declared.final_answer.Final.{Final}
+use Rattle.sip_best.specs.Best.{best_of}
+use Rattle.sip_event.specs.declared.packet.Packet.{Packet}
+use Rattle.model_steps.specs.state.declared.server.Server.{Server}
+use Rattle.model_steps.specs.state.declared.branch.Branch.{Branch}
+use Rattle.model_steps.specs.state.declared.branch.Phase.{Phase}
+use Rattle.model_steps.specs.state.declared.open_request.OpenRequest.{OpenRequest}
+use Rattle.model_steps.specs.state.declared.open_request.Upward.{Upward}
+use Rattle.model_steps.specs.state.declared.proxy_state.ProxyState.{ProxyState}
+use Rattle.model_steps.specs.state.State.{is_invite, is_final, is_answering}
+use Rattle.model_steps.specs.context_model.Sending.{answer_to}
+use Rattle.model_steps.specs.context_model.Branches.{all_final, best_upward, upward_of, upward_list, after_upward, is_cancellable, is_ready, is_unheard, settled, relayed_from}
+use Rattle.model_steps.specs.Effect.{change_packets, upward_packets}
+use Rattle.model_steps.specs.Step.{Act}
 use Rattle.sip_model.specs.Run.{Link}
 use Rattle.sip_model.specs.Access.{ComesNow, IsAckNow, IsAnswerNow, NoAnswer, PassedOn, Best, IsPassedOn, EndsNow, OthersEnded, IsMadeLater, IsCancelledNow, WasGivenUp, IsForOpen, ForOne}
 use Rattle.sip_model.proofs.Later.{bare}

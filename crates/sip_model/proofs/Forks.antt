@@ -4,19 +4,19 @@ use Rattle.std.specs.Prelude.{◌++◌, ◌==◌, not, filter}
 use Rattle.std.specs.Option.{option_map_or}
 use Rattle.std.specs.List.{flat_map}
 use Rattle.std.proofs.lemmas.List.Elements.{filter-append}
-use Rattle.sip_verdict.specs.form.Text.{text_of}
-use Rattle.sip_verdict.specs.host.declared.addr.Addr.{Addr}
-use Rattle.sip_verdict.specs.targets.declared.target.Target.{Target}
-use Rattle.sip_verdict.specs.context.audit.declared.record.Record.{Record}
-use Rattle.sip_verdict.specs.event.declared.packet.Packet.{Packet}
-use Rattle.sip_verdict.specs.state.declared.server.Server.{Server}
-use Rattle.sip_verdict.specs.state.declared.proxy_state.ProxyState.{ProxyState}
-use Rattle.sip_verdict.specs.state.declared.open_request.OpenRequest.{OpenRequest}
-use Rattle.sip_verdict.specs.context.Sending.{branch_packets, sent_of}
-use Rattle.sip_verdict.specs.state.declared.open_request.Upward.{Upward}
-use Rattle.sip_verdict.specs.context.Branches.{Change, best_upward, is_cancellable, cancel_branch, new_cancels, after_upward, settled}
-use Rattle.sip_verdict.specs.context.Opening.{branch_to, branches_from, trying, tried}
-use Rattle.sip_model.specs.Effect.{upward_packets, change_packets, forked}
+use Rattle.sip_message_form.specs.Text.{text_of}
+use Rattle.sip_uri.specs.declared.addr.Addr.{Addr}
+use Rattle.sip_targets.specs.declared.target.Target.{Target}
+use Rattle.sip_audit.specs.declared.record.Record.{Record}
+use Rattle.sip_event.specs.declared.packet.Packet.{Packet}
+use Rattle.model_steps.specs.state.declared.server.Server.{Server}
+use Rattle.model_steps.specs.state.declared.proxy_state.ProxyState.{ProxyState}
+use Rattle.model_steps.specs.state.declared.open_request.OpenRequest.{OpenRequest}
+use Rattle.model_steps.specs.context_model.Sending.{branch_packets, sent_of}
+use Rattle.model_steps.specs.state.declared.open_request.Upward.{Upward}
+use Rattle.model_steps.specs.context_model.Branches.{Change, best_upward, is_cancellable, cancel_branch, new_cancels, after_upward, settled}
+use Rattle.model_steps.specs.context_model.Opening.{branch_to, branches_from, trying, tried}
+use Rattle.model_steps.specs.Effect.{upward_packets, change_packets, forked}
 
 -- whether a packet is a branch's request
 abbrev pub is_of_branch : Packet → Bool

@@ -2,19 +2,19 @@
 use Rattle.std.proofs.Common.{◌≡◌, ℕ, ◌+◌, ◌≤◌, ◌<◌, ◌==◌, not, ◌&&◌, ◌||◌, Bool, true, false, cond, List, [], ◌∷◌, refl, sym, ap, subst, ◌∙◌, true≢false, arith, count_by, None}
 use Rattle.std.specs.List.{AllByRecursion}
 use Rattle.std.proofs.lemmas.Bool.Decides.{nat_tests}
-use Rattle.sip_verdict.specs.form.declared.message.Message.{Message}
-use Rattle.sip_verdict.specs.event.declared.packet.Packet.{Packet}
-use Rattle.sip_verdict.specs.state.declared.resend.Resend.{Resend}
-use Rattle.sip_verdict.specs.state.declared.server.Server.{Server}
-use Rattle.sip_verdict.specs.state.declared.branch.Branch.{Branch}
-use Rattle.sip_verdict.specs.state.declared.open_request.OpenRequest.{OpenRequest}
-use Rattle.sip_verdict.specs.state.declared.proxy_state.ProxyState.{ProxyState}
-use Rattle.sip_verdict.specs.state.State.{first_state, is_invite}
-use Rattle.sip_verdict.specs.state.Arrival.{Arrival}
-use Rattle.sip_verdict.specs.context.Branches.{is_same_branch, is_ready, is_unheard, was_refused, acknowledged_side, acknowledged}
-use Rattle.sip_verdict.specs.context.Opening.{forking, trying, tried}
-use Rattle.sip_retransmission.specs.Retransmission.{IsResent, OfAnswer, OfRequest, branch_next}
-use Rattle.sip_model.specs.Effect.{change_packets}
+use Rattle.sip_message_form.specs.declared.message.Message.{Message}
+use Rattle.sip_event.specs.declared.packet.Packet.{Packet}
+use Rattle.model_steps.specs.state.declared.resend.Resend.{Resend}
+use Rattle.model_steps.specs.state.declared.server.Server.{Server}
+use Rattle.model_steps.specs.state.declared.branch.Branch.{Branch}
+use Rattle.model_steps.specs.state.declared.open_request.OpenRequest.{OpenRequest}
+use Rattle.model_steps.specs.state.declared.proxy_state.ProxyState.{ProxyState}
+use Rattle.model_steps.specs.state.State.{first_state, is_invite}
+use Rattle.model_steps.specs.state.Arrival.{Arrival}
+use Rattle.model_steps.specs.context_model.Branches.{is_same_branch, is_ready, is_unheard, was_refused, acknowledged_side, acknowledged}
+use Rattle.model_steps.specs.context_model.Opening.{forking, trying, tried}
+use Rattle.model_steps.specs.context_model.Retransmission.{IsResent, OfAnswer, OfRequest, branch_next}
+use Rattle.model_steps.specs.Effect.{change_packets}
 use Rattle.sip_model.specs.Run.{Link, IsChain}
 use Rattle.sip_model.specs.Access.{WasGivenUp}
 use Rattle.sip_model.specs.Parts.{IsBegun, AreBegun, IsOpening, Answered, Sent, IsPart, Stays, Passes, Copies, TurnsAway, Opens, Changes, Resends, Acknowledges, AreParts, One, Two, HasParts}

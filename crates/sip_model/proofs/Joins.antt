@@ -1,11 +1,11 @@
 -- Two runs, one behind the other, are one.
 use Rattle.std.proofs.Common.{◌≡◌, ◌∙◌, ℕ, List, [], ◌∷◌, ◌++◌, reverse, refl, sym, ap, ap₂, subst, Option, Some}
 use Rattle.std.proofs.lemmas.List.{reverse-append}
-use Rattle.sip_verdict.specs.event.declared.event.StepOut.{StepOut}
-use Rattle.sip_verdict.specs.event.declared.event.Event.{Event}
-use Rattle.sip_verdict.specs.state.declared.server.Server.{Server}
-use Rattle.sip_verdict.specs.state.declared.proxy_state.ProxyState.{ProxyState}
-use Rattle.sip_model.specs.Step.{Act, Given, Passing}
+use Rattle.sip_event.specs.declared.event.StepOut.{StepOut}
+use Rattle.sip_event.specs.declared.event.Event.{Event}
+use Rattle.model_steps.specs.state.declared.server.Server.{Server}
+use Rattle.model_steps.specs.state.declared.proxy_state.ProxyState.{ProxyState}
+use Rattle.model_steps.specs.Step.{Act, Given, Passing}
 use Rattle.sip_model.specs.Run.{Link, IsChain, event_of, events_of, steps_of, event_moment, next_moment, IsPaced, first_moment, IsRun}
 
 -- a chain behind another one

@@ -4,29 +4,29 @@ use Rattle.std.specs.Prelude.{find, codes, Result, Ok, Err, ◌&&◌}
 use Rattle.std.specs.Option.{option_map_or}
 use Rattle.std.specs.Result.{result_ok}
 use Rattle.std.specs.Str.{bytes_eq}
-use Rattle.sip_verdict.specs.field.declared.field.Field.{Field}
-use Rattle.sip_verdict.specs.form.declared.message.Start.{Start}
-use Rattle.sip_verdict.specs.form.declared.message.Start.TheVariants as Begins
-use Rattle.sip_verdict.specs.form.declared.message.Message.{Message}
-use Rattle.sip_verdict.specs.message.Reading.{reading_of}
-use Rattle.sip_verdict.specs.way.declared.own.Own.{Own}
-use Rattle.sip_verdict.specs.key.declared.key.Key.{Key}
-use Rattle.sip_verdict.specs.header.declared.core_fields.CoreFields.{CoreFields}
-use Rattle.sip_verdict.specs.key.Key.{key_of}
-use Rattle.sip_verdict.specs.header.CoreFields.{core_of}
-use Rattle.sip_verdict.specs.host.declared.addr.Addr.{Addr}
-use Rattle.sip_verdict.specs.validate.Refusal.{refusal, refusal_of, candidate_by, is_bad_request}
-use Rattle.sip_verdict.specs.dialog.declared.dialog.DialogId.{DialogId}
-use Rattle.sip_verdict.specs.dialog.Dialogs.{is_in_dialog}
-use Rattle.sip_verdict.specs.state.declared.server.Server.{Server}
-use Rattle.sip_verdict.specs.state.declared.proxy_state.ProxyState.{ProxyState}
-use Rattle.sip_verdict.specs.state.declared.open_request.OpenRequest.{OpenRequest}
-use Rattle.sip_verdict.specs.state.declared.branch.Branch.{Branch}
-use Rattle.sip_verdict.specs.state.State.{has_key}
-use Rattle.sip_verdict.specs.context.Branches.{is_accepted}
-use Rattle.sip_verdict.specs.state.Dialogs.{dialog_of}
-use Rattle.sip_verdict.specs.state.Arrival.{Arrival}
-use Rattle.sip_verdict.specs.Verdict.{Verdict, Drop, Respond, Copy, AckOn, Cancel, Answer, InDialog, Challenge, Deny, Send, Register, response_verdict, responding, next_address, within_at, within, ack_verdict, is_full, found_for_cancel, cancel_verdict, policy_verdict, is_outside, core_verdict, checked_verdict, new_verdict, by_open, by_key, by_start, message_verdict, message_in}
+use Rattle.sip_message_fields.specs.declared.field.Field.{Field}
+use Rattle.sip_message_form.specs.declared.message.Start.{Start}
+use Rattle.sip_message_form.specs.declared.message.Start.TheVariants as Begins
+use Rattle.sip_message_form.specs.declared.message.Message.{Message}
+use Rattle.sip_message.specs.Reading.{reading_of}
+use Rattle.sip_route.specs.declared.own.Own.{Own}
+use Rattle.sip_transaction_table.specs.declared.key.Key.{Key}
+use Rattle.sip_header.specs.declared.core_fields.CoreFields.{CoreFields}
+use Rattle.sip_transaction_table.specs.Key.{key_of}
+use Rattle.sip_header.specs.CoreFields.{core_of}
+use Rattle.sip_uri.specs.declared.addr.Addr.{Addr}
+use Rattle.sip_validate.specs.Refusal.{refusal, refusal_of, candidate_by, is_bad_request}
+use Rattle.sip_dialog.specs.declared.dialog.DialogId.{DialogId}
+use Rattle.sip_dialog.specs.Dialogs.{is_in_dialog}
+use Rattle.model_steps.specs.state.declared.server.Server.{Server}
+use Rattle.model_steps.specs.state.declared.proxy_state.ProxyState.{ProxyState}
+use Rattle.model_steps.specs.state.declared.open_request.OpenRequest.{OpenRequest}
+use Rattle.model_steps.specs.state.declared.branch.Branch.{Branch}
+use Rattle.model_steps.specs.state.State.{has_key}
+use Rattle.model_steps.specs.context_model.Branches.{is_accepted}
+use Rattle.model_steps.specs.state.Dialogs.{dialog_of}
+use Rattle.model_steps.specs.state.Arrival.{Arrival}
+use Rattle.model_steps.specs.verdict_model.Verdict.{Verdict, Drop, Respond, Copy, AckOn, Cancel, Answer, InDialog, Challenge, Deny, Send, Register, response_verdict, responding, next_address, within_at, within, ack_verdict, is_full, found_for_cancel, cancel_verdict, policy_verdict, is_outside, core_verdict, checked_verdict, new_verdict, by_open, by_key, by_start, message_verdict, message_in}
 use Rattle.sip_model.specs.Access.{IsNewRequest}
 
 -- whether a verdict is one that policy gives

@@ -2,25 +2,25 @@
 use Rattle.std.proofs.Common.{◌≡◌, ◌∙◌, inl, ℕ, ◌+◌, ◌==◌, not, ◌&&◌, ◌||◌, List, [], ◌∷◌, map, cond, Bool, true, false, refl, sym, ap, subst, Contains, Option, Some, None, true≢false, arith, ◌++◌}
 use Rattle.std.proofs.lemmas.Bool.Decides.{nat_tests}
 use Rattle.std.specs.List.{AllByRecursion}
-use Rattle.sip_verdict.specs.form.declared.message.Message.{Message}
-use Rattle.sip_verdict.specs.best.declared.final_answer.Final.{Final}
-use Rattle.sip_verdict.specs.event.declared.packet.Packet.{Packet}
-use Rattle.sip_verdict.specs.state.declared.resend.Resend.{Resend}
-use Rattle.sip_verdict.specs.state.declared.server.Server.{Server}
-use Rattle.sip_verdict.specs.state.declared.branch.Phase.{Phase}
-use Rattle.sip_verdict.specs.state.declared.open_request.Side.{Side}
-use Rattle.sip_verdict.specs.state.declared.branch.Branch.{Branch}
-use Rattle.sip_verdict.specs.state.declared.open_request.OpenRequest.{OpenRequest}
-use Rattle.sip_verdict.specs.state.declared.proxy_state.ProxyState.{ProxyState}
-use Rattle.sip_verdict.specs.state.declared.branch.Phase.TheVariants.{Unheard, Heard, Cancelled, Done, Ended}
-use Rattle.sip_verdict.specs.state.declared.open_request.Side.TheVariants.{Closed}
-use Rattle.sip_verdict.specs.state.State.{first_resend, is_invite, is_final, is_answering, is_success, is_decline, is_provisional}
-use Rattle.sip_verdict.specs.state.declared.open_request.Upward.{Upward}
-use Rattle.sip_retransmission.specs.Retransmission.{IsResent, OfAnswer, OfRequest, branch_next}
-use Rattle.sip_verdict.specs.context.Branches.{is_same_branch, with_phase, with_final, marked, given_up, answered, after_upward, is_ready, cancel_branch, with_cancels, search_ended, with_answer, final_of, linger, target_overdue, branch_overdue, acknowledged_side, was_refused, acknowledged, turned, told_to}
+use Rattle.sip_message_form.specs.declared.message.Message.{Message}
+use Rattle.sip_best.specs.declared.final_answer.Final.{Final}
+use Rattle.sip_event.specs.declared.packet.Packet.{Packet}
+use Rattle.model_steps.specs.state.declared.resend.Resend.{Resend}
+use Rattle.model_steps.specs.state.declared.server.Server.{Server}
+use Rattle.model_steps.specs.state.declared.branch.Phase.{Phase}
+use Rattle.model_steps.specs.state.declared.open_request.Side.{Side}
+use Rattle.model_steps.specs.state.declared.branch.Branch.{Branch}
+use Rattle.model_steps.specs.state.declared.open_request.OpenRequest.{OpenRequest}
+use Rattle.model_steps.specs.state.declared.proxy_state.ProxyState.{ProxyState}
+use Rattle.model_steps.specs.state.declared.branch.Phase.TheVariants.{Unheard, Heard, Cancelled, Done, Ended}
+use Rattle.model_steps.specs.state.declared.open_request.Side.TheVariants.{Closed}
+use Rattle.model_steps.specs.state.State.{first_resend, is_invite, is_final, is_answering, is_success, is_decline, is_provisional}
+use Rattle.model_steps.specs.state.declared.open_request.Upward.{Upward}
+use Rattle.model_steps.specs.context_model.Retransmission.{IsResent, OfAnswer, OfRequest, branch_next}
+use Rattle.model_steps.specs.context_model.Branches.{is_same_branch, with_phase, with_final, marked, given_up, answered, after_upward, is_ready, cancel_branch, with_cancels, search_ended, with_answer, final_of, linger, target_overdue, branch_overdue, acknowledged_side, was_refused, acknowledged, turned, told_to}
 use Rattle.sip_model.specs.Run.{Link}
-use Rattle.sip_model.specs.Step.{Act}
-use Rattle.sip_verdict.specs.context.Opening.{tried}
+use Rattle.model_steps.specs.Step.{Act}
+use Rattle.model_steps.specs.context_model.Opening.{tried}
 use Rattle.sip_model.specs.Access.{WasHeard}
 use Rattle.sip_model.proofs.Lists.{all_append, all_map, all_weaker, all_contains, all_there}
 use Rattle.sip_model.proofs.Apart.{TargetsDiffer, goes_to, differ_edited, differ_with_cancels}

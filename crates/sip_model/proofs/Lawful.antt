@@ -1,12 +1,12 @@
 -- Every step of a run is lawful by its history.
 use Rattle.std.proofs.Common.{ℕ, List, [], ◌∷◌, Option, subst}
-use Rattle.sip_verdict.specs.location.Sameness.{SameBindings}
-use Rattle.sip_verdict.specs.event.declared.event.StepOut.{StepOut}
-use Rattle.sip_verdict.specs.event.declared.event.Event.{Event}
-use Rattle.sip_verdict.specs.state.declared.server.Server.{Server}
-use Rattle.sip_verdict.specs.state.declared.proxy_state.ProxyState.{ProxyState}
-use Rattle.sip_verdict.specs.state.State.{first_state}
-use Rattle.sip_model.specs.Step.{originals}
+use Rattle.sip_location.specs.Sameness.{SameBindings}
+use Rattle.sip_event.specs.declared.event.StepOut.{StepOut}
+use Rattle.sip_event.specs.declared.event.Event.{Event}
+use Rattle.model_steps.specs.state.declared.server.Server.{Server}
+use Rattle.model_steps.specs.state.declared.proxy_state.ProxyState.{ProxyState}
+use Rattle.model_steps.specs.state.State.{first_state}
+use Rattle.model_steps.specs.Step.{originals}
 use Rattle.sip_model.specs.Run.{Link, IsChain, IsRun}
 use Rattle.sip_model.specs.Bindings.{bindings_after}
 use Rattle.sip_model.specs.Access.{IsOwed, IsLawful, Access}

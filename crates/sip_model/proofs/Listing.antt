@@ -3,12 +3,12 @@ use Rattle.std.proofs.Common.{◌≡◌, ℕ, ◌+◌, ◌*◌, ◌/◌, ◌≤�
 use Rattle.std.specs.Prelude.{◌-◌}
 use Rattle.std.specs.List.{AllByRecursion}
 use Rattle.std.proofs.lemmas.Bool.Decides.{nat_tests}
-use Rattle.sip_verdict.specs.uri.declared.aor.Aor.{Aor}
-use Rattle.sip_verdict.specs.uri.Aor.{is_same_aor}
-use Rattle.sip_verdict.specs.location.declared.binding.Binding.{Binding}
-use Rattle.sip_verdict.specs.location.Binding.{is_live, is_of, live, seconds_left}
-use Rattle.sip_verdict.proofs.of_context.of_state.of_location.Updates.{same_is}
-use Rattle.sip_model.specs.Effect.{contact_field, contact_fields}
+use Rattle.sip_uri.specs.declared.aor.Aor.{Aor}
+use Rattle.sip_uri.specs.Aor.{is_same_aor}
+use Rattle.sip_location.specs.declared.binding.Binding.{Binding}
+use Rattle.sip_location.specs.Binding.{is_live, is_of, live, seconds_left}
+use Rattle.sip_location.proofs.Updates.{same_is}
+use Rattle.model_steps.specs.Effect.{contact_field, contact_fields}
 use Rattle.sip_model.specs.Listed.{IsListed}
 use Rattle.sip_model.proofs.Lists.{all_map, all_passing, all_there}
 

@@ -2,26 +2,26 @@
 use Rattle.std.proofs.Common.{◌≡◌, ◌⊎◌, inl, inr, ℕ, ◌+◌, ◌==◌, not, ◌&&◌, ◌||◌, Bool, true, false, cond, List, [], ◌∷◌, ◌++◌, map, filter, refl, sym, subst, arith, Option, Some, None, is_some, option_map}
 use Rattle.std.specs.List.{AllByRecursion, flat_map}
 use Rattle.std.proofs.lemmas.Bool.Decides.{nat_tests}
-use Rattle.sip_verdict.specs.field.declared.field.Field.{Field}
-use Rattle.sip_verdict.specs.form.declared.message.Message.{Message}
-use Rattle.sip_verdict.specs.best.declared.final_answer.Final.{Final}
-use Rattle.sip_verdict.specs.best.Best.{best_of, picked, chosen_of, going_up, is_unbeaten, is_challenge_status, challenging, challenges_of, taking_along}
-use Rattle.sip_verdict.specs.event.declared.packet.Packet.{Packet}
-use Rattle.sip_verdict.specs.state.declared.server.Server.{Server}
-use Rattle.sip_verdict.specs.state.declared.branch.Phase.{Phase}
-use Rattle.sip_verdict.specs.state.declared.branch.Branch.{Branch}
-use Rattle.sip_verdict.specs.state.declared.open_request.OpenRequest.{OpenRequest}
-use Rattle.sip_verdict.specs.state.declared.proxy_state.ProxyState.{ProxyState}
-use Rattle.sip_verdict.specs.state.declared.branch.Phase.TheVariants.{Unheard, Heard, Cancelled, Done, Ended}
-use Rattle.sip_verdict.specs.state.declared.open_request.Side.TheVariants.{Closed}
-use Rattle.sip_verdict.specs.state.State.{first_state, is_invite, is_final, is_answering, is_success, is_decline, is_provisional}
-use Rattle.sip_verdict.specs.state.declared.open_request.Upward.{Upward}
-use Rattle.sip_verdict.specs.state.Arrival.{Arrival}
-use Rattle.sip_verdict.specs.context.Branches.{Change, is_same_branch, with_phase, with_final, marked, given_up, answered, after_upward, best_upward, settled, other_heard, heard, relayed_provisional, relayed_success, final_of, linger, told_to, with_answer, acks_of, further, target_responded, cancel_responded, target_overdue, was_refused, acknowledged_side, acknowledged}
-use Rattle.sip_verdict.specs.context.Opening.{forking, trying, tried}
-use Rattle.sip_retransmission.specs.Retransmission.{IsResent, OfAnswer, OfRequest}
-use Rattle.sip_model.specs.Effect.{change_packets}
-use Rattle.sip_model.specs.Step.{Act, IsOverdue, OfSide, OfBranch}
+use Rattle.sip_message_fields.specs.declared.field.Field.{Field}
+use Rattle.sip_message_form.specs.declared.message.Message.{Message}
+use Rattle.sip_best.specs.declared.final_answer.Final.{Final}
+use Rattle.sip_best.specs.Best.{best_of, picked, chosen_of, going_up, is_unbeaten, is_challenge_status, challenging, challenges_of, taking_along}
+use Rattle.sip_event.specs.declared.packet.Packet.{Packet}
+use Rattle.model_steps.specs.state.declared.server.Server.{Server}
+use Rattle.model_steps.specs.state.declared.branch.Phase.{Phase}
+use Rattle.model_steps.specs.state.declared.branch.Branch.{Branch}
+use Rattle.model_steps.specs.state.declared.open_request.OpenRequest.{OpenRequest}
+use Rattle.model_steps.specs.state.declared.proxy_state.ProxyState.{ProxyState}
+use Rattle.model_steps.specs.state.declared.branch.Phase.TheVariants.{Unheard, Heard, Cancelled, Done, Ended}
+use Rattle.model_steps.specs.state.declared.open_request.Side.TheVariants.{Closed}
+use Rattle.model_steps.specs.state.State.{first_state, is_invite, is_final, is_answering, is_success, is_decline, is_provisional}
+use Rattle.model_steps.specs.state.declared.open_request.Upward.{Upward}
+use Rattle.model_steps.specs.state.Arrival.{Arrival}
+use Rattle.model_steps.specs.context_model.Branches.{Change, is_same_branch, with_phase, with_final, marked, given_up, answered, after_upward, best_upward, settled, other_heard, heard, relayed_provisional, relayed_success, final_of, linger, told_to, with_answer, acks_of, further, target_responded, cancel_responded, target_overdue, was_refused, acknowledged_side, acknowledged}
+use Rattle.model_steps.specs.context_model.Opening.{forking, trying, tried}
+use Rattle.model_steps.specs.context_model.Retransmission.{IsResent, OfAnswer, OfRequest}
+use Rattle.model_steps.specs.Effect.{change_packets}
+use Rattle.model_steps.specs.Step.{Act, IsOverdue, OfSide, OfBranch}
 use Rattle.sip_model.specs.Run.{Link, IsChain}
 use Rattle.sip_model.specs.Access.{IsMadeLater}
 use Rattle.sip_model.specs.Parts.{IsChangeAt, ByResponse, ByDeadline, ByFault, ByCancel, IsOpening, Answered, Sent, IsPart, Stays, Passes, Copies, TurnsAway, Opens, Changes, Resends, Acknowledges, AreParts, One, Two, HasParts}

@@ -1,17 +1,17 @@
 -- The moment of a state doesn't go back.
 use Rattle.std.proofs.Common.{inl, inr, ℕ, ◌≤◌, sym, subst, arith, List, ◌∷◌}
 use Rattle.std.specs.List.{AllByRecursion}
-use Rattle.sip_verdict.specs.event.declared.packet.Packet.{Packet}
-use Rattle.sip_verdict.specs.event.declared.event.StepOut.{StepOut}
-use Rattle.sip_verdict.specs.event.declared.event.Event.TheVariants.{Datagram, Time, Fault}
-use Rattle.sip_verdict.specs.state.declared.server.Server.{Server}
-use Rattle.sip_verdict.specs.state.declared.branch.Branch.{Branch}
-use Rattle.sip_verdict.specs.state.declared.open_request.OpenRequest.{OpenRequest}
-use Rattle.sip_verdict.specs.state.declared.proxy_state.ProxyState.{ProxyState}
-use Rattle.sip_verdict.specs.state.State.{first_state, phase_deadline, is_invite}
-use Rattle.sip_retransmission.specs.Retransmission.{IsResent, OfAnswer, OfRequest}
-use Rattle.sip_verdict.specs.context.Branches.{Change}
-use Rattle.sip_model.specs.Step.{Act, Given, Passing, IsStep, IsOverdue, OfSide, OfBranch, NoneBefore}
+use Rattle.sip_event.specs.declared.packet.Packet.{Packet}
+use Rattle.sip_event.specs.declared.event.StepOut.{StepOut}
+use Rattle.sip_event.specs.declared.event.Event.TheVariants.{Datagram, Time, Fault}
+use Rattle.model_steps.specs.state.declared.server.Server.{Server}
+use Rattle.model_steps.specs.state.declared.branch.Branch.{Branch}
+use Rattle.model_steps.specs.state.declared.open_request.OpenRequest.{OpenRequest}
+use Rattle.model_steps.specs.state.declared.proxy_state.ProxyState.{ProxyState}
+use Rattle.model_steps.specs.state.State.{first_state, phase_deadline, is_invite}
+use Rattle.model_steps.specs.context_model.Retransmission.{IsResent, OfAnswer, OfRequest}
+use Rattle.model_steps.specs.context_model.Branches.{Change}
+use Rattle.model_steps.specs.Step.{Act, Given, Passing, IsStep, IsOverdue, OfSide, OfBranch, NoneBefore}
 use Rattle.sip_model.specs.Run.{Link, IsChain}
 use Rattle.sip_model.proofs.Places.{in_from_contains, all_in}
 use Rattle.sip_model.proofs.Steps.{stands_at, step_taken}

@@ -1,18 +1,18 @@
 -- What a step makes of the list of open requests: it stays, one more is opened, or one that is open changes.
 use Rattle.std.proofs.Common.{◌≡◌, ℕ, ◌+◌, ◌≤◌, false, cond, List, [], ◌∷◌, ◌++◌, None, sym, ap, subst, ◌∙◌, append_assoc, count_by, is_some}
 use Rattle.std.specs.List.{AllByRecursion}
-use Rattle.sip_verdict.specs.form.declared.message.Message.{Message}
-use Rattle.sip_verdict.specs.event.declared.packet.Packet.{Packet}
-use Rattle.sip_verdict.specs.state.declared.server.Server.{Server}
-use Rattle.sip_verdict.specs.state.declared.branch.Branch.{Branch}
-use Rattle.sip_verdict.specs.state.declared.open_request.OpenRequest.{OpenRequest}
-use Rattle.sip_verdict.specs.state.declared.branch.Phase.TheVariants.{Unheard, Ended}
-use Rattle.sip_verdict.specs.state.State.{first_resend, has_key}
-use Rattle.sip_retransmission.specs.Retransmission.{IsResent}
-use Rattle.sip_verdict.specs.context.Branches.{Change, settled, acknowledged}
-use Rattle.sip_verdict.specs.state.Arrival.{Arrival}
-use Rattle.sip_verdict.specs.context.Opening.{closing, forking, tried, trying}
-use Rattle.sip_model.specs.Effect.{replaced}
+use Rattle.sip_message_form.specs.declared.message.Message.{Message}
+use Rattle.sip_event.specs.declared.packet.Packet.{Packet}
+use Rattle.model_steps.specs.state.declared.server.Server.{Server}
+use Rattle.model_steps.specs.state.declared.branch.Branch.{Branch}
+use Rattle.model_steps.specs.state.declared.open_request.OpenRequest.{OpenRequest}
+use Rattle.model_steps.specs.state.declared.branch.Phase.TheVariants.{Unheard, Ended}
+use Rattle.model_steps.specs.state.State.{first_resend, has_key}
+use Rattle.model_steps.specs.context_model.Retransmission.{IsResent}
+use Rattle.model_steps.specs.context_model.Branches.{Change, settled, acknowledged}
+use Rattle.model_steps.specs.state.Arrival.{Arrival}
+use Rattle.model_steps.specs.context_model.Opening.{closing, forking, tried, trying}
+use Rattle.model_steps.specs.Effect.{replaced}
 use Rattle.sip_model.specs.Order.{IsChangeOf, FinalAnswer, change_finals, reply_finals, forked_finals}
 use Rattle.sip_model.proofs.Places.{IsIn}
 

@@ -5,12 +5,12 @@ use Rattle.std.specs.Option.{option_map_or, option_and_then, option_to_list}
 use Rattle.std.specs.List.{AllByRecursion, list_any}
 use Rattle.std.proofs.lemmas.Bool.Decides.{nat_tests}
 use Rattle.std.proofs.lemmas.List.Sums.{sum_by-cons, sum_by-append, sum_by-take-drop}
-use Rattle.sip_verdict.specs.nonces.declared.nonces.Nonce.{Nonce}
-use Rattle.sip_verdict.specs.nonces.declared.nonces.Worth.TheVariants as Worths
-use Rattle.sip_verdict.specs.digest.Credential.{Credential, is_answer, count_of}
-use Rattle.sip_verdict.specs.nonces.NonceText.{word_of}
-use Rattle.sip_verdict.specs.nonces.Nonces.{is_this, issued, standing, worth_of, counted}
-use Rattle.sip_verdict.specs.auth.Proof.{Proof, Right, Stale, Wrong, used}
+use Rattle.sip_digest.specs.declared.nonces.Nonce.{Nonce}
+use Rattle.sip_digest.specs.declared.nonces.Worth.TheVariants as Worths
+use Rattle.sip_digest.specs.Credential.{Credential, is_answer, count_of}
+use Rattle.sip_digest.specs.NonceText.{word_of}
+use Rattle.sip_digest.specs.Nonces.{is_this, issued, standing, worth_of, counted}
+use Rattle.sip_auth.specs.Proof.{Proof, Right, Stale, Wrong, used}
 use Rattle.sip_model.specs.Histories.{right_count, AreFalling}
 use Rattle.sip_model.proofs.Places.{all_push}
 

@@ -2,20 +2,20 @@
 use Rattle.std.proofs.Common.{◌≡◌, inl, inr, ℕ, ◌+◌, ◌≤◌, Bool, true, false, ◌&&◌, cond, ◌==◌, List, [], ◌∷◌, ◌++◌, length, append-nil, None, refl, sym, ap, subst, ◌∙◌, arith, count_by, bytes_eq, codes, nat_le}
 use Rattle.std.specs.List.{AllByRecursion}
 use Rattle.std.proofs.lemmas.Bool.Decides.{nat_tests}
-use Rattle.sip_verdict.specs.form.declared.message.Message.{Message}
-use Rattle.sip_verdict.specs.key.declared.key.Key.{Key}
-use Rattle.sip_verdict.specs.event.declared.packet.Packet.{Packet}
-use Rattle.sip_verdict.specs.state.declared.server.Server.{Server}
-use Rattle.sip_verdict.specs.state.declared.branch.Branch.{Branch}
-use Rattle.sip_verdict.specs.state.declared.open_request.OpenRequest.{OpenRequest}
-use Rattle.sip_verdict.specs.state.declared.proxy_state.ProxyState.{ProxyState}
-use Rattle.sip_verdict.specs.state.State.{first_state, is_invite, is_answering, has_left, is_provisional}
-use Rattle.sip_retransmission.specs.Retransmission.{IsResent, OfAnswer, OfRequest}
-use Rattle.sip_verdict.specs.context.Sending.{made_answer}
-use Rattle.sip_verdict.specs.context.Branches.{Change, settled, acknowledged, acknowledged_side, was_refused}
-use Rattle.sip_verdict.specs.state.Arrival.{Arrival}
-use Rattle.sip_verdict.specs.context.Opening.{arriving, closing, forking, is_tried, tried, trying}
-use Rattle.sip_model.specs.Effect.{replaced}
+use Rattle.sip_message_form.specs.declared.message.Message.{Message}
+use Rattle.sip_transaction_table.specs.declared.key.Key.{Key}
+use Rattle.sip_event.specs.declared.packet.Packet.{Packet}
+use Rattle.model_steps.specs.state.declared.server.Server.{Server}
+use Rattle.model_steps.specs.state.declared.branch.Branch.{Branch}
+use Rattle.model_steps.specs.state.declared.open_request.OpenRequest.{OpenRequest}
+use Rattle.model_steps.specs.state.declared.proxy_state.ProxyState.{ProxyState}
+use Rattle.model_steps.specs.state.State.{first_state, is_invite, is_answering, has_left, is_provisional}
+use Rattle.model_steps.specs.context_model.Retransmission.{IsResent, OfAnswer, OfRequest}
+use Rattle.model_steps.specs.context_model.Sending.{made_answer}
+use Rattle.model_steps.specs.context_model.Branches.{Change, settled, acknowledged, acknowledged_side, was_refused}
+use Rattle.model_steps.specs.state.Arrival.{Arrival}
+use Rattle.model_steps.specs.context_model.Opening.{arriving, closing, forking, is_tried, tried, trying}
+use Rattle.model_steps.specs.Effect.{replaced}
 use Rattle.sip_model.specs.Run.{Link, IsChain}
 use Rattle.sip_model.specs.Order.{is_numbered, AreNumbered, FinalAnswer, finals_up, change_finals, reply_finals, forked_finals, step_finals, history_finals, finals_to, IsAccepting, AreOneAnswer}
 use Rattle.sip_model.proofs.Places.{same_number, IsIn, all_in, all_push, all_replaced, counts_in, count_cons, one_at}

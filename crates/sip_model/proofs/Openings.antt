@@ -1,20 +1,20 @@
 -- A request as it is opened: its name, its deadlines and its final answers.
 use Rattle.std.proofs.Common.{◌≡◌, ℕ, ◌+◌, ◌≤◌, Bool, true, false, cond, List, [], ◌∷◌, Option, Some, None, refl, sym, ap, subst, ◌∙◌, arith, is_some}
 use Rattle.std.specs.List.{AllByRecursion}
-use Rattle.sip_verdict.specs.form.declared.message.Message.{Message}
-use Rattle.sip_verdict.specs.state.declared.server.Server.{Server}
-use Rattle.sip_verdict.specs.state.declared.branch.Phase.{Phase}
-use Rattle.sip_verdict.specs.state.declared.branch.Branch.{Branch}
-use Rattle.sip_verdict.specs.state.declared.open_request.OpenRequest.{OpenRequest}
-use Rattle.sip_verdict.specs.state.declared.branch.Phase.TheVariants.{Unheard, Ended}
-use Rattle.sip_verdict.specs.state.State.{first_resend, is_invite, phase_deadline}
-use Rattle.sip_verdict.specs.context.Sending.{made_answer}
-use Rattle.sip_verdict.specs.state.declared.open_request.Upward.{Upward}
-use Rattle.sip_verdict.specs.state.declared.resend.Resend.{Resend}
-use Rattle.sip_verdict.specs.context.Branches.{after_upward}
-use Rattle.sip_retransmission.specs.Retransmission.{insists}
-use Rattle.sip_verdict.specs.state.Arrival.{Arrival}
-use Rattle.sip_verdict.specs.context.Opening.{closing, forking, is_tried, tried, trying}
+use Rattle.sip_message_form.specs.declared.message.Message.{Message}
+use Rattle.model_steps.specs.state.declared.server.Server.{Server}
+use Rattle.model_steps.specs.state.declared.branch.Phase.{Phase}
+use Rattle.model_steps.specs.state.declared.branch.Branch.{Branch}
+use Rattle.model_steps.specs.state.declared.open_request.OpenRequest.{OpenRequest}
+use Rattle.model_steps.specs.state.declared.branch.Phase.TheVariants.{Unheard, Ended}
+use Rattle.model_steps.specs.state.State.{first_resend, is_invite, phase_deadline}
+use Rattle.model_steps.specs.context_model.Sending.{made_answer}
+use Rattle.model_steps.specs.state.declared.open_request.Upward.{Upward}
+use Rattle.model_steps.specs.state.declared.resend.Resend.{Resend}
+use Rattle.model_steps.specs.context_model.Branches.{after_upward}
+use Rattle.model_steps.specs.context_model.Retransmission.{insists}
+use Rattle.model_steps.specs.state.Arrival.{Arrival}
+use Rattle.model_steps.specs.context_model.Opening.{closing, forking, is_tried, tried, trying}
 use Rattle.sip_model.specs.Order.{FinalAnswer}
 use Rattle.sip_model.proofs.Moves.{IsStarted, sent_request, IsOpening, Answered, Sent}
 use Rattle.sip_model.proofs.Resending.{DueFrom, due_if, goes, IsBranchAgain, IsAgain, upward_again, settled_again}

@@ -2,37 +2,37 @@
 use Rattle.std.proofs.Common.{◌≡◌, ◌∙◌, ℕ, ◌+◌, ◌==◌, Bool, true, false, not, ◌&&◌, cond, List, [], ◌∷◌, ◌++◌, find, flat_map, bytes_eq, codes, Option, Some, None, refl, ap}
 use Rattle.std.specs.Option.{option_map_or}
 use Rattle.std.specs.List.{AllByRecursion}
-use Rattle.sip_verdict.specs.host.declared.addr.Addr.{Addr}
-use Rattle.sip_verdict.specs.form.declared.message.Message.{Message}
-use Rattle.sip_verdict.specs.field.declared.field_name.FieldName.TheVariants as Name
-use Rattle.sip_verdict.specs.field.Values.{first_value}
-use Rattle.sip_verdict.specs.form.Text.{text_of}
-use Rattle.sip_verdict.specs.edit.OwnRequests.{ack_with}
-use Rattle.sip_verdict.specs.targets.declared.targets.Targets.{Targets}
-use Rattle.sip_verdict.specs.targets.Targets.{target_list}
-use Rattle.sip_verdict.specs.event.declared.packet.Packet.{Packet}
-use Rattle.sip_verdict.specs.event.declared.packet.Ticket.{Ticket}
-use Rattle.sip_verdict.specs.event.declared.event.StepOut.{StepOut}
-use Rattle.sip_verdict.specs.state.declared.server.Server.{Server}
-use Rattle.sip_verdict.specs.state.declared.branch.Phase.{Phase}
-use Rattle.sip_verdict.specs.state.declared.branch.Phase.TheVariants.{Unheard, Heard, Cancelled, Done, Ended}
-use Rattle.sip_verdict.specs.state.declared.branch.Branch.{Branch}
-use Rattle.sip_verdict.specs.state.declared.open_request.LastAnswer.{LastAnswer}
-use Rattle.sip_verdict.specs.state.declared.open_request.Side.TheVariants.{Closed}
-use Rattle.sip_verdict.specs.state.declared.open_request.OpenRequest.{OpenRequest}
-use Rattle.sip_verdict.specs.state.declared.open_request.Upward.{Upward}
-use Rattle.sip_verdict.specs.state.declared.proxy_state.ProxyState.{ProxyState}
-use Rattle.sip_verdict.specs.state.State.{is_invite, is_answering, is_failure, is_final, is_provisional, is_success}
-use Rattle.sip_verdict.proofs.of_context.of_state.Sameness.{state_self}
-use Rattle.sip_verdict.specs.context.Sending.{answer_to, to_branch, branch_packets, ack_packets, sent_of, ticket_branch, request_of}
-use Rattle.sip_verdict.specs.context.Branches.{Change, settled, after_upward, best_upward, new_cancels, responded, target_responded, cancel_responded, acks_of, relayed_provisional, relayed_success, further, with_phase, with_answer, heard, other_heard, marked, given_up, branch_overdue}
-use Rattle.sip_retransmission.specs.Retransmission.{answers_again, is_lasting, acks_again, IsResent, OfAnswer, OfRequest}
-use Rattle.sip_verdict.specs.state.Arrival.{Arrival}
-use Rattle.sip_verdict.specs.declared.question.Question.{Question}
-use Rattle.sip_verdict.specs.Verdict.{Registered, Bound, Refused, Verdict, Drop, Respond, Copy, AckOn, Cancel, Answer, InDialog, Challenge, Deny, Send, Register, verdict_of}
-use Rattle.sip_verdict.specs.context.Opening.{tried, trying, forking, branches_from, dialog_branch}
-use Rattle.sip_model.specs.Effect.{upward_packets, change_packets, Effect, nothing, method_of, sending, registering, counted, effect_of, datagram_effect}
-use Rattle.sip_model.specs.Step.{originals, retransmissions, Does, IsOverdue, OfSide, OfBranch, is_failed, failed_branch, failed_request, fault_effect}
+use Rattle.sip_uri.specs.declared.addr.Addr.{Addr}
+use Rattle.sip_message_form.specs.declared.message.Message.{Message}
+use Rattle.sip_message_fields.specs.declared.field_name.FieldName.TheVariants as Name
+use Rattle.sip_message_fields.specs.Values.{first_value}
+use Rattle.sip_message_form.specs.Text.{text_of}
+use Rattle.sip_edit.specs.OwnRequests.{ack_with}
+use Rattle.sip_targets.specs.declared.targets.Targets.{Targets}
+use Rattle.sip_targets.specs.Targets.{target_list}
+use Rattle.sip_event.specs.declared.packet.Packet.{Packet}
+use Rattle.sip_event.specs.declared.packet.Ticket.{Ticket}
+use Rattle.sip_event.specs.declared.event.StepOut.{StepOut}
+use Rattle.model_steps.specs.state.declared.server.Server.{Server}
+use Rattle.model_steps.specs.state.declared.branch.Phase.{Phase}
+use Rattle.model_steps.specs.state.declared.branch.Phase.TheVariants.{Unheard, Heard, Cancelled, Done, Ended}
+use Rattle.model_steps.specs.state.declared.branch.Branch.{Branch}
+use Rattle.model_steps.specs.state.declared.open_request.LastAnswer.{LastAnswer}
+use Rattle.model_steps.specs.state.declared.open_request.Side.TheVariants.{Closed}
+use Rattle.model_steps.specs.state.declared.open_request.OpenRequest.{OpenRequest}
+use Rattle.model_steps.specs.state.declared.open_request.Upward.{Upward}
+use Rattle.model_steps.specs.state.declared.proxy_state.ProxyState.{ProxyState}
+use Rattle.model_steps.specs.state.State.{is_invite, is_answering, is_failure, is_final, is_provisional, is_success}
+use Rattle.model_steps.proofs.of_state.Sameness.{state_self}
+use Rattle.model_steps.specs.context_model.Sending.{answer_to, to_branch, branch_packets, ack_packets, sent_of, ticket_branch, request_of}
+use Rattle.model_steps.specs.context_model.Branches.{Change, settled, after_upward, best_upward, new_cancels, responded, target_responded, cancel_responded, acks_of, relayed_provisional, relayed_success, further, with_phase, with_answer, heard, other_heard, marked, given_up, branch_overdue}
+use Rattle.model_steps.specs.context_model.Retransmission.{answers_again, is_lasting, acks_again, IsResent, OfAnswer, OfRequest}
+use Rattle.model_steps.specs.state.Arrival.{Arrival}
+use Rattle.model_steps.specs.verdict_model.declared.question.Question.{Question}
+use Rattle.model_steps.specs.verdict_model.Verdict.{Registered, Bound, Refused, Verdict, Drop, Respond, Copy, AckOn, Cancel, Answer, InDialog, Challenge, Deny, Send, Register, verdict_of}
+use Rattle.model_steps.specs.context_model.Opening.{tried, trying, forking, branches_from, dialog_branch}
+use Rattle.model_steps.specs.Effect.{upward_packets, change_packets, Effect, nothing, method_of, sending, registering, counted, effect_of, datagram_effect}
+use Rattle.model_steps.specs.Step.{originals, retransmissions, Does, IsOverdue, OfSide, OfBranch, is_failed, failed_branch, failed_request, fault_effect}
 use Rattle.sip_model.proofs.Lists.{all_append, all_flat_map, all_map, all_every}
 
 -- packets that go out for the first time, or all again

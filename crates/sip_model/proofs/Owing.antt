@@ -2,25 +2,25 @@
 use Rattle.std.proofs.Common.{◌≡◌, ℕ, ◌≤◌, ◌==◌, List, [], ◌∷◌, length, find, Bool, false, refl, sym, subst, arith, ⊎_elim, Contains, Option, Some, None, IfSome}
 use Rattle.std.specs.List.{AllByRecursion}
 use Rattle.std.specs.Option.{option_map_or}
-use Rattle.sip_verdict.specs.uri.declared.aor.Aor.{Aor}
-use Rattle.sip_verdict.specs.form.declared.message.Message.{Message}
-use Rattle.sip_verdict.specs.message.Reading.{reading_of}
-use Rattle.sip_verdict.specs.host.declared.addr.Addr.{Addr}
-use Rattle.sip_verdict.specs.location.Binding.{live}
-use Rattle.sip_verdict.specs.event.declared.packet.Packet.{Packet}
-use Rattle.sip_verdict.specs.event.declared.packet.Ticket.{Ticket}
-use Rattle.sip_verdict.specs.event.declared.event.StepOut.{StepOut}
-use Rattle.sip_verdict.specs.event.declared.event.Event.TheVariants.{Datagram, Time, Fault}
-use Rattle.sip_verdict.specs.state.declared.server.Server.{Server}
-use Rattle.sip_verdict.specs.state.declared.branch.Branch.{Branch}
-use Rattle.sip_verdict.specs.state.declared.open_request.OpenRequest.{OpenRequest}
-use Rattle.sip_verdict.specs.state.declared.proxy_state.ProxyState.{ProxyState}
-use Rattle.sip_verdict.specs.state.State.{first_state}
-use Rattle.sip_verdict.specs.context.Branches.{Change, send_failed}
-use Rattle.sip_verdict.specs.state.Arrival.{Arrival}
-use Rattle.sip_verdict.specs.Verdict.{message_verdict, message_in, verdict_in}
-use Rattle.sip_model.specs.Effect.{Effect, counted, effect_of, datagram_effect, nothing}
-use Rattle.sip_model.specs.Step.{Act, Given, Passing, Does, IsOverdue, OfSide, OfBranch, IsQuiet, IsDeadline, IsResend, resent, IsStep, originals, moment_of, arrival_of, is_failed, failed_branch, failed_request, fault_effect}
+use Rattle.sip_uri.specs.declared.aor.Aor.{Aor}
+use Rattle.sip_message_form.specs.declared.message.Message.{Message}
+use Rattle.sip_message.specs.Reading.{reading_of}
+use Rattle.sip_uri.specs.declared.addr.Addr.{Addr}
+use Rattle.sip_location.specs.Binding.{live}
+use Rattle.sip_event.specs.declared.packet.Packet.{Packet}
+use Rattle.sip_event.specs.declared.packet.Ticket.{Ticket}
+use Rattle.sip_event.specs.declared.event.StepOut.{StepOut}
+use Rattle.sip_event.specs.declared.event.Event.TheVariants.{Datagram, Time, Fault}
+use Rattle.model_steps.specs.state.declared.server.Server.{Server}
+use Rattle.model_steps.specs.state.declared.branch.Branch.{Branch}
+use Rattle.model_steps.specs.state.declared.open_request.OpenRequest.{OpenRequest}
+use Rattle.model_steps.specs.state.declared.proxy_state.ProxyState.{ProxyState}
+use Rattle.model_steps.specs.state.State.{first_state}
+use Rattle.model_steps.specs.context_model.Branches.{Change, send_failed}
+use Rattle.model_steps.specs.state.Arrival.{Arrival}
+use Rattle.model_steps.specs.verdict_model.Verdict.{message_verdict, message_in, verdict_in}
+use Rattle.model_steps.specs.Effect.{Effect, counted, effect_of, datagram_effect, nothing}
+use Rattle.model_steps.specs.Step.{Act, Given, Passing, Does, IsOverdue, OfSide, OfBranch, IsQuiet, IsDeadline, IsResend, resent, IsStep, originals, moment_of, arrival_of, is_failed, failed_branch, failed_request, fault_effect}
 use Rattle.sip_model.specs.Run.{Link, IsChain}
 use Rattle.sip_model.specs.Access.{CameFor, IsSaidAt, IsOwed}
 use Rattle.sip_model.proofs.Sixteen.{AreFew, few_of_chain}

@@ -2,30 +2,30 @@
 use Rattle.std.proofs.Common.{◌≡◌, ◌∙◌, ℕ, ◌+◌, Bool, true, false, cond, List, [], ◌∷◌, ◌++◌, codes, Option, Some, None, refl, sym, ap, subst, count_by, bytes_eq, Contains}
 use Rattle.std.specs.Option.{option_map_or, unwrap_or}
 use Rattle.std.proofs.lemmas.List.Elements.{Contains-append_left}
-use Rattle.sip_verdict.specs.field.declared.field.Field.{Field}
-use Rattle.sip_verdict.specs.form.declared.message.Message.{Message}
-use Rattle.sip_verdict.specs.message.Reading.{reading_of}
-use Rattle.sip_verdict.specs.targets.declared.target.Target.{Target}
-use Rattle.sip_verdict.specs.targets.declared.targets.Targets.{Targets}
-use Rattle.sip_verdict.specs.key.Key.{key_of}
-use Rattle.sip_verdict.specs.reply.Extras.{denial_warning}
-use Rattle.sip_verdict.specs.policy.declared.operation.Operation.{Operation}
-use Rattle.sip_verdict.specs.policy.declared.decision.Decision.{Decision}
-use Rattle.sip_verdict.specs.event.declared.packet.Packet.{Packet}
-use Rattle.sip_verdict.specs.state.declared.server.Server.{Server}
-use Rattle.sip_verdict.specs.state.declared.branch.Branch.{Branch}
-use Rattle.sip_verdict.specs.state.declared.open_request.OpenRequest.{OpenRequest}
-use Rattle.sip_verdict.specs.state.declared.proxy_state.ProxyState.{ProxyState}
-use Rattle.sip_verdict.specs.state.State.{has_key, is_provisional}
-use Rattle.sip_verdict.specs.state.Arrival.{Arrival}
-use Rattle.sip_verdict.specs.context.Branches.{responded, cancelled, acknowledged}
-use Rattle.sip_verdict.specs.context.Sending.{answer_packet}
-use Rattle.sip_verdict.specs.context.Opening.{request_key, closing, forking, opening, branch_to, branches_from, dialog_branch}
-use Rattle.sip_verdict.specs.declared.question.Question.{Question}
-use Rattle.sip_verdict.specs.Verdict.{Registered, Bound, Refused, Verdict, Drop, Respond, Copy, AckOn, Cancel, Answer, InDialog, Challenge, Deny, Send, Register, is_full, message_verdict, message_in, verdict_in}
-use Rattle.sip_retransmission.specs.Retransmission.{answers_again}
-use Rattle.sip_model.specs.Effect.{Effect, replaced, opened, change_packets, opening_packets, is_registration, challenge_status, challenges_to, contact_fields, counted, nothing, sending, registering, method_of, effect_of}
-use Rattle.sip_model.specs.Step.{Act}
+use Rattle.sip_message_fields.specs.declared.field.Field.{Field}
+use Rattle.sip_message_form.specs.declared.message.Message.{Message}
+use Rattle.sip_message.specs.Reading.{reading_of}
+use Rattle.sip_targets.specs.declared.target.Target.{Target}
+use Rattle.sip_targets.specs.declared.targets.Targets.{Targets}
+use Rattle.sip_transaction_table.specs.Key.{key_of}
+use Rattle.sip_edit_response.specs.Extras.{denial_warning}
+use Rattle.sip_policy.specs.declared.operation.Operation.{Operation}
+use Rattle.sip_policy.specs.declared.decision.Decision.{Decision}
+use Rattle.sip_event.specs.declared.packet.Packet.{Packet}
+use Rattle.model_steps.specs.state.declared.server.Server.{Server}
+use Rattle.model_steps.specs.state.declared.branch.Branch.{Branch}
+use Rattle.model_steps.specs.state.declared.open_request.OpenRequest.{OpenRequest}
+use Rattle.model_steps.specs.state.declared.proxy_state.ProxyState.{ProxyState}
+use Rattle.model_steps.specs.state.State.{has_key, is_provisional}
+use Rattle.model_steps.specs.state.Arrival.{Arrival}
+use Rattle.model_steps.specs.context_model.Branches.{responded, cancelled, acknowledged}
+use Rattle.model_steps.specs.context_model.Sending.{answer_packet}
+use Rattle.model_steps.specs.context_model.Opening.{request_key, closing, forking, opening, branch_to, branches_from, dialog_branch}
+use Rattle.model_steps.specs.verdict_model.declared.question.Question.{Question}
+use Rattle.model_steps.specs.verdict_model.Verdict.{Registered, Bound, Refused, Verdict, Drop, Respond, Copy, AckOn, Cancel, Answer, InDialog, Challenge, Deny, Send, Register, is_full, message_verdict, message_in, verdict_in}
+use Rattle.model_steps.specs.context_model.Retransmission.{answers_again}
+use Rattle.model_steps.specs.Effect.{Effect, replaced, opened, change_packets, opening_packets, is_registration, challenge_status, challenges_to, contact_fields, counted, nothing, sending, registering, method_of, effect_of}
+use Rattle.model_steps.specs.Step.{Act}
 use Rattle.sip_model.specs.Access.{IsSaidAt, IsNewRequest}
 use Rattle.sip_model.specs.Parts.{AreBegun, made_text, IsOpening, Answered, Sent, ByResponse, ByCancel, IsPart, Stays, Passes, Copies, TurnsAway, Opens, Changes, Acknowledges, AreParts, One, Two}
 use Rattle.sip_model.proofs.Openings.{sent_key}

@@ -2,16 +2,16 @@
 use Rattle.std.proofs.Common.{◌≡◌, ◌⊎◌, ◌∙◌, inl, inr, ℕ, zero, suc, ◌+◌, ◌-◌, ◌≤◌, ◌<◌, List, [], ◌∷◌, ◌++◌, reverse, max, Option, Some, refl, sym, ap, subst, arith, sum_by}
 use Rattle.std.proofs.lemmas.List.{reverse-append, reverse-reverse, append_assoc, append-nil}
 use Rattle.std.specs.List.{AllByRecursion}
-use Rattle.sip_verdict.specs.event.declared.event.StepOut.{StepOut}
-use Rattle.sip_verdict.specs.event.declared.event.Event.{Event}
-use Rattle.sip_verdict.specs.event.declared.event.Event.TheVariants.{Datagram, Time, Fault}
-use Rattle.sip_verdict.specs.state.declared.server.Server.{Server}
-use Rattle.sip_verdict.specs.state.declared.open_request.OpenRequest.{OpenRequest}
-use Rattle.sip_verdict.specs.state.declared.proxy_state.ProxyState.{ProxyState}
-use Rattle.sip_verdict.specs.state.State.{first_state, deadlines}
-use Rattle.sip_retransmission.specs.Retransmission.{resends}
-use Rattle.sip_model.specs.Effect.{Effect, changed, nothing, datagram_effect}
-use Rattle.sip_model.specs.Step.{Act, Given, Passing, IsStep, NoneBy, NoneAgainBy, IsDeadline, IsResend, moment_of, arrival_of, resent, fault_effect}
+use Rattle.sip_event.specs.declared.event.StepOut.{StepOut}
+use Rattle.sip_event.specs.declared.event.Event.{Event}
+use Rattle.sip_event.specs.declared.event.Event.TheVariants.{Datagram, Time, Fault}
+use Rattle.model_steps.specs.state.declared.server.Server.{Server}
+use Rattle.model_steps.specs.state.declared.open_request.OpenRequest.{OpenRequest}
+use Rattle.model_steps.specs.state.declared.proxy_state.ProxyState.{ProxyState}
+use Rattle.model_steps.specs.state.State.{first_state, deadlines}
+use Rattle.model_steps.specs.context_model.Retransmission.{resends}
+use Rattle.model_steps.specs.Effect.{Effect, changed, nothing, datagram_effect}
+use Rattle.model_steps.specs.Step.{Act, Given, Passing, IsStep, NoneBy, NoneAgainBy, IsDeadline, IsResend, moment_of, arrival_of, resent, fault_effect}
 use Rattle.sip_model.specs.Run.{Link, IsChain, events_of, steps_of, event_moment, IsPaced, HasRun}
 use Rattle.sip_model.specs.Order.{ByDeadline, deadlines_left}
 use Rattle.sip_model.proofs.Places.{contains_from_in, all_in, all_weaker, sum_replaced}

@@ -1,25 +1,25 @@
 -- The targets of a request outside a dialog are the live bindings, or the hop.
 use Rattle.std.proofs.Common.{◌≡◌, ℕ, List, [], ◌∷◌, map, cond, Bool, true, false, refl, ◌∙◌, ap, Option, Some}
-use Rattle.sip_verdict.specs.uri.declared.uri.Uri.{Uri}
-use Rattle.sip_verdict.specs.uri.declared.aor.Aor.{Aor}
-use Rattle.sip_verdict.specs.uri.Aor.{aor_of}
-use Rattle.sip_verdict.specs.form.declared.message.Message.{Message}
-use Rattle.sip_verdict.specs.header.declared.core_fields.CoreFields.{CoreFields}
-use Rattle.sip_verdict.specs.way.Way.{request_uri_of}
-use Rattle.sip_verdict.specs.host.declared.addr.Addr.{Addr}
-use Rattle.sip_verdict.specs.hops.Hop.{hop_of}
-use Rattle.sip_verdict.specs.policy.declared.decision.Decision.{Decision}
-use Rattle.sip_verdict.specs.policy.User.{is_users_address}
-use Rattle.sip_verdict.specs.location.declared.binding.Binding.{Binding}
-use Rattle.sip_verdict.specs.location.Binding.{live, contacts_of}
-use Rattle.sip_verdict.specs.targets.declared.target.Target.{Target}
-use Rattle.sip_verdict.specs.targets.Target.{target_for}
-use Rattle.sip_verdict.specs.targets.declared.targets.Targets.{Targets}
-use Rattle.sip_verdict.specs.targets.Targets.{targets_at, target_by, target_list}
-use Rattle.sip_verdict.specs.state.declared.server.Server.{Server}
-use Rattle.sip_verdict.specs.location.Registering.{to_aor, aor_or_nobody}
-use Rattle.sip_verdict.specs.state.declared.proxy_state.ProxyState.{ProxyState}
-use Rattle.sip_verdict.specs.Verdict.{is_register, targets_by}
+use Rattle.sip_uri.specs.declared.uri.Uri.{Uri}
+use Rattle.sip_uri.specs.declared.aor.Aor.{Aor}
+use Rattle.sip_uri.specs.Aor.{aor_of}
+use Rattle.sip_message_form.specs.declared.message.Message.{Message}
+use Rattle.sip_header.specs.declared.core_fields.CoreFields.{CoreFields}
+use Rattle.sip_route.specs.Way.{request_uri_of}
+use Rattle.sip_uri.specs.declared.addr.Addr.{Addr}
+use Rattle.sip_hops.specs.Hop.{hop_of}
+use Rattle.sip_policy.specs.declared.decision.Decision.{Decision}
+use Rattle.sip_policy.specs.User.{is_users_address}
+use Rattle.sip_location.specs.declared.binding.Binding.{Binding}
+use Rattle.sip_location.specs.Binding.{live, contacts_of}
+use Rattle.sip_targets.specs.declared.target.Target.{Target}
+use Rattle.sip_targets.specs.Target.{target_for}
+use Rattle.sip_targets.specs.declared.targets.Targets.{Targets}
+use Rattle.sip_targets.specs.Targets.{targets_at, target_by, target_list}
+use Rattle.model_steps.specs.state.declared.server.Server.{Server}
+use Rattle.sip_location.specs.Registering.{to_aor, aor_or_nobody}
+use Rattle.model_steps.specs.state.declared.proxy_state.ProxyState.{ProxyState}
+use Rattle.model_steps.specs.verdict_model.Verdict.{is_register, targets_by}
 use Rattle.sip_model.specs.Access.{decision_on, targets_on}
 
 -- one target for each contact, also where there is none

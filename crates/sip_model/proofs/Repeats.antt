@@ -3,25 +3,25 @@ use Rattle.std.proofs.Common.{◌≡◌, inl, inr, ℕ, ◌==◌, Bool, true, fa
 use Rattle.std.specs.Option.{option_map_or}
 use Rattle.std.specs.List.{AllByRecursion}
 use Rattle.std.proofs.lemmas.List.Elements.{Contains-append_left, Contains-append_right}
-use Rattle.sip_verdict.specs.form.declared.message.Message.{Message}
-use Rattle.sip_verdict.specs.message.Reading.{reading_of}
-use Rattle.sip_verdict.specs.targets.declared.targets.Targets.{Targets}
-use Rattle.sip_verdict.specs.event.declared.packet.Packet.{Packet}
-use Rattle.sip_verdict.specs.event.declared.packet.Ticket.{Ticket}
-use Rattle.sip_verdict.specs.event.declared.event.StepOut.{StepOut}
-use Rattle.sip_verdict.specs.event.declared.event.Event.TheVariants.{Datagram, Time, Fault}
-use Rattle.sip_verdict.specs.state.declared.server.Server.{Server}
-use Rattle.sip_verdict.specs.state.declared.branch.Branch.{Branch}
-use Rattle.sip_verdict.specs.state.declared.open_request.OpenRequest.{OpenRequest}
-use Rattle.sip_verdict.specs.state.declared.proxy_state.ProxyState.{ProxyState}
-use Rattle.sip_verdict.specs.state.State.{is_failure}
-use Rattle.sip_verdict.specs.context.Sending.{branch_packets}
-use Rattle.sip_retransmission.specs.Retransmission.{answers_again, goes_again, acks_again, branch_again, retransmissions_of, IsRetransmission, IsResent, OfAnswer, OfRequest}
-use Rattle.sip_verdict.specs.state.Arrival.{Arrival}
-use Rattle.sip_verdict.specs.declared.question.Question.{Question}
-use Rattle.sip_verdict.specs.Verdict.{Registered, Bound, Refused, Verdict, Drop, Respond, Copy, AckOn, Cancel, Answer, InDialog, Challenge, Deny, Send, Register, message_verdict, message_in, verdict_in}
-use Rattle.sip_model.specs.Effect.{counted, registering, sending, nothing, effect_of}
-use Rattle.sip_model.specs.Step.{Act, Given, Passing, IsStep, retransmissions, is_failed, failed_branch, failed_request, moment_of, arrival_of}
+use Rattle.sip_message_form.specs.declared.message.Message.{Message}
+use Rattle.sip_message.specs.Reading.{reading_of}
+use Rattle.sip_targets.specs.declared.targets.Targets.{Targets}
+use Rattle.sip_event.specs.declared.packet.Packet.{Packet}
+use Rattle.sip_event.specs.declared.packet.Ticket.{Ticket}
+use Rattle.sip_event.specs.declared.event.StepOut.{StepOut}
+use Rattle.sip_event.specs.declared.event.Event.TheVariants.{Datagram, Time, Fault}
+use Rattle.model_steps.specs.state.declared.server.Server.{Server}
+use Rattle.model_steps.specs.state.declared.branch.Branch.{Branch}
+use Rattle.model_steps.specs.state.declared.open_request.OpenRequest.{OpenRequest}
+use Rattle.model_steps.specs.state.declared.proxy_state.ProxyState.{ProxyState}
+use Rattle.model_steps.specs.state.State.{is_failure}
+use Rattle.model_steps.specs.context_model.Sending.{branch_packets}
+use Rattle.model_steps.specs.context_model.Retransmission.{answers_again, goes_again, acks_again, branch_again, retransmissions_of, IsRetransmission, IsResent, OfAnswer, OfRequest}
+use Rattle.model_steps.specs.state.Arrival.{Arrival}
+use Rattle.model_steps.specs.verdict_model.declared.question.Question.{Question}
+use Rattle.model_steps.specs.verdict_model.Verdict.{Registered, Bound, Refused, Verdict, Drop, Respond, Copy, AckOn, Cancel, Answer, InDialog, Challenge, Deny, Send, Register, message_verdict, message_in, verdict_in}
+use Rattle.model_steps.specs.Effect.{counted, registering, sending, nothing, effect_of}
+use Rattle.model_steps.specs.Step.{Act, Given, Passing, IsStep, retransmissions, is_failed, failed_branch, failed_request, moment_of, arrival_of}
 use Rattle.sip_model.proofs.Lists.{all_weaker, all_there}
 use Rattle.sip_model.proofs.Places.{IsIn, contains_from_in, in_from_contains}
 use Rattle.sip_model.proofs.Verdicts.{Fits, verdict_fits}

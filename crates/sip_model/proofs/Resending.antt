@@ -2,20 +2,20 @@
 use Rattle.std.proofs.Common.{◌≡◌, ℕ, ◌+◌, ◌*◌, ◌≤◌, Bool, true, false, not, ◌&&◌, ◌||◌, cond, ◌==◌, min, List, map, Contains, Option, Some, None, refl, sym, subst, arith}
 use Rattle.std.proofs.Math.Nat.{le-min}
 use Rattle.std.specs.List.{AllByRecursion}
-use Rattle.sip_verdict.specs.event.declared.packet.Packet.{Packet}
-use Rattle.sip_verdict.specs.best.declared.final_answer.Final.{Final}
-use Rattle.sip_verdict.specs.state.declared.server.Server.{Server}
-use Rattle.sip_verdict.specs.state.declared.resend.Resend.{Resend}
-use Rattle.sip_verdict.specs.state.declared.branch.Phase.{Phase}
-use Rattle.sip_verdict.specs.state.declared.branch.Branch.{Branch}
-use Rattle.sip_verdict.specs.state.declared.open_request.OpenRequest.{OpenRequest}
-use Rattle.sip_verdict.specs.state.declared.open_request.Upward.{Upward}
-use Rattle.sip_verdict.specs.state.declared.branch.Phase.TheVariants.{Unheard, Heard, Cancelled, Done, Ended}
-use Rattle.sip_verdict.specs.state.declared.open_request.Side.{Side}
-use Rattle.sip_verdict.specs.state.declared.open_request.Side.TheVariants.{Answering, Closing, Acknowledged, Closed}
-use Rattle.sip_verdict.specs.state.State.{is_invite, is_final}
-use Rattle.sip_verdict.specs.context.Branches.{is_same_branch, turned, with_phase, with_final, marked, answered, after_upward, best_upward, cancel_branch, with_cancels, settled, invite_heard, other_heard, is_closing, was_refused, is_unheard, acknowledged, acknowledged_side}
-use Rattle.sip_retransmission.specs.Retransmission.{is_sent_again, is_cancelled_again, resend_after, branch_next, insists, answer_due, IsResent, OfAnswer, OfRequest}
+use Rattle.sip_event.specs.declared.packet.Packet.{Packet}
+use Rattle.sip_best.specs.declared.final_answer.Final.{Final}
+use Rattle.model_steps.specs.state.declared.server.Server.{Server}
+use Rattle.model_steps.specs.state.declared.resend.Resend.{Resend}
+use Rattle.model_steps.specs.state.declared.branch.Phase.{Phase}
+use Rattle.model_steps.specs.state.declared.branch.Branch.{Branch}
+use Rattle.model_steps.specs.state.declared.open_request.OpenRequest.{OpenRequest}
+use Rattle.model_steps.specs.state.declared.open_request.Upward.{Upward}
+use Rattle.model_steps.specs.state.declared.branch.Phase.TheVariants.{Unheard, Heard, Cancelled, Done, Ended}
+use Rattle.model_steps.specs.state.declared.open_request.Side.{Side}
+use Rattle.model_steps.specs.state.declared.open_request.Side.TheVariants.{Answering, Closing, Acknowledged, Closed}
+use Rattle.model_steps.specs.state.State.{is_invite, is_final}
+use Rattle.model_steps.specs.context_model.Branches.{is_same_branch, turned, with_phase, with_final, marked, answered, after_upward, best_upward, cancel_branch, with_cancels, settled, invite_heard, other_heard, is_closing, was_refused, is_unheard, acknowledged, acknowledged_side}
+use Rattle.model_steps.specs.context_model.Retransmission.{is_sent_again, is_cancelled_again, resend_after, branch_next, insists, answer_due, IsResent, OfAnswer, OfRequest}
 use Rattle.sip_model.proofs.Cancels.{all_with_cancels}
 use Rattle.sip_model.proofs.Lists.{all_map, all_weaker, all_contains}
 

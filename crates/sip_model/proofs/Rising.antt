@@ -2,12 +2,12 @@
 use Rattle.std.proofs.Common.{◌≡◌, ◌∙◌, ℕ, ◌≤◌, ◌<◌, ◌==◌, Bool, true, false, cond, List, [], ◌∷◌, ◌++◌, refl, sym, subst, arith}
 use Rattle.std.proofs.lemmas.Bool.Decides.{nat_tests}
 use Rattle.std.specs.List.{AllByRecursion}
-use Rattle.sip_verdict.specs.state.declared.server.Server.{Server}
-use Rattle.sip_verdict.specs.state.declared.open_request.OpenRequest.{OpenRequest}
-use Rattle.sip_verdict.specs.state.declared.proxy_state.ProxyState.{ProxyState}
-use Rattle.sip_verdict.specs.state.State.{first_state, has_left}
-use Rattle.sip_verdict.specs.context.Branches.{acknowledged}
-use Rattle.sip_model.specs.Effect.{replaced}
+use Rattle.model_steps.specs.state.declared.server.Server.{Server}
+use Rattle.model_steps.specs.state.declared.open_request.OpenRequest.{OpenRequest}
+use Rattle.model_steps.specs.state.declared.proxy_state.ProxyState.{ProxyState}
+use Rattle.model_steps.specs.state.State.{first_state, has_left}
+use Rattle.model_steps.specs.context_model.Branches.{acknowledged}
+use Rattle.model_steps.specs.Effect.{replaced}
 use Rattle.sip_model.specs.Run.{Link, IsChain}
 use Rattle.sip_model.specs.Order.{AreRising, FinalAnswer}
 use Rattle.sip_model.proofs.Places.{all_push, all_weaker}

@@ -3,30 +3,30 @@ use Rattle.std.proofs.Common.{◌≡◌, ℕ, ◌≤◌, Bool, false, List, [], 
 use Rattle.std.specs.Prelude.{Contains, max}
 use Rattle.std.specs.Option.{option_map_or}
 use Rattle.std.specs.Result.{result_ok}
-use Rattle.sip_verdict.specs.uri.declared.aor.Aor.{Aor}
-use Rattle.sip_verdict.specs.form.declared.message.Message.{Message}
-use Rattle.sip_verdict.specs.header.declared.core_fields.CoreFields.{CoreFields}
-use Rattle.sip_verdict.specs.header.CoreFields.{core_of}
-use Rattle.sip_verdict.specs.location.declared.binding.Binding.{Binding}
-use Rattle.sip_verdict.specs.location.Registering.{to_aor}
-use Rattle.sip_verdict.specs.location.Sameness.{SameBindings}
-use Rattle.sip_verdict.proofs.of_context.of_state.of_location.Sameness.{same_later}
-use Rattle.sip_verdict.specs.targets.Targets.{target_list}
-use Rattle.sip_verdict.specs.dialog.declared.dialog.Dialog.{Dialog}
-use Rattle.sip_verdict.specs.dialog.Sameness.{SameDialogs}
-use Rattle.sip_verdict.specs.event.declared.packet.Packet.{Packet}
-use Rattle.sip_verdict.specs.event.declared.event.StepOut.{StepOut}
-use Rattle.sip_verdict.specs.event.declared.event.Event.TheVariants.{Datagram, Time, Fault}
-use Rattle.sip_verdict.specs.state.declared.server.Server.{Server}
-use Rattle.sip_verdict.specs.state.declared.proxy_state.ProxyState.{ProxyState}
-use Rattle.sip_verdict.specs.context.Branches.{Change}
-use Rattle.sip_verdict.proofs.of_context.of_state.Sameness.{after_answers_same, after_leaving_same}
-use Rattle.sip_verdict.specs.state.Arrival.{Arrival}
-use Rattle.sip_verdict.specs.Verdict.{Registered, Bound, Refused, is_register, question_of, registration_by}
-use Rattle.sip_verdict.specs.Sameness.{SameRegistered}
-use Rattle.sip_verdict.proofs.Sameness.{request_targets_same, registration_same, bound_back, refused_back}
-use Rattle.sip_model.specs.Effect.{contact_field, contact_fields, dialogs_after}
-use Rattle.sip_model.specs.Step.{Act, Given, Passing, arrival_of}
+use Rattle.sip_uri.specs.declared.aor.Aor.{Aor}
+use Rattle.sip_message_form.specs.declared.message.Message.{Message}
+use Rattle.sip_header.specs.declared.core_fields.CoreFields.{CoreFields}
+use Rattle.sip_header.specs.CoreFields.{core_of}
+use Rattle.sip_location.specs.declared.binding.Binding.{Binding}
+use Rattle.sip_location.specs.Registering.{to_aor}
+use Rattle.sip_location.specs.Sameness.{SameBindings}
+use Rattle.sip_location.proofs.Sameness.{same_later}
+use Rattle.sip_targets.specs.Targets.{target_list}
+use Rattle.sip_dialog.specs.declared.dialog.Dialog.{Dialog}
+use Rattle.sip_dialog.specs.Sameness.{SameDialogs}
+use Rattle.sip_event.specs.declared.packet.Packet.{Packet}
+use Rattle.sip_event.specs.declared.event.StepOut.{StepOut}
+use Rattle.sip_event.specs.declared.event.Event.TheVariants.{Datagram, Time, Fault}
+use Rattle.model_steps.specs.state.declared.server.Server.{Server}
+use Rattle.model_steps.specs.state.declared.proxy_state.ProxyState.{ProxyState}
+use Rattle.model_steps.specs.context_model.Branches.{Change}
+use Rattle.model_steps.proofs.of_state.Sameness.{after_answers_same, after_leaving_same}
+use Rattle.model_steps.specs.state.Arrival.{Arrival}
+use Rattle.model_steps.specs.verdict_model.Verdict.{Registered, Bound, Refused, is_register, question_of, registration_by}
+use Rattle.model_steps.specs.verdict_model.Sameness.{SameRegistered}
+use Rattle.model_steps.proofs.of_verdict_model.Sameness.{request_targets_same, registration_same, bound_back, refused_back}
+use Rattle.model_steps.specs.Effect.{contact_field, contact_fields, dialogs_after}
+use Rattle.model_steps.specs.Step.{Act, Given, Passing, arrival_of}
 use Rattle.sip_model.specs.Run.{Link}
 use Rattle.sip_model.specs.Bindings.{Arrived, rows_after, after_register}
 use Rattle.sip_model.specs.Access.{IsSaidAt, decision_on, targets_given, targets_on, requests_to, answer_alone, IsServed, Serves, IsOwed, ToTarget, Answers, Forwards, Acknowledges, Cancels, InKnownDialog}

@@ -2,25 +2,25 @@
 use Rattle.std.proofs.Common.{◌≡◌, ◌⊎◌, inl, inr, ℕ, ◌+◌, ◌==◌, Bool, true, false, not, ◌&&◌, ◌||◌, cond, List, [], ◌∷◌, ◌++◌, map, Contains, Option, Some, None, refl, sym, ap, subst, ◌∙◌, true≢false, arith}
 use Rattle.std.specs.List.{AllByRecursion}
 use Rattle.std.proofs.lemmas.Bool.Decides.{nat_tests}
-use Rattle.sip_verdict.specs.field.declared.field_name.FieldName.TheVariants as Name
-use Rattle.sip_verdict.specs.field.Values.{first_value}
-use Rattle.sip_verdict.specs.form.declared.message.Message.{Message}
-use Rattle.sip_verdict.specs.best.declared.final_answer.Final.{Final}
-use Rattle.sip_verdict.specs.best.Best.{best_of}
-use Rattle.sip_verdict.specs.event.declared.packet.Packet.{Packet}
-use Rattle.sip_verdict.specs.state.declared.server.Server.{Server}
-use Rattle.sip_verdict.specs.state.declared.branch.Branch.{Branch}
-use Rattle.sip_verdict.specs.state.declared.branch.Phase.{Phase}
-use Rattle.sip_verdict.specs.state.declared.branch.Phase.TheVariants.{Unheard, Heard, Cancelled, Done, Ended}
-use Rattle.sip_verdict.specs.state.declared.open_request.Side.TheVariants.{Closing}
-use Rattle.sip_verdict.specs.state.declared.open_request.OpenRequest.{OpenRequest}
-use Rattle.sip_verdict.specs.state.declared.open_request.Upward.{Upward}
-use Rattle.sip_verdict.specs.state.declared.proxy_state.ProxyState.{ProxyState}
-use Rattle.sip_verdict.specs.state.State.{is_invite, is_final, is_answering, is_success, is_failure, is_decline, is_provisional}
-use Rattle.sip_verdict.specs.context.Branches.{all_final, best_upward, upward_list, after_upward, answered, is_cancellable, is_ready, is_unheard, is_same_branch, is_accepted, settled, relayed_from, relayed_provisional, relayed_success, further, turned, phased, with_phase, with_final, marked, marked_branch, heard, invite_heard, other_heard, linger, final_of, acks_of, told_to, with_answer, target_responded}
-use Rattle.sip_verdict.specs.context.Sending.{ack_packets}
-use Rattle.sip_model.specs.Effect.{change_packets, upward_packets}
-use Rattle.sip_model.specs.Step.{Act}
+use Rattle.sip_message_fields.specs.declared.field_name.FieldName.TheVariants as Name
+use Rattle.sip_message_fields.specs.Values.{first_value}
+use Rattle.sip_message_form.specs.declared.message.Message.{Message}
+use Rattle.sip_best.specs.declared.final_answer.Final.{Final}
+use Rattle.sip_best.specs.Best.{best_of}
+use Rattle.sip_event.specs.declared.packet.Packet.{Packet}
+use Rattle.model_steps.specs.state.declared.server.Server.{Server}
+use Rattle.model_steps.specs.state.declared.branch.Branch.{Branch}
+use Rattle.model_steps.specs.state.declared.branch.Phase.{Phase}
+use Rattle.model_steps.specs.state.declared.branch.Phase.TheVariants.{Unheard, Heard, Cancelled, Done, Ended}
+use Rattle.model_steps.specs.state.declared.open_request.Side.TheVariants.{Closing}
+use Rattle.model_steps.specs.state.declared.open_request.OpenRequest.{OpenRequest}
+use Rattle.model_steps.specs.state.declared.open_request.Upward.{Upward}
+use Rattle.model_steps.specs.state.declared.proxy_state.ProxyState.{ProxyState}
+use Rattle.model_steps.specs.state.State.{is_invite, is_final, is_answering, is_success, is_failure, is_decline, is_provisional}
+use Rattle.model_steps.specs.context_model.Branches.{all_final, best_upward, upward_list, after_upward, answered, is_cancellable, is_ready, is_unheard, is_same_branch, is_accepted, settled, relayed_from, relayed_provisional, relayed_success, further, turned, phased, with_phase, with_final, marked, marked_branch, heard, invite_heard, other_heard, linger, final_of, acks_of, told_to, with_answer, target_responded}
+use Rattle.model_steps.specs.context_model.Sending.{ack_packets}
+use Rattle.model_steps.specs.Effect.{change_packets, upward_packets}
+use Rattle.model_steps.specs.Step.{Act}
 use Rattle.sip_model.specs.Run.{Link}
 use Rattle.sip_model.specs.Access.{CameFor, IsHeardNow, ComesNow, IsAckNow, NoAck, Acks, IsAnswerNow, Early, Accepting, TakesSuccess, ByResponse, OthersEnded, IsMadeLater, IsCancelledNow, ByAnswer}
 use Rattle.sip_model.proofs.Lists.{all_there}

@@ -2,30 +2,30 @@
 use Rattle.std.proofs.Common.{◌≡◌, ℕ, List, [], ◌∷◌, cond, Bool, true, false, refl, ◌∙◌, ap, Option, Some, None, arith}
 use Rattle.std.specs.Prelude.{length}
 use Rattle.std.specs.Option.{option_map_or}
-use Rattle.sip_verdict.specs.uri.declared.uri.Uri.{Uri}
-use Rattle.sip_verdict.specs.uri.declared.aor.Aor.{Aor}
-use Rattle.sip_verdict.specs.field.declared.field.Field.{Field}
-use Rattle.sip_verdict.specs.form.declared.message.Message.{Message}
-use Rattle.sip_verdict.specs.header.declared.core_fields.CoreFields.{CoreFields}
-use Rattle.sip_verdict.specs.way.Way.{request_uri_of}
-use Rattle.sip_verdict.specs.policy.declared.decision.Decision.{Decision}
-use Rattle.sip_verdict.specs.location.declared.binding.Binding.{Binding}
-use Rattle.sip_verdict.specs.targets.declared.target.Target.{Target}
-use Rattle.sip_verdict.specs.targets.declared.targets.Targets.{Targets}
-use Rattle.sip_verdict.specs.targets.Targets.{target_list}
-use Rattle.sip_verdict.specs.context.audit.declared.record.Outcome.{Outcome}
-use Rattle.sip_verdict.specs.event.declared.event.StepOut.{StepOut}
-use Rattle.sip_verdict.specs.event.declared.event.Event.TheVariants.{Datagram, Time, Fault}
-use Rattle.sip_verdict.specs.event.declared.packet.Packet.{Packet}
-use Rattle.sip_verdict.specs.state.declared.server.Server.{Server}
-use Rattle.sip_verdict.specs.location.Registering.{to_aor, aor_or_nobody}
-use Rattle.sip_verdict.specs.state.declared.proxy_state.ProxyState.{ProxyState}
-use Rattle.sip_verdict.specs.state.Arrival.{Arrival}
-use Rattle.sip_verdict.specs.declared.question.Question.{Question}
-use Rattle.sip_verdict.specs.Verdict.{Registered, Bound, Refused, Send, Register, is_register, question_of, answer_of, registration_by, targets_by, request_targets, let_through, decided, policy_verdict, verdict_in}
-use Rattle.sip_verdict.specs.context.Opening.{forking, branches_from}
-use Rattle.sip_model.specs.Effect.{Effect, registering, sending, sent_to, record_of, contact_fields, counted, asked, effect_of, datagram_effect, nothing}
-use Rattle.sip_model.specs.Step.{Act, Given, Passing, IsStep, originals, arrival_of}
+use Rattle.sip_uri.specs.declared.uri.Uri.{Uri}
+use Rattle.sip_uri.specs.declared.aor.Aor.{Aor}
+use Rattle.sip_message_fields.specs.declared.field.Field.{Field}
+use Rattle.sip_message_form.specs.declared.message.Message.{Message}
+use Rattle.sip_header.specs.declared.core_fields.CoreFields.{CoreFields}
+use Rattle.sip_route.specs.Way.{request_uri_of}
+use Rattle.sip_policy.specs.declared.decision.Decision.{Decision}
+use Rattle.sip_location.specs.declared.binding.Binding.{Binding}
+use Rattle.sip_targets.specs.declared.target.Target.{Target}
+use Rattle.sip_targets.specs.declared.targets.Targets.{Targets}
+use Rattle.sip_targets.specs.Targets.{target_list}
+use Rattle.sip_audit.specs.declared.record.Outcome.{Outcome}
+use Rattle.sip_event.specs.declared.event.StepOut.{StepOut}
+use Rattle.sip_event.specs.declared.event.Event.TheVariants.{Datagram, Time, Fault}
+use Rattle.sip_event.specs.declared.packet.Packet.{Packet}
+use Rattle.model_steps.specs.state.declared.server.Server.{Server}
+use Rattle.sip_location.specs.Registering.{to_aor, aor_or_nobody}
+use Rattle.model_steps.specs.state.declared.proxy_state.ProxyState.{ProxyState}
+use Rattle.model_steps.specs.state.Arrival.{Arrival}
+use Rattle.model_steps.specs.verdict_model.declared.question.Question.{Question}
+use Rattle.model_steps.specs.verdict_model.Verdict.{Registered, Bound, Refused, Send, Register, is_register, question_of, answer_of, registration_by, targets_by, request_targets, let_through, decided, policy_verdict, verdict_in}
+use Rattle.model_steps.specs.context_model.Opening.{forking, branches_from}
+use Rattle.model_steps.specs.Effect.{Effect, registering, sending, sent_to, record_of, contact_fields, counted, asked, effect_of, datagram_effect, nothing}
+use Rattle.model_steps.specs.Step.{Act, Given, Passing, IsStep, originals, arrival_of}
 use Rattle.sip_model.specs.Access.{IsNewRequest, requests_to, rule_of, answer_alone, IsServed, Serves}
 use Rattle.sip_model.proofs.Judging.{verdict_is}
 use Rattle.sip_model.proofs.Forks.{of_branches, all_kept, none_cancellable, forked_sends}

@@ -1,16 +1,16 @@
 -- What settling sends for an open request: ACKs, what goes to the caller, and the CANCELs of some of its branches.
 use Rattle.std.proofs.Common.{◌≡◌, ℕ, Bool, true, false, cond, List, [], ◌∷◌, ◌++◌, map, filter, flat_map, Option, Some, None, refl, ap, ap₂, ◌∙◌}
-use Rattle.sip_verdict.specs.form.Text.{text_of}
-use Rattle.sip_verdict.specs.best.declared.final_answer.Final.{Final}
-use Rattle.sip_verdict.specs.edit.OwnRequests.{cancel_of}
-use Rattle.sip_verdict.specs.event.declared.packet.Packet.{Packet}
-use Rattle.sip_verdict.specs.state.declared.server.Server.{Server}
-use Rattle.sip_verdict.specs.state.declared.branch.Branch.{Branch}
-use Rattle.sip_verdict.specs.state.declared.open_request.OpenRequest.{OpenRequest}
-use Rattle.sip_verdict.specs.state.declared.open_request.Upward.{Upward}
-use Rattle.sip_verdict.specs.context.Sending.{answer_to, to_branch, branch_packets, request_of}
-use Rattle.sip_verdict.specs.context.Branches.{best_upward, upward_of, upward_list, after_upward, is_cancellable, cancel_branch, with_cancels, settled}
-use Rattle.sip_model.specs.Effect.{change_packets, upward_packets}
+use Rattle.sip_message_form.specs.Text.{text_of}
+use Rattle.sip_best.specs.declared.final_answer.Final.{Final}
+use Rattle.sip_edit.specs.OwnRequests.{cancel_of}
+use Rattle.sip_event.specs.declared.packet.Packet.{Packet}
+use Rattle.model_steps.specs.state.declared.server.Server.{Server}
+use Rattle.model_steps.specs.state.declared.branch.Branch.{Branch}
+use Rattle.model_steps.specs.state.declared.open_request.OpenRequest.{OpenRequest}
+use Rattle.model_steps.specs.state.declared.open_request.Upward.{Upward}
+use Rattle.model_steps.specs.context_model.Sending.{answer_to, to_branch, branch_packets, request_of}
+use Rattle.model_steps.specs.context_model.Branches.{best_upward, upward_of, upward_list, after_upward, is_cancellable, cancel_branch, with_cancels, settled}
+use Rattle.model_steps.specs.Effect.{change_packets, upward_packets}
 use Rattle.sip_model.proofs.Later.{bare, bare_branch}
 
 -- A request in between is an open one whose branches were edited, each by itself: they stay where they go, and CANCELs stay CANCELs.

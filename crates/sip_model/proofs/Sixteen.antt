@@ -4,34 +4,34 @@ use Rattle.std.specs.Prelude.{Result}
 use Rattle.std.specs.Option.{option_map_or}
 use Rattle.std.specs.Result.{result_ok}
 use Rattle.std.specs.List.{AllByRecursion}
-use Rattle.sip_verdict.specs.uri.declared.uri.Uri.{Uri}
-use Rattle.sip_verdict.specs.uri.declared.aor.Aor.{Aor}
-use Rattle.sip_verdict.specs.form.declared.message.Message.{Message}
-use Rattle.sip_verdict.specs.header.declared.core_fields.CoreFields.{CoreFields}
-use Rattle.sip_verdict.specs.header.CoreFields.{core_of}
-use Rattle.sip_verdict.specs.way.Way.{request_uri_of}
-use Rattle.sip_verdict.specs.hops.declared.host_address.HostAddress.{HostAddress}
-use Rattle.sip_verdict.specs.hops.Hop.{hop_of}
-use Rattle.sip_verdict.specs.host.declared.addr.Addr.{Addr}
-use Rattle.sip_verdict.specs.policy.declared.decision.Decision.{Decision}
-use Rattle.sip_verdict.specs.policy.User.{is_users_address}
-use Rattle.sip_verdict.specs.location.declared.binding.Binding.{Binding}
-use Rattle.sip_verdict.specs.location.declared.error.LocationError.{LocationError}
-use Rattle.sip_verdict.specs.location.declared.error.LocationError.TheVariants.{NoMemory, BadStar, TooBrief, OldCSeq, TooMany}
-use Rattle.sip_verdict.specs.location.Binding.{live, contacts_of}
-use Rattle.sip_verdict.specs.location.Registration.{registered}
-use Rattle.sip_verdict.specs.location.Registering.{to_aor, registration_of}
-use Rattle.sip_verdict.proofs.of_context.of_state.of_location.Updates.{few_ever}
-use Rattle.sip_verdict.specs.targets.declared.target.Target.{Target}
-use Rattle.sip_verdict.specs.targets.declared.targets.Targets.{Targets}
-use Rattle.sip_verdict.specs.targets.Target.{target_for}
-use Rattle.sip_verdict.specs.targets.Targets.{targets_at, target_by, target_list}
-use Rattle.sip_verdict.specs.state.declared.server.Server.{Server}
-use Rattle.sip_verdict.specs.state.declared.proxy_state.ProxyState.{ProxyState}
-use Rattle.sip_verdict.specs.state.State.{first_state}
-use Rattle.sip_verdict.specs.declared.question.Question.{Question}
-use Rattle.sip_verdict.specs.Verdict.{Refused, registered_by, is_own_uri, registration_by, targets_by, request_targets}
-use Rattle.sip_verdict.specs.context.Opening.{branches_from}
+use Rattle.sip_uri.specs.declared.uri.Uri.{Uri}
+use Rattle.sip_uri.specs.declared.aor.Aor.{Aor}
+use Rattle.sip_message_form.specs.declared.message.Message.{Message}
+use Rattle.sip_header.specs.declared.core_fields.CoreFields.{CoreFields}
+use Rattle.sip_header.specs.CoreFields.{core_of}
+use Rattle.sip_route.specs.Way.{request_uri_of}
+use Rattle.sip_hops.specs.declared.host_address.HostAddress.{HostAddress}
+use Rattle.sip_hops.specs.Hop.{hop_of}
+use Rattle.sip_uri.specs.declared.addr.Addr.{Addr}
+use Rattle.sip_policy.specs.declared.decision.Decision.{Decision}
+use Rattle.sip_policy.specs.User.{is_users_address}
+use Rattle.sip_location.specs.declared.binding.Binding.{Binding}
+use Rattle.sip_location.specs.declared.error.LocationError.{LocationError}
+use Rattle.sip_location.specs.declared.error.LocationError.TheVariants.{NoMemory, BadStar, TooBrief, OldCSeq, TooMany}
+use Rattle.sip_location.specs.Binding.{live, contacts_of}
+use Rattle.sip_location.specs.Registration.{registered}
+use Rattle.sip_location.specs.Registering.{to_aor, registration_of}
+use Rattle.sip_location.proofs.Updates.{few_ever}
+use Rattle.sip_targets.specs.declared.target.Target.{Target}
+use Rattle.sip_targets.specs.declared.targets.Targets.{Targets}
+use Rattle.sip_targets.specs.Target.{target_for}
+use Rattle.sip_targets.specs.Targets.{targets_at, target_by, target_list}
+use Rattle.model_steps.specs.state.declared.server.Server.{Server}
+use Rattle.model_steps.specs.state.declared.proxy_state.ProxyState.{ProxyState}
+use Rattle.model_steps.specs.state.State.{first_state}
+use Rattle.model_steps.specs.verdict_model.declared.question.Question.{Question}
+use Rattle.model_steps.specs.verdict_model.Verdict.{Refused, registered_by, is_own_uri, registration_by, targets_by, request_targets}
+use Rattle.model_steps.specs.context_model.Opening.{branches_from}
 use Rattle.sip_model.specs.Run.{Link, IsChain}
 use Rattle.sip_model.specs.Bindings.{Arrived, rows_after, bindings_by, allowed_registers}
 use Rattle.sip_model.proofs.Finals.{IsOfSixteen}

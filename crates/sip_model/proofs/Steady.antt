@@ -1,10 +1,10 @@
 -- What is known of each open request before a step of a history.
 use Rattle.std.proofs.Common.{◌≡◌, ℕ, true, false, List, [], ◌∷◌}
 use Rattle.std.specs.List.{AllByRecursion}
-use Rattle.sip_verdict.specs.state.declared.server.Server.{Server}
-use Rattle.sip_verdict.specs.state.declared.open_request.OpenRequest.{OpenRequest}
-use Rattle.sip_verdict.specs.state.State.{first_state, is_answering}
-use Rattle.sip_verdict.specs.context.Branches.{all_final}
+use Rattle.model_steps.specs.state.declared.server.Server.{Server}
+use Rattle.model_steps.specs.state.declared.open_request.OpenRequest.{OpenRequest}
+use Rattle.model_steps.specs.state.State.{first_state, is_answering}
+use Rattle.model_steps.specs.context_model.Branches.{all_final}
 use Rattle.sip_model.specs.Run.{Link, IsChain}
 use Rattle.sip_model.proofs.Finals.{AreHonest}
 use Rattle.sip_model.proofs.Owing.{honest_of_chain}

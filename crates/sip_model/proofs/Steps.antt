@@ -3,26 +3,26 @@ use Rattle.std.proofs.Common.{◌≡◌, ◌∙◌, inl, inr, ℕ, ◌+◌, ◌�
 use Rattle.std.specs.Option.{option_map_or}
 use Rattle.std.specs.List.{AllByRecursion}
 use Rattle.std.proofs.lemmas.List.Elements.{Contains-append_left}
-use Rattle.sip_verdict.specs.form.declared.message.Message.{Message}
-use Rattle.sip_verdict.specs.message.Reading.{reading_of}
-use Rattle.sip_verdict.specs.targets.declared.target.Target.{Target}
-use Rattle.sip_verdict.specs.targets.declared.targets.Targets.{Targets}
-use Rattle.sip_verdict.specs.event.declared.packet.Ticket.{Ticket}
-use Rattle.sip_verdict.specs.event.declared.event.StepOut.{StepOut}
-use Rattle.sip_verdict.specs.event.declared.event.Event.TheVariants.{Datagram, Time, Fault}
-use Rattle.sip_verdict.specs.state.declared.server.Server.{Server}
-use Rattle.sip_verdict.specs.state.declared.branch.Branch.{Branch}
-use Rattle.sip_verdict.specs.state.declared.open_request.OpenRequest.{OpenRequest}
-use Rattle.sip_verdict.specs.state.declared.proxy_state.ProxyState.{ProxyState}
-use Rattle.sip_verdict.specs.state.SameState.{SameState}
-use Rattle.sip_verdict.specs.state.State.{has_key}
-use Rattle.sip_verdict.specs.context.Branches.{responded, cancelled, acknowledged, send_failed}
-use Rattle.sip_verdict.specs.state.Arrival.{Arrival}
-use Rattle.sip_verdict.specs.declared.question.Question.{Question}
-use Rattle.sip_verdict.specs.Verdict.{Registered, Bound, Refused, Verdict, Drop, Respond, Copy, AckOn, Cancel, Answer, InDialog, Challenge, Deny, Send, Register, is_full, message_verdict, message_in, verdict_in, verdict_of}
-use Rattle.sip_verdict.specs.context.Opening.{closing, forking, branch_to, branches_from, dialog_branch}
-use Rattle.sip_model.specs.Effect.{Effect, replaced, opened, counted, asked, issuing, renewing, registering, sending, method_of, nothing, changed, effect_of, datagram_effect}
-use Rattle.sip_model.specs.Step.{Act, Given, Passing, IsStep, IsQuiet, IsDeadline, IsResend, resent, NoneBefore, NoneAgainBefore, moment_of, arrival_of, is_failed, failed_branch, failed_request, fault_effect}
+use Rattle.sip_message_form.specs.declared.message.Message.{Message}
+use Rattle.sip_message.specs.Reading.{reading_of}
+use Rattle.sip_targets.specs.declared.target.Target.{Target}
+use Rattle.sip_targets.specs.declared.targets.Targets.{Targets}
+use Rattle.sip_event.specs.declared.packet.Ticket.{Ticket}
+use Rattle.sip_event.specs.declared.event.StepOut.{StepOut}
+use Rattle.sip_event.specs.declared.event.Event.TheVariants.{Datagram, Time, Fault}
+use Rattle.model_steps.specs.state.declared.server.Server.{Server}
+use Rattle.model_steps.specs.state.declared.branch.Branch.{Branch}
+use Rattle.model_steps.specs.state.declared.open_request.OpenRequest.{OpenRequest}
+use Rattle.model_steps.specs.state.declared.proxy_state.ProxyState.{ProxyState}
+use Rattle.model_steps.specs.state.SameState.{SameState}
+use Rattle.model_steps.specs.state.State.{has_key}
+use Rattle.model_steps.specs.context_model.Branches.{responded, cancelled, acknowledged, send_failed}
+use Rattle.model_steps.specs.state.Arrival.{Arrival}
+use Rattle.model_steps.specs.verdict_model.declared.question.Question.{Question}
+use Rattle.model_steps.specs.verdict_model.Verdict.{Registered, Bound, Refused, Verdict, Drop, Respond, Copy, AckOn, Cancel, Answer, InDialog, Challenge, Deny, Send, Register, is_full, message_verdict, message_in, verdict_in, verdict_of}
+use Rattle.model_steps.specs.context_model.Opening.{closing, forking, branch_to, branches_from, dialog_branch}
+use Rattle.model_steps.specs.Effect.{Effect, replaced, opened, counted, asked, issuing, renewing, registering, sending, method_of, nothing, changed, effect_of, datagram_effect}
+use Rattle.model_steps.specs.Step.{Act, Given, Passing, IsStep, IsQuiet, IsDeadline, IsResend, resent, NoneBefore, NoneAgainBefore, moment_of, arrival_of, is_failed, failed_branch, failed_request, fault_effect}
 use Rattle.sip_model.specs.Order.{ByResponse, ByDeadline, ByFault, ByCancel, FinalAnswer, change_finals, reply_finals, forked_finals, sending_finals, registered_finals, verdict_finals, datagram_finals, branch_finals, fault_finals, step_finals}
 use Rattle.sip_model.proofs.Places.{IsIn, in_from_contains, contains_from_in, found_in, all_weaker}
 use Rattle.sip_model.proofs.Moves.{IsStarted, sent_request, IsOpening, Answered, Sent, IsMove, Stays, TurnsAway, Opens, Changes, Resends, Acknowledges, AreMoves, One, Two}

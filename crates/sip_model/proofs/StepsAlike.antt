@@ -1,27 +1,27 @@
 -- What is a step from a state is one from each state that is the same.
 use Rattle.std.proofs.Common.{◌∙◌, inl, inr, ℕ, ◌≤◌, List, find, Option, Some, None, refl, sym, subst, arith}
 use Rattle.std.specs.Prelude.{◌==◌}
-use Rattle.sip_verdict.specs.location.declared.binding.Binding.{Binding}
-use Rattle.sip_verdict.specs.location.Sameness.{SameBindings}
-use Rattle.sip_verdict.proofs.of_context.of_state.of_location.Sameness.{same_later}
-use Rattle.sip_verdict.specs.dialog.declared.dialog.Dialog.{Dialog}
-use Rattle.sip_verdict.specs.dialog.Sameness.{SameDialogs}
-use Rattle.sip_verdict.proofs.of_context.of_state.of_dialog.Sameness.{dialogs_later}
-use Rattle.sip_verdict.specs.event.declared.packet.Packet.{Packet}
-use Rattle.sip_verdict.specs.event.declared.packet.Ticket.{Ticket}
-use Rattle.sip_verdict.specs.event.declared.event.StepOut.{StepOut}
-use Rattle.sip_verdict.specs.event.declared.event.Event.TheVariants.{Datagram, Time, Fault}
-use Rattle.sip_verdict.specs.state.declared.server.Server.{Server}
-use Rattle.sip_verdict.specs.state.declared.branch.Branch.{Branch}
-use Rattle.sip_verdict.specs.state.declared.open_request.OpenRequest.{OpenRequest}
-use Rattle.sip_verdict.specs.state.declared.proxy_state.ProxyState.{ProxyState}
-use Rattle.sip_verdict.specs.state.SameState.{SameState}
-use Rattle.sip_verdict.proofs.of_context.of_state.Sameness.{state_joined}
-use Rattle.sip_verdict.specs.context.Branches.{Change, send_failed}
-use Rattle.sip_verdict.proofs.Alike.{with_others, others_alone}
-use Rattle.sip_model.specs.Effect.{Effect, changed, nothing}
-use Rattle.sip_model.specs.SameEffect.{SameEffect}
-use Rattle.sip_model.specs.Step.{Act, Given, Passing, Does, IsQuiet, resent, IsStep, moment_of, arrival_of, is_failed, failed_branch, failed_request, fault_effect}
+use Rattle.sip_location.specs.declared.binding.Binding.{Binding}
+use Rattle.sip_location.specs.Sameness.{SameBindings}
+use Rattle.sip_location.proofs.Sameness.{same_later}
+use Rattle.sip_dialog.specs.declared.dialog.Dialog.{Dialog}
+use Rattle.sip_dialog.specs.Sameness.{SameDialogs}
+use Rattle.sip_dialog.proofs.Sameness.{dialogs_later}
+use Rattle.sip_event.specs.declared.packet.Packet.{Packet}
+use Rattle.sip_event.specs.declared.packet.Ticket.{Ticket}
+use Rattle.sip_event.specs.declared.event.StepOut.{StepOut}
+use Rattle.sip_event.specs.declared.event.Event.TheVariants.{Datagram, Time, Fault}
+use Rattle.model_steps.specs.state.declared.server.Server.{Server}
+use Rattle.model_steps.specs.state.declared.branch.Branch.{Branch}
+use Rattle.model_steps.specs.state.declared.open_request.OpenRequest.{OpenRequest}
+use Rattle.model_steps.specs.state.declared.proxy_state.ProxyState.{ProxyState}
+use Rattle.model_steps.specs.state.SameState.{SameState}
+use Rattle.model_steps.proofs.of_state.Sameness.{state_joined}
+use Rattle.model_steps.specs.context_model.Branches.{Change, send_failed}
+use Rattle.model_steps.proofs.of_verdict_model.Alike.{with_others, others_alone}
+use Rattle.model_steps.specs.Effect.{Effect, changed, nothing}
+use Rattle.model_steps.specs.SameEffect.{SameEffect}
+use Rattle.model_steps.specs.Step.{Act, Given, Passing, Does, IsQuiet, resent, IsStep, moment_of, arrival_of, is_failed, failed_branch, failed_request, fault_effect}
 use Rattle.sip_model.proofs.Alike.{effects_alike}
 use Rattle.sip_model.proofs.Sameness.{dialogs_after_same}
 

@@ -5,29 +5,29 @@ use Rattle.std.proofs.lemmas.Bool.Decides.{nat_tests}
 use Rattle.std.proofs.lemmas.Nat.{mul-le}
 use Rattle.std.proofs.Math.Nat.{mul-suc, suc-mul}
 use Rattle.std.specs.Option.{option_map_or}
-use Rattle.sip_verdict.specs.form.Text.{text_of}
+use Rattle.sip_message_form.specs.Text.{text_of}
 use Rattle.std.proofs.lemmas.List.{length-map}
 use Rattle.std.proofs.lemmas.List.Filters.{length-filter_both}
 use Rattle.std.proofs.lemmas.List.Sums.{length-filter, sum_by-cons}
-use Rattle.sip_verdict.specs.event.declared.event.Event.TheVariants.{Fault}
-use Rattle.sip_verdict.specs.event.declared.event.StepOut.{StepOut}
-use Rattle.sip_verdict.specs.event.declared.packet.Packet.{Packet}
-use Rattle.sip_verdict.specs.event.declared.packet.Ticket.{Ticket}
-use Rattle.sip_verdict.specs.host.declared.addr.Addr.{Addr}
-use Rattle.sip_verdict.specs.state.declared.server.Server.{Server}
-use Rattle.sip_verdict.specs.state.declared.branch.Phase.{Phase}
-use Rattle.sip_verdict.specs.state.declared.branch.Phase.TheVariants.{Unheard, Heard, Cancelled, Done, Ended}
-use Rattle.sip_verdict.specs.state.declared.branch.Branch.{Branch}
-use Rattle.sip_verdict.specs.state.declared.open_request.OpenRequest.{OpenRequest}
-use Rattle.sip_verdict.specs.state.declared.open_request.Side.TheVariants.{Closed}
-use Rattle.sip_verdict.specs.state.declared.open_request.Upward.{Upward}
-use Rattle.sip_verdict.specs.state.declared.proxy_state.ProxyState.{ProxyState}
-use Rattle.sip_verdict.specs.state.State.{first_state, is_invite, phase_deadline}
-use Rattle.sip_verdict.specs.context.Branches.{Change, after_upward, best_upward, branch_overdue, cancel_branch, given_up, is_cancellable, is_same_branch, is_unheard, new_cancels, send_failed, settled, target_overdue, upward_list, with_cancel, with_phase, held_branch}
-use Rattle.sip_verdict.specs.context.Sending.{branch_packets, sent_of, ticket_branch}
-use Rattle.sip_retransmission.specs.Retransmission.{IsResent, OfAnswer, OfRequest, branch_next, resent_branch}
-use Rattle.sip_model.specs.Effect.{Effect, change_packets, replaced, upward_packets}
-use Rattle.sip_model.specs.Step.{Given, Passing, IsDeadline, IsFault, IsOverdue, IsResend, OfBranch, OfSide, failed_branch, failed_request, fault_effect, is_failed, moment_of, originals, retransmissions}
+use Rattle.sip_event.specs.declared.event.Event.TheVariants.{Fault}
+use Rattle.sip_event.specs.declared.event.StepOut.{StepOut}
+use Rattle.sip_event.specs.declared.packet.Packet.{Packet}
+use Rattle.sip_event.specs.declared.packet.Ticket.{Ticket}
+use Rattle.sip_uri.specs.declared.addr.Addr.{Addr}
+use Rattle.model_steps.specs.state.declared.server.Server.{Server}
+use Rattle.model_steps.specs.state.declared.branch.Phase.{Phase}
+use Rattle.model_steps.specs.state.declared.branch.Phase.TheVariants.{Unheard, Heard, Cancelled, Done, Ended}
+use Rattle.model_steps.specs.state.declared.branch.Branch.{Branch}
+use Rattle.model_steps.specs.state.declared.open_request.OpenRequest.{OpenRequest}
+use Rattle.model_steps.specs.state.declared.open_request.Side.TheVariants.{Closed}
+use Rattle.model_steps.specs.state.declared.open_request.Upward.{Upward}
+use Rattle.model_steps.specs.state.declared.proxy_state.ProxyState.{ProxyState}
+use Rattle.model_steps.specs.state.State.{first_state, is_invite, phase_deadline}
+use Rattle.model_steps.specs.context_model.Branches.{Change, after_upward, best_upward, branch_overdue, cancel_branch, given_up, is_cancellable, is_same_branch, is_unheard, new_cancels, send_failed, settled, target_overdue, upward_list, with_cancel, with_phase, held_branch}
+use Rattle.model_steps.specs.context_model.Sending.{branch_packets, sent_of, ticket_branch}
+use Rattle.model_steps.specs.context_model.Retransmission.{IsResent, OfAnswer, OfRequest, branch_next, resent_branch}
+use Rattle.model_steps.specs.Effect.{Effect, change_packets, replaced, upward_packets}
+use Rattle.model_steps.specs.Step.{Given, Passing, IsDeadline, IsFault, IsOverdue, IsResend, OfBranch, OfSide, failed_branch, failed_request, fault_effect, is_failed, moment_of, originals, retransmissions}
 use Rattle.sip_model.specs.Run.{Link, IsChain}
 use Rattle.sip_model.specs.Order.{ByDeadline, ByFault, deadlines_left, is_numbered, side_left}
 use Rattle.sip_model.specs.Ends.{again_by, parts_left, sends_left, steps_left, time_left}

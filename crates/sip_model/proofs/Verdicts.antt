@@ -2,43 +2,43 @@
 use Rattle.std.proofs.Common.{◌≡◌, inl, inr, ℕ, Bool, true, false, cond, ◌&&◌, List, [], ◌∷◌, codes, find, Option, Some, None, option_and_then, is_some, refl, sym, ap, subst, count_by, bytes_eq}
 use Rattle.std.specs.Option.{option_map_or, unwrap_or}
 use Rattle.std.specs.Result.{result_ok}
-use Rattle.sip_verdict.specs.uri.declared.uri.Uri.{Uri}
-use Rattle.sip_verdict.specs.uri.declared.aor.Aor.{Aor}
-use Rattle.sip_verdict.specs.field.declared.field.Field.{Field}
-use Rattle.sip_verdict.specs.form.declared.message.Start.{Start}
-use Rattle.sip_verdict.specs.form.declared.message.Start.TheVariants.{Request, Status}
-use Rattle.sip_verdict.specs.form.declared.message.Message.{Message}
-use Rattle.sip_verdict.specs.key.declared.key.Key.{Key}
-use Rattle.sip_verdict.specs.header.declared.core_fields.CoreFields.{CoreFields}
-use Rattle.sip_verdict.specs.key.Key.{key_of}
-use Rattle.sip_verdict.specs.header.CoreFields.{core_of, cseq_in}
-use Rattle.sip_verdict.specs.header.declared.cseq.CSeq.{CSeq}
-use Rattle.sip_verdict.specs.way.Way.{request_uri_of}
-use Rattle.sip_verdict.specs.host.declared.addr.Addr.{Addr}
-use Rattle.sip_verdict.specs.hops.declared.host_address.HostAddress.{HostAddress}
-use Rattle.sip_verdict.specs.hops.Hop.{hop_of}
-use Rattle.sip_verdict.specs.policy.declared.decision.Decision.{Decision}
-use Rattle.sip_verdict.specs.location.declared.binding.Binding.{Binding}
-use Rattle.sip_verdict.specs.location.Binding.{contacts_of}
-use Rattle.sip_verdict.specs.targets.declared.target.Target.{Target}
-use Rattle.sip_verdict.specs.targets.declared.targets.Targets.{Targets}
-use Rattle.sip_verdict.specs.targets.Targets.{targets_at, target_by}
-use Rattle.sip_verdict.specs.validate.Refusal.{refusal_of, is_bad_request}
-use Rattle.sip_verdict.specs.dialog.declared.dialog.DialogId.{DialogId}
-use Rattle.sip_verdict.specs.dialog.Dialogs.{is_in_dialog}
-use Rattle.sip_verdict.specs.policy.User.{is_users_address}
-use Rattle.sip_verdict.specs.state.declared.server.Server.{Server}
-use Rattle.sip_verdict.specs.state.declared.proxy_state.ProxyState.{ProxyState}
-use Rattle.sip_verdict.specs.state.declared.open_request.OpenRequest.{OpenRequest}
-use Rattle.sip_verdict.specs.state.declared.branch.Branch.{Branch}
-use Rattle.sip_verdict.specs.state.State.{has_key}
-use Rattle.sip_verdict.specs.state.Dialogs.{dialog_of}
-use Rattle.sip_verdict.specs.context.Branches.{is_accepted}
-use Rattle.sip_verdict.specs.context.FoundBranch.{is_branch, branch_in, found_branch}
-use Rattle.sip_verdict.specs.state.Arrival.{Arrival}
-use Rattle.sip_verdict.specs.declared.question.Question.{Question}
-use Rattle.sip_verdict.specs.Verdict.{Verdict, Drop, Respond, Copy, AckOn, Cancel, Answer, InDialog, Challenge, Deny, Send, Register, response_verdict, responding, within_at, within, ack_verdict, is_full, is_cancelled_by, found_for_cancel, cancel_verdict, targets_by, request_targets, let_through, decided, policy_verdict, question_of, answer_of, is_register, is_outside, registration_by, core_verdict, checked_verdict, new_verdict, by_open, by_key, by_start, message_verdict, top_branch, next_address}
-use Rattle.sip_verdict.specs.context.Opening.{request_key}
+use Rattle.sip_uri.specs.declared.uri.Uri.{Uri}
+use Rattle.sip_uri.specs.declared.aor.Aor.{Aor}
+use Rattle.sip_message_fields.specs.declared.field.Field.{Field}
+use Rattle.sip_message_form.specs.declared.message.Start.{Start}
+use Rattle.sip_message_form.specs.declared.message.Start.TheVariants.{Request, Status}
+use Rattle.sip_message_form.specs.declared.message.Message.{Message}
+use Rattle.sip_transaction_table.specs.declared.key.Key.{Key}
+use Rattle.sip_header.specs.declared.core_fields.CoreFields.{CoreFields}
+use Rattle.sip_transaction_table.specs.Key.{key_of}
+use Rattle.sip_header.specs.CoreFields.{core_of, cseq_in}
+use Rattle.sip_header.specs.declared.cseq.CSeq.{CSeq}
+use Rattle.sip_route.specs.Way.{request_uri_of}
+use Rattle.sip_uri.specs.declared.addr.Addr.{Addr}
+use Rattle.sip_hops.specs.declared.host_address.HostAddress.{HostAddress}
+use Rattle.sip_hops.specs.Hop.{hop_of}
+use Rattle.sip_policy.specs.declared.decision.Decision.{Decision}
+use Rattle.sip_location.specs.declared.binding.Binding.{Binding}
+use Rattle.sip_location.specs.Binding.{contacts_of}
+use Rattle.sip_targets.specs.declared.target.Target.{Target}
+use Rattle.sip_targets.specs.declared.targets.Targets.{Targets}
+use Rattle.sip_targets.specs.Targets.{targets_at, target_by}
+use Rattle.sip_validate.specs.Refusal.{refusal_of, is_bad_request}
+use Rattle.sip_dialog.specs.declared.dialog.DialogId.{DialogId}
+use Rattle.sip_dialog.specs.Dialogs.{is_in_dialog}
+use Rattle.sip_policy.specs.User.{is_users_address}
+use Rattle.model_steps.specs.state.declared.server.Server.{Server}
+use Rattle.model_steps.specs.state.declared.proxy_state.ProxyState.{ProxyState}
+use Rattle.model_steps.specs.state.declared.open_request.OpenRequest.{OpenRequest}
+use Rattle.model_steps.specs.state.declared.branch.Branch.{Branch}
+use Rattle.model_steps.specs.state.State.{has_key}
+use Rattle.model_steps.specs.state.Dialogs.{dialog_of}
+use Rattle.model_steps.specs.context_model.Branches.{is_accepted}
+use Rattle.model_steps.specs.context_model.FoundBranch.{is_branch, branch_in, found_branch}
+use Rattle.model_steps.specs.state.Arrival.{Arrival}
+use Rattle.model_steps.specs.verdict_model.declared.question.Question.{Question}
+use Rattle.model_steps.specs.verdict_model.Verdict.{Verdict, Drop, Respond, Copy, AckOn, Cancel, Answer, InDialog, Challenge, Deny, Send, Register, response_verdict, responding, within_at, within, ack_verdict, is_full, is_cancelled_by, found_for_cancel, cancel_verdict, targets_by, request_targets, let_through, decided, policy_verdict, question_of, answer_of, is_register, is_outside, registration_by, core_verdict, checked_verdict, new_verdict, by_open, by_key, by_start, message_verdict, top_branch, next_address}
+use Rattle.model_steps.specs.context_model.Opening.{request_key}
 use Rattle.sip_model.proofs.Places.{IsIn, found_in, none_found}
 
 -- ---- what is said of a verdict

@@ -1,20 +1,20 @@
 -- Every open request has a deadline: one that owes an answer waits for a branch, since the best answer goes up with the last branch's.
 use Rattle.std.proofs.Common.{◌≡◌, ℕ, ◌+◌, Bool, true, false, not, ◌&&◌, ◌||◌, cond, ◌==◌, List, [], ◌∷◌, ◌++◌, filter, Option, Some, None, refl, sym, ap, subst, ◌∙◌, arith, option_map, count_by, IsSome as IsSomeOption, flat_map}
 use Rattle.std.specs.List.{AllByRecursion, list_any, list_all}
-use Rattle.sip_verdict.specs.best.declared.final_answer.Final.{Final}
-use Rattle.sip_verdict.specs.best.Best.{best_of, picked, chosen_of, going_up, is_unbeaten, is_challenge_status, challenging}
-use Rattle.sip_verdict.proofs.of_context.of_state.of_best.Choices.{one_goes_up}
-use Rattle.sip_verdict.specs.event.declared.packet.Packet.{Packet}
-use Rattle.sip_verdict.specs.state.declared.server.Server.{Server}
-use Rattle.sip_verdict.specs.state.declared.branch.Phase.{Phase}
-use Rattle.sip_verdict.specs.state.declared.branch.Branch.{Branch}
-use Rattle.sip_verdict.specs.state.declared.open_request.OpenRequest.{OpenRequest}
-use Rattle.sip_verdict.specs.state.declared.branch.Phase.TheVariants.{Unheard, Heard, Cancelled, Done, Ended}
-use Rattle.sip_verdict.specs.state.declared.open_request.Side.{Side}
-use Rattle.sip_verdict.specs.state.declared.open_request.Side.TheVariants.{Closing}
-use Rattle.sip_verdict.specs.state.State.{is_final, is_answering, has_left, is_provisional}
-use Rattle.sip_verdict.specs.state.declared.open_request.Upward.{Upward}
-use Rattle.sip_verdict.specs.context.Branches.{Change, upward_of, all_final, best_upward, is_ready, is_cancellable, cancel_branch, with_cancels, after_upward, upward_list, settled, held_branch, with_cancel}
+use Rattle.sip_best.specs.declared.final_answer.Final.{Final}
+use Rattle.sip_best.specs.Best.{best_of, picked, chosen_of, going_up, is_unbeaten, is_challenge_status, challenging}
+use Rattle.sip_best.proofs.Choices.{one_goes_up}
+use Rattle.sip_event.specs.declared.packet.Packet.{Packet}
+use Rattle.model_steps.specs.state.declared.server.Server.{Server}
+use Rattle.model_steps.specs.state.declared.branch.Phase.{Phase}
+use Rattle.model_steps.specs.state.declared.branch.Branch.{Branch}
+use Rattle.model_steps.specs.state.declared.open_request.OpenRequest.{OpenRequest}
+use Rattle.model_steps.specs.state.declared.branch.Phase.TheVariants.{Unheard, Heard, Cancelled, Done, Ended}
+use Rattle.model_steps.specs.state.declared.open_request.Side.{Side}
+use Rattle.model_steps.specs.state.declared.open_request.Side.TheVariants.{Closing}
+use Rattle.model_steps.specs.state.State.{is_final, is_answering, has_left, is_provisional}
+use Rattle.model_steps.specs.state.declared.open_request.Upward.{Upward}
+use Rattle.model_steps.specs.context_model.Branches.{Change, upward_of, all_final, best_upward, is_ready, is_cancellable, cancel_branch, with_cancels, after_upward, upward_list, settled, held_branch, with_cancel}
 use Rattle.sip_model.specs.Order.{is_final_answer}
 use Rattle.sip_model.proofs.Cancels.{all_with_cancels}
 use Rattle.sip_model.proofs.Places.{count_cons, one_at}

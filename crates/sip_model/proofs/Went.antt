@@ -3,41 +3,41 @@ use Rattle.std.proofs.Common.{◌≡◌, ◌∙◌, inl, inr, ℕ, ◌+◌, Bool
 use Rattle.std.specs.List.{AllByRecursion}
 use Rattle.std.specs.Option.{option_map_or}
 use Rattle.std.proofs.lemmas.List.Elements.{Contains-append_right, Contains-append_left}
-use Rattle.sip_verdict.specs.host.declared.addr.Addr.{Addr}
-use Rattle.sip_verdict.specs.field.declared.field.Field.{Field}
-use Rattle.sip_verdict.specs.field.declared.field_name.FieldName.TheVariants as Name
-use Rattle.sip_verdict.specs.form.declared.message.Message.{Message}
-use Rattle.sip_verdict.specs.form.Text.{text_of}
-use Rattle.sip_verdict.specs.field.Values.{first_value}
-use Rattle.sip_verdict.specs.message.Reading.{reading_of}
-use Rattle.sip_verdict.specs.edit.OwnRequests.{ack_with}
-use Rattle.sip_verdict.specs.targets.declared.target.Target.{Target}
-use Rattle.sip_verdict.specs.targets.declared.targets.Targets.{Targets}
-use Rattle.sip_verdict.specs.best.declared.final_answer.Final.{Final}
-use Rattle.sip_verdict.specs.context.audit.declared.record.Record.{Record}
-use Rattle.sip_verdict.specs.event.declared.packet.Packet.{Packet}
-use Rattle.sip_verdict.specs.event.declared.packet.Ticket.{Ticket}
-use Rattle.sip_verdict.specs.event.declared.event.StepOut.{StepOut}
-use Rattle.sip_verdict.specs.event.declared.event.Event.TheVariants.{Datagram, Time, Fault}
-use Rattle.sip_verdict.specs.state.declared.server.Server.{Server}
-use Rattle.sip_verdict.specs.state.declared.branch.Phase.{Phase}
-use Rattle.sip_verdict.specs.state.declared.branch.Phase.TheVariants.{Unheard, Heard, Cancelled, Done, Ended}
-use Rattle.sip_verdict.specs.state.declared.branch.Branch.{Branch}
-use Rattle.sip_verdict.specs.state.declared.open_request.Side.TheVariants.{Closed}
-use Rattle.sip_verdict.specs.state.declared.open_request.LastAnswer.{LastAnswer}
-use Rattle.sip_verdict.specs.state.declared.open_request.OpenRequest.{OpenRequest}
-use Rattle.sip_verdict.specs.state.declared.open_request.Upward.{Upward}
-use Rattle.sip_verdict.specs.state.declared.proxy_state.ProxyState.{ProxyState}
-use Rattle.sip_verdict.specs.state.State.{first_state, is_invite, is_final, is_success, is_failure, is_decline, is_provisional}
-use Rattle.sip_verdict.specs.context.Sending.{answer_to, to_branch, request_of, branch_packets, ack_packets}
-use Rattle.sip_verdict.specs.context.Branches.{Change, is_same_branch, turned, with_phase, with_final, marked, given_up, best_upward, is_cancellable, cancel_branch, new_cancels, held_branch, with_cancel, with_cancels, after_upward, upward_list, settled, heard, invite_heard, other_heard, relayed_provisional, relayed_success, final_of, linger, told_to, with_answer, acks_of, further, target_responded, cancel_responded, responded, target_overdue, branch_overdue, send_failed, cancelled, acknowledged_side, was_refused, acknowledged}
-use Rattle.sip_retransmission.specs.Retransmission.{is_lasting, answers_again, goes_again, acks_again, branch_next, IsResent, OfAnswer, OfRequest, branch_again, retransmissions_of, IsRetransmission}
-use Rattle.sip_verdict.specs.state.Arrival.{Arrival}
-use Rattle.sip_verdict.specs.declared.question.Question.{Question}
-use Rattle.sip_verdict.specs.Verdict.{Registered, Bound, Refused, Verdict, Drop, Respond, Copy, AckOn, Cancel, Answer, InDialog, Challenge, Deny, Send, Register, is_full, message_verdict, message_in, verdict_in}
-use Rattle.sip_verdict.specs.context.Opening.{branches_from, forking, is_tried, trying, tried, dialog_branch}
-use Rattle.sip_model.specs.Effect.{upward_packets, change_packets, Effect, replaced, changed, nothing, opened, replied, asked, issuing, registering, forked, sending, renewing, counted, method_of, effect_of}
-use Rattle.sip_model.specs.Step.{Act, Given, Passing, Does, IsOverdue, OfSide, OfBranch, IsStep, originals, retransmissions, moment_of, arrival_of, is_failed, failed_branch, failed_request}
+use Rattle.sip_uri.specs.declared.addr.Addr.{Addr}
+use Rattle.sip_message_fields.specs.declared.field.Field.{Field}
+use Rattle.sip_message_fields.specs.declared.field_name.FieldName.TheVariants as Name
+use Rattle.sip_message_form.specs.declared.message.Message.{Message}
+use Rattle.sip_message_form.specs.Text.{text_of}
+use Rattle.sip_message_fields.specs.Values.{first_value}
+use Rattle.sip_message.specs.Reading.{reading_of}
+use Rattle.sip_edit.specs.OwnRequests.{ack_with}
+use Rattle.sip_targets.specs.declared.target.Target.{Target}
+use Rattle.sip_targets.specs.declared.targets.Targets.{Targets}
+use Rattle.sip_best.specs.declared.final_answer.Final.{Final}
+use Rattle.sip_audit.specs.declared.record.Record.{Record}
+use Rattle.sip_event.specs.declared.packet.Packet.{Packet}
+use Rattle.sip_event.specs.declared.packet.Ticket.{Ticket}
+use Rattle.sip_event.specs.declared.event.StepOut.{StepOut}
+use Rattle.sip_event.specs.declared.event.Event.TheVariants.{Datagram, Time, Fault}
+use Rattle.model_steps.specs.state.declared.server.Server.{Server}
+use Rattle.model_steps.specs.state.declared.branch.Phase.{Phase}
+use Rattle.model_steps.specs.state.declared.branch.Phase.TheVariants.{Unheard, Heard, Cancelled, Done, Ended}
+use Rattle.model_steps.specs.state.declared.branch.Branch.{Branch}
+use Rattle.model_steps.specs.state.declared.open_request.Side.TheVariants.{Closed}
+use Rattle.model_steps.specs.state.declared.open_request.LastAnswer.{LastAnswer}
+use Rattle.model_steps.specs.state.declared.open_request.OpenRequest.{OpenRequest}
+use Rattle.model_steps.specs.state.declared.open_request.Upward.{Upward}
+use Rattle.model_steps.specs.state.declared.proxy_state.ProxyState.{ProxyState}
+use Rattle.model_steps.specs.state.State.{first_state, is_invite, is_final, is_success, is_failure, is_decline, is_provisional}
+use Rattle.model_steps.specs.context_model.Sending.{answer_to, to_branch, request_of, branch_packets, ack_packets}
+use Rattle.model_steps.specs.context_model.Branches.{Change, is_same_branch, turned, with_phase, with_final, marked, given_up, best_upward, is_cancellable, cancel_branch, new_cancels, held_branch, with_cancel, with_cancels, after_upward, upward_list, settled, heard, invite_heard, other_heard, relayed_provisional, relayed_success, final_of, linger, told_to, with_answer, acks_of, further, target_responded, cancel_responded, responded, target_overdue, branch_overdue, send_failed, cancelled, acknowledged_side, was_refused, acknowledged}
+use Rattle.model_steps.specs.context_model.Retransmission.{is_lasting, answers_again, goes_again, acks_again, branch_next, IsResent, OfAnswer, OfRequest, branch_again, retransmissions_of, IsRetransmission}
+use Rattle.model_steps.specs.state.Arrival.{Arrival}
+use Rattle.model_steps.specs.verdict_model.declared.question.Question.{Question}
+use Rattle.model_steps.specs.verdict_model.Verdict.{Registered, Bound, Refused, Verdict, Drop, Respond, Copy, AckOn, Cancel, Answer, InDialog, Challenge, Deny, Send, Register, is_full, message_verdict, message_in, verdict_in}
+use Rattle.model_steps.specs.context_model.Opening.{branches_from, forking, is_tried, trying, tried, dialog_branch}
+use Rattle.model_steps.specs.Effect.{upward_packets, change_packets, Effect, replaced, changed, nothing, opened, replied, asked, issuing, registering, forked, sending, renewing, counted, method_of, effect_of}
+use Rattle.model_steps.specs.Step.{Act, Given, Passing, Does, IsOverdue, OfSide, OfBranch, IsStep, originals, retransmissions, moment_of, arrival_of, is_failed, failed_branch, failed_request}
 use Rattle.sip_model.specs.Run.{Link, IsChain}
 use Rattle.sip_model.specs.Lives.{first_sending, sent_first}
 use Rattle.sip_model.proofs.Lists.{all_append, all_flat_map, all_weaker, all_contains, all_there}

@@ -3,56 +3,56 @@ use Rattle.std.specs.Prelude.{◌≡◌, ◌⊎◌, ◌<◌, ◌≤◌, ℕ, max
 use Rattle.std.specs.List.{AllByRecursion, list_any, flat_map}
 use Rattle.std.specs.Option.{option_map_or}
 use Rattle.std.specs.Str.{bytes_eq}
-use Rattle.sip_verdict.specs.field.declared.field.Field.{Field}
-use Rattle.sip_verdict.specs.form.declared.message.Start.TheVariants.{Request, Status}
-use Rattle.sip_verdict.specs.form.declared.message.Message.{Message}
-use Rattle.sip_verdict.specs.field.declared.field_name.FieldName.TheVariants as Name
-use Rattle.sip_verdict.specs.field.Values.{first_value}
-use Rattle.sip_verdict.specs.message.Reading.{reading_of}
-use Rattle.sip_verdict.specs.form.Text.{text_of}
-use Rattle.sip_verdict.specs.key.declared.key.Key.{Key}
-use Rattle.sip_verdict.specs.header.declared.core_fields.CoreFields.{CoreFields}
-use Rattle.sip_verdict.specs.key.Key.{key_of}
-use Rattle.sip_verdict.specs.header.CoreFields.{core_of}
-use Rattle.sip_verdict.specs.host.declared.addr.Addr.{Addr}
-use Rattle.sip_verdict.specs.reply.Extras.{denial_warning}
-use Rattle.sip_verdict.specs.edit.Onward.{onward_uri}
-use Rattle.sip_verdict.specs.edit.OwnRequests.{cancel_of}
-use Rattle.sip_verdict.specs.edit.OwnVia.{without_top_via}
-use Rattle.sip_verdict.specs.policy.declared.decision.Decision.{Decision}
-use Rattle.sip_verdict.specs.policy.Operation.{operation_of}
-use Rattle.sip_verdict.specs.location.declared.binding.Binding.{Binding}
-use Rattle.sip_verdict.specs.location.Sameness.{SameBindings}
-use Rattle.sip_verdict.specs.targets.declared.target.Target.{Target}
-use Rattle.sip_verdict.specs.targets.declared.targets.Targets.{Targets}
-use Rattle.sip_verdict.specs.targets.Targets.{target_list}
-use Rattle.sip_verdict.specs.validate.Refusal.{refusal_of}
-use Rattle.sip_verdict.specs.best.declared.final_answer.Final.{Final}
-use Rattle.sip_verdict.specs.best.Best.{is_challenge_status, is_challenge_field, taking_along, best_of}
-use Rattle.sip_verdict.specs.dialog.declared.dialog.DialogId.{DialogId}
-use Rattle.sip_verdict.specs.dialog.Dialogs.{IsInDialog}
-use Rattle.sip_verdict.specs.context.audit.declared.record.Record.{Record}
-use Rattle.sip_verdict.specs.event.declared.packet.Packet.{Packet}
-use Rattle.sip_verdict.specs.event.declared.packet.Ticket.{Ticket}
-use Rattle.sip_verdict.specs.event.declared.event.StepOut.{StepOut}
-use Rattle.sip_verdict.specs.event.declared.event.Event.TheVariants.{Datagram, Time, Fault}
-use Rattle.sip_verdict.specs.state.declared.server.Server.{Server}
-use Rattle.sip_verdict.specs.location.Registering.{to_aor}
-use Rattle.sip_verdict.specs.state.declared.proxy_state.ProxyState.{ProxyState}
-use Rattle.sip_verdict.specs.state.declared.open_request.OpenRequest.{OpenRequest}
-use Rattle.sip_verdict.specs.state.declared.branch.Branch.{Branch}
-use Rattle.sip_verdict.specs.state.declared.branch.Phase.{Phase}
-use Rattle.sip_verdict.specs.state.declared.branch.Phase.TheVariants.{Unheard, Heard, Cancelled, Done, Ended}
-use Rattle.sip_verdict.specs.state.State.{is_invite, has_key, is_success, is_failure, is_decline, is_provisional, is_final, is_answering}
-use Rattle.sip_verdict.specs.state.Dialogs.{dialog_of}
-use Rattle.sip_verdict.specs.context.Sending.{made_answer, answer_packet, answer_to, to_branch, ack_packets, branch_packets, onward_as, request_of}
-use Rattle.sip_verdict.specs.context.Branches.{is_same_branch, is_ready, is_unheard, is_accepted, final_of, upward_of}
-use Rattle.sip_verdict.specs.state.Arrival.{Arrival}
-use Rattle.sip_verdict.specs.Verdict.{Bound, Refused, Verdict, Drop, Respond, Copy, AckOn, Cancel, Answer, InDialog, Challenge, Deny, Send, Register, has_contact, is_full, is_register, is_outside, question_of, answer_of, request_targets, registration_by, next_address, responding, found_for_cancel, message_in, verdict_of}
-use Rattle.sip_verdict.specs.context.Opening.{arriving, branches_from, dialog_branch}
-use Rattle.sip_retransmission.specs.Retransmission.{IsRetransmission, IsResent, answers_again, acked_again}
-use Rattle.sip_model.specs.Effect.{contact_fields, challenge_status, challenges_to, method_of, ack_packet}
-use Rattle.sip_model.specs.Step.{Act, Given, Passing, originals, retransmissions, arrival_of}
+use Rattle.sip_message_fields.specs.declared.field.Field.{Field}
+use Rattle.sip_message_form.specs.declared.message.Start.TheVariants.{Request, Status}
+use Rattle.sip_message_form.specs.declared.message.Message.{Message}
+use Rattle.sip_message_fields.specs.declared.field_name.FieldName.TheVariants as Name
+use Rattle.sip_message_fields.specs.Values.{first_value}
+use Rattle.sip_message.specs.Reading.{reading_of}
+use Rattle.sip_message_form.specs.Text.{text_of}
+use Rattle.sip_transaction_table.specs.declared.key.Key.{Key}
+use Rattle.sip_header.specs.declared.core_fields.CoreFields.{CoreFields}
+use Rattle.sip_transaction_table.specs.Key.{key_of}
+use Rattle.sip_header.specs.CoreFields.{core_of}
+use Rattle.sip_uri.specs.declared.addr.Addr.{Addr}
+use Rattle.sip_edit_response.specs.Extras.{denial_warning}
+use Rattle.model_steps.specs.edit_onward.Onward.{onward_uri}
+use Rattle.sip_edit.specs.OwnRequests.{cancel_of}
+use Rattle.sip_edit.specs.OwnVia.{without_top_via}
+use Rattle.sip_policy.specs.declared.decision.Decision.{Decision}
+use Rattle.sip_policy.specs.Operation.{operation_of}
+use Rattle.sip_location.specs.declared.binding.Binding.{Binding}
+use Rattle.sip_location.specs.Sameness.{SameBindings}
+use Rattle.sip_targets.specs.declared.target.Target.{Target}
+use Rattle.sip_targets.specs.declared.targets.Targets.{Targets}
+use Rattle.sip_targets.specs.Targets.{target_list}
+use Rattle.sip_validate.specs.Refusal.{refusal_of}
+use Rattle.sip_best.specs.declared.final_answer.Final.{Final}
+use Rattle.sip_best.specs.Best.{is_challenge_status, is_challenge_field, taking_along, best_of}
+use Rattle.sip_dialog.specs.declared.dialog.DialogId.{DialogId}
+use Rattle.sip_dialog.specs.Dialogs.{IsInDialog}
+use Rattle.sip_audit.specs.declared.record.Record.{Record}
+use Rattle.sip_event.specs.declared.packet.Packet.{Packet}
+use Rattle.sip_event.specs.declared.packet.Ticket.{Ticket}
+use Rattle.sip_event.specs.declared.event.StepOut.{StepOut}
+use Rattle.sip_event.specs.declared.event.Event.TheVariants.{Datagram, Time, Fault}
+use Rattle.model_steps.specs.state.declared.server.Server.{Server}
+use Rattle.sip_location.specs.Registering.{to_aor}
+use Rattle.model_steps.specs.state.declared.proxy_state.ProxyState.{ProxyState}
+use Rattle.model_steps.specs.state.declared.open_request.OpenRequest.{OpenRequest}
+use Rattle.model_steps.specs.state.declared.branch.Branch.{Branch}
+use Rattle.model_steps.specs.state.declared.branch.Phase.{Phase}
+use Rattle.model_steps.specs.state.declared.branch.Phase.TheVariants.{Unheard, Heard, Cancelled, Done, Ended}
+use Rattle.model_steps.specs.state.State.{is_invite, has_key, is_success, is_failure, is_decline, is_provisional, is_final, is_answering}
+use Rattle.model_steps.specs.state.Dialogs.{dialog_of}
+use Rattle.model_steps.specs.context_model.Sending.{made_answer, answer_packet, answer_to, to_branch, ack_packets, branch_packets, onward_as, request_of}
+use Rattle.model_steps.specs.context_model.Branches.{is_same_branch, is_ready, is_unheard, is_accepted, final_of, upward_of}
+use Rattle.model_steps.specs.state.Arrival.{Arrival}
+use Rattle.model_steps.specs.verdict_model.Verdict.{Bound, Refused, Verdict, Drop, Respond, Copy, AckOn, Cancel, Answer, InDialog, Challenge, Deny, Send, Register, has_contact, is_full, is_register, is_outside, question_of, answer_of, request_targets, registration_by, next_address, responding, found_for_cancel, message_in, verdict_of}
+use Rattle.model_steps.specs.context_model.Opening.{arriving, branches_from, dialog_branch}
+use Rattle.model_steps.specs.context_model.Retransmission.{IsRetransmission, IsResent, answers_again, acked_again}
+use Rattle.model_steps.specs.Effect.{contact_fields, challenge_status, challenges_to, method_of, ack_packet}
+use Rattle.model_steps.specs.Step.{Act, Given, Passing, originals, retransmissions, arrival_of}
 use Rattle.sip_model.specs.Run.{Link, event_moment}
 use Rattle.sip_model.specs.Bindings.{Arrived, bindings_after}
 use Rattle.sip_model.specs.Lives.{sent_first, first_sending}

@@ -1,11 +1,11 @@
 -- What is left to happen by itself: numbers that fall with each step, so that what is due by a moment comes to an end, and so do sends that fail.
 use Rattle.std.specs.Prelude.{ℕ, ◌+◌, ◌-◌, ◌*◌, nat_le, if◌then◌else◌, length, count_by}
 use Rattle.std.specs.List.{sum_by}
-use Rattle.sip_verdict.specs.state.declared.branch.Branch.{Branch}
-use Rattle.sip_verdict.specs.state.declared.open_request.OpenRequest.{OpenRequest}
-use Rattle.sip_verdict.specs.state.declared.proxy_state.ProxyState.{ProxyState}
+use Rattle.model_steps.specs.state.declared.branch.Branch.{Branch}
+use Rattle.model_steps.specs.state.declared.open_request.OpenRequest.{OpenRequest}
+use Rattle.model_steps.specs.state.declared.proxy_state.ProxyState.{ProxyState}
 use Rattle.sip_model.specs.Order.{deadlines_left}
-use Rattle.sip_model.specs.Step.{moment_of}
+use Rattle.model_steps.specs.Step.{moment_of}
 
 -- How many deadlines of all open requests may still pass if nothing else happens; and so many packets at most can faults hand out, each of which ends one of these.
 abbrev pub sends_left : ProxyState → ℕ

@@ -3,32 +3,32 @@ use Rattle.std.specs.Prelude.{◌≡◌, ◌<◌, ◌≤◌, ◌+◌, ℕ, ◌==
 use mathlib.Core.Logic.{inl, inr}
 use Rattle.std.specs.Option.{option_map_or, option_to_list}
 use Rattle.std.specs.List.{AllByRecursion}
-use Rattle.sip_verdict.specs.form.declared.message.Message.{Message}
-use Rattle.sip_verdict.specs.nonces.declared.nonces.Nonce.{Nonce}
-use Rattle.sip_verdict.specs.digest.Credential.{count_of}
-use Rattle.sip_verdict.specs.nonces.NonceText.{nonce_text, word_of}
-use Rattle.sip_verdict.specs.nonces.Nonces.{issued}
-use Rattle.sip_verdict.specs.auth.Proof.{Proof, Right, Stale, Wrong, used}
-use Rattle.sip_verdict.specs.targets.declared.targets.Targets.{Targets}
-use Rattle.sip_verdict.specs.targets.Targets.{target_list}
-use Rattle.sip_verdict.specs.context.audit.declared.record.Outcome.{Outcome}
-use Rattle.sip_verdict.specs.context.audit.declared.record.Record.{Record}
-use Rattle.sip_verdict.specs.dialog.declared.dialog.Dialog.{Dialog}
-use Rattle.sip_verdict.specs.event.declared.packet.Ticket.{Ticket}
-use Rattle.sip_verdict.specs.event.declared.event.StepOut.{StepOut}
-use Rattle.sip_verdict.specs.event.declared.event.Event.TheVariants.{Datagram, Time, Fault}
-use Rattle.sip_verdict.specs.state.declared.server.Server.{Server}
-use Rattle.sip_verdict.specs.state.declared.branch.Branch.{Branch}
-use Rattle.sip_verdict.specs.state.declared.open_request.OpenRequest.{OpenRequest}
-use Rattle.sip_verdict.specs.state.declared.proxy_state.ProxyState.{ProxyState}
-use Rattle.sip_verdict.specs.state.Dialogs.{after_request}
-use Rattle.sip_verdict.specs.context.Branches.{settled, responded, send_failed, cancelled}
-use Rattle.sip_verdict.specs.state.Arrival.{Arrival}
-use Rattle.sip_verdict.specs.declared.question.Question.{Question}
-use Rattle.sip_verdict.specs.Verdict.{Registered, Bound, Refused, Verdict, Drop, Respond, Copy, AckOn, Cancel, Answer, InDialog, Challenge, Deny, Send, Register, verdict_of}
-use Rattle.sip_verdict.specs.context.Opening.{forking, branches_from, dialog_branch, tried, trying}
-use Rattle.sip_model.specs.Effect.{challenge_status, record_of, dialogs_after}
-use Rattle.sip_model.specs.Step.{Act, Given, Passing, IsStep, is_failed, moment_of, arrival_of}
+use Rattle.sip_message_form.specs.declared.message.Message.{Message}
+use Rattle.sip_digest.specs.declared.nonces.Nonce.{Nonce}
+use Rattle.sip_digest.specs.Credential.{count_of}
+use Rattle.sip_digest.specs.NonceText.{nonce_text, word_of}
+use Rattle.sip_digest.specs.Nonces.{issued}
+use Rattle.sip_auth.specs.Proof.{Proof, Right, Stale, Wrong, used}
+use Rattle.sip_targets.specs.declared.targets.Targets.{Targets}
+use Rattle.sip_targets.specs.Targets.{target_list}
+use Rattle.sip_audit.specs.declared.record.Outcome.{Outcome}
+use Rattle.sip_audit.specs.declared.record.Record.{Record}
+use Rattle.sip_dialog.specs.declared.dialog.Dialog.{Dialog}
+use Rattle.sip_event.specs.declared.packet.Ticket.{Ticket}
+use Rattle.sip_event.specs.declared.event.StepOut.{StepOut}
+use Rattle.sip_event.specs.declared.event.Event.TheVariants.{Datagram, Time, Fault}
+use Rattle.model_steps.specs.state.declared.server.Server.{Server}
+use Rattle.model_steps.specs.state.declared.branch.Branch.{Branch}
+use Rattle.model_steps.specs.state.declared.open_request.OpenRequest.{OpenRequest}
+use Rattle.model_steps.specs.state.declared.proxy_state.ProxyState.{ProxyState}
+use Rattle.model_steps.specs.state.Dialogs.{after_request}
+use Rattle.model_steps.specs.context_model.Branches.{settled, responded, send_failed, cancelled}
+use Rattle.model_steps.specs.state.Arrival.{Arrival}
+use Rattle.model_steps.specs.verdict_model.declared.question.Question.{Question}
+use Rattle.model_steps.specs.verdict_model.Verdict.{Registered, Bound, Refused, Verdict, Drop, Respond, Copy, AckOn, Cancel, Answer, InDialog, Challenge, Deny, Send, Register, verdict_of}
+use Rattle.model_steps.specs.context_model.Opening.{forking, branches_from, dialog_branch, tried, trying}
+use Rattle.model_steps.specs.Effect.{challenge_status, record_of, dialogs_after}
+use Rattle.model_steps.specs.Step.{Act, Given, Passing, IsStep, is_failed, moment_of, arrival_of}
 use Rattle.sip_model.specs.Run.{Link, IsChain}
 
 -- what policy was asked in a verdict, if it was asked

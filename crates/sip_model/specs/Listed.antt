@@ -1,11 +1,11 @@
 -- What a 200 to a REGISTER lists.
 use Rattle.std.specs.Prelude.{◌≡◌, ◌<◌, ◌≤◌, ◌+◌, ◌*◌, ℕ, List, Contains}
-use Rattle.sip_verdict.specs.uri.declared.aor.Aor.{Aor}
-use Rattle.sip_verdict.specs.uri.Uri as UriText
-use Rattle.sip_verdict.specs.field.declared.field.Field.{Field}
-use Rattle.sip_verdict.specs.field.declared.field_name.FieldName.TheVariants as Name
-use Rattle.sip_verdict.specs.reply.Contacts.{contact_value}
-use Rattle.sip_verdict.specs.location.declared.binding.Binding.{Binding}
+use Rattle.sip_uri.specs.declared.aor.Aor.{Aor}
+use Rattle.sip_uri.specs.Uri as UriText
+use Rattle.sip_message_fields.specs.declared.field.Field.{Field}
+use Rattle.sip_message_fields.specs.declared.field_name.FieldName.TheVariants as Name
+use Rattle.sip_edit_response.specs.Contacts.{contact_value}
+use Rattle.sip_location.specs.declared.binding.Binding.{Binding}
 
 -- A field lists a binding of an address of record: one of these rows that hasn't expired, as a Contact with its URI and the seconds that it has left, a part of one counting as one
 -- (RFC 3261 10.3 step 8).

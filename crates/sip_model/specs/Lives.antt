@@ -1,7 +1,7 @@
 -- What a history sent for the first time.
 use Rattle.std.specs.Prelude.{false, List, [], ◌∷◌, ◌++◌}
-use Rattle.sip_verdict.specs.event.declared.packet.Packet.{Packet}
-use Rattle.sip_model.specs.Step.{originals}
+use Rattle.sip_event.specs.declared.packet.Packet.{Packet}
+use Rattle.model_steps.specs.Step.{originals}
 use Rattle.sip_model.specs.Run.{Link}
 
 -- the first sending of a packet that goes again: the same bytes to the same address for the same ticket, as an original

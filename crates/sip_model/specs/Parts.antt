@@ -2,31 +2,31 @@
 -- passes; or nothing happens. A CANCEL alone is two parts: it is answered, and then cancels (RFC 3261 9.2, 16, 17).
 use Rattle.std.specs.Prelude.{◌≡◌, ℕ, ◌+◌, Bool, true, false, List, [], ◌∷◌, ◌++◌, find, codes, Contains, Some, None, is_some, if◌then◌else◌, count_by}
 use Rattle.std.specs.Str.{bytes_eq}
-use Rattle.sip_verdict.specs.field.declared.field.Field.{Field}
-use Rattle.sip_verdict.specs.form.declared.message.Start.TheVariants.{Status}
-use Rattle.sip_verdict.specs.form.declared.message.Message.{Message}
-use Rattle.sip_verdict.specs.form.Text.{text_of}
-use Rattle.sip_verdict.specs.key.declared.key.Key.{Key}
-use Rattle.sip_verdict.specs.key.Key.{key_of}
-use Rattle.sip_verdict.specs.host.declared.addr.Addr.{Addr}
-use Rattle.sip_verdict.specs.event.declared.packet.Packet.{Packet}
-use Rattle.sip_verdict.specs.event.declared.packet.Ticket.{Ticket}
-use Rattle.sip_verdict.specs.event.declared.event.StepOut.{StepOut}
-use Rattle.sip_verdict.specs.event.declared.event.Event.TheVariants.{Datagram, Time, Fault}
-use Rattle.sip_verdict.specs.state.declared.server.Server.{Server}
-use Rattle.sip_verdict.specs.state.declared.branch.Branch.{Branch}
-use Rattle.sip_verdict.specs.state.declared.branch.Phase.TheVariants.{Unheard, Ended}
-use Rattle.sip_verdict.specs.state.declared.open_request.OpenRequest.{OpenRequest}
-use Rattle.sip_verdict.specs.state.declared.proxy_state.ProxyState.{ProxyState}
-use Rattle.sip_verdict.specs.state.State.{has_key, first_resend, is_provisional}
-use Rattle.sip_verdict.specs.state.Arrival.{Arrival}
-use Rattle.sip_verdict.specs.context.Branches.{Change, responded, send_failed, cancelled, acknowledged}
-use Rattle.sip_verdict.specs.context.Sending.{made_answer, answer_packet}
-use Rattle.sip_verdict.specs.context.Opening.{closing, forking, opening}
-use Rattle.sip_verdict.specs.Verdict.{responding, found_for_cancel, is_full}
-use Rattle.sip_retransmission.specs.Retransmission.{IsResent, answers_again, acked_again}
-use Rattle.sip_model.specs.Effect.{replaced, change_packets, opening_packets, ack_packet, method_of}
-use Rattle.sip_model.specs.Step.{Act, Given, Passing, originals, retransmissions, NoneBefore, NoneAgainBefore, IsOverdue, is_failed}
+use Rattle.sip_message_fields.specs.declared.field.Field.{Field}
+use Rattle.sip_message_form.specs.declared.message.Start.TheVariants.{Status}
+use Rattle.sip_message_form.specs.declared.message.Message.{Message}
+use Rattle.sip_message_form.specs.Text.{text_of}
+use Rattle.sip_transaction_table.specs.declared.key.Key.{Key}
+use Rattle.sip_transaction_table.specs.Key.{key_of}
+use Rattle.sip_uri.specs.declared.addr.Addr.{Addr}
+use Rattle.sip_event.specs.declared.packet.Packet.{Packet}
+use Rattle.sip_event.specs.declared.packet.Ticket.{Ticket}
+use Rattle.sip_event.specs.declared.event.StepOut.{StepOut}
+use Rattle.sip_event.specs.declared.event.Event.TheVariants.{Datagram, Time, Fault}
+use Rattle.model_steps.specs.state.declared.server.Server.{Server}
+use Rattle.model_steps.specs.state.declared.branch.Branch.{Branch}
+use Rattle.model_steps.specs.state.declared.branch.Phase.TheVariants.{Unheard, Ended}
+use Rattle.model_steps.specs.state.declared.open_request.OpenRequest.{OpenRequest}
+use Rattle.model_steps.specs.state.declared.proxy_state.ProxyState.{ProxyState}
+use Rattle.model_steps.specs.state.State.{has_key, first_resend, is_provisional}
+use Rattle.model_steps.specs.state.Arrival.{Arrival}
+use Rattle.model_steps.specs.context_model.Branches.{Change, responded, send_failed, cancelled, acknowledged}
+use Rattle.model_steps.specs.context_model.Sending.{made_answer, answer_packet}
+use Rattle.model_steps.specs.context_model.Opening.{closing, forking, opening}
+use Rattle.model_steps.specs.verdict_model.Verdict.{responding, found_for_cancel, is_full}
+use Rattle.model_steps.specs.context_model.Retransmission.{IsResent, answers_again, acked_again}
+use Rattle.model_steps.specs.Effect.{replaced, change_packets, opening_packets, ack_packet, method_of}
+use Rattle.model_steps.specs.Step.{Act, Given, Passing, originals, retransmissions, NoneBefore, NoneAgainBefore, IsOverdue, is_failed}
 use Rattle.sip_model.specs.Access.{IsSaidAt, IsWithin}
 
 -- ---- a request is opened

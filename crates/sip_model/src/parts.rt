@@ -1,7 +1,7 @@
-ghost use Rattle.sip_verdict.specs.event.declared.event.StepOut.{StepOut};
-ghost use Rattle.sip_verdict.specs.state.declared.server.Server.{Server};
-ghost use Rattle.sip_verdict.specs.state.declared.proxy_state.ProxyState.{ProxyState};
-ghost use Rattle.sip_model.specs.Step.{Act, IsStep};
+ghost use Rattle.sip_event.specs.declared.event.StepOut.{StepOut};
+ghost use Rattle.model_steps.specs.state.declared.server.Server.{Server};
+ghost use Rattle.model_steps.specs.state.declared.proxy_state.ProxyState.{ProxyState};
+ghost use Rattle.model_steps.specs.Step.{Act, IsStep};
 ghost use Rattle.sip_model.specs.Parts.{HasParts};
 
 /// Each step has its parts: what it makes of the open requests, with what it sends for that. Who holds

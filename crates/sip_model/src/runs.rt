@@ -1,12 +1,12 @@
 ghost use Rattle.std.specs.Prelude.{ℕ, ◌<◌, ◌≤◌, ◌+◌, ◌⊎◌, List, ◌++◌, length, Option};
-ghost use Rattle.sip_verdict.specs.event.declared.event.Event.{Event};
-ghost use Rattle.sip_verdict.specs.event.declared.event.StepOut.{StepOut};
-ghost use Rattle.sip_verdict.specs.event.declared.packet.Ticket.{Ticket};
-ghost use Rattle.sip_verdict.specs.state.declared.server.Server.{Server};
-ghost use Rattle.sip_verdict.specs.state.declared.proxy_state.ProxyState.{ProxyState};
-ghost use Rattle.sip_verdict.specs.state.State.{first_state};
+ghost use Rattle.sip_event.specs.declared.event.Event.{Event};
+ghost use Rattle.sip_event.specs.declared.event.StepOut.{StepOut};
+ghost use Rattle.sip_event.specs.declared.packet.Ticket.{Ticket};
+ghost use Rattle.model_steps.specs.state.declared.server.Server.{Server};
+ghost use Rattle.model_steps.specs.state.declared.proxy_state.ProxyState.{ProxyState};
+ghost use Rattle.model_steps.specs.state.State.{first_state};
 ghost use Rattle.sip_model.specs.Ends.{sends_left, steps_left};
-ghost use Rattle.sip_model.specs.Step.{IsDeadline, IsFault, IsResend};
+ghost use Rattle.model_steps.specs.Step.{IsDeadline, IsFault, IsResend};
 ghost use Rattle.sip_model.specs.Run.{Link, IsChain, IsRun, HasRun, first_moment};
 
 /// Two runs, one behind the other, are one: the first stops where the second goes on, and what had passed

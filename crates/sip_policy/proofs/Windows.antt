@@ -1,10 +1,10 @@
 -- Rules and their windows.
 use Rattle.std.proofs.Common.{◌≡◌, ℕ, Bool, true, false, ◌&&◌, List, [], ◌∷◌, Option, Some, None, option_map, is_none, refl, ap₂, find, if◌then◌else◌}
 use Rattle.std.specs.List.{list_all}
-use Rattle.sip_users.specs.uri.declared.aor.Aor.{Aor}
+use Rattle.sip_uri.specs.declared.aor.Aor.{Aor}
 use Rattle.sip_policy.specs.declared.decision.Decision.{Decision}
 use Rattle.sip_policy.specs.declared.operation.Operation.{Operation}
-use Rattle.sip_users.specs.declared.user.User.{User}
+use Rattle.sip_policy.specs.declared.user.User.{User}
 use Rattle.sip_policy.specs.declared.rule.Rule.{Rule}
 use Rattle.sip_policy.specs.declared.window.Window.{Window}
 use Rattle.sip_policy.specs.Window.{holds}

@@ -1,8 +1,8 @@
 -- What policy decides (this project's profile).
 use Rattle.std.specs.Prelude.{ℕ, List, Option, Some, None, option_map, find, if◌then◌else◌}
-use Rattle.sip_users.specs.uri.declared.aor.Aor.{Aor}
+use Rattle.sip_uri.specs.declared.aor.Aor.{Aor}
 use Rattle.sip_policy.specs.declared.operation.Operation.{Operation}
-use Rattle.sip_users.specs.declared.user.User.{User}
+use Rattle.sip_policy.specs.declared.user.User.{User}
 use Rattle.sip_policy.specs.declared.rule.Rule.{Rule}
 use Rattle.sip_policy.specs.declared.rule_verdict.RuleVerdict.{RuleVerdict}
 use Rattle.sip_policy.specs.declared.decision.Decision.{Decision}

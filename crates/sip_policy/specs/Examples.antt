@@ -1,7 +1,7 @@
 -- The sample configuration's users, domains and rules, and the requests of the worked examples.
 use Rattle.std.specs.Prelude.{ℕ, List, [], ◌∷◌, codes, Option, Some, None, pos}
-use Rattle.sip_users.specs.uri.declared.aor.Aor.{Aor}
-use Rattle.sip_users.specs.uri.Examples.{sample_domains}
+use Rattle.sip_uri.specs.declared.aor.Aor.{Aor}
+use Rattle.sip_uri.specs.Examples.{sample_domains}
 use Rattle.sip_policy.specs.declared.who.Who.{Who}
 use Rattle.sip_policy.specs.declared.operation.Operation.{Operation}
 use Rattle.sip_policy.specs.declared.operation.OperationPattern.{OperationPattern}
@@ -11,7 +11,7 @@ use Rattle.sip_policy.specs.declared.target_pattern.TargetPattern.TheVariants as
 use Rattle.sip_policy.specs.declared.rule_verdict.RuleVerdict.{RuleVerdict}
 use Rattle.sip_policy.specs.declared.rule.Rule.{Rule}
 use Rattle.sip_policy.specs.declared.window.Window.{Window}
-use Rattle.sip_users.specs.declared.user.User.{User}
+use Rattle.sip_policy.specs.declared.user.User.{User}
 use Rattle.sip_policy.specs.declared.decision.Decision.{Decision}
 use Rattle.sip_policy.specs.Window.{minute_of}
 use Rattle.sip_policy.specs.Decision.{decision_of, recorded_minute}

@@ -1,3 +1,6 @@
+pub mod User
+pub mod Users
+pub mod PolicyError
 pub mod Who
 pub mod Operation
 pub mod TargetPattern
@@ -6,9 +9,3 @@ pub mod Rule
 pub mod Decision
 pub mod Policy
 pub mod Examples
-pub use Rattle.sip_users.specs.text
-pub use Rattle.sip_users.specs.host
-pub use Rattle.sip_users.specs.uri
-pub use Rattle.sip_users.specs.User
-pub use Rattle.sip_users.specs.Users
-pub use Rattle.sip_users.specs as users

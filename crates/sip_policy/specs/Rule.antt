@@ -1,11 +1,11 @@
 -- Rules, and the first that decides (this project's profile).
 use Rattle.std.specs.Prelude.{◌≡◌, ℕ, Bool, true, false, ◌&&◌, not, nat_lt, List, ◌∷◌, ◌++◌, Option, is_none}
 use Rattle.std.specs.List.{list_any}
-use Rattle.sip_users.specs.uri.declared.aor.Aor.{Aor}
+use Rattle.sip_uri.specs.declared.aor.Aor.{Aor}
 use Rattle.sip_policy.specs.declared.who.Who.{Who}
 use Rattle.sip_policy.specs.declared.who.Who.TheVariants.{Anyone}
 use Rattle.sip_policy.specs.declared.operation.Operation.{Operation}
-use Rattle.sip_users.specs.declared.user.User.{User}
+use Rattle.sip_policy.specs.declared.user.User.{User}
 use Rattle.sip_policy.specs.declared.target_pattern.TargetPattern.{TargetPattern}
 use Rattle.sip_policy.specs.declared.target_pattern.TargetPattern.TheVariants.{SelfTarget}
 use Rattle.sip_policy.specs.declared.rule.Rule.{Rule}

@@ -2,12 +2,12 @@
 use Rattle.std.specs.Prelude.{ℕ, Bool, true, ◌&&◌, nat_eq, List, Option, Some, None}
 use Rattle.std.specs.List.{starts_with}
 use Rattle.std.specs.Str.{bytes_eq}
-use Rattle.sip_users.specs.text.Words.{is_same_text}
-use Rattle.sip_users.specs.uri.declared.aor.Aor.{Aor}
-use Rattle.sip_users.specs.declared.user.User.{User}
+use Rattle.sip_text.specs.Words.{is_same_text}
+use Rattle.sip_uri.specs.declared.aor.Aor.{Aor}
+use Rattle.sip_policy.specs.declared.user.User.{User}
 use Rattle.sip_policy.specs.declared.target_pattern.TargetPattern.{TargetPattern}
 use Rattle.sip_policy.specs.declared.target_pattern.TargetPattern.TheVariants.{Exact, Prefix, SelfTarget, Any}
-use Rattle.sip_users.specs.User.{is_own_domain, is_users_name}
+use Rattle.sip_policy.specs.User.{is_own_domain, is_users_name}
 
 -- whether a user part is the one who asks: the proven user's name, or with nobody proven any configured user's
 abbrev pub is_own_name : List User → Option (List ℕ) → List ℕ → Bool

@@ -3,8 +3,8 @@ use Rattle.std.specs.Prelude.{ℕ, Bool, true, List, Option, Some, None}
 use Rattle.std.specs.Str.{bytes_eq}
 use Rattle.sip_policy.specs.declared.who.Who.{Who}
 use Rattle.sip_policy.specs.declared.who.Who.TheVariants.{Anyone, Proven, Group}
-use Rattle.sip_users.specs.declared.user.User.{User}
-use Rattle.sip_users.specs.User.{is_in_group}
+use Rattle.sip_policy.specs.declared.user.User.{User}
+use Rattle.sip_policy.specs.User.{is_in_group}
 
 -- whether a proven user is of a pattern; with nobody proven the pattern isn't looked at, since who asks may be any user
 abbrev pub matches_who : List User → Option (List ℕ) → Who → Bool

@@ -1,9 +1,9 @@
 ghost use Rattle.std.specs.Prelude.{◌≡◌};
 ghost use Rattle.sip_policy.specs.User as Definitions;
 
-use sip_users::Users;
-use sip_users::text::{Bytes, same_no_case};
-use sip_users::uri::Aor;
+use crate::Users;
+use sip_text::{Bytes, same_no_case};
+use sip_uri::Aor;
 
 /// Whether a host is an own domain, compared without case (RFC 3261 19.1.4). Takes no memory.
 pub fn is_own_domain(domains: &[Bytes], host: &[u8]) -> bool

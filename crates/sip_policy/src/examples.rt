@@ -1,5 +1,5 @@
 ghost use Rattle.std.specs.Prelude.{◌≡◌, ℕ, true, false, List, [], codes, pos, negsuc, Some, None};
-ghost use Rattle.sip_users.specs.uri.Examples.{sample_domains};
+ghost use Rattle.sip_uri.specs.Examples.{sample_domains};
 ghost use Rattle.sip_policy.specs.declared.decision.Decision.{Decision};
 ghost use Rattle.sip_policy.specs.declared.operation.Operation.{Operation};
 ghost use Rattle.sip_policy.specs.declared.target_pattern.TargetPattern.{TargetPattern};

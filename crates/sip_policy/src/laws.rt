@@ -1,9 +1,9 @@
 ghost use Rattle.std.specs.Prelude.{◌≡◌, ◌≢◌, ◌↔◌, ℕ, true, false, not, List, ◌∷◌, Option, Some, None, find};
 ghost use Rattle.std.specs.List.{list_all, list_any};
-ghost use Rattle.sip_users.specs.uri.declared.aor.Aor.{Aor};
+ghost use Rattle.sip_uri.specs.declared.aor.Aor.{Aor};
 ghost use Rattle.sip_policy.specs.declared.decision.Decision.{Decision};
 ghost use Rattle.sip_policy.specs.declared.operation.Operation.{Operation};
-ghost use Rattle.sip_users.specs.declared.user.User.{User};
+ghost use Rattle.sip_policy.specs.declared.user.User.{User};
 ghost use Rattle.sip_policy.specs.declared.rule.Rule.{Rule};
 ghost use Rattle.sip_policy.specs.Window.{is_within, holds};
 ghost use Rattle.sip_policy.specs.Rule.{IsFirst, matches, applies, has_no_window, is_numbered, needs_no_proof};

@@ -7,9 +7,9 @@ use crate::operation::Operation;
 use crate::rule::Rule;
 use crate::rules::Rules;
 use crate::ruling::{Ruling, ruling_by};
-use sip_users::text::{Bytes, Items};
-use sip_users::uri::Aor;
-use sip_users::{PolicyError, Users, copy_texts};
+use crate::{PolicyError, Users, copy_texts};
+use sip_text::{Bytes, Items};
+use sip_uri::Aor;
 use std::alloc::{AllocError, Global};
 use std::marker::Model;
 

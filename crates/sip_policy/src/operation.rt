@@ -1,7 +1,7 @@
 ghost use Rattle.std.specs.Prelude.{◌≡◌, IfOk};
 ghost use Rattle.sip_policy.specs.Operation.{operation_of, matches_operation};
 
-use sip_users::text::{Bytes, same_bytes};
+use sip_text::{Bytes, same_bytes};
 use std::alloc::{AllocError, Global};
 
 /// What a request asks for.

@@ -3,15 +3,15 @@ ghost use Rattle.std.specs.Option.{option_copied};
 ghost use Rattle.sip_policy.specs.Rule.{matches, applies, needs_no_proof};
 ghost use Rattle.sip_policy.specs.Decision.{decision_by, minute_for};
 
+use crate::Users;
 use crate::decision::Decision;
 use crate::operation::{Operation, OperationPattern};
 use crate::rule_verdict::RuleVerdict;
 use crate::target_pattern::TargetPattern;
 use crate::who::Who;
 use crate::window::{Window, holds};
-use sip_users::Users;
-use sip_users::text::Bytes;
-use sip_users::uri::Aor;
+use sip_text::Bytes;
+use sip_uri::Aor;
 use std::alloc::AllocError;
 
 /// A policy rule.

@@ -1,15 +1,15 @@
 ghost use Rattle.std.specs.Prelude.{◌≡◌, ℕ, List, Some, None, IfOk, IfErr};
 ghost use Rattle.sip_policy.specs.declared.rule.Rule.{Rule};
-ghost use Rattle.sip_users.specs.declared.user.User.{User};
-ghost use Rattle.sip_users.specs.declared.error.PolicyError.TheVariants.{NoMemory};
+ghost use Rattle.sip_policy.specs.declared.user.User.{User};
+ghost use Rattle.sip_policy.specs.declared.error.PolicyError.TheVariants.{NoMemory};
 ghost use Rattle.sip_policy.specs.Decision.{decision_of, recorded_minute};
 
 use crate::operation::Operation;
 use crate::rule::Rule;
 use crate::ruling::Ruling;
-use sip_users::text::{Bytes, Items};
-use sip_users::uri::Aor;
-use sip_users::{PolicyError, Users};
+use crate::{PolicyError, Users};
+use sip_text::{Bytes, Items};
+use sip_uri::Aor;
 use std::alloc::Global;
 
 /// Rules in the order of the file, of which the first that holds at the minute of a request and matches it

@@ -3,10 +3,10 @@ ghost use Rattle.std.specs.Option.{option_copied};
 ghost use Rattle.sip_policy.specs.Rule.{is_self};
 ghost use Rattle.sip_policy.specs.TargetPattern.{is_own_name, matches_target};
 
+use crate::Users;
 use crate::domains::is_own_domain;
-use sip_users::Users;
-use sip_users::text::{Bytes, same_bytes, same_no_case};
-use sip_users::uri::Aor;
+use sip_text::{Bytes, same_bytes, same_no_case};
+use sip_uri::Aor;
 use std::alloc::AllocError;
 
 /// The target pattern of a rule: addresses of record.

@@ -3,8 +3,8 @@ ghost use Rattle.std.specs.Option.{option_copied};
 ghost use Rattle.sip_policy.specs.Rule.{is_anyone};
 ghost use Rattle.sip_policy.specs.Who.{matches_who};
 
-use sip_users::Users;
-use sip_users::text::{Bytes, same_bytes};
+use crate::Users;
+use sip_text::{Bytes, same_bytes};
 use std::alloc::AllocError;
 
 /// The user pattern of a rule.

@@ -1,14 +1,14 @@
 -- Inputs, and what is drafted of them.
 use Rattle.std.proofs.Common.{◌≡◌, ℕ, List, ap}
 use Rattle.sip_forwarding.specs.Forwarding.{IsDraft, IsInputTo}
-use Rattle.sip_forwarding.specs.hops.declared.host_address.HostAddress.{HostAddress}
-use Rattle.sip_forwarding.specs.inputs.declared.input.Input.{Input}
-use Rattle.sip_forwarding.specs.inputs.declared.input.Input.TheVariants.{Response, BranchDeadline, SideDeadline, SendFault, Cancel, Ack, BranchAgain, AnswerAgain}
-use Rattle.sip_forwarding.specs.inputs.declared.sending.Sending.{Sending}
-use Rattle.sip_forwarding.specs.inputs.Inputs.{Outcome, outcome, outcome_of}
-use Rattle.sip_forwarding.specs.state.declared.open_request.OpenRequest.{OpenRequest}
-use Rattle.sip_forwarding.specs.state.declared.server.Server.{Server}
-use Rattle.sip_fork.specs.keeping.Keeping.{IsKeptAs, IsOf}
+use Rattle.sip_hops.specs.declared.host_address.HostAddress.{HostAddress}
+use Rattle.sip_fork.specs.context.declared.input.Input.{Input}
+use Rattle.sip_fork.specs.context.declared.input.Input.TheVariants.{Response, BranchDeadline, SideDeadline, SendFault, Cancel, Ack, BranchAgain, AnswerAgain}
+use Rattle.sip_fork.specs.context.declared.sending.Sending.{Sending}
+use Rattle.sip_fork.specs.context.Inputs.{Outcome, outcome, outcome_of}
+use Rattle.sip_dialog_lessons.specs.state.declared.open_request.OpenRequest.{OpenRequest}
+use Rattle.sip_dialog_lessons.specs.state.declared.server.Server.{Server}
+use Rattle.sip_fork.specs.Keeping.{IsKeptAs, IsOf}
 use Rattle.sip_proxy.specs.declared.drafting.Draft.{Draft}
 use Rattle.sip_proxy.specs.Drafts.{IsDrafted}
 

@@ -3,9 +3,9 @@ use Rattle.std.proofs.Common.{◌≡◌, ℕ, ◌+◌, ◌≤◌, ◌-◌, max, 
 use Rattle.std.proofs.Math.Nat.{le-max_right}
 use Rattle.sip_fork.specs.Contexts.{IsFitting}
 use Rattle.sip_fork.specs.request.Near.{most_timers}
-use Rattle.sip_forwarding.specs.fitting.Fits.{Fits}
-use Rattle.sip_forwarding.specs.moments.Near.{IsWithin}
-use Rattle.sip_forwarding.specs.state.declared.open_request.OpenRequest.{OpenRequest}
+use Rattle.sip_forwarding.specs.transactions_model.Fits.{Fits}
+use Rattle.sip_forwarding.specs.transactions_model.Near.{IsWithin}
+use Rattle.sip_dialog_lessons.specs.state.declared.open_request.OpenRequest.{OpenRequest}
 
 -- what is near a moment is near every later one
 abbrev pub Passes : Type 0

@@ -2,17 +2,17 @@
 use Rattle.std.proofs.Common.{◌≡◌, ℕ, Bool, List, Result, IfOk, length, nat_le, sym, subst}
 use Rattle.std.proofs.lemmas.Result.{IfOk-weaker}
 use Rattle.std.specs.declared.alloc.AllocError.{AllocError}
-use Rattle.sip_arrival.specs.Verdict.{Is, Knows}
-use Rattle.sip_arrival.specs.declared.verdict.Verdict.{Verdict}
-use Rattle.sip_forwarding.specs.dialog.declared.dialog.Dialog.{Dialog}
-use Rattle.sip_forwarding.specs.form.declared.message.Message.{Message}
-use Rattle.sip_forwarding.specs.key.declared.key.Key.{Key}
-use Rattle.sip_forwarding.specs.location.declared.binding.Binding.{Binding}
-use Rattle.sip_forwarding.specs.nonces.declared.nonces.Nonce.{Nonce}
-use Rattle.sip_forwarding.specs.state.Arrival.{Arrival}
-use Rattle.sip_forwarding.specs.state.declared.proxy_state.ProxyState.{ProxyState}
-use Rattle.sip_forwarding.specs.state.declared.server.Server.{Server}
-use Rattle.sip_forwarding.specs.verdict.Verdict as Definition
+use Rattle.sip_core.specs.Verdict.{Is, Knows}
+use Rattle.sip_core.specs.declared.verdict.Verdict.{Verdict}
+use Rattle.sip_dialog.specs.declared.dialog.Dialog.{Dialog}
+use Rattle.sip_message_form.specs.declared.message.Message.{Message}
+use Rattle.sip_transaction_table.specs.declared.key.Key.{Key}
+use Rattle.sip_location.specs.declared.binding.Binding.{Binding}
+use Rattle.sip_digest.specs.declared.nonces.Nonce.{Nonce}
+use Rattle.sip_dialog_lessons.specs.state.Arrival.{Arrival}
+use Rattle.sip_dialog_lessons.specs.state.declared.proxy_state.ProxyState.{ProxyState}
+use Rattle.sip_dialog_lessons.specs.state.declared.server.Server.{Server}
+use Rattle.sip_core.specs.verdict_model.Verdict as Definition
 
 -- what was decided is the verdict on a request in a state, over these bindings
 abbrev pub IsVerdict : Server → List Binding → ℕ → Message → Bool → List ℕ → ProxyState → Verdict → Type 0

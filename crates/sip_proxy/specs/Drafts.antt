@@ -1,12 +1,12 @@
 -- What an input to an open request is going to do.
 use Rattle.std.specs.Prelude.{ℕ, ◌≡◌, List}
 use Rattle.sip_forwarding.specs.Forwarding.{IsDraft}
-use Rattle.sip_forwarding.specs.hops.declared.host_address.HostAddress.{HostAddress}
-use Rattle.sip_forwarding.specs.inputs.declared.input.Input.{Input}
-use Rattle.sip_forwarding.specs.inputs.Inputs.{outcome_of}
-use Rattle.sip_forwarding.specs.state.declared.open_request.OpenRequest.{OpenRequest}
-use Rattle.sip_forwarding.specs.state.declared.server.Server.{Server}
-use Rattle.sip_fork.specs.keeping.Keeping.{IsKeptAs}
+use Rattle.sip_hops.specs.declared.host_address.HostAddress.{HostAddress}
+use Rattle.sip_fork.specs.context.declared.input.Input.{Input}
+use Rattle.sip_fork.specs.context.Inputs.{outcome_of}
+use Rattle.sip_dialog_lessons.specs.state.declared.open_request.OpenRequest.{OpenRequest}
+use Rattle.sip_dialog_lessons.specs.state.declared.server.Server.{Server}
+use Rattle.sip_fork.specs.Keeping.{IsKeptAs}
 use Rattle.sip_proxy.specs.declared.drafting.Draft.{Draft}
 
 -- What was drafted of an input to an open request: the request as it becomes, which is kept, with what is sent and what the dialogs learn.

@@ -1,16 +1,16 @@
 -- What a proxy knows while it runs (RFC 3261 16).
 use Rattle.std.specs.Prelude.{ℕ, ◌≡◌, ◌≤◌, ◌<◌, ◌+◌, ◌^◌, List}
 use Rattle.std.specs.List.{All}
-use Rattle.sip_fork.specs.timers.declared.timer.Timer.{Timer}
-use Rattle.sip_forwarding.specs.dialog.Sameness.{SameDialogs}
-use Rattle.sip_forwarding.specs.learning.declared.lesson.Lesson.{Lesson}
-use Rattle.sip_forwarding.specs.learning.Lessons.{after_lessons}
-use Rattle.sip_forwarding.specs.location.declared.binding.Binding.{Binding}
-use Rattle.sip_forwarding.specs.model.Step.{NoneBefore, NoneAgainBefore}
-use Rattle.sip_forwarding.specs.nonces.declared.nonces.Nonce.{Nonce}
-use Rattle.sip_forwarding.specs.opening.declared.arrival.Arrival.{Arrival}
-use Rattle.sip_forwarding.specs.state.declared.open_request.OpenRequest.{OpenRequest}
-use Rattle.sip_forwarding.specs.state.declared.proxy_state.ProxyState.{ProxyState}
+use Rattle.sip_timers.specs.declared.timer.Timer.{Timer}
+use Rattle.sip_dialog.specs.Sameness.{SameDialogs}
+use Rattle.sip_dialog_lessons.specs.declared.lesson.Lesson.{Lesson}
+use Rattle.sip_dialog_lessons.specs.Lessons.{after_lessons}
+use Rattle.sip_location.specs.declared.binding.Binding.{Binding}
+use Rattle.sip_fork.specs.steps_model.Step.{NoneBefore, NoneAgainBefore}
+use Rattle.sip_digest.specs.declared.nonces.Nonce.{Nonce}
+use Rattle.sip_forwarding.specs.context_opening.declared.arrival.Arrival.{Arrival}
+use Rattle.sip_dialog_lessons.specs.state.declared.open_request.OpenRequest.{OpenRequest}
+use Rattle.sip_dialog_lessons.specs.state.declared.proxy_state.ProxyState.{ProxyState}
 
 -- the state of the proxy, the timers that stand, in the order in which they fire, and for how many more addresses of record no memory is taken
 pub record Proxy : Type 0 where

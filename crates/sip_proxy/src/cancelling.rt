@@ -1,24 +1,24 @@
 ghost use Rattle.std.specs.Prelude.{◌≡◌, ◌<◌, ◌≤◌, ◌+◌, ◌^◌, ℕ, List, length, position, slice_get, None, Some, IfOk, IfSome, OnOk, OnErr};
 ghost use Rattle.std.specs.List.{All};
-ghost use Rattle.sip_fork.specs.keeping.Keeping.{IsKeptAs};
+ghost use Rattle.sip_fork.specs.Keeping.{IsKeptAs};
 ghost use Rattle.sip_fork.specs.request.Near.{most_timers};
-ghost use Rattle.sip_forwarding.specs.fitting.Fits.{Fits};
-ghost use Rattle.sip_forwarding.specs.learning.Lessons.{beginnings};
-ghost use Rattle.sip_forwarding.specs.model.Effect.{replaced};
-ghost use Rattle.sip_forwarding.specs.model.Step.{NoneBefore, NoneAgainBefore};
-ghost use Rattle.sip_forwarding.specs.moments.Near.{IsWithin};
-ghost use Rattle.sip_forwarding.specs.state.State.{has_key, with_one_more};
-ghost use Rattle.sip_forwarding.specs.state.declared.open_request.OpenRequest.{OpenRequest};
+ghost use Rattle.sip_forwarding.specs.transactions_model.Fits.{Fits};
+ghost use Rattle.sip_dialog_lessons.specs.Lessons.{beginnings};
+ghost use Rattle.sip_fork.specs.steps_model.Effect.{replaced};
+ghost use Rattle.sip_fork.specs.steps_model.Step.{NoneBefore, NoneAgainBefore};
+ghost use Rattle.sip_forwarding.specs.transactions_model.Near.{IsWithin};
+ghost use Rattle.sip_dialog_lessons.specs.state.State.{has_key, with_one_more};
+ghost use Rattle.sip_dialog_lessons.specs.state.declared.open_request.OpenRequest.{OpenRequest};
 ghost use Rattle.sip_proxy.specs.Proxy.{Becomes, MayCome};
 
 use crate::changing::{fits_once_it_came, open_at, reserve_dialog};
 use crate::drafting::Draft;
 use crate::proxy::Proxy;
-use sip_fork::timers::Timers;
+use sip_event::Packet;
 use sip_fork::{Change, Contexts, Opening};
 use sip_forwarding::Drafted;
-use sip_forwarding::event::Packet;
-use sip_forwarding::text::Items;
+use sip_text::Items;
+use sip_timers::Timers;
 use std::alloc::AllocError;
 
 /// For how many timers a request needs room. None where memory doesn't go so far.

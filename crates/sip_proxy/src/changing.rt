@@ -2,26 +2,26 @@ ghost use Rattle.std.specs.Prelude.{◌≡◌, ◌<◌, ◌≤◌, ◌+◌, ◌-
 ghost use Rattle.std.specs.List.{All};
 ghost use Rattle.sip_fork.specs.Contexts.{IsFitting};
 ghost use Rattle.sip_fork.specs.request.Near.{most_timers};
-ghost use Rattle.sip_forwarding.specs.fitting.Fits.{Fits};
-ghost use Rattle.sip_forwarding.specs.learning.Lessons.{beginnings};
-ghost use Rattle.sip_forwarding.specs.model.Effect.{replaced};
-ghost use Rattle.sip_forwarding.specs.model.Step.{NoneBefore, NoneAgainBefore};
-ghost use Rattle.sip_forwarding.specs.moments.Near.{IsWithin};
-ghost use Rattle.sip_forwarding.specs.state.State.{has_key, with_one_more};
-ghost use Rattle.sip_forwarding.specs.state.declared.open_request.OpenRequest.{OpenRequest};
-ghost use Rattle.sip_fork.specs.keeping.Keeping.{IsKeptAs};
+ghost use Rattle.sip_forwarding.specs.transactions_model.Fits.{Fits};
+ghost use Rattle.sip_dialog_lessons.specs.Lessons.{beginnings};
+ghost use Rattle.sip_fork.specs.steps_model.Effect.{replaced};
+ghost use Rattle.sip_fork.specs.steps_model.Step.{NoneBefore, NoneAgainBefore};
+ghost use Rattle.sip_forwarding.specs.transactions_model.Near.{IsWithin};
+ghost use Rattle.sip_dialog_lessons.specs.state.State.{has_key, with_one_more};
+ghost use Rattle.sip_dialog_lessons.specs.state.declared.open_request.OpenRequest.{OpenRequest};
+ghost use Rattle.sip_fork.specs.Keeping.{IsKeptAs};
 ghost use Rattle.sip_proxy.specs.Proxy.{Becomes, MayCome};
 
 use crate::drafting::Draft;
 use crate::proxy::Proxy;
-use sip_fork::keeping::moments::time_passes;
-use sip_fork::timers::Timers;
+use sip_dialog::Dialogs;
+use sip_dialog_lessons::Lessons;
+use sip_event::Packet;
 use sip_fork::{Change, Contexts, Opening};
 use sip_forwarding::Drafted;
-use sip_forwarding::dialog::Dialogs;
-use sip_forwarding::event::Packet;
-use sip_forwarding::learning::Lessons;
-use sip_forwarding::text::Items;
+use sip_forwarding::transactions_model::bounds::time_passes;
+use sip_text::Items;
+use sip_timers::Timers;
 use std::alloc::AllocError;
 
 /// Makes room for the timers of a request. `AllocError` is the only refusal.

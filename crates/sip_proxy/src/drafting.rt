@@ -1,17 +1,17 @@
 ghost use Rattle.std.specs.Prelude.{◌≡◌, ◌≤◌, ◌<◌, ◌^◌, ℕ, length, slice_get, Some, IfOk};
-ghost use Rattle.sip_fork.specs.keeping.Keeping.{IsOf};
+ghost use Rattle.sip_fork.specs.Keeping.{IsOf};
 ghost use Rattle.sip_forwarding.specs.Forwarding.{IsInputTo};
-ghost use Rattle.sip_forwarding.specs.inputs.declared.input.Input.{Input};
-ghost use Rattle.sip_forwarding.specs.state.declared.open_request.OpenRequest.{OpenRequest};
+ghost use Rattle.sip_fork.specs.context.declared.input.Input.{Input};
+ghost use Rattle.sip_dialog_lessons.specs.state.declared.open_request.OpenRequest.{OpenRequest};
 ghost use Rattle.sip_proxy.specs.Drafts.{IsDrafted};
 
 use crate::proxy::Proxy;
-use sip_fork::inputs::Input;
-use sip_fork::timers::Timers;
+use sip_dialog_lessons::state::Server;
+use sip_fork::context::Input;
 use sip_fork::{Change, Prepared};
-use sip_forwarding::hops::Hops;
-use sip_forwarding::state::Server;
 use sip_forwarding::{Drafted, draft_change};
+use sip_hops::Hops;
+use sip_timers::Timers;
 use std::alloc::{AllocError, Global};
 
 /// What an input is going to do: the open request as it becomes, what is sent, and what the dialogs learn of it.

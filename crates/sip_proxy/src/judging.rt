@@ -1,21 +1,20 @@
 ghost use Rattle.std.specs.Prelude.{◌≡◌, ◌<◌, ◌^◌, ℕ, IfOk, is_some, List, Option, Some};
-ghost use Rattle.sip_arrival.specs.Verdict.{HasRoom, Is, IsRequestOf, goes_on};
-ghost use Rattle.sip_forwarding.specs.edit.ReceivedRequest.{top_via};
-ghost use Rattle.sip_forwarding.specs.heard.Names.{AreNames};
-ghost use Rattle.sip_forwarding.specs.key.declared.key.Key.{Key};
-ghost use Rattle.sip_forwarding.specs.location.declared.binding.Binding.{Binding};
-ghost use Rattle.sip_forwarding.specs.state.Arrival.{Arrival};
-ghost use Rattle.sip_forwarding.specs.state.declared.open_request.OpenRequest.{OpenRequest};
-ghost use Rattle.sip_forwarding.specs.verdict.Verdict as Definition;
+ghost use Rattle.sip_core.specs.Verdict.{HasRoom, Is, IsRequestOf, goes_on};
+ghost use Rattle.sip_edit.specs.ReceivedRequest.{top_via};
+ghost use Rattle.sip_core.specs.context_request.Names.{AreNames};
+ghost use Rattle.sip_transaction_table.specs.declared.key.Key.{Key};
+ghost use Rattle.sip_location.specs.declared.binding.Binding.{Binding};
+ghost use Rattle.sip_dialog_lessons.specs.state.Arrival.{Arrival};
+ghost use Rattle.sip_dialog_lessons.specs.state.declared.open_request.OpenRequest.{OpenRequest};
+ghost use Rattle.sip_core.specs.verdict_model.Verdict as Definition;
 
 use crate::proxy::Proxy;
-use sip_arrival::header::Via;
-use sip_arrival::heard::Names;
-use sip_arrival::judge::Judge;
-use sip_arrival::{Verdict, ack_verdict, new_verdict};
-use sip_fork::timers::Timers;
-use sip_forwarding::form::View;
-use sip_forwarding::policy::Rules;
+use sip_core::context_request::Names;
+use sip_core::{Judge, Verdict, ack_verdict, new_verdict};
+use sip_header::Via;
+use sip_message_form::View;
+use sip_policy::Rules;
+use sip_timers::Timers;
 use std::alloc::{AllocError, Global};
 
 impl<T: Timers> Proxy<T> {

@@ -1,18 +1,18 @@
-ghost use Rattle.std.specs.Prelude.{◌≡◌, ◌≤◌, ◌<◌, ◌^◌, ℕ, false, Ok, IfOk, IfErr, OnOk};
-ghost use Rattle.sip_forwarding.specs.auth.Proof.{used};
-ghost use Rattle.sip_forwarding.specs.location.Locations.{of_aor, IsPlan, IsRefusal};
-ghost use Rattle.sip_forwarding.specs.location.Registration.{registered};
-ghost use Rattle.sip_forwarding.specs.location.Sameness.{SameOutcome};
-ghost use Rattle.sip_forwarding.specs.location.declared.registration.Registration.{Registration};
-ghost use Rattle.sip_forwarding.specs.nonces.Nonces.{issued};
-ghost use Rattle.sip_forwarding.specs.uri.Aor.{is_same_aor};
-ghost use Rattle.sip_forwarding.specs.uri.declared.aor.Aor.{Aor};
+ghost use Rattle.std.specs.Prelude.{◌≡◌, ◌≤◌, ℕ, false, Ok};
+ghost use Rattle.sip_auth.specs.Proof.{used};
+ghost use Rattle.sip_location.specs.Locations.{of_aor, IsPlan};
+ghost use Rattle.sip_location.specs.Registration.{registered};
+ghost use Rattle.sip_location.specs.Sameness.{SameOutcome};
+ghost use Rattle.sip_location.specs.declared.registration.Registration.{Registration};
+ghost use Rattle.sip_digest.specs.Nonces.{issued};
+ghost use Rattle.sip_uri.specs.Aor.{is_same_aor};
+ghost use Rattle.sip_uri.specs.declared.aor.Aor.{Aor};
 ghost use Rattle.sip_proxy.specs.Proxy.{with_bindings, with_nonces};
 
 use crate::proxy::Proxy;
-use sip_fork::timers::Timers;
-use sip_forwarding::auth::Proof;
-use sip_forwarding::location::{LocationError, Plan, Registration};
+use sip_auth::Proof;
+use sip_location::Plan;
+use sip_timers::Timers;
 
 impl<T: Timers> Proxy<T> {
     /// The count of a right credential is used, whatever becomes of the request (RFC 2617 3.2.2: nonce-count). Takes no
@@ -32,23 +32,6 @@ impl<T: Timers> Proxy<T> {
         ensures room { self.new.room ≡ self.old.room }
     {
         self.nonces.issue(word, now);
-    }
-
-    /// What a REGISTER is to make of the bindings of its address of record (RFC 3261 10.3), with room for it. Refused as
-    /// the location service says; nothing is changed, whatever is answered.
-    pub fn plan_registration(
-        &mut self,
-        request: &Registration<'_>,
-        now: u64,
-    ) -> Result<Plan, LocationError>
-        requires { now < 2 ^ 62 }
-        ensures plan { IfOk result (IsPlan self.old.state.bindings request.now now) }
-        ensures refused { IfErr result (IsRefusal self.old.state.bindings request.now now) }
-        ensures room { OnOk result (1 ≤ self.new.room) }
-        ensures unchanged { self.new.state ≡ self.old.state }
-        ensures timers { self.new.timers ≡ self.old.timers }
-    {
-        self.locations.plan(request, now)
     }
 
     /// Gives the address of record of a plan its bindings, in place of all that it has. Takes no memory.

@@ -1,7 +1,7 @@
 -- What is counted of the calls of a whole replay.
 use Rattle.std.proofs.Common.{◌≡◌, ℕ, ◌+◌, ◌-◌, ◌≤◌, Option, None, Some, ◌⊎◌, inl, inr, sym, ◌∙◌, ap, arith, refl}
-use Rattle.sip_script.specs.Devices.{later}
-use Rattle.sip_script.specs.Lines.{IsSpent}
+use Rattle.sip_replay_script.specs.Devices.{later}
+use Rattle.sip_replay_script.specs.Lines.{IsSpent}
 use Rattle.sip_replay.specs.Errors.{IsAsked, IsFaulted}
 use Rattle.sip_replay.specs.declared.error.ReplayError.{ReplayError}
 use Rattle.sip_replay.specs.declared.error.ReplayError.TheVariants as errors

@@ -2,7 +2,7 @@
 use Rattle.std.proofs.Common.{ℕ, List, [], ◌++◌, Option, None, Some, refl, sym, ◌∙◌, ap, append-nil, append_assoc}
 use Rattle.std.specs.Io.KnownBytes.{Appends, Keeps}
 use Rattle.std.proofs.KnownBytes.{Appends-nil, Appends-trans}
-use Rattle.sip_script.specs.Devices.{WritesFront}
+use Rattle.sip_replay_script.specs.Devices.{WritesFront}
 
 -- nothing of it
 pub front_none : (a : Option (List ℕ)) (text : List ℕ) → WritesFront a a text

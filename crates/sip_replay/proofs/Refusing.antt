@@ -6,25 +6,24 @@ use Rattle.std.proofs.KnownBytes.{Appends-nil, Appends-trans}
 use Rattle.std.proofs.lemmas.Grind.{flat_map-append}
 use Rattle.sip_event.specs.declared.event.Event.{Event}
 use Rattle.sip_event.specs.declared.event.StepOut.{StepOut}
-use Rattle.sip_model.specs.settings.declared.config.Config.{Config}
-use Rattle.sip_model.specs.state.declared.server.Server.{Server}
-use Rattle.sip_model.specs.state.declared.proxy_state.ProxyState.{ProxyState}
-use Rattle.sip_model.specs.state.State.{first_state}
-use Rattle.sip_model.specs.Access.{Access}
-use Rattle.sip_bounds.specs.Bounds.{IsBounded}
-use Rattle.sip_model.specs.Run.{Link, IsRun, first_moment}
-use Rattle.sip_script.specs.Print.{step_text, printed}
-use Rattle.sip_replay.specs.Errors.{error_at}
-use Rattle.sip_script.specs.Devices.{WritesFront}
-use Rattle.sip_replay.specs.Errors.{IsFaulted}
-use Rattle.sip_script.specs.Lines.{Reading, is_end, pending}
-use Rattle.sip_script.specs.Events.{GivesEvent, IsNoEvent, EventStops}
+use Rattle.sip_config_types.specs.declared.config.Config.{Config}
+use Rattle.model_bounds.specs.state.declared.server.Server.{Server}
+use Rattle.model_bounds.specs.state.declared.proxy_state.ProxyState.{ProxyState}
+use Rattle.model_bounds.specs.state.State.{first_state}
+use Rattle.model_bounds.specs.model.Access.{Access}
+use Rattle.model_bounds.specs.Bounds.{IsBounded}
+use Rattle.model_bounds.specs.model.Run.{Link, IsRun, first_moment}
+use Rattle.sip_replay_script.specs.Print.{step_text, printed}
+use Rattle.sip_replay.specs.Errors.{error_at, IsFaulted}
+use Rattle.sip_replay_script.specs.Devices.{WritesFront}
+use Rattle.sip_replay_script.specs.Lines.{Reading, is_end, pending}
+use Rattle.sip_replay_script.specs.Events.{GivesEvent, IsNoEvent, EventStops}
 use Rattle.sip_replay.specs.Replays.{SaysEvents, server_with, IsReplay}
 use Rattle.sip_replay.specs.Refusals.{BeginsWith, NoEventBehind, ComesTo, CantGoOn, StopsWithin, Refuses, IsRefused, PlaysSome, TakingStops, history_before, moment_ahead}
 use Rattle.sip_replay.specs.declared.error.ReplayError.{ReplayError}
 use Rattle.sip_replay.specs.declared.error.ReplayError.TheVariants as errors
-use Rattle.sip_script.specs.declared.stop.Stop.{Stop}
-use Rattle.sip_script.specs.declared.stop.Stop.TheVariants as stops
+use Rattle.sip_replay_script.specs.declared.stop.Stop.{Stop}
+use Rattle.sip_replay_script.specs.declared.stop.Stop.TheVariants as stops
 use Rattle.sip_replay.proofs.Fronts.{appends_kept, front_all, front_none, front_second, front_still}
 use Rattle.std.proofs.lemmas.List.Sums.{sum_by-append}
 use Rattle.sip_replay.proofs.Replaying.{AllAreLawful, Replays}

@@ -3,19 +3,19 @@ use Rattle.std.proofs.Common.{◌≡◌, ℕ, ◌+◌, List, [], ◌∷◌, ◌+
 use Rattle.std.specs.Io.KnownBytes.{Consumes, Keeps, IsAtEnd, prepend_known}
 use Rattle.std.proofs.KnownBytes.{Consumes-nil, Consumes-trans}
 use Rattle.sip_event.specs.declared.event.Event.{Event}
-use Rattle.sip_model.specs.settings.declared.config.Config.{Config}
-use Rattle.sip_model.specs.state.declared.server.Server.{Server}
-use Rattle.sip_model.specs.state.declared.proxy_state.ProxyState.{ProxyState}
+use Rattle.sip_config_types.specs.declared.config.Config.{Config}
+use Rattle.model_bounds.specs.state.declared.server.Server.{Server}
+use Rattle.model_bounds.specs.state.declared.proxy_state.ProxyState.{ProxyState}
 use Rattle.sip_event.specs.declared.event.StepOut.{StepOut}
-use Rattle.sip_model.specs.Access.{Access}
-use Rattle.sip_bounds.specs.Bounds.{IsBounded}
-use Rattle.sip_model.specs.Run.{Link, IsChain, IsRun}
-use Rattle.sip_model.specs.state.State.{first_state}
-use Rattle.sip_script.specs.Print.{printed}
+use Rattle.model_bounds.specs.model.Access.{Access}
+use Rattle.model_bounds.specs.Bounds.{IsBounded}
+use Rattle.model_bounds.specs.model.Run.{Link, IsChain, IsRun}
+use Rattle.model_bounds.specs.state.State.{first_state}
+use Rattle.sip_replay_script.specs.Print.{printed}
 use Rattle.std.specs.Prelude.{count_by, cond}
-use Rattle.sip_script.specs.Lines.{Reading, is_end, pending, IsOver}
+use Rattle.sip_replay_script.specs.Lines.{Reading, is_end, pending, IsOver}
 use Rattle.std.proofs.lemmas.List.Sums.{sum_by-append}
-use Rattle.sip_script.specs.Events.{SaysEvent}
+use Rattle.sip_replay_script.specs.Events.{SaysEvent}
 use Rattle.sip_replay.specs.Replays.{SaysEvents, server_with, Plays, PlaysNext, IsReplay, IsLawfulReplay}
 use Rattle.sip_replay.proofs.Fronts.{appends_kept}
 use Rattle.sip_replay.proofs.Running.{RunsJoin, plays_nothing, plays_both}

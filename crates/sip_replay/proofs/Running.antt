@@ -6,11 +6,11 @@ use Rattle.std.specs.Io.KnownBytes.{Appends}
 use Rattle.std.proofs.KnownBytes.{Appends-nil, Appends-trans}
 use Rattle.sip_event.specs.declared.event.Event.{Event}
 use Rattle.sip_event.specs.declared.event.StepOut.{StepOut}
-use Rattle.sip_model.specs.state.declared.server.Server.{Server}
-use Rattle.sip_model.specs.state.declared.proxy_state.ProxyState.{ProxyState}
-use Rattle.sip_model.specs.Step.{Given, Passing, IsStep}
-use Rattle.sip_model.specs.Run.{Link, IsRun, event_moment, events_of, steps_of, first_moment}
-use Rattle.sip_script.specs.Print.{step_text, printed}
+use Rattle.model_bounds.specs.state.declared.server.Server.{Server}
+use Rattle.model_bounds.specs.state.declared.proxy_state.ProxyState.{ProxyState}
+use Rattle.model_bounds.specs.steps_model.Step.{Given, Passing, IsStep}
+use Rattle.model_bounds.specs.model.Run.{Link, IsRun, event_moment, events_of, steps_of, first_moment}
+use Rattle.sip_replay_script.specs.Print.{step_text, printed}
 use Rattle.sip_run.specs.Due.{Fires}
 use Rattle.sip_run.proofs.RunOn.{run_on}
 use Rattle.sip_replay.specs.Replays.{Plays}

@@ -6,22 +6,22 @@ use Rattle.std.proofs.lemmas.List.{reverse-append}
 use Rattle.sip_event.specs.declared.event.Event.{Event}
 use Rattle.sip_event.specs.declared.event.Event.TheVariants.{Datagram, Time, Fault}
 use Rattle.sip_event.specs.declared.event.StepOut.{StepOut}
-use Rattle.sip_model.specs.state.declared.server.Server.{Server}
-use Rattle.sip_model.specs.state.declared.proxy_state.ProxyState.{ProxyState}
-use Rattle.sip_model.specs.Step.{Given, Passing, IsStep}
-use Rattle.sip_model.specs.Run.{event_moment, events_of, steps_of}
-use Rattle.sip_engine.specs.declared.error.StepError.{StepError}
-use Rattle.sip_engine.specs.declared.error.StepError.TheVariants as step_errors
-use Rattle.sip_engine.specs.StepError.{refusal_at, is_too_large}
-use Rattle.sip_script.specs.Print.{step_text, printed}
+use Rattle.model_bounds.specs.state.declared.server.Server.{Server}
+use Rattle.model_bounds.specs.state.declared.proxy_state.ProxyState.{ProxyState}
+use Rattle.model_bounds.specs.steps_model.Step.{Given, Passing, IsStep}
+use Rattle.model_bounds.specs.model.Run.{event_moment, events_of, steps_of}
+use Rattle.sip_run.specs.engine.declared.error.StepError.{StepError}
+use Rattle.sip_run.specs.engine.declared.error.StepError.TheVariants as step_errors
+use Rattle.sip_run.specs.engine.StepError.{refusal_at, is_too_large}
+use Rattle.sip_replay_script.specs.Print.{step_text, printed}
 use Rattle.sip_replay.specs.Errors.{stop_of_step}
-use Rattle.sip_script.specs.Devices.{WritesFront, PrintStops}
+use Rattle.sip_replay_script.specs.Devices.{WritesFront, PrintStops}
 use Rattle.sip_run.specs.Due.{Fires}
 use Rattle.sip_run.specs.Refusals.{RefusesStep, refusal_of_event}
 use Rattle.sip_replay.specs.Refusals.{StepStops, PlaysPart, FiringStops, TakingStops}
 use Rattle.sip_replay.specs.Replays.{Plays}
-use Rattle.sip_script.specs.declared.stop.Stop.{Stop}
-use Rattle.sip_script.specs.declared.stop.Stop.TheVariants as stops
+use Rattle.sip_replay_script.specs.declared.stop.Stop.{Stop}
+use Rattle.sip_replay_script.specs.declared.stop.Stop.TheVariants as stops
 use Rattle.sip_replay.proofs.Fronts.{front_all, front_second}
 use Rattle.sip_replay.proofs.Running.{printed_more}
 

@@ -1,10 +1,10 @@
 -- The numbers of refusals, and why an event wasn't replayed.
 use Rattle.std.specs.Prelude.{◌≡◌, ◌≤◌, ⊤, ℕ, Option}
-use Rattle.sip_engine.specs.declared.error.StepError.{StepError}
-use Rattle.sip_engine.specs.declared.error.StepError.TheVariants as step_errors
-use Rattle.sip_script.specs.declared.stop.Stop.{Stop}
-use Rattle.sip_script.specs.declared.stop.Stop.TheVariants as stops
-use Rattle.sip_script.specs.Devices.{later}
+use Rattle.sip_run.specs.engine.declared.error.StepError.{StepError}
+use Rattle.sip_run.specs.engine.declared.error.StepError.TheVariants as step_errors
+use Rattle.sip_replay_script.specs.declared.stop.Stop.{Stop}
+use Rattle.sip_replay_script.specs.declared.stop.Stop.TheVariants as stops
+use Rattle.sip_replay_script.specs.Devices.{later}
 use Rattle.sip_replay.specs.declared.error.ReplayError.{ReplayError}
 use Rattle.sip_replay.specs.declared.error.ReplayError.TheVariants.{NoMemory, Script, Read, Write}
 

@@ -3,23 +3,23 @@ use Rattle.std.specs.Prelude.{◌≡◌, ◌+◌, ◌⊎◌, ⊤, ℕ, List, [],
 use Rattle.std.specs.Io.KnownBytes.{Appends}
 use Rattle.sip_event.specs.declared.event.Event.{Event}
 use Rattle.sip_event.specs.declared.event.StepOut.{StepOut}
-use Rattle.sip_model.specs.settings.declared.config.Config.{Config}
-use Rattle.sip_model.specs.state.declared.server.Server.{Server}
-use Rattle.sip_model.specs.state.declared.proxy_state.ProxyState.{ProxyState}
-use Rattle.sip_model.specs.state.State.{first_state}
-use Rattle.sip_model.specs.Run.{Link, IsRun, event_moment}
-use Rattle.sip_model.specs.Access.{Access}
-use Rattle.sip_bounds.specs.Bounds.{IsBounded}
-use Rattle.sip_engine.specs.declared.error.StepError.{StepError}
-use Rattle.sip_engine.specs.StepError.{refusal_at}
+use Rattle.sip_config_types.specs.declared.config.Config.{Config}
+use Rattle.model_bounds.specs.state.declared.server.Server.{Server}
+use Rattle.model_bounds.specs.state.declared.proxy_state.ProxyState.{ProxyState}
+use Rattle.model_bounds.specs.state.State.{first_state}
+use Rattle.model_bounds.specs.model.Run.{Link, IsRun, event_moment}
+use Rattle.model_bounds.specs.model.Access.{Access}
+use Rattle.model_bounds.specs.Bounds.{IsBounded}
+use Rattle.sip_run.specs.engine.declared.error.StepError.{StepError}
+use Rattle.sip_run.specs.engine.StepError.{refusal_at}
 use Rattle.sip_run.specs.Refusals.{refusal_of_event}
-use Rattle.sip_script.specs.Print.{printed}
-use Rattle.sip_script.specs.Devices.{WritesFront}
-use Rattle.sip_script.specs.Lines.{is_end}
-use Rattle.sip_script.specs.Events.{SaysEvent, IsNoEvent}
+use Rattle.sip_replay_script.specs.Print.{printed}
+use Rattle.sip_replay_script.specs.Devices.{WritesFront}
+use Rattle.sip_replay_script.specs.Lines.{is_end}
+use Rattle.sip_replay_script.specs.Events.{SaysEvent, IsNoEvent}
 use Rattle.sip_replay.specs.Replays.{SaysEvents, server_with, Plays}
-use Rattle.sip_script.specs.declared.stop.Stop.{Stop}
-use Rattle.sip_script.specs.declared.stop.Stop.TheVariants as stops
+use Rattle.sip_replay_script.specs.declared.stop.Stop.{Stop}
+use Rattle.sip_replay_script.specs.declared.stop.Stop.TheVariants as stops
 use Rattle.sip_replay.specs.declared.error.ReplayError.{ReplayError}
 use Rattle.sip_replay.specs.declared.error.ReplayError.TheVariants.{NoMemory, Script, Read, Write}
 

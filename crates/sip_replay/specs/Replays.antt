@@ -3,16 +3,16 @@ use Rattle.std.specs.Prelude.{◌≡◌, ℕ, List, [], ◌∷◌, ◌++◌, Opt
 use Rattle.std.specs.Io.KnownBytes.{Appends}
 use Rattle.sip_event.specs.declared.event.Event.{Event}
 use Rattle.sip_event.specs.declared.event.StepOut.{StepOut}
-use Rattle.sip_model.specs.settings.declared.config.Config.{Config}
-use Rattle.sip_model.specs.state.declared.server.Server.{Server}
-use Rattle.sip_model.specs.state.declared.proxy_state.ProxyState.{ProxyState}
-use Rattle.sip_model.specs.state.State.{first_state}
-use Rattle.sip_model.specs.Run.{Link, IsRun}
-use Rattle.sip_model.specs.Access.{Access}
-use Rattle.sip_bounds.specs.Bounds.{IsBounded}
-use Rattle.sip_script.specs.Print.{printed}
-use Rattle.sip_script.specs.Lines.{Reading}
-use Rattle.sip_script.specs.Events.{SaysEvent, GivesEvent}
+use Rattle.sip_config_types.specs.declared.config.Config.{Config}
+use Rattle.model_bounds.specs.state.declared.server.Server.{Server}
+use Rattle.model_bounds.specs.state.declared.proxy_state.ProxyState.{ProxyState}
+use Rattle.model_bounds.specs.state.State.{first_state}
+use Rattle.model_bounds.specs.model.Run.{Link, IsRun}
+use Rattle.model_bounds.specs.model.Access.{Access}
+use Rattle.model_bounds.specs.Bounds.{IsBounded}
+use Rattle.sip_replay_script.specs.Print.{printed}
+use Rattle.sip_replay_script.specs.Lines.{Reading}
+use Rattle.sip_replay_script.specs.Events.{SaysEvent, GivesEvent}
 
 -- a text that says an event, in front of one that says others
 pub record SaysFirst (text : List ℕ) (event : Event) (SaysOthers : List ℕ → Type 0) : Type 0 where

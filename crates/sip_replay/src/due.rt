@@ -1,17 +1,17 @@
 ghost use Rattle.std.specs.Prelude.{◌≡◌, [], Some, IfErr, IfOk, IfNone, IfSome, OnErr, OnOk};
-ghost use Rattle.sip_model.specs.Step.{moment_of};
-ghost use Rattle.sip_engine.specs.StepError.{refusal_at};
+ghost use Rattle.model_bounds.specs.steps_model.Step.{moment_of};
+ghost use Rattle.sip_run.specs.engine.StepError.{refusal_at};
 ghost use Rattle.sip_run.specs.Due.{Fires, NothingDueBy};
-ghost use Rattle.sip_script.specs.Devices.{GaveUp};
+ghost use Rattle.sip_replay_script.specs.Devices.{GaveUp};
 ghost use Rattle.sip_replay.specs.Refusals.{FiringStops, StepStops};
 ghost use Rattle.sip_replay.specs.Replays.{Plays};
 
 use crate::error::stop_of;
-use sip_engine::Engine;
 use sip_event::StepOut;
-use sip_model::policy::Rules;
+use sip_policy::Rules;
+use sip_replay_script::{Stop, TellingWriter, print_step};
+use sip_run::engine::Engine;
 use sip_run::fire_next;
-use sip_script::{Stop, TellingWriter, print_step};
 use sip_timers::Timers;
 use std::alloc::Global;
 

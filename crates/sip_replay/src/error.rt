@@ -1,8 +1,8 @@
 ghost use Rattle.std.specs.Prelude.{◌≡◌};
 ghost use Rattle.sip_replay.specs.Errors.{error_at, number_of_error, stop_of_step};
 
-use sip_engine::StepError;
-use sip_script::Stop;
+use sip_replay_script::Stop;
+use sip_run::engine::StepError;
 use std::error::Error;
 use std::fmt;
 

@@ -12,5 +12,10 @@ pub use playback::replay;
 
 /// Of `sip_engine`.
 pub mod engine {
-    pub use sip_engine::{Engine, StepError};
+    pub use sip_run::engine::{Engine, StepError};
+}
+
+/// Of `sip_run`.
+pub mod run {
+    pub use sip_run::{event_moment, fire_next, run, take_event};
 }

@@ -1,26 +1,28 @@
 ghost use Rattle.std.specs.Prelude.{◌≡◌, ◌≤◌, ◌⊎◌, [], ◌∷◌, true, false, None, Err, IfOk, IfErr, OnOk};
-ghost use Rattle.sip_model.specs.Run.{event_moment};
-ghost use Rattle.sip_model.specs.Step.{Given, IsStep, moment_of};
-ghost use Rattle.sip_model.specs.state.State.{first_state};
+ghost use Rattle.model_bounds.specs.model.Run.{event_moment};
+ghost use Rattle.model_bounds.specs.steps_model.Step.{Given, IsStep, moment_of};
+ghost use Rattle.model_bounds.specs.state.State.{first_state};
 ghost use Rattle.sip_run.specs.Due.{NothingDueBy};
 ghost use Rattle.sip_run.specs.Refusals.{refusal_of_event};
-ghost use Rattle.sip_script.specs.Devices.{later, GaveUp};
-ghost use Rattle.sip_script.specs.Lines.{pending, IsOver, IsSpent};
+ghost use Rattle.sip_replay_script.specs.Devices.{later, GaveUp};
+ghost use Rattle.sip_replay_script.specs.Lines.{pending, IsOver, IsSpent};
 ghost use Rattle.sip_replay.specs.Errors.{IsAsked, IsFaulted};
 ghost use Rattle.sip_replay.specs.Refusals.{IsRefused, Refuses, StepStops, TakingStops};
 ghost use Rattle.sip_replay.specs.Replays.{server_with, IsLawfulReplay, IsReplay, Plays, PlaysNext};
 
 use crate::due::fire_due;
 use crate::error::{ReplayError, stop_of};
-use sip_bounds::bounds::every_history_is_bounded;
-use sip_engine::Engine;
+use model_bounds::bounds::every_history_is_bounded;
+use model_bounds::model::laws::every_run_has_access;
+use model_bounds::model::runs::runs_join;
+use sip_config_types::Config;
 use sip_event::{Boot, Event, StepOut};
-use sip_model::laws::every_run_has_access;
-use sip_model::policy::Rules;
-use sip_model::runs::runs_join;
+use sip_policy::Rules;
+use sip_replay_script::{
+    Lines, Stop, TellingReader, TellingWriter, hand_on, next_event, print_step,
+};
+use sip_run::engine::Engine;
 use sip_run::event_moment;
-use sip_script::{Lines, Stop, TellingReader, TellingWriter, hand_on, next_event, print_step};
-use sip_state::settings::Config;
 use sip_timers::Timers;
 use std::alloc::Global;
 

@@ -2,10 +2,10 @@
 use Rattle.std.proofs.Common.{◌≡◌, ℕ, ◌+◌, Bool, List, [], ◌++◌, cond, Option, refl, arith}
 use Rattle.std.specs.Prelude.{count_by}
 use Rattle.std.proofs.lemmas.List.Sums.{sum_by-append}
-use Rattle.sip_ties.specs.transaction.declared.letter.Letter.{Letter}
-use Rattle.sip_ties.specs.timers.declared.timer.Timer.{Timer}
-use Rattle.sip_running.specs.Moves.{IsHeld, Moves}
-use Rattle.sip_ties.specs.declared.timer_keys.TimerKeys.{TimerKeys}
+use Rattle.sip_timers.specs.declared.letter.Letter.{Letter}
+use Rattle.sip_timers.specs.declared.timer.Timer.{Timer}
+use Rattle.sip_timers.specs.Moves.{IsHeld, Moves}
+use Rattle.model_transactions.specs.declared.timer_keys.TimerKeys.{TimerKeys}
 use Rattle.sip_request.specs.declared.part.Part.{Part}
 use Rattle.sip_request.specs.Slots.{part_standing, slot_timers}
 

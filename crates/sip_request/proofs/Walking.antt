@@ -4,19 +4,19 @@ use Rattle.std.specs.Option.{option_to_list}
 use Rattle.std.specs.List.{AllByRecursion}
 use Rattle.std.proofs.lemmas.List.{append-nil, drop_all, drop_more, take_all, take_more, take_more_set, length-take}
 use Rattle.std.proofs.lemmas.List.Elements.{All-from_recursion, All-get_or}
-use Rattle.sip_ties.specs.transaction.declared.letter.Letter.{Letter}
-use Rattle.sip_ties.specs.timers.declared.timer.Timer.{Timer}
-use Rattle.sip_ties.specs.timers.Timers.{KeysDiffer}
-use Rattle.sip_running.specs.Moves.{IsHeld, Moves}
-use Rattle.sip_branches.specs.state.declared.branch.Branch.{Branch}
-use Rattle.sip_branches.specs.state.declared.branch.Phase.{Phase}
-use Rattle.sip_branches.specs.state.declared.branch.Phase.TheVariants.{Unheard, Heard, Cancelled, Done, Ended}
-use Rattle.sip_branches.specs.state.declared.open_request.OpenRequest.{OpenRequest}
-use Rattle.sip_branches.specs.state.declared.resend.Resend.{Resend}
-use Rattle.sip_branches.specs.Early.{IsEarly}
-use Rattle.sip_ties.specs.machines.InviteClient.{invite_timers, call_timers}
-use Rattle.sip_ties.specs.Ties.{branch_timers, branches_timers, owner_of, part_timers}
-use Rattle.sip_ties.specs.declared.timer_keys.TimerKeys.{TimerKeys}
+use Rattle.sip_timers.specs.declared.letter.Letter.{Letter}
+use Rattle.sip_timers.specs.declared.timer.Timer.{Timer}
+use Rattle.sip_timers.specs.Timers.{KeysDiffer}
+use Rattle.sip_timers.specs.Moves.{IsHeld, Moves}
+use Rattle.model_transactions.specs.state.declared.branch.Branch.{Branch}
+use Rattle.model_transactions.specs.state.declared.branch.Phase.{Phase}
+use Rattle.model_transactions.specs.state.declared.branch.Phase.TheVariants.{Unheard, Heard, Cancelled, Done, Ended}
+use Rattle.model_transactions.specs.state.declared.open_request.OpenRequest.{OpenRequest}
+use Rattle.model_transactions.specs.state.declared.resend.Resend.{Resend}
+use Rattle.model_transactions.specs.context_branches.Early.{IsEarly}
+use Rattle.model_transactions.specs.InviteClient.{invite_timers, call_timers}
+use Rattle.model_transactions.specs.Ties.{branch_timers, branches_timers, owner_of, part_timers}
+use Rattle.model_transactions.specs.declared.timer_keys.TimerKeys.{TimerKeys}
 use Rattle.sip_request.specs.declared.part.PartTimers.{PartTimers}
 use Rattle.sip_request.specs.Near.{AreBefore, IsNear}
 use Rattle.sip_request.specs.Slots.{IsBefore, IsPartNear, listed}

@@ -1,9 +1,9 @@
 -- Requests, and parts of them, that have the same timers.
 use Rattle.std.specs.Prelude.{◌≡◌}
-use Rattle.sip_branches.specs.state.declared.branch.Branch.{Branch}
-use Rattle.sip_branches.specs.state.declared.open_request.OpenRequest.{OpenRequest}
-use Rattle.sip_branches.specs.state.State.{is_invite}
-use Rattle.sip_branches.specs.context.Branches.{was_refused}
+use Rattle.model_transactions.specs.state.declared.branch.Branch.{Branch}
+use Rattle.model_transactions.specs.state.declared.open_request.OpenRequest.{OpenRequest}
+use Rattle.model_transactions.specs.state.State.{is_invite}
+use Rattle.model_transactions.specs.context_model.Branches.{was_refused}
 
 -- these requests give their parts timers alike: they have one number, and both are INVITEs or neither is
 pub record AreAlike (was next : OpenRequest) : Type 0 where

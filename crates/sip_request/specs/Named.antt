@@ -1,16 +1,16 @@
 -- The timers that an open request names, and what a plan needs.
 use Rattle.std.specs.Prelude.{ℕ, ◌≡◌, ◌≤◌, ◌+◌, ◌^◌, List, length}
-use Rattle.sip_ties.specs.timers.declared.timer.Timer.{Timer}
-use Rattle.sip_branches.specs.state.declared.open_request.OpenRequest.{OpenRequest}
-use Rattle.sip_ties.specs.Ties.{timers_of}
-use Rattle.sip_ties.specs.declared.timer_keys.TimerKeys.{TimerKeys}
+use Rattle.sip_timers.specs.declared.timer.Timer.{Timer}
+use Rattle.model_transactions.specs.state.declared.open_request.OpenRequest.{OpenRequest}
+use Rattle.model_transactions.specs.Ties.{timers_of}
+use Rattle.model_transactions.specs.declared.timer_keys.TimerKeys.{TimerKeys}
 use Rattle.sip_request.specs.declared.request.Plan.{Plan}
 use Rattle.sip_request.specs.declared.request.Request.{Request}
 use Rattle.sip_request.specs.Near.{IsNear, most_timers}
 
 -- the timers that an open request names, as they stand
 abbrev pub named_by : Request → List Timer
-named_by r = timers_of r.context r.side r.branches
+named_by r = timers_of r.open_request r.side r.branches
 
 -- each branch has its keys
 abbrev pub HasKeys : OpenRequest → List TimerKeys → Type 0

@@ -1,10 +1,10 @@
 -- The moments of the timers that an open request names.
 use Rattle.std.specs.Prelude.{ℕ, ◌<◌, ◌+◌, ◌*◌, List, length}
 use Rattle.std.specs.List.{AllByRecursion}
-use Rattle.sip_ties.specs.transaction.declared.letter.Letter.{Letter}
-use Rattle.sip_branches.specs.state.declared.branch.Branch.{Branch}
-use Rattle.sip_branches.specs.state.declared.open_request.OpenRequest.{OpenRequest}
-use Rattle.sip_ties.specs.Ties.{branch_timers, side_timers}
+use Rattle.sip_timers.specs.declared.letter.Letter.{Letter}
+use Rattle.model_transactions.specs.state.declared.branch.Branch.{Branch}
+use Rattle.model_transactions.specs.state.declared.open_request.OpenRequest.{OpenRequest}
+use Rattle.model_transactions.specs.Ties.{branch_timers, side_timers}
 
 -- these timers are due before a moment
 abbrev pub AreBefore : ℕ → List (Letter × ℕ) → Type 0

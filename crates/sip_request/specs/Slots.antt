@@ -1,11 +1,11 @@
 -- The timers of a part of an open request, by their slots.
 use Rattle.std.specs.Prelude.{ℕ, ◌<◌, List, [], ◌∷◌, ◌++◌, Option, Some, None}
 use Rattle.std.specs.Option.{option_to_list}
-use Rattle.sip_ties.specs.transaction.declared.letter.Letter.{Letter}
-use Rattle.sip_ties.specs.timers.declared.timer.Name.{Name}
-use Rattle.sip_ties.specs.timers.declared.timer.Owner.{Owner}
-use Rattle.sip_ties.specs.timers.declared.timer.Timer.{Timer}
-use Rattle.sip_ties.specs.declared.timer_keys.TimerKeys.{TimerKeys}
+use Rattle.sip_timers.specs.declared.letter.Letter.{Letter}
+use Rattle.sip_timers.specs.declared.timer.Name.{Name}
+use Rattle.sip_timers.specs.declared.timer.Owner.{Owner}
+use Rattle.sip_timers.specs.declared.timer.Timer.{Timer}
+use Rattle.model_transactions.specs.declared.timer_keys.TimerKeys.{TimerKeys}
 use Rattle.sip_request.specs.declared.part.Part.{Part}
 use Rattle.sip_request.specs.declared.part.PartTimers.{PartTimers}
 

@@ -1,6 +1,6 @@
 ghost use Rattle.std.specs.Prelude.{◌≡◌, ◌≤◌, ◌<◌, ◌+◌, ◌*◌, ◌^◌, ◌++◌, [], true, length, IfSome, MatchOption};
-ghost use Rattle.sip_running.specs.Moves.{IsHeld, Moves};
-ghost use Rattle.sip_ties.specs.Ties.{branch_timers, branches_timers, owner_of, part_timers};
+ghost use Rattle.sip_timers.specs.Moves.{IsHeld, Moves};
+ghost use Rattle.model_transactions.specs.Ties.{branch_timers, branches_timers, owner_of, part_timers};
 ghost use Rattle.sip_request.specs.Likeness.{AreAlike};
 ghost use Rattle.sip_request.specs.Near.{AreBefore, IsNear};
 ghost use Rattle.sip_request.specs.Slots.{part_standing};
@@ -9,9 +9,9 @@ ghost use Rattle.sip_request.specs.Walk.{left_timers};
 use crate::likeness::are_as_far;
 use crate::naming::branch_part;
 use crate::part::{NO_KEYS, Part, no_part, stop_part, sync_part};
-use sip_branches::state::{Branch, OpenRequest};
-use sip_ties::TimerKeys;
-use sip_ties::timers::Timers;
+use model_transactions::TimerKeys;
+use model_transactions::state::{Branch, OpenRequest};
+use sip_timers::Timers;
 
 /// A branch whose timers stand, with their keys, and the place behind it.
 #[derive(Clone, Copy)]

@@ -17,3 +17,10 @@ pub use naming::{branch_part, side_part};
 pub use near::near_later;
 pub use part::{Part, PartTimers};
 pub use request::{Plan, Request};
+
+/// Of `model_transactions`.
+pub mod transactions_model {
+    pub use model_transactions::{
+        TimerKeys, bounds, events, fitting_events, machines, openings, ties, timers,
+    };
+}

@@ -1,23 +1,22 @@
 ghost use Rattle.std.specs.Prelude.{◌≡◌, ◌++◌, ◌^◌, ℕ, Some, None, if◌then◌else◌};
-ghost use Rattle.sip_ties.specs.transaction.declared.letter.Letter.TheVariants.{D, M};
-ghost use Rattle.sip_ties.specs.timers.declared.timer.Owner.{Owner};
-ghost use Rattle.sip_ties.specs.timers.declared.timer.Owner.TheVariants as Of;
-ghost use Rattle.sip_branches.specs.state.State as States;
-ghost use Rattle.sip_branches.specs.context.Branches as Contexts;
-ghost use Rattle.sip_branches.specs.Early.{IsEarly};
-ghost use Rattle.sip_ties.specs.machines.InviteClient.{invite_timers, call_timers};
-ghost use Rattle.sip_ties.specs.machines.OtherClient.{other_timers};
-ghost use Rattle.sip_ties.specs.machines.InviteServer.{invite_side_timers};
-ghost use Rattle.sip_ties.specs.machines.OtherServer.{other_side_timers};
-ghost use Rattle.sip_ties.specs.Ties.{branch_timers, owner_of, part_timers, side_timers};
-ghost use Rattle.sip_ties.specs.declared.timer_keys.TimerKeys.{TimerKeys};
+ghost use Rattle.sip_timers.specs.declared.letter.Letter.TheVariants.{D, M};
+ghost use Rattle.sip_timers.specs.declared.timer.Owner.{Owner};
+ghost use Rattle.sip_timers.specs.declared.timer.Owner.TheVariants as Of;
+ghost use Rattle.model_transactions.specs.state.State as States;
+ghost use Rattle.model_transactions.specs.context_model.Branches as Contexts;
+ghost use Rattle.model_transactions.specs.context_branches.Early.{IsEarly};
+ghost use Rattle.model_transactions.specs.InviteClient.{invite_timers, call_timers};
+ghost use Rattle.model_transactions.specs.OtherClient.{other_timers};
+ghost use Rattle.model_transactions.specs.InviteServer.{invite_side_timers};
+ghost use Rattle.model_transactions.specs.OtherServer.{other_side_timers};
+ghost use Rattle.model_transactions.specs.Ties.{branch_timers, owner_of, part_timers, side_timers};
+ghost use Rattle.model_transactions.specs.declared.timer_keys.TimerKeys.{TimerKeys};
 ghost use Rattle.sip_request.specs.Near.{AreBefore};
 ghost use Rattle.sip_request.specs.Slots.{listed, part_standing, slots_standing};
 
 use crate::part::{Part, PartTimers};
-use sip_branches::state::{Branch, LastAnswer, OpenRequest, Phase, Resend, Side};
-use sip_ties::timers::Owner;
-use sip_ties::transaction::Letter;
+use model_transactions::state::{Branch, LastAnswer, OpenRequest, Phase, Resend, Side};
+use sip_timers::{Letter, Owner};
 
 /// How much longer Timer C is than the wait for a first response, in milliseconds (RFC 3261 16.8).
 const BEHIND_FIRST_WAIT: u64 = 153_000;

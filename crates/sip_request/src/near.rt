@@ -1,5 +1,5 @@
 ghost use Rattle.std.specs.Prelude.{◌≤◌, ℕ};
-ghost use Rattle.sip_branches.specs.state.declared.open_request.OpenRequest.{OpenRequest};
+ghost use Rattle.model_transactions.specs.state.declared.open_request.OpenRequest.{OpenRequest};
 ghost use Rattle.sip_request.specs.Near.{IsNear};
 
 /// What is near a bound is near every later one.

@@ -1,12 +1,11 @@
 ghost use Rattle.std.specs.Prelude.{◌≡◌, ◌≤◌, ◌<◌, ◌+◌, ◌^◌, []};
-ghost use Rattle.sip_running.specs.Moves.{IsHeld, Moves};
-ghost use Rattle.sip_ties.specs.declared.timer_keys.TimerKeys.{TimerKeys};
+ghost use Rattle.sip_timers.specs.Moves.{IsHeld, Moves};
+ghost use Rattle.model_transactions.specs.declared.timer_keys.TimerKeys.{TimerKeys};
 ghost use Rattle.sip_request.specs.Slots.{IsBefore, IsPartNear, part_standing, slot_timers};
 
 use crate::slots::{clear, standing, sync};
-use sip_ties::TimerKeys;
-use sip_ties::timers::{Owner, Timers};
-use sip_ties::transaction::Letter;
+use model_transactions::TimerKeys;
+use sip_timers::{Letter, Owner, Timers};
 
 /// The timers that a part of an open request has by its phase, each with its letter and the moment at which it is due, in
 /// milliseconds. No part has more than these three.

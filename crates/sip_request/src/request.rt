@@ -1,23 +1,23 @@
 ghost use Rattle.std.specs.Prelude.{◌≡◌, ◌≤◌, ◌+◌, ◌^◌, [], length, IfOk, IfErr, OnOk};
-ghost use Rattle.sip_ties.specs.timers.Timers.{KeysDiffer};
-ghost use Rattle.sip_ties.specs.timers.declared.error.TimerError.TheVariants.{NoMemory};
-ghost use Rattle.sip_running.specs.Moves.{IsHeld, Moves};
+ghost use Rattle.sip_timers.specs.Timers.{KeysDiffer};
+ghost use Rattle.sip_timers.specs.declared.error.TimerError.TheVariants.{NoMemory};
+ghost use Rattle.sip_timers.specs.Moves.{IsHeld, Moves};
 ghost use Rattle.sip_request.specs.Near.{IsNear, most_timers};
 ghost use Rattle.sip_request.specs.Named.{HasKeys, IsReady, named_by};
 
 use crate::part::NO_KEYS;
 use crate::retiming::{begin, end, retime};
-use sip_branches::state::OpenRequest;
-use sip_branches::text::Items;
-use sip_ties::TimerKeys;
-use sip_ties::timers::{TimerError, Timers};
+use model_transactions::TimerKeys;
+use model_transactions::state::OpenRequest;
+use sip_text::Items;
+use sip_timers::{TimerError, Timers};
 use std::alloc::{AllocError, Global};
 
 /// An open request, with the keys of the timers that it names: those of its answering side, and those of its branches in
 /// their order.
 #[derive(Drop)]
 pub struct Request {
-    pub context: OpenRequest,
+    pub open_request: OpenRequest,
     pub side: TimerKeys,
     pub branches: Items<TimerKeys>,
 }
@@ -75,15 +75,15 @@ impl Request {
         requires apart { KeysDiffer (T.pending timers.old) }
         requires ready { IsReady (T.reached timers.old) (T.room timers.old) plan }
         ensures moves { Moves (T.pending timers.old) [] (T.pending timers.new) (named_by result) }
-        ensures request { result.context ≡ plan.request }
-        ensures keys { HasKeys result.context result.branches }
+        ensures request { result.open_request ≡ plan.request }
+        ensures keys { HasKeys result.open_request result.branches }
         ensures left { T.room timers.old ≤ T.room timers.new + most_timers plan.request }
         ensures still { T.reached timers.new ≡ T.reached timers.old }
     {
         let Plan { request, mut keys } = plan;
         let side = begin(timers, &request, keys.as_mut_slice());
         Request {
-            context: request,
+            open_request: request,
             side,
             branches: keys,
         }
@@ -92,25 +92,25 @@ impl Request {
     /// The request as it was planned, which takes its place: its timers follow. Takes no memory.
     pub fn changed<T: Timers>(&self, timers: &mut T, plan: Plan) -> Self
         requires held { IsHeld (T.pending timers.old) (named_by self.now) }
-        requires timed { IsNear (2 ^ 64) self.now.context }
+        requires timed { IsNear (2 ^ 64) self.now.open_request }
         requires ready { IsReady (T.reached timers.old) (T.room timers.old) plan }
         ensures moves { Moves (T.pending timers.old) (named_by self.now) (T.pending timers.new) (named_by result) }
-        ensures request { result.context ≡ plan.request }
-        ensures keys { HasKeys result.context result.branches }
+        ensures request { result.open_request ≡ plan.request }
+        ensures keys { HasKeys result.open_request result.branches }
         ensures left { T.room timers.old ≤ T.room timers.new + most_timers plan.request }
         ensures still { T.reached timers.new ≡ T.reached timers.old }
     {
         let Plan { request, mut keys } = plan;
         let side = retime(
             timers,
-            &self.context,
+            &self.open_request,
             self.side,
             self.branches.as_slice(),
             &request,
             keys.as_mut_slice(),
         );
         Request {
-            context: request,
+            open_request: request,
             side,
             branches: keys,
         }
@@ -119,11 +119,16 @@ impl Request {
     /// The request is open no longer: its timers are stopped.
     pub fn close<T: Timers>(self, timers: &mut T)
         requires held { IsHeld (T.pending timers.old) (named_by self) }
-        requires timed { IsNear (2 ^ 64) self.context }
+        requires timed { IsNear (2 ^ 64) self.open_request }
         ensures moves { Moves (T.pending timers.old) (named_by self) (T.pending timers.new) [] }
         ensures left { T.room timers.old ≤ T.room timers.new }
         ensures still { T.reached timers.new ≡ T.reached timers.old }
     {
-        end(timers, &self.context, self.side, self.branches.as_slice());
+        end(
+            timers,
+            &self.open_request,
+            self.side,
+            self.branches.as_slice(),
+        );
     }
 }

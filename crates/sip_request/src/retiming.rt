@@ -1,8 +1,8 @@
 ghost use Rattle.std.specs.Prelude.{◌≡◌, ◌≤◌, ◌+◌, ◌^◌, [], true, length};
-ghost use Rattle.sip_ties.specs.timers.Timers.{KeysDiffer};
-ghost use Rattle.sip_running.specs.Moves.{IsHeld, Moves};
-ghost use Rattle.sip_ties.specs.timers.declared.timer.Owner.TheVariants as Of;
-ghost use Rattle.sip_ties.specs.Ties.{part_timers, side_timers, timers_of};
+ghost use Rattle.sip_timers.specs.Timers.{KeysDiffer};
+ghost use Rattle.sip_timers.specs.Moves.{IsHeld, Moves};
+ghost use Rattle.sip_timers.specs.declared.timer.Owner.TheVariants as Of;
+ghost use Rattle.model_transactions.specs.Ties.{part_timers, side_timers, timers_of};
 ghost use Rattle.sip_request.specs.Likeness.{AreAlike};
 ghost use Rattle.sip_request.specs.Near.{AreBefore, IsNear, most_timers};
 
@@ -10,9 +10,9 @@ use crate::branches::{stop_left, sync_branches};
 use crate::likeness::{are_alike, are_sides_as_far};
 use crate::naming::side_part;
 use crate::part::{NO_KEYS, no_part, stop_part, sync_part};
-use sip_branches::state::OpenRequest;
-use sip_ties::TimerKeys;
-use sip_ties::timers::Timers;
+use model_transactions::TimerKeys;
+use model_transactions::state::OpenRequest;
+use sip_timers::Timers;
 
 /// Lets the timers of the answering side stand, and no others of those that it had before. Where the requests are alike, one
 /// that is as far as it was keeps its timers, and none is worked out. Gives the keys.

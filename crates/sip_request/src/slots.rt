@@ -1,11 +1,9 @@
 ghost use Rattle.std.specs.Prelude.{◌≡◌, ◌≤◌, ◌<◌, ◌+◌, ◌^◌, [], ◌∷◌, true};
-ghost use Rattle.sip_ties.specs.timers.declared.timer.Timer.{Timer};
-ghost use Rattle.sip_running.specs.Moves.{IsHeld, Moves};
+ghost use Rattle.sip_timers.specs.declared.timer.Timer.{Timer};
+ghost use Rattle.sip_timers.specs.Moves.{IsHeld, Moves};
 ghost use Rattle.sip_request.specs.Slots.{IsBefore, slot_timers, stood};
 
-use sip_running::{start, stop};
-use sip_ties::timers::{Name, Owner, Timer, Timers};
-use sip_ties::transaction::Letter;
+use sip_timers::{Letter, Name, Owner, Timer, Timers, start, stop};
 
 /// Whether a timer is due at a moment and has a name.
 fn is_the(timer: Timer, due: u64, name: Name) -> bool

@@ -4,10 +4,10 @@ use Rattle.std.specs.List.{AllByRecursion}
 use Rattle.std.proofs.lemmas.List.{reverse-append, take_more}
 use Rattle.sip_event.specs.declared.event.Event.{Event}
 use Rattle.sip_event.specs.declared.event.StepOut.{StepOut}
-use Rattle.sip_model.specs.state.declared.server.Server.{Server}
-use Rattle.sip_model.specs.state.declared.proxy_state.ProxyState.{ProxyState}
-use Rattle.sip_model.specs.Step.{Act, Given, Passing, IsStep, IsDeadline, IsResend}
-use Rattle.sip_model.specs.Run.{Link, IsRun, IsPaced, IsUpTo, event_moment, events_of, steps_of, next_moment, first_moment}
+use Rattle.sip_engine.specs.state.declared.server.Server.{Server}
+use Rattle.sip_engine.specs.state.declared.proxy_state.ProxyState.{ProxyState}
+use Rattle.sip_engine.specs.steps_model.Step.{Act, Given, Passing, IsStep, IsDeadline, IsResend}
+use Rattle.sip_engine.specs.model.Run.{Link, IsRun, IsPaced, IsUpTo, event_moment, events_of, steps_of, next_moment, first_moment}
 use Rattle.sip_run.specs.Due.{Fires}
 use Rattle.sip_run.specs.Runs.{IsInTurn, IsTurn, Goes}
 

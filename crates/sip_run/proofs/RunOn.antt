@@ -2,10 +2,10 @@
 use Rattle.std.specs.Prelude.{ℕ, List, [], ◌∷◌, Option, None}
 use Rattle.sip_event.specs.declared.event.Event.{Event}
 use Rattle.sip_event.specs.declared.event.StepOut.{StepOut}
-use Rattle.sip_model.specs.state.declared.server.Server.{Server}
-use Rattle.sip_model.specs.state.declared.proxy_state.ProxyState.{ProxyState}
-use Rattle.sip_model.specs.Step.{Act, Given, Passing}
-use Rattle.sip_model.specs.Run.{Link, IsRun, IsPaced, IsUpTo, next_moment}
+use Rattle.sip_engine.specs.state.declared.server.Server.{Server}
+use Rattle.sip_engine.specs.state.declared.proxy_state.ProxyState.{ProxyState}
+use Rattle.sip_engine.specs.steps_model.Step.{Act, Given, Passing}
+use Rattle.sip_engine.specs.model.Run.{Link, IsRun, IsPaced, IsUpTo, next_moment}
 
 -- a run up to its last event is one up to any moment behind it
 paced_act : (until : Option ℕ) (act : Act) (history : List Link) → (IsUpTo None act × IsPaced (next_moment None act) history) → (IsUpTo until act × IsPaced (next_moment until act) history)

@@ -1,12 +1,12 @@
 -- What is due by a moment, and that it happens.
 use Rattle.std.specs.Prelude.{◌≡◌, ◌≤◌, ◌<◌, ◌⊎◌, ℕ, Contains, None}
 use Rattle.sip_event.specs.declared.event.StepOut.{StepOut}
-use Rattle.sip_model.specs.state.declared.server.Server.{Server}
-use Rattle.sip_model.specs.state.declared.proxy_state.ProxyState.{ProxyState}
-use Rattle.sip_model.specs.state.State.{deadlines}
-use Rattle.sip_model.specs.retransmission.Retransmission.{resends}
-use Rattle.sip_model.specs.Step.{NoneBy, NoneAgainBy, IsDeadline, IsResend, moment_of}
-use Rattle.sip_model.specs.Ends.{steps_left}
+use Rattle.sip_engine.specs.state.declared.server.Server.{Server}
+use Rattle.sip_engine.specs.state.declared.proxy_state.ProxyState.{ProxyState}
+use Rattle.sip_engine.specs.state.State.{deadlines}
+use Rattle.sip_engine.specs.context_model.Retransmission.{resends}
+use Rattle.sip_engine.specs.steps_model.Step.{NoneBy, NoneAgainBy, IsDeadline, IsResend, moment_of}
+use Rattle.sip_engine.specs.model.Ends.{steps_left}
 use Rattle.sip_engine.specs.StepError.{refusal_at}
 
 -- nothing is due by a moment

@@ -1,3 +1,4 @@
 pub mod Due
 pub mod Refusals
 pub mod Runs
+pub use Rattle.sip_engine.specs as engine

@@ -3,14 +3,14 @@ use Rattle.std.specs.Prelude.{◌≡◌, ◌⊎◌, ⊤, ℕ, List, [], ◌∷�
 use Rattle.std.specs.List.{AllByRecursion}
 use Rattle.sip_event.specs.declared.event.Event.{Event}
 use Rattle.sip_event.specs.declared.event.StepOut.{StepOut}
-use Rattle.sip_model.specs.settings.declared.config.Config.{Config}
-use Rattle.sip_model.specs.state.declared.server.Server.{Server}
-use Rattle.sip_model.specs.state.declared.proxy_state.ProxyState.{ProxyState}
-use Rattle.sip_model.specs.state.State.{first_state}
-use Rattle.sip_model.specs.Step.{Act, Given, Passing, IsDeadline, IsResend, moment_of}
-use Rattle.sip_model.specs.Run.{Link, IsRun, event_moment, first_moment}
-use Rattle.sip_model.specs.Access.{Access}
-use Rattle.sip_bounds.specs.Bounds.{IsBounded}
+use Rattle.sip_config_types.specs.declared.config.Config.{Config}
+use Rattle.sip_engine.specs.state.declared.server.Server.{Server}
+use Rattle.sip_engine.specs.state.declared.proxy_state.ProxyState.{ProxyState}
+use Rattle.sip_engine.specs.state.State.{first_state}
+use Rattle.sip_engine.specs.steps_model.Step.{Act, Given, Passing, IsDeadline, IsResend, moment_of}
+use Rattle.sip_engine.specs.model.Run.{Link, IsRun, event_moment, first_moment}
+use Rattle.sip_engine.specs.model.Access.{Access}
+use Rattle.model_bounds.specs.Bounds.{IsBounded}
 use Rattle.sip_engine.specs.declared.error.StepError.{StepError}
 use Rattle.sip_engine.specs.declared.error.StepError.TheVariants.{NoMemory}
 use Rattle.sip_engine.specs.StepError.{refusal_at}

@@ -1,14 +1,14 @@
 ghost use Rattle.std.specs.Prelude.{◌≡◌, IfOk, IfErr, IfSome, IfNone, OnErr};
-ghost use Rattle.sip_model.specs.Step.{moment_of};
-ghost use Rattle.sip_firing.specs.Timers.{IsFiredFirst};
+ghost use Rattle.sip_engine.specs.steps_model.Step.{moment_of};
+ghost use Rattle.sip_engine.specs.engine_time.Timers.{IsFiredFirst};
 ghost use Rattle.sip_engine.specs.StepError.{refusal_at};
 ghost use Rattle.sip_run.specs.Due.{Fires, IsDueBy, NothingDueBy};
 ghost use Rattle.sip_run.specs.Refusals.{RefusesStep};
 
+use sip_engine::model::runs::what_is_due_ends;
 use sip_engine::{Engine, StepError};
 use sip_event::StepOut;
-use sip_model::policy::Rules;
-use sip_model::runs::what_is_due_ends;
+use sip_policy::Rules;
 use sip_timers::Timers;
 
 /// The first that is due by a moment in milliseconds happens, in a step at its own moment: a deadline passes, or something goes

@@ -10,3 +10,8 @@ pub use due::fire_next;
 pub use outcome::Run;
 pub use running::run;
 pub use taking::{event_moment, take_event};
+
+/// Of `sip_engine`.
+pub mod engine {
+    pub use sip_engine::{Engine, StepError};
+}

@@ -1,6 +1,6 @@
 use sip_engine::StepError;
 use sip_event::StepOut;
-use sip_model::text::Items;
+use sip_text::Items;
 
 /// What became of a list of events: the steps that were taken, in their order, and why no more were, if not all events were
 /// taken.

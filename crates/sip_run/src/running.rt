@@ -1,19 +1,19 @@
 ghost use Rattle.std.specs.Prelude.{◌≡◌, [], ◌∷◌, None, Some, IfErr, OnOk};
-ghost use Rattle.sip_model.specs.Step.{moment_of};
+ghost use Rattle.sip_engine.specs.steps_model.Step.{moment_of};
 ghost use Rattle.sip_run.specs.Due.{NothingDueBy};
 ghost use Rattle.sip_run.specs.Runs.{FiringHalts, Goes, Halts, IsRunOver, Stops, server_of};
 
 use crate::due::fire_next;
 use crate::outcome::Run;
 use crate::taking::{event_moment, take_event};
-use sip_bounds::bounds::every_history_is_bounded;
+use model_bounds::bounds::every_history_is_bounded;
+use sip_config_types::Config;
+use sip_engine::model::laws::every_run_has_access;
+use sip_engine::model::runs::runs_join;
 use sip_engine::{Engine, StepError};
 use sip_event::{Boot, Event, StepOut};
-use sip_model::laws::every_run_has_access;
-use sip_model::policy::Rules;
-use sip_model::runs::runs_join;
-use sip_model::text::Items;
-use sip_state::settings::Config;
+use sip_policy::Rules;
+use sip_text::Items;
 use sip_timers::Timers;
 use std::alloc::Global;
 

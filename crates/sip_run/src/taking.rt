@@ -1,12 +1,12 @@
 ghost use Rattle.std.specs.Prelude.{◌≡◌, None, IsOk, IfOk, IfErr, OnOk, OnErr};
-ghost use Rattle.sip_model.specs.Run.{event_moment};
-ghost use Rattle.sip_model.specs.Step.{Given, IsStep, moment_of};
+ghost use Rattle.sip_engine.specs.model.Run.{event_moment};
+ghost use Rattle.sip_engine.specs.steps_model.Step.{Given, IsStep, moment_of};
 ghost use Rattle.sip_run.specs.Due.{NothingDueBy};
 ghost use Rattle.sip_run.specs.Refusals.{NeedsNoMemory, RefusesStep, refusal_of_event};
 
 use sip_engine::{Engine, StepError};
 use sip_event::{Event, StepOut};
-use sip_model::policy::Rules;
+use sip_policy::Rules;
 use sip_timers::Timers;
 
 /// The moment of an event.

@@ -1,9 +1,9 @@
 -- The timers of the server transaction of an INVITE.
 use Rattle.std.proofs.Common.{◌≡◌, true, [], ◌∷◌, ◌⊎◌, inl, inr, refl, sym, ap}
-use Rattle.sip_transaction.specs.Machine.{Starts, KeepsTimers, IsOneOf}
+use Rattle.sip_timers.specs.Machine.{Starts, KeepsTimers, IsOneOf}
 use Rattle.sip_server.specs.ServerInvite.{Heard, invite, ack, success, failure, fired, heard, row, runs, invite_machine}
-use Rattle.sip_transaction.specs.declared.letter.Letter.{Letter}
-use Rattle.sip_transaction.specs.declared.letter.Letter.TheVariants.{G, H, I, L}
+use Rattle.sip_timers.specs.declared.letter.Letter.{Letter}
+use Rattle.sip_timers.specs.declared.letter.Letter.TheVariants.{G, H, I, L}
 use Rattle.sip_server.specs.declared.server_invite.ServerInvite.{ServerInvite}
 use Rattle.sip_server.specs.declared.server_invite.ServerInvite.TheVariants.{Proceeding, Completed, Confirmed, Accepted, Terminated}
 

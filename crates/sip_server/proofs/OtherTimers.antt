@@ -1,9 +1,9 @@
 -- The timers of the server transaction of a request that isn't an INVITE.
 use Rattle.std.proofs.Common.{◌≡◌, true, [], ◌∷◌, ◌⊎◌, inl, inr, refl, sym, ap}
-use Rattle.sip_transaction.specs.Machine.{Starts, KeepsTimers, IsOneOf}
+use Rattle.sip_timers.specs.Machine.{Starts, KeepsTimers, IsOneOf}
 use Rattle.sip_server.specs.ServerOther.{Heard, final, fired, heard, row, runs, other_machine}
-use Rattle.sip_transaction.specs.declared.letter.Letter.{Letter}
-use Rattle.sip_transaction.specs.declared.letter.Letter.TheVariants.{J}
+use Rattle.sip_timers.specs.declared.letter.Letter.{Letter}
+use Rattle.sip_timers.specs.declared.letter.Letter.TheVariants.{J}
 use Rattle.sip_server.specs.declared.server_other.ServerOther.{ServerOther}
 use Rattle.sip_server.specs.declared.server_other.ServerOther.TheVariants.{Trying, Proceeding, Completed, Terminated}
 

@@ -1,7 +1,7 @@
 -- At most one final answer is sent.
 use Rattle.std.proofs.Common.{◌≡◌, ◌≤◌, ◌+◌, List, [], ◌∷◌, refl, arith}
 use Rattle.sip_server.specs.ServerOther.{Heard, provisional, final, fired, heard, row, final_sent, finals_sent}
-use Rattle.sip_transaction.specs.declared.letter.Letter.TheVariants.{J}
+use Rattle.sip_timers.specs.declared.letter.Letter.TheVariants.{J}
 use Rattle.sip_server.specs.declared.server_other.ServerOther.TheVariants.{Trying, Proceeding, Completed, Terminated}
 use Rattle.sip_server.specs.declared.server_other.ServerOtherInput.{ServerOtherInput}
 

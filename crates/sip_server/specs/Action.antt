@@ -1,6 +1,6 @@
 -- What the actions of a server transaction start and send.
 use Rattle.std.specs.Prelude.{ℕ, Bool, true, false, List, [], ◌∷◌, Option, Some, None}
-use Rattle.sip_transaction.specs.declared.letter.Letter.{Letter}
+use Rattle.sip_timers.specs.declared.letter.Letter.{Letter}
 use Rattle.sip_server.specs.declared.actions.Action.{Action}
 use Rattle.sip_server.specs.declared.actions.Action.TheVariants.{Send, SendAgain, Start}
 

@@ -1,12 +1,12 @@
 -- The server transaction of an INVITE: RFC 3261 17.2.1 and figure 7, with the Accepted state of RFC 6026
 -- 7.1. Times are in milliseconds.
 use Rattle.std.specs.Prelude.{ℕ, ◌*◌, min, Bool, true, false, ◌&&◌, nat_le, if◌then◌else◌, List, [], ◌∷◌, Option, Some, None}
-use Rattle.sip_transaction.specs.Machine.{Machine}
-use Rattle.sip_transaction.specs.declared.letter.Letter.{Letter}
+use Rattle.sip_timers.specs.Machine.{Machine}
+use Rattle.sip_timers.specs.declared.letter.Letter.{Letter}
 use Rattle.sip_server.specs.Action.{start_of, sends_answer}
 use Rattle.sip_server.specs.declared.actions.Action.{Action}
 use Rattle.sip_server.specs.declared.actions.Action.TheVariants.{Send, SendAgain, Up, Start}
-use Rattle.sip_transaction.specs.declared.letter.Letter.TheVariants.{G, H, I, L}
+use Rattle.sip_timers.specs.declared.letter.Letter.TheVariants.{G, H, I, L}
 use Rattle.sip_server.specs.declared.server_invite.ServerInvite.{ServerInvite}
 use Rattle.sip_server.specs.declared.server_invite.ServerInvite.TheVariants.{Proceeding, Completed, Confirmed, Accepted, Terminated}
 use Rattle.sip_server.specs.declared.server_invite.ServerInviteInput.{ServerInviteInput}

@@ -1,12 +1,12 @@
 -- The server transaction of a request that isn't an INVITE: RFC 3261 17.2.2 and figure 8. Times are in
 -- milliseconds.
 use Rattle.std.specs.Prelude.{ℕ, ◌+◌, Bool, true, false, ◌&&◌, nat_le, if◌then◌else◌, List, [], ◌∷◌}
-use Rattle.sip_transaction.specs.Machine.{Machine}
-use Rattle.sip_transaction.specs.declared.letter.Letter.{Letter}
+use Rattle.sip_timers.specs.Machine.{Machine}
+use Rattle.sip_timers.specs.declared.letter.Letter.{Letter}
 use Rattle.sip_server.specs.Action.{start_of, sends_answer}
 use Rattle.sip_server.specs.declared.actions.Action.{Action}
 use Rattle.sip_server.specs.declared.actions.Action.TheVariants.{Send, SendAgain, Start}
-use Rattle.sip_transaction.specs.declared.letter.Letter.TheVariants.{J}
+use Rattle.sip_timers.specs.declared.letter.Letter.TheVariants.{J}
 use Rattle.sip_server.specs.declared.server_other.ServerOther.{ServerOther}
 use Rattle.sip_server.specs.declared.server_other.ServerOther.TheVariants.{Trying, Proceeding, Completed, Terminated}
 use Rattle.sip_server.specs.declared.server_other.ServerOtherInput.{ServerOtherInput}

@@ -1,4 +1,4 @@
-use sip_transaction::Letter;
+use sip_timers::Letter;
 
 /// What is to be done for a server transaction.
 #[derive(Clone, Copy, Default)]

@@ -1,6 +1,6 @@
 ghost use Rattle.std.specs.Prelude.{◌≡◌, [], ◌∷◌, false, drop};
-ghost use Rattle.sip_transaction.specs.declared.letter.Letter.TheVariants.{J};
-ghost use Rattle.sip_transaction.specs.Lives.{left_alone, life, sends};
+ghost use Rattle.sip_timers.specs.declared.letter.Letter.TheVariants.{J};
+ghost use Rattle.sip_timers.specs.Lives.{left_alone, life, sends};
 ghost use Rattle.sip_server.specs.ServerInvite.{server_invite, invite_machine};
 ghost use Rattle.sip_server.specs.ServerOther.{server_other, other_machine};
 ghost use Rattle.sip_server.specs.declared.actions.Action.TheVariants.{Send, SendAgain, Start};

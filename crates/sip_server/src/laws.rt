@@ -1,8 +1,8 @@
 ghost use Rattle.std.specs.Prelude.{◌≡◌, ◌≤◌, ◌⊎◌, List, [], ◌∷◌, true, false, None};
 ghost use Rattle.std.specs.List.{list_any};
-ghost use Rattle.sip_transaction.specs.declared.letter.Letter.TheVariants.{G, H, I, J, L};
-ghost use Rattle.sip_transaction.specs.Machine.{IsOneOf, KeepsTimers};
-ghost use Rattle.sip_transaction.specs.Resends.{SendsAgainBy, NoneSendsByTime};
+ghost use Rattle.sip_timers.specs.declared.letter.Letter.TheVariants.{G, H, I, J, L};
+ghost use Rattle.sip_timers.specs.Machine.{IsOneOf, KeepsTimers};
+ghost use Rattle.sip_timers.specs.Resends.{SendsAgainBy, NoneSendsByTime};
 ghost use Rattle.sip_server.specs.Action.{sends_again, copy_actions};
 ghost use Rattle.sip_server.specs.ServerInvite.{invite_machine, wait_g, answers_copy};
 ghost use Rattle.sip_server.specs.ServerOther.{server_other, other_machine, finals_sent, answers_copy as answers_other_copy};
@@ -13,7 +13,7 @@ ghost use Rattle.sip_server.specs.declared.server_other.ServerOtherInput.TheVari
 
 use crate::server_invite::{ServerInvite, ServerInviteInput};
 use crate::server_other::{ServerOther, ServerOtherInput};
-use sip_transaction::Letter;
+use sip_timers::Letter;
 
 /// The timers of an INVITE's transaction run as its table starts them, and no other does.
 pub fn invite_timers(state: ServerInvite, letter: Letter)

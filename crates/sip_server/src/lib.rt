@@ -1,6 +1,7 @@
-//! The two server transactions of RFC 3261 17.2 as machines: from its state and what it hears, each
-//! answers with its next state and what is to be done. They hold no message, read no clock and take no
-//! memory: whoever runs one sends what it says and sets the timers that it names.
+//! Not in the program: the two server transactions of RFC 3261 17.2 as machines, which are the definition that
+//! the answering side of an open request (`Side` of `sip_state`) is proved to fit, in `model_transactions`.
+//! From its state and what it hears, each machine answers with its next state and what is to be done. It holds no
+//! message, reads no clock and takes no memory. Who changes a timer of the server changes both.
 #![tactic(auto)]
 
 mod actions;

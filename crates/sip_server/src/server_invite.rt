@@ -3,7 +3,7 @@ ghost use Rattle.sip_server.specs.ServerInvite.{server_invite, runs};
 ghost use Rattle.sip_server.specs.declared.server_invite.ServerInvite.TheVariants.{Proceeding};
 
 use crate::actions::Action;
-use sip_transaction::{Actions, Letter, T1, T2, T4, doubled};
+use sip_timers::{Actions, Letter, T1, T2, T4, doubled};
 
 /// A server transaction of an INVITE (RFC 3261 17.2.1, with the Accepted state of RFC 6026 7.1).
 ///

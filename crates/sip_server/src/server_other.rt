@@ -3,7 +3,7 @@ ghost use Rattle.sip_server.specs.ServerOther.{server_other, runs};
 ghost use Rattle.sip_server.specs.declared.server_other.ServerOther.TheVariants.{Trying};
 
 use crate::actions::Action;
-use sip_transaction::{Actions, Letter, T1};
+use sip_timers::{Actions, Letter, T1};
 
 /// A server transaction of a request that isn't an INVITE (RFC 3261 17.2.2).
 ///

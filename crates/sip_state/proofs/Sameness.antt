@@ -3,13 +3,13 @@ use Rattle.std.proofs.Common.{◌≡◌, ℕ, List, [], ◌∷◌, find, cond, B
 use Rattle.std.specs.Prelude.{codes, count_by, nat_le, ◌&&◌}
 use Rattle.std.specs.Option.{option_map_or}
 use Rattle.std.specs.Str.{bytes_eq}
-use Rattle.sip_dialog.specs.uri.declared.aor.Aor.{Aor}
-use Rattle.sip_dialog.specs.host.declared.addr.Addr.{Addr}
-use Rattle.sip_best.specs.form.declared.message.Message.{Message}
-use Rattle.sip_key.specs.declared.key.Key.{Key}
-use Rattle.sip_nonces.specs.declared.nonces.Nonce.{Nonce}
-use Rattle.sip_nonces.specs.digest.Credential.{Credential}
-use Rattle.sip_nonces.specs.Nonces.{worth_of}
+use Rattle.sip_uri.specs.declared.aor.Aor.{Aor}
+use Rattle.sip_uri.specs.declared.addr.Addr.{Addr}
+use Rattle.sip_message_form.specs.declared.message.Message.{Message}
+use Rattle.sip_transaction_table.specs.declared.key.Key.{Key}
+use Rattle.sip_digest.specs.declared.nonces.Nonce.{Nonce}
+use Rattle.sip_digest.specs.Credential.{Credential}
+use Rattle.sip_digest.specs.Nonces.{worth_of}
 use Rattle.sip_location.specs.Binding.{live}
 use Rattle.sip_location.specs.Sameness.{SameBindings}
 use Rattle.sip_location.proofs.Sameness.{same_self, same_turned, same_joined}

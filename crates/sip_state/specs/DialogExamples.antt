@@ -1,11 +1,11 @@
 -- A call of x's to help, as its dialogs see it, for the worked examples.
 use Rattle.std.specs.Prelude.{ℕ, List, [], ◌∷◌, ◌++◌, codes, Some, None}
-use Rattle.sip_best.specs.field.declared.field_name.FieldName.TheVariants as Name
-use Rattle.sip_best.specs.field.declared.field.Field.{Field}
-use Rattle.sip_best.specs.form.declared.message.Start.TheVariants.{Request, Status}
-use Rattle.sip_best.specs.form.declared.message.Message.{Message}
-use Rattle.sip_settings.specs.hops.Examples as Places
-use Rattle.sip_settings.specs.Sample as Settings
+use Rattle.sip_message_fields.specs.declared.field_name.FieldName.TheVariants as Name
+use Rattle.sip_message_fields.specs.declared.field.Field.{Field}
+use Rattle.sip_message_form.specs.declared.message.Start.TheVariants.{Request, Status}
+use Rattle.sip_message_form.specs.declared.message.Message.{Message}
+use Rattle.sip_hops.specs.Examples as Places
+use Rattle.sip_config_types.specs.Sample as Settings
 use Rattle.sip_dialog.specs.declared.dialog.DialogId.{DialogId}
 use Rattle.sip_dialog.specs.declared.dialog.Dialog.{Dialog}
 use Rattle.sip_state.specs.declared.open_request.Side.TheVariants.{Answering, Closed}

@@ -3,10 +3,10 @@ use Rattle.std.specs.Prelude.{ℕ, ◌&&◌, nat_le, List, [], ◌∷◌, ◌++�
 use Rattle.std.specs.Option.{option_and_then, option_map_or, option_to_list}
 use Rattle.std.specs.Result.{result_ok}
 use Rattle.std.specs.Str.{bytes_eq}
-use Rattle.sip_best.specs.form.declared.message.Message.{Message}
-use Rattle.sip_dialog.specs.header.CoreFields.{core_of}
-use Rattle.sip_dialog.specs.host.declared.addr.Addr.{Addr}
-use Rattle.sip_settings.specs.hops.HostAddress.{address_of}
+use Rattle.sip_message_form.specs.declared.message.Message.{Message}
+use Rattle.sip_header.specs.CoreFields.{core_of}
+use Rattle.sip_uri.specs.declared.addr.Addr.{Addr}
+use Rattle.sip_hops.specs.HostAddress.{address_of}
 use Rattle.sip_dialog.specs.declared.dialog.DialogId.{DialogId}
 use Rattle.sip_dialog.specs.declared.dialog.Dialog.{Dialog}
 use Rattle.sip_dialog.specs.declared.dialog.InviteAnswer.{InviteAnswer}

@@ -1,5 +1,5 @@
 ghost use Rattle.std.specs.Prelude.{◌≡◌, [], codes, true, false};
-ghost use Rattle.sip_settings.specs.hops.Examples as Places;
+ghost use Rattle.sip_hops.specs.Examples as Places;
 ghost use Rattle.sip_dialog.specs.Dialogs.{is_in_dialog};
 ghost use Rattle.sip_state.specs.Dialogs.{after_request, after_leaving};
 ghost use Rattle.sip_state.specs.DialogExamples as Call;

@@ -1,23 +1,53 @@
 use crate::branch::Branch;
 use crate::resend::Resend;
 use crate::written::Written;
+use sip_base::Shared;
 use sip_best::Final;
-use sip_best::shared::Shared;
-use sip_best::text::{Bytes, Items};
-use sip_dialog::host::Addr;
-use sip_heard::Heard;
-use sip_key::Key;
+use sip_context_request::Heard;
+use sip_text::{Bytes, Items};
+use sip_transaction_table::Key;
+use sip_uri::Addr;
 
-/// How far the answering side of a request is, with its deadline in milliseconds.
+/// How far the answering side of a request is, with its deadline in milliseconds: its server transaction (RFC 3261 17.2;
+/// RFC 6026 7.1).
+///
+/// ```text
+///                       a request
+///                           |
+///                           v
+///                    +-------------+  100 to 199: it goes to the caller
+///                    |  Answering  |  the request again: the last answer again
+///                    +-------------+  RFC 3261: Proceeding, and Trying before any answer
+///                           | 200 to 699 goes to the caller:
+///                           |   G = 500, H = 32000 (300 to 699 of an INVITE);
+///                           |   L = 32000 (2xx of an INVITE);  J = 32000 (another)
+///                           v
+///                    +-------------+  G: the answer again, G = min(2G, 4000)
+///                    |   Closing   |  the request again: the answer again (of an INVITE no 2xx)
+///                    +-------------+  a further 2xx of an INVITE: it goes to the caller
+///                      |    |         RFC 3261: Completed;  RFC 6026: Accepted (2xx of an INVITE)
+///                      |    | ACK of 300 to 699: I = 5000
+///                      |    v
+///                      |  +--------------+
+///                      |  | Acknowledged |  RFC 3261: Confirmed
+///                      |  +--------------+
+///          H, J, L     |    | I
+///                      v    v
+///                    +-------------+
+///                    |   Closed    |  RFC 3261: Terminated
+///                    +-------------+
+/// ```
+///
+/// `model_transactions` proves that each state and each step is one of the machines of `sip_server`.
 #[derive(Clone, Copy)]
 pub enum Side {
-    /// It has no final answer yet.
+    /// It has no final answer yet: Trying, or Proceeding.
     Answering,
-    /// A final answer was sent.
+    /// A final answer was sent: Accepted after a 2xx of an INVITE, or Completed.
     Closing { until: u64 },
-    /// An ACK of it came.
+    /// An ACK of it came: Confirmed.
     Acknowledged { until: u64 },
-    /// Its transaction ended.
+    /// Its transaction ended: Terminated.
     Closed,
 }
 

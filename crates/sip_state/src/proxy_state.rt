@@ -1,8 +1,8 @@
 use crate::open_request::OpenRequest;
-use sip_best::text::Items;
 use sip_dialog::Dialog;
+use sip_digest::Nonce;
 use sip_location::Binding;
-use sip_nonces::Nonce;
+use sip_text::Items;
 
 /// What a proxy knows.
 #[derive(Drop)]

@@ -1,4 +1,4 @@
-use sip_settings::Config;
+use sip_config_types::Config;
 
 /// A server: what it was configured with, and the word that its branches and tags begin with.
 pub struct Server {

@@ -1,9 +1,9 @@
 ghost use Rattle.std.specs.Prelude.{◌≡◌, IfOk};
-ghost use Rattle.sip_best.specs.form.Text.{text_of};
+ghost use Rattle.sip_message_form.specs.Text.{text_of};
 
-use sip_best::form::{Kept, View, write_view};
-use sip_best::shared::Shared;
-use sip_best::text::Bytes;
+use sip_base::Shared;
+use sip_message_form::{Kept, View, write_view};
+use sip_text::Bytes;
 use std::alloc::{AllocError, Global};
 use std::marker::Model;
 
@@ -25,8 +25,8 @@ impl Drop for Written {
 
 impl Model for Written {
     ghost use Rattle.std.specs.Prelude.{◌≡◌};
-    ghost use Rattle.sip_best.specs.form.declared.message.Message.{Message};
-    ghost use Rattle.sip_best.specs.form.Text.{text_of};
+    ghost use Rattle.sip_message_form.specs.declared.message.Message.{Message};
+    ghost use Rattle.sip_message_form.specs.Text.{text_of};
 
     ghost Value = { Message };
 

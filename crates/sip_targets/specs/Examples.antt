@@ -1,8 +1,8 @@
 -- Requests on the sample configuration.
 use Rattle.std.specs.Prelude.{ℕ, Bool, List, [], ◌∷◌, codes, Some, None}
-use Rattle.sip_policy.specs.uri.declared.uri.Uri.{Uri}
-use Rattle.sip_policy.specs.uri.Aor.{aor_of}
-use Rattle.sip_policy.specs.uri.Examples.{user_at, valued, sample_domains}
+use Rattle.sip_uri.specs.declared.uri.Uri.{Uri}
+use Rattle.sip_uri.specs.Aor.{aor_of}
+use Rattle.sip_uri.specs.Examples.{user_at, valued, sample_domains}
 use Rattle.sip_policy.specs.declared.operation.Operation.{Operation}
 use Rattle.sip_policy.specs.User.{is_users_address}
 use Rattle.sip_policy.specs.Examples.{sample_users, sample_decision}

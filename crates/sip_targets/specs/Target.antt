@@ -1,8 +1,8 @@
 -- Targets (RFC 3261 16.5, 16.6 step 2).
 use Rattle.std.specs.Prelude.{Bool, not, filter, List, [], codes}
-use Rattle.sip_policy.specs.uri.declared.parameters.Parameter.{Parameter}
-use Rattle.sip_policy.specs.uri.declared.uri.Uri.{Uri}
-use Rattle.sip_hops.specs.equality.Equality.{says_same_no_case}
+use Rattle.sip_uri.specs.declared.parameters.Parameter.{Parameter}
+use Rattle.sip_uri.specs.declared.uri.Uri.{Uri}
+use Rattle.sip_uri_equality.specs.Equality.{says_same_no_case}
 use Rattle.sip_hops.specs.declared.host_address.HostAddress.{HostAddress}
 use Rattle.sip_hops.specs.HostAddress.{address_of}
 use Rattle.sip_targets.specs.declared.target.Target.{Target}

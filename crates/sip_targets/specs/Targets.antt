@@ -1,8 +1,8 @@
 -- The targets of a request (RFC 3261 16.5; the statuses are those of 8.2.2.1 and 16.5).
 use Rattle.std.specs.Prelude.{Bool, map, if◌then◌else◌, List, [], ◌∷◌, Option, Some, None}
-use Rattle.sip_policy.specs.uri.declared.uri.Uri.{Uri}
+use Rattle.sip_uri.specs.declared.uri.Uri.{Uri}
 use Rattle.sip_policy.specs.declared.decision.Decision.{Decision}
-use Rattle.sip_policy.specs.host.declared.addr.Addr.{Addr}
+use Rattle.sip_uri.specs.declared.addr.Addr.{Addr}
 use Rattle.sip_hops.specs.declared.host_address.HostAddress.{HostAddress}
 use Rattle.sip_hops.specs.declared.hop.Hop.{Hop}
 use Rattle.sip_hops.specs.Hop.{hop_of}

@@ -1,6 +1,6 @@
 ghost use Rattle.std.specs.Prelude.{◌≡◌, false, true, List, [], ◌∷◌, codes, Some, None};
-ghost use Rattle.sip_policy.specs.uri.declared.uri.Uri.{Uri};
-ghost use Rattle.sip_policy.specs.uri.Examples.{user_at, with_parameter};
+ghost use Rattle.sip_uri.specs.declared.uri.Uri.{Uri};
+ghost use Rattle.sip_uri.specs.Examples.{user_at, with_parameter};
 ghost use Rattle.sip_policy.specs.declared.decision.Decision.{Decision};
 ghost use Rattle.sip_hops.specs.Examples.{sample_addresses, sample_hops, local};
 ghost use Rattle.sip_targets.specs.declared.targets.Targets.{Targets};

@@ -1,5 +1,5 @@
 ghost use Rattle.std.specs.Prelude.{◌≡◌, ℕ, true, map, List};
-ghost use Rattle.sip_policy.specs.uri.declared.uri.Uri.{Uri};
+ghost use Rattle.sip_uri.specs.declared.uri.Uri.{Uri};
 ghost use Rattle.sip_hops.specs.declared.host_address.HostAddress.{HostAddress};
 ghost use Rattle.sip_hops.specs.declared.hop.Hop.{Hop};
 ghost use Rattle.sip_policy.specs.declared.decision.Decision.{Decision};

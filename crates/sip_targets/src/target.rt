@@ -3,10 +3,9 @@ ghost use Rattle.sip_targets.specs.Target as Definitions;
 ghost use Rattle.sip_targets.specs.Target.{target_for};
 
 use sip_hops::Hops;
-use sip_hops::equality::says_same_no_case;
-use sip_policy::host::Addr;
-use sip_policy::text::Items;
-use sip_policy::uri::{Parameter, Uri};
+use sip_text::Items;
+use sip_uri::{Addr, Parameter, Uri};
+use sip_uri_equality::says_same_no_case;
 use std::alloc::{AllocError, Global};
 
 /// A place that a request is sent to (RFC 3261 16.5).

@@ -7,9 +7,8 @@ use crate::targets::Targets;
 use sip_hops::Hops;
 use sip_location::LiveBindings;
 use sip_policy::Decision;
-use sip_policy::host::Addr;
-use sip_policy::text::Items;
-use sip_policy::uri::Uri;
+use sip_text::Items;
+use sip_uri::{Addr, Uri};
 use std::alloc::{AllocError, Global};
 
 /// One target for each binding, in their order.

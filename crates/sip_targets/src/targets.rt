@@ -1,7 +1,6 @@
 use crate::target::Target;
-use sip_policy::host::Addr;
-use sip_policy::text::Items;
-use sip_policy::uri::Uri;
+use sip_text::Items;
+use sip_uri::{Addr, Uri};
 
 /// Where a request goes that policy lets through.
 pub enum Targets {

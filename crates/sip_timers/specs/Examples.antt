@@ -1,7 +1,7 @@
 -- Timers of the worked example.
 use Rattle.std.specs.Prelude.{ℕ, List, []}
-use Rattle.sip_transaction.specs.declared.letter.Letter.{Letter}
-use Rattle.sip_transaction.specs.declared.letter.Letter.TheVariants.{A, B, C}
+use Rattle.sip_timers.specs.declared.letter.Letter.{Letter}
+use Rattle.sip_timers.specs.declared.letter.Letter.TheVariants.{A, B, C}
 use Rattle.sip_timers.specs.declared.timer.Owner.TheVariants.{Branch}
 use Rattle.sip_timers.specs.declared.timer.Timer.{Timer}
 use Rattle.sip_timers.specs.Timers.{placed}

@@ -1,4 +1,4 @@
-use sip_transaction::Letter;
+use crate::Letter;
 
 /// Which part of an open request a timer belongs to.
 #[derive(Clone, Copy, PartialEq, Eq)]

@@ -3,11 +3,11 @@ use Rattle.std.proofs.Common.{◌≡◌, ◌⊎◌, ℕ, ◌<◌, Bool, true, fa
 use Rattle.std.specs.Prelude.{◌==◌, option_map}
 use Rattle.std.specs.Option.{ok_or}
 use Rattle.std.proofs.lemmas.List.{append-nil}
-use Rattle.sip_host.specs.text.Lists.{onto}
+use Rattle.sip_text.specs.Lists.{onto}
 use Rattle.sip_uri.specs.declared.error.UriError.{UriError}
 use Rattle.sip_uri.specs.declared.error.UriError.TheVariants.{NoMemory, Syntax}
 use Rattle.sip_uri.specs.Reading.{parts_between, with_first, each_of}
-use Rattle.sip_host.specs.text.Splits.{in_front, split_at_byte}
+use Rattle.sip_text.specs.Splits.{in_front, split_at_byte}
 use Rattle.sip_uri.proofs.Tests.{split_is}
 
 -- ---- the first of the parts

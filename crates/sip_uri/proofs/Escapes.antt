@@ -3,7 +3,7 @@ use Rattle.std.proofs.Common.{◌≡◌, ℕ, ◌+◌, ◌*◌, Bool, true, fals
 use Rattle.std.specs.Prelude.{◌==◌, ◌&&◌}
 use Rattle.std.specs.Option.{unwrap_or}
 use Rattle.std.specs.Char.{is_ascii_hexdigit, digit_value}
-use Rattle.sip_host.specs.text.Escapes.{unescaped}
+use Rattle.sip_text.specs.Escapes.{unescaped}
 use Rattle.sip_uri.specs.declared.user.UserInfo.{UserInfo}
 use Rattle.sip_uri.specs.declared.uri.Uri.{Uri}
 use Rattle.sip_uri.specs.Parts.{are_escaped, is_user_byte, is_user}

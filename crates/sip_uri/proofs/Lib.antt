@@ -1,3 +1,6 @@
+pub mod Dotted
+pub mod Dots
+pub mod Places
 pub mod Collecting
 pub mod Tests
 pub mod PartLaws
@@ -6,7 +9,6 @@ pub mod ReadingLaws
 pub mod Escapes
 pub mod Names
 pub mod TableLemmas
-pub use Rattle.sip_host.proofs as of_host
 pub mod Rests
 pub mod Users
 pub mod PlainPlaces

@@ -6,14 +6,14 @@ use Rattle.std.specs.List.{list_all, flat_map}
 use Rattle.std.specs.Char.{is_ascii_hexdigit}
 use Rattle.std.proofs.lemmas.Bool.{eqb-true}
 use Rattle.std.proofs.lemmas.List.{append-nil}
-use Rattle.sip_host.specs.text.Lists.{onto}
+use Rattle.sip_text.specs.Lists.{onto}
 use Rattle.sip_uri.specs.declared.parameters.Parameter.{Parameter}
 use Rattle.sip_uri.specs.declared.headers.UriHeader.{UriHeader}
 use Rattle.sip_uri.specs.Parts.{is_parameter_byte, is_parameter_part, is_header_byte, is_header_name, is_header_value}
 use Rattle.sip_uri.specs.Uri.{behind_mark, parameter_text, header_text, headers_text, is_value_or_none, is_parameter, names_differ, is_header}
-use Rattle.sip_host.specs.Host.{is_not}
+use Rattle.sip_uri.specs.Host.{is_not}
 use Rattle.sip_uri.specs.Reading.{part_before, parts_between, with_first, each_of, parameter_from, valid_parameter, parameter_of, if_different, parameters_behind, header_from, valid_header, header_of, headers_behind}
-use Rattle.sip_host.specs.text.Splits.{split_at_byte}
+use Rattle.sip_text.specs.Splits.{split_at_byte}
 use Rattle.sip_uri.proofs.Tests.{some_is, valid_is, and_both, and_is, not_is, all_join, split_is, split_again, part_whole, part_again}
 use Rattle.sip_uri.proofs.PartLaws.{escape_others, full_others}
 

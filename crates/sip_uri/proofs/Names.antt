@@ -2,8 +2,8 @@
 use Rattle.std.proofs.Common.{◌≡◌, ℕ, List, [], ◌∷◌, map, refl, ap, ap₂}
 use Rattle.std.specs.Prelude.{◌&&◌, ◌||◌, not}
 use Rattle.std.specs.List.{list_any}
-use Rattle.sip_host.specs.text.Words.{is_same_text}
-use Rattle.sip_host.specs.text.Distinct.{all_differ}
+use Rattle.sip_text.specs.Words.{is_same_text}
+use Rattle.sip_text.specs.Distinct.{all_differ}
 use Rattle.sip_uri.specs.declared.parameters.Parameter.{Parameter}
 use Rattle.sip_uri.specs.Uri.{names_differ}
 

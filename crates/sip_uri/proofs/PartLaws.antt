@@ -9,22 +9,20 @@ use Rattle.std.specs.Char.{is_ascii_digit, is_ascii_hexdigit, to_ascii_lowercase
 use Rattle.std.specs.Cmp.Lexicographic.{bytes_decides}
 use Rattle.std.proofs.lemmas.Bool.{eqb-true}
 use Rattle.std.proofs.lemmas.List.{take-append-drop}
-use Rattle.sip_host.specs.text.Words.{without_case, is_same_text}
-use Rattle.sip_host.specs.text.Lists.{is_nil}
+use Rattle.sip_text.specs.Words.{without_case, is_same_text}
+use Rattle.sip_text.specs.Lists.{is_nil}
 use Rattle.sip_uri.specs.declared.error.UriError.{UriError}
 use Rattle.sip_uri.specs.declared.error.UriError.TheVariants.{Syntax}
 use Rattle.sip_uri.specs.declared.scheme.Scheme.{Scheme}
 use Rattle.sip_uri.specs.declared.scheme.Scheme.TheVariants.{Sip, Sips}
 use Rattle.sip_uri.specs.declared.user.UserInfo.{UserInfo}
 use Rattle.sip_uri.specs.Scheme.{scheme_text, is_scheme_name, scheme_of}
-use Rattle.sip_host.specs.Host.{is_host, is_address_rest, is_address_byte, is_host_byte}
-use Rattle.sip_host.specs.Port.{in_port_range, is_port}
+use Rattle.sip_uri.specs.Host.{is_host, is_address_rest, is_address_byte, is_host_byte, place_of, host_of, host_length, is_not}
+use Rattle.sip_uri.specs.Port.{in_port_range, is_port, port_of}
 use Rattle.sip_uri.specs.Parts.{are_escaped, is_escaped, is_user_byte, is_user, is_password_byte}
 use Rattle.sip_uri.specs.Uri.{behind_mark, userinfo_text, port_text, is_password_or_none, is_userinfo, is_port_or_none}
-use Rattle.sip_host.specs.Host.{place_of, host_of, host_length, is_not}
-use Rattle.sip_host.specs.Port.{port_of}
 use Rattle.sip_uri.specs.Reading.{◌>>=◌, part_before, userinfo_from, valid_userinfo, userinfo_of, user_from, user_of}
-use Rattle.sip_host.specs.text.Splits.{split_at_byte}
+use Rattle.sip_text.specs.Splits.{split_at_byte}
 use Rattle.sip_uri.proofs.Tests.{some_is, pair_is, valid_is, and_both, and_is, is_other, others, all_join, split_again, never_split, split_is, part_whole, part_again, take_front, drop_front, front_length}
 
 -- ---- the scheme

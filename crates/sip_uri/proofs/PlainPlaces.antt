@@ -3,8 +3,8 @@ use Rattle.std.proofs.Common.{◌≡◌, ◌⊎◌, ℕ, true, false, List, [], 
 use Rattle.std.specs.Prelude.{codes, option_map, is_some, IfSome}
 use Rattle.std.specs.List.{list_all}
 use denote.Ref.{Bor}
-use Rattle.sip_host.specs.Host.{IsPlaceAt}
-use Rattle.sip_host.specs.Port.{port_value}
+use Rattle.sip_uri.specs.Host.{IsPlaceAt}
+use Rattle.sip_uri.specs.Port.{port_value}
 use Rattle.sip_uri.specs.declared.scheme.Scheme.TheVariants as Scheme
 use Rattle.sip_uri.specs.declared.parameters.Parameter.{Parameter}
 use Rattle.sip_uri.specs.declared.user.UserInfo.{UserInfo}

@@ -3,7 +3,7 @@ use Rattle.std.proofs.Common.{◌≡◌, ℕ, List, ◌∷◌, ◌++◌, Option,
 use Rattle.std.specs.Prelude.{Result, Ok, Err, IfOk, true}
 use Rattle.std.specs.Option.{ok_or}
 use Rattle.std.specs.List.{list_all, flat_map}
-use Rattle.sip_host.specs.text.Words.{is_same_text}
+use Rattle.sip_text.specs.Words.{is_same_text}
 use Rattle.sip_uri.specs.declared.error.UriError.{UriError}
 use Rattle.sip_uri.specs.declared.error.UriError.TheVariants.{Syntax}
 use Rattle.sip_uri.specs.declared.scheme.Scheme.{Scheme}
@@ -14,9 +14,9 @@ use Rattle.sip_uri.specs.declared.headers.UriHeader.{UriHeader}
 use Rattle.sip_uri.specs.declared.uri.Uri.{Uri}
 use Rattle.sip_uri.specs.Scheme.{scheme_text, scheme_of}
 use Rattle.sip_uri.specs.Uri.{behind_mark, userinfo_text, port_text, parameter_text, headers_text, rest_text, text_of, IsValid, IsWritten}
-use Rattle.sip_host.specs.Host.{place_of, is_not}
+use Rattle.sip_uri.specs.Host.{place_of, is_not}
 use Rattle.sip_uri.specs.Reading.{◌>>=◌, Gives, part_before, user_of, parameters_behind, headers_behind, before_headers, header_text_of, before_parameters, parameter_text_of, rest_of, reading_of}
-use Rattle.sip_host.specs.text.Splits.{split_at_byte}
+use Rattle.sip_text.specs.Splits.{split_at_byte}
 use Rattle.sip_uri.proofs.Tests.{all_join, split_is, split_again, part_whole, part_again}
 use Rattle.sip_uri.proofs.PartLaws.{scheme_is, scheme_again, scheme_others, same_scheme, IsUserCut, user_is, user_again, IsPlace, place_is, place_again, IsNoPlaceByte, place_others}
 use Rattle.sip_uri.proofs.ListLaws.{AreParameters, parameters_are, parameter_texts, parameters_whole, parameters_again, parameters_others, AreHeaders, headers_are, header_texts, headers_whole, headers_again, headers_others}

@@ -2,8 +2,8 @@
 use Rattle.std.proofs.Common.{◌≡◌, ℕ, Bool, true, false, List, [], ◌∷◌, ◌++◌, length, take, drop, Option, Some, None, refl, sym, ap, subst, ◌∙◌, arith}
 use Rattle.std.specs.List.{list_all, prefix_len}
 use Rattle.std.proofs.lemmas.List.{append-nil}
-use Rattle.sip_host.specs.Host.{is_place_byte, place_of, IsPlaceAt}
-use Rattle.sip_host.specs.text.Splits.{split_at_byte}
+use Rattle.sip_uri.specs.Host.{is_place_byte, place_of, IsPlaceAt}
+use Rattle.sip_text.specs.Splits.{split_at_byte}
 use Rattle.sip_uri.specs.Reading.{first_part, part_before, is_of_place, before_headers, AreTexts, HasPlace}
 use Rattle.sip_uri.proofs.Tests.{and_both, differs, others, split_again, never_split, take_front, drop_front}
 

@@ -5,9 +5,9 @@ use Rattle.std.specs.List.{list_all, prefix_len}
 use Rattle.std.proofs.lemmas.Bool.{eqb-true}
 use Rattle.std.proofs.lemmas.List.{append-nil}
 use Rattle.sip_uri.specs.Uri.{behind_mark}
-use Rattle.sip_host.specs.Host.{is_not}
+use Rattle.sip_uri.specs.Host.{is_not}
 use Rattle.sip_uri.specs.Reading.{first_part, part_before}
-use Rattle.sip_host.specs.text.Splits.{in_front, split_at_byte}
+use Rattle.sip_text.specs.Splits.{in_front, split_at_byte}
 
 pub some_is : {A : Type 0} (x y : A) → Some x ≡ Some y → x ≡ y
 some_is x y e = cc

@@ -3,7 +3,7 @@ use Rattle.std.proofs.Common.{◌≡◌, ℕ, suc, ◌+◌, Bool, true, false, L
 use Rattle.std.specs.Prelude.{◌==◌}
 use Rattle.std.specs.List.{list_all, prefix_len}
 use Rattle.std.proofs.lemmas.List.{take-append-drop}
-use Rattle.sip_host.specs.text.Splits.{split_at_byte}
+use Rattle.sip_text.specs.Splits.{split_at_byte}
 use Rattle.sip_uri.specs.Parts.{are_escaped, is_user_byte, is_user}
 use Rattle.sip_uri.specs.Reading.{first_part, userinfo_from, valid_userinfo, userinfo_of, user_from, user_of}
 use Rattle.sip_uri.proofs.Tests.{and_both, others, split_again, never_split}

@@ -2,8 +2,8 @@
 use Rattle.std.specs.Prelude.{ℕ, Bool, ◌&&◌, List, [], Option, Some, None}
 use Rattle.std.specs.Option.{unwrap_or}
 use Rattle.std.specs.Str.{bytes_eq}
-use Rattle.sip_host.specs.text.Words.{without_case}
-use Rattle.sip_host.specs.text.Escapes.{unescaped}
+use Rattle.sip_text.specs.Words.{without_case}
+use Rattle.sip_text.specs.Escapes.{unescaped}
 use Rattle.sip_uri.specs.declared.user.UserInfo.{UserInfo}
 use Rattle.sip_uri.specs.declared.uri.Uri.{Uri}
 use Rattle.sip_uri.specs.declared.aor.Aor.{Aor}

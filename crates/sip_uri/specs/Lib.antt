@@ -1,3 +1,6 @@
+pub mod Addresses
+pub mod Port
+pub mod Host
 pub mod Scheme
 pub mod Parts
 pub mod Uri
@@ -6,5 +9,3 @@ pub mod PlainPlace
 pub mod Aor
 pub mod Examples
 pub mod UriError
-pub use Rattle.sip_host.specs.text
-pub use Rattle.sip_host.specs as host

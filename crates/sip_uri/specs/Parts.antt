@@ -3,7 +3,7 @@ use Rattle.std.specs.Prelude.{ℕ, Bool, true, false, ◌||◌, ◌&&◌, ◌==�
 use Rattle.std.specs.List.{list_any}
 use Rattle.std.specs.Str.{byte}
 use Rattle.std.specs.Char.{is_ascii_alphanumeric, is_ascii_hexdigit}
-use Rattle.sip_host.specs.text.Lists.{is_nil}
+use Rattle.sip_text.specs.Lists.{is_nil}
 use Rattle.sip_uri.specs.declared.escaped.Class.{Class}
 use Rattle.sip_uri.specs.declared.escaped.Class.TheVariants.{User, Password, Parameter, Header}
 

@@ -1,6 +1,6 @@
 -- SIP URIs in the form that most have.
 use Rattle.std.specs.Prelude.{◌≡◌, ◌⊎◌, ℕ, List, [], ◌∷◌, codes, Option, Some, None, option_map, Ok}
-use Rattle.sip_host.specs.Port.{port_value}
+use Rattle.sip_uri.specs.Port.{port_value}
 use Rattle.sip_uri.specs.declared.user.UserInfo.{UserInfo}
 use Rattle.sip_uri.specs.declared.parameters.Parameter.{Parameter}
 use Rattle.sip_uri.specs.declared.scheme.Scheme.TheVariants as Scheme

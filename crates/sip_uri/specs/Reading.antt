@@ -2,8 +2,8 @@
 use Rattle.std.specs.Prelude.{◌≡◌, ◌⊎◌, ℕ, Bool, ◌&&◌, ◌==◌, not, List, [], ◌∷◌, Option, Some, None, option_map, Result, Ok, Err, if◌then◌else◌}
 use Rattle.std.specs.Option.{ok_or, option_and_then}
 use Rattle.std.specs.Str.{byte}
-use Rattle.sip_host.specs.text.Lists.{onto}
-use Rattle.sip_host.specs.text.Splits.{split_at_byte}
+use Rattle.sip_text.specs.Lists.{onto}
+use Rattle.sip_text.specs.Splits.{split_at_byte}
 use Rattle.sip_uri.specs.declared.error.UriError.{UriError}
 use Rattle.sip_uri.specs.declared.error.UriError.TheVariants.{NoMemory, Syntax}
 use Rattle.sip_uri.specs.declared.scheme.Scheme.{Scheme}
@@ -12,7 +12,7 @@ use Rattle.sip_uri.specs.declared.parameters.Parameter.{Parameter}
 use Rattle.sip_uri.specs.declared.headers.UriHeader.{UriHeader}
 use Rattle.sip_uri.specs.declared.uri.Uri.{Uri}
 use Rattle.sip_uri.specs.Scheme.{scheme_of}
-use Rattle.sip_host.specs.Host.{place_of}
+use Rattle.sip_uri.specs.Host.{place_of}
 use Rattle.sip_uri.specs.Uri.{is_userinfo, is_parameter, names_differ, is_header}
 
 infixl 10 ◌>>=◌

@@ -2,7 +2,7 @@
 use Rattle.std.specs.Prelude.{ℕ, Bool, false, ◌||◌, ◌&&◌, ◌==◌, List, [], ◌∷◌, codes, Result, Ok, Err, if◌then◌else◌}
 use Rattle.std.specs.List.{list_all, list_any}
 use Rattle.std.specs.Char.{is_ascii_alphabetic, is_ascii_alphanumeric}
-use Rattle.sip_host.specs.text.Words.{is_same_text}
+use Rattle.sip_text.specs.Words.{is_same_text}
 use Rattle.sip_uri.specs.declared.scheme.Scheme.{Scheme}
 use Rattle.sip_uri.specs.declared.scheme.Scheme.TheVariants.{Sip, Sips}
 use Rattle.sip_uri.specs.declared.error.UriError.{UriError}

@@ -2,14 +2,14 @@
 use Rattle.std.specs.Prelude.{◌≡◌, ℕ, Bool, true, ◌&&◌, not, List, [], ◌∷◌, ◌++◌, codes, Option, Some, None}
 use Rattle.std.specs.List.{flat_map, list_all, list_any}
 use Rattle.std.specs.Str.{byte}
-use Rattle.sip_host.specs.text.Words.{is_same_text}
+use Rattle.sip_text.specs.Words.{is_same_text}
 use Rattle.sip_uri.specs.declared.user.UserInfo.{UserInfo}
 use Rattle.sip_uri.specs.declared.parameters.Parameter.{Parameter}
 use Rattle.sip_uri.specs.declared.headers.UriHeader.{UriHeader}
 use Rattle.sip_uri.specs.declared.uri.Uri.{Uri}
 use Rattle.sip_uri.specs.Scheme.{scheme_text}
-use Rattle.sip_host.specs.Host.{is_host}
-use Rattle.sip_host.specs.Port.{is_port}
+use Rattle.sip_uri.specs.Host.{is_host}
+use Rattle.sip_uri.specs.Port.{is_port}
 use Rattle.sip_uri.specs.Parts.{is_user, is_password, is_parameter_part, is_header_name, is_header_value}
 
 -- ---- the text of a URI (RFC 3261 19.1.1)

@@ -1,15 +1,14 @@
-ghost use Rattle.std.specs.Prelude.{◌≡◌, ◌↔◌, IfOk, IsTrue};
+ghost use Rattle.std.specs.Prelude.{◌≡◌, ◌↔◌, IfOk, IsTrue, ◌++◌};
 ghost use Rattle.std.specs.Option.{unwrap_or};
-ghost use Rattle.sip_host.specs.text.Escapes.{unescaped};
+ghost use Rattle.sip_text.specs.Escapes.{unescaped};
 ghost use Rattle.sip_uri.specs.Aor as Definitions;
-ghost use Rattle.std.specs.Prelude.{◌++◌};
 ghost use Rattle.std.specs.Hash as fed;
 ghost use Rattle.std.specs.Cmp.Rules.{comparing, hashing};
 ghost use Rattle.std.proofs.Common.{rules};
 
 use crate::uri::Uri;
 use crate::user::UserInfo;
-use sip_host::text::{Bytes, TextError, lower_case, same_bytes, unescape};
+use sip_text::{Bytes, TextError, lower_case, same_bytes, unescape};
 use std::alloc::{AllocError, Global};
 use std::hash::{Hash, Hasher};
 

@@ -1,5 +1,5 @@
 ghost use Rattle.std.specs.Prelude.{◌≡◌, ◌<◌, length, MatchOption};
-ghost use Rattle.sip_host.specs.text.Lists.{is_nil};
+ghost use Rattle.sip_text.specs.Lists.{is_nil};
 ghost use Rattle.sip_uri.specs.Parts;
 
 /// The texts of a URI that escapes may stand in, by the bytes that need none there (RFC 3261 25.1).

@@ -5,7 +5,7 @@ ghost use Rattle.sip_uri.specs.declared.error.UriError.TheVariants.{Syntax};
 
 use crate::error::UriError;
 use crate::escaped::{Class, are_escaped, is_escaped};
-use sip_host::text::{Bytes, Items, split_once};
+use sip_text::{Bytes, Items, split_once};
 use std::alloc::Global;
 
 /// A header of a URI, as written (RFC 3261 19.1.1).

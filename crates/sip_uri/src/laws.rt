@@ -1,5 +1,5 @@
 ghost use Rattle.std.specs.Prelude.{◌≡◌, List, ℕ, Some, Ok};
-ghost use Rattle.sip_host.specs.text.Escapes.{unescaped};
+ghost use Rattle.sip_text.specs.Escapes.{unescaped};
 ghost use Rattle.sip_uri.specs.Uri.{text_of, IsValid};
 ghost use Rattle.sip_uri.specs.Reading.{reading_of};
 ghost use Rattle.sip_uri.specs.Aor.{aor_of};

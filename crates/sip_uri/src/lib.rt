@@ -1,41 +1,39 @@
-//! SIP and SIPS URIs: the tree of RFC 3261 19.1.1, its reading, its written form, and the address of
-//! record that a URI names.
+//! SIP and SIPS URIs: the tree of RFC 3261 19.1.1, its reading, its written form, and the address of record that a URI
+//! names; and what stands in one: hosts, ports and addresses (RFC 3261 25.1), an IPv4 address with a UDP port and its
+//! dotted text among them.
 #![tactic(auto)]
 
+mod addr;
 mod aor;
 mod error;
 mod escaped;
 pub mod examples;
 mod headers;
+mod host;
+pub mod host_examples;
+pub mod host_laws;
 pub mod laws;
 mod parameters;
 mod parts;
 mod place;
 mod plain;
+mod port;
 mod reading;
 mod scheme;
 mod uri;
 mod user;
 mod writing;
 
+pub use addr::{Addr, addr_of, addr_text, ip_of, ip_text};
 pub use aor::{Aor, aor_of, same_aor};
 pub use error::UriError;
 pub use headers::UriHeader;
+pub use host::{host_port, is_host, place_at, place_in};
 pub use parameters::Parameter;
 pub use plain::plain_place;
+pub use port::port_value;
 pub use reading::parse_uri;
 pub use scheme::Scheme;
-pub use sip_host::{host_port, is_host};
 pub use uri::Uri;
 pub use user::UserInfo;
 pub use writing::write_uri;
-
-/// Of `sip_text`.
-pub mod text {
-    pub use sip_host::text::{Bytes, Items, Text, hex_text, same_bytes, same_no_case, split_once};
-}
-
-/// Of `sip_host`.
-pub mod host {
-    pub use sip_host::{Addr, host_port, ip_of, ip_text, is_host, place_at, port_value};
-}

@@ -1,7 +1,7 @@
 ghost use Rattle.std.specs.Prelude.{◌≡◌, IfOk, map, option_map};
 ghost use Rattle.std.specs.Option.{ok_or};
 ghost use Rattle.std.specs.List.{list_any};
-ghost use Rattle.sip_host.specs.text.Words.{is_same_text};
+ghost use Rattle.sip_text.specs.Words.{is_same_text};
 ghost use Rattle.sip_uri.specs.Uri as Definitions;
 ghost use Rattle.sip_uri.specs.Reading.{Gives, parameter_of, listed_parameters, parameters_behind};
 ghost use Rattle.sip_uri.specs.declared.error.UriError.TheVariants.{Syntax};
@@ -9,7 +9,7 @@ ghost use Rattle.sip_uri.specs.declared.error.UriError.TheVariants.{Syntax};
 use crate::error::UriError;
 use crate::escaped::{Class, is_escaped};
 use crate::parts::{copy_part, part_before};
-use sip_host::text::{Bytes, FEW_TEXTS, Items, all_differ, same_no_case, split_once};
+use sip_text::{Bytes, FEW_TEXTS, Items, all_differ, same_no_case, split_once};
 use std::alloc::{AllocError, Global};
 
 /// A URI parameter, as written (RFC 3261 19.1.1).

@@ -1,11 +1,11 @@
 ghost use Rattle.std.specs.Prelude.{◌≡◌, ◌++◌, ◌≤◌, true, ℕ, List, length, IfOk, IfSome, option_map};
 ghost use Rattle.std.specs.List.{list_all, prefix_len};
-ghost use Rattle.sip_host.specs.Host.{place_of};
+ghost use Rattle.sip_uri.specs.Host.{place_of};
 ghost use Rattle.sip_uri.specs.Reading;
 ghost use Rattle.sip_uri.specs.Reading.{is_of_place, before_parameters, parameter_text_of, header_text_of, AreTexts, HasPlace};
 
-use sip_host::text::{Bytes, split_once};
-use sip_host::{place_at, place_in};
+use crate::{place_at, place_in};
+use sip_text::{Bytes, split_once};
 use std::alloc::{AllocError, Global};
 
 /// A text as a value's own, if there is one.

@@ -5,7 +5,7 @@ ghost use Rattle.sip_uri.specs.declared.error.UriError.TheVariants.{Syntax};
 
 use crate::error::UriError;
 use crate::parts::copy_part;
-use sip_host::text::Bytes;
+use sip_text::Bytes;
 use std::alloc::Global;
 
 /// A host, and perhaps the digits of a port behind it, as a value's own, if there is one.

@@ -2,10 +2,10 @@ ghost use Rattle.std.specs.Prelude.{◌≡◌, ◌⊎◌, true, codes, option_ma
 ghost use Rattle.sip_uri.specs.PlainPlace.{HasUser, IsPlain};
 
 use crate::parts::behind_place;
+use crate::place_at;
 use crate::scheme::behind_sip;
 use crate::user::plain_user;
-use sip_host::place_at;
-use sip_host::text::split_once;
+use sip_text::split_once;
 
 /// What follows the user of a text behind its scheme, where it has one without escapes and without a password, or none.
 /// None says nothing.

@@ -10,7 +10,7 @@ use crate::place::read_place;
 use crate::scheme::{Scheme, behind_sip, scheme_named};
 use crate::uri::Uri;
 use crate::user::user_before;
-use sip_host::text::split_once;
+use sip_text::split_once;
 use std::alloc::Global;
 
 /// The URI that a text behind its scheme writes. The `@` is looked for first, since a user may have `;` and `?`.

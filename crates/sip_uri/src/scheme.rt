@@ -3,7 +3,7 @@ ghost use Rattle.std.specs.List.{list_all};
 ghost use Rattle.sip_uri.specs.Scheme as Definitions;
 
 use crate::error::UriError;
-use sip_host::text::same_no_case;
+use sip_text::same_no_case;
 
 /// The scheme of a URI (RFC 3261 19.1).
 #[derive(Clone, Copy)]

@@ -2,10 +2,10 @@ ghost use Rattle.std.specs.Prelude.{◌≡◌, IfOk};
 
 use crate::headers::UriHeader;
 use crate::parameters::Parameter;
+use crate::port_value;
 use crate::scheme::Scheme;
 use crate::user::UserInfo;
-use sip_host::port_value;
-use sip_host::text::{Bytes, Items};
+use sip_text::{Bytes, Items};
 use std::alloc::AllocError;
 
 /// A SIP or SIPS URI (RFC 3261 19.1.1). Each text is kept as it was written, with its escapes.
@@ -82,7 +82,7 @@ impl Clone for Uri {
 }
 
 impl Uri {
-    ghost use Rattle.sip_host.specs.Port.{port_number};
+    ghost use Rattle.sip_uri.specs.Port.{port_number};
 
     /// The number of the port, 1 to 65535. None where no port, or no such number, is written.
     pub fn port_number(&self) -> Option<u16>

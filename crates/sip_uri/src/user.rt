@@ -9,7 +9,7 @@ ghost use Rattle.sip_uri.specs.declared.error.UriError.TheVariants.{Syntax};
 use crate::error::UriError;
 use crate::escaped::{Class, are_escaped, is_escaped, is_user_byte};
 use crate::parts::{copy_part, part_before};
-use sip_host::text::{Bytes, split_once};
+use sip_text::{Bytes, split_once};
 use std::alloc::Global;
 
 /// What stands before the `@` of a URI, as written (RFC 3261 19.1.1).

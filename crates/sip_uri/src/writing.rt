@@ -6,7 +6,7 @@ use crate::headers::UriHeader;
 use crate::parameters::Parameter;
 use crate::uri::Uri;
 use crate::user::UserInfo;
-use sip_host::text::Bytes;
+use sip_text::Bytes;
 use std::alloc::{AllocError, Global};
 
 /// Adds a text behind a byte, if there is one.

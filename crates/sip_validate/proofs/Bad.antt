@@ -2,8 +2,8 @@
 use Rattle.std.proofs.Common.{◌≡◌, Bool, true, false, ◌&&◌, ◌||◌, not, is_some, refl, ◌∙◌}
 use Rattle.std.specs.List.{list_all}
 use Rattle.std.proofs.lemmas.Bool.{or_left, or_right}
-use Rattle.sip_view.specs.field.declared.field_name.FieldName.TheVariants as Name
-use Rattle.sip_view.specs.field.Values.{values_of}
+use Rattle.sip_message_fields.specs.declared.field_name.FieldName.TheVariants as Name
+use Rattle.sip_message_fields.specs.Values.{values_of}
 use Rattle.sip_header.specs.Via.{via_of}
 use Rattle.sip_header.specs.Route.{route_of}
 use Rattle.sip_header.specs.ContactItem.{contact_of}

@@ -1,8 +1,8 @@
 -- The Contacts of a request, each looked at once.
 use Rattle.std.proofs.Common.{◌≡◌, ℕ, Bool, true, false, ◌&&◌, not, is_some, List, [], ◌∷◌, refl, sym, ap, ◌∙◌}
 use Rattle.std.specs.List.{list_all}
-use Rattle.sip_view.specs.field.declared.field_name.FieldName.TheVariants as Name
-use Rattle.sip_view.specs.field.Values.{values_of}
+use Rattle.sip_message_fields.specs.declared.field_name.FieldName.TheVariants as Name
+use Rattle.sip_message_fields.specs.Values.{values_of}
 use Rattle.sip_header.specs.ContactItem.{contact_of}
 use Rattle.sip_validate.specs.Candidate.{Candidate, is_register}
 use Rattle.sip_validate.specs.Faults.{is_bindable, binds_other_contact}

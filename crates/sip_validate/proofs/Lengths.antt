@@ -6,11 +6,11 @@ use Rattle.std.specs.List.{join_with_byte}
 use Rattle.std.proofs.lemmas.Bool.Decides.{nat_tests}
 use Rattle.std.proofs.lemmas.List.{length-drop, length-take}
 use Rattle.sip_uri.proofs.Tests.{and_both}
-use Rattle.sip_uri.specs.text.Words.{is_same_text}
+use Rattle.sip_text.specs.Words.{is_same_text}
 use Rattle.sip_uri.specs.declared.uri.Uri.{Uri}
 use Rattle.sip_uri.specs.Scheme.{scheme_text}
 use Rattle.sip_uri.specs.Uri.{rest_text, text_of, IsWritten}
-use Rattle.sip_header.specs.text.Lists.{is_blank, trimmed}
+use Rattle.sip_text.specs.Lists.{is_blank, trimmed}
 use Rattle.sip_header.specs.declared.name_addr.AnyUri.{AnyUri}
 use Rattle.sip_header.specs.declared.name_addr.AnyUri.TheVariants.{Sip, Other}
 use Rattle.sip_header.specs.declared.name_addr.NameAddr.{NameAddr}

@@ -5,3 +5,4 @@ pub mod Contacts
 pub mod Routes
 pub mod Lengths
 pub mod Vias
+pub mod Uris

@@ -4,20 +4,20 @@ use Rattle.std.specs.Prelude.{reverse, drop}
 use Rattle.std.specs.List.{list_all}
 use Rattle.std.specs.Option.{option_map_or}
 use Rattle.std.proofs.lemmas.List.{reverse-append, reverse-reverse}
-use Rattle.sip_view.specs.field.declared.field.Field.{Field}
-use Rattle.sip_view.specs.field.declared.field_name.FieldName.TheVariants as Name
-use Rattle.sip_view.specs.field.Values.{values_of}
-use Rattle.sip_header.specs.form.declared.message.Start.{Start}
-use Rattle.sip_header.specs.form.declared.message.Start.TheVariants.{Request, Status}
+use Rattle.sip_message_fields.specs.declared.field.Field.{Field}
+use Rattle.sip_message_fields.specs.declared.field_name.FieldName.TheVariants as Name
+use Rattle.sip_message_fields.specs.Values.{values_of}
+use Rattle.sip_message_form.specs.declared.message.Start.{Start}
+use Rattle.sip_message_form.specs.declared.message.Start.TheVariants.{Request, Status}
 use Rattle.sip_header.specs.declared.core_fields.CoreFields.{CoreFields}
 use Rattle.sip_header.specs.declared.name_addr.NameAddr.{NameAddr}
 use Rattle.sip_header.specs.Route.{route_of}
 use Rattle.sip_uri.proofs.Tests.{and_both, and_is}
-use Rattle.sip_way.specs.declared.own.Own.{Own}
-use Rattle.sip_way.specs.declared.way.Way.{Way}
-use Rattle.sip_way.specs.Way.{names_own_place, first_route, last_route, came_strictly, begins_with_own, way_from, request_uri}
-use Rattle.sip_way.specs.Routes.{others_than, without_own}
-use Rattle.sip_way.proofs.Left.{way_is}
+use Rattle.sip_route.specs.declared.own.Own.{Own}
+use Rattle.sip_route.specs.declared.way.Way.{Way}
+use Rattle.sip_route.specs.Way.{names_own_place, first_route, last_route, came_strictly, begins_with_own, way_from, request_uri}
+use Rattle.sip_route.specs.Routes.{others_than, without_own}
+use Rattle.sip_route.proofs.Left.{way_is}
 use Rattle.sip_validate.specs.Candidate.{Candidate, candidate_with}
 
 abbrev is_route : List ℕ → Bool

@@ -1,6 +1,6 @@
 -- The first row that applies, by the rows before it.
 use Rattle.std.proofs.Common.{◌≡◌, ℕ, Bool, true, false, cond, List, [], Option, Some, None, option_map, refl, ◌∙◌}
-use Rattle.sip_way.specs.declared.way.Way.{Way}
+use Rattle.sip_route.specs.declared.way.Way.{Way}
 use Rattle.sip_validate.specs.Candidate.{Candidate, on_way}
 use Rattle.sip_validate.specs.Faults.{is_bad}
 use Rattle.sip_validate.specs.Refusal.{Row, refused, refusal, has_other_version, has_other_scheme, has_no_hops, has_own_via, needs_extension, unsupported, has_other_route}

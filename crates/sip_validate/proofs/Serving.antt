@@ -2,15 +2,16 @@
 use Rattle.std.proofs.Common.{◌≡◌, ◌↔◌, ℕ, Bool, true, false, not, ◌||◌, cond, is_some, List, [], Option, Some, None, option_map, Result, Ok, Err, refl, sym, ap, ◌∙◌}
 use Rattle.std.specs.Option.{ok_or, option_map_or}
 use Rattle.std.specs.Result.{result_ok}
-use Rattle.sip_header.specs.form.declared.message.Message.{Message}
-use Rattle.sip_header.specs.form.declared.message.Start.{Start}
-use Rattle.sip_header.specs.form.declared.message.Start.TheVariants.{Request, Status}
-use Rattle.sip_view.specs.field.declared.field.Field.{Field}
-use Rattle.sip_way.specs.declared.own.Own.{Own}
+use Rattle.sip_message_form.specs.declared.message.Message.{Message}
+use Rattle.sip_message_form.specs.declared.message.Start.{Start}
+use Rattle.sip_message_form.specs.declared.message.Start.TheVariants.{Request, Status}
+use Rattle.sip_message_fields.specs.declared.field.Field.{Field}
+use Rattle.sip_uri.specs.declared.uri.Uri.{Uri}
+use Rattle.sip_route.specs.declared.own.Own.{Own}
 use Rattle.sip_header.specs.declared.core_fields.CoreFields.{CoreFields}
 use Rattle.sip_header.specs.CoreFields.{core_in, core_of}
-use Rattle.sip_way.specs.declared.way.Way.{Way}
-use Rattle.sip_way.specs.Way.{way_from, way_of, request_uri}
+use Rattle.sip_route.specs.declared.way.Way.{Way}
+use Rattle.sip_route.specs.Way.{way_from, way_of, request_uri, request_uri_in}
 use Rattle.sip_validate.specs.declared.checked.Checked.{Checked}
 use Rattle.sip_validate.specs.declared.refused.Refused.{Refused}
 use Rattle.sip_validate.specs.Candidate.{Candidate, on_way, candidate_with, is_request}
@@ -114,16 +115,18 @@ pub lacking : (own : Own) (m : Message) (short : Bool) → None ≡ result_ok (c
 lacking own m short none = lacking_by m.start own m short refl none
 
 -- a message that the table lets pass is served
-pub validated : (own : Own) (m : Message) (short : Bool) (core : CoreFields) (way : Way) → Some core ≡ result_ok (core_of m) → way ≡ way_of own m
+pub validated : (own : Own) (m : Message) (short : Bool) (core : CoreFields) (way : Way) (uri : Option Uri) → Some core ≡ result_ok (core_of m) → way ≡ way_of own m
+    → uri ≡ request_uri_in way
     → None ≡ option_map refused_with (option_map_or (λ r. refusal (on_way way r)) (candidate_with (Some core) own m.fields short m.start) None)
-    → validation_of own m short ≡ Ok (record { core = core; way = way })
-validated own m short core way is_core is_way none =
+    → validation_of own m short ≡ Ok (record { core = core; way = way; uri = uri })
+validated own m short core way uri is_core is_way is_uri none =
     let passes : refusal_of own m short ≡ None =
     sym (tabled_by m.start own m.fields short core way is_core is_way) ∙ none_made refused_with _ (sym none)
     in
     let by_core : Option CoreFields → Result Checked Refused = λ (c : Option CoreFields). ok_or (option_map (checked_with own m) c) (Refused.Status 400 []) in
-    let by_way : Way → Result Checked Refused = λ (w : Way). Ok (record { core = core; way = w }) in
-    ap (validation_by (checked_of own m)) passes ∙ ap by_core (sym is_core) ∙ ap by_way (sym is_way)
+    let by_way : Way → Result Checked Refused = λ (w : Way). Ok (record { core = core; way = w; uri = request_uri_in w }) in
+    let by_uri : Option Uri → Result Checked Refused = λ (u : Option Uri). Ok (record { core = core; way = way; uri = u }) in
+    ap (validation_by (checked_of own m)) passes ∙ ap by_core (sym is_core) ∙ ap by_way (sym is_way) ∙ ap by_uri (sym is_uri)
 
 -- what the table refuses isn't served
 refused_by_row : (read : Option Checked) (o : Option (ℕ × List ℕ)) (e : Refused) → option_map refused_with o ≡ Some e → validation_by read o ≡ Err e

@@ -4,16 +4,16 @@ use Rattle.std.specs.Prelude.{IfOk, IfSome, map, option_map}
 use Rattle.std.specs.declared.alloc.AllocError.{AllocError}
 use Rattle.std.specs.List.{list_all, list_any}
 use Rattle.std.specs.Option.{option_and_then, option_map_or}
-use Rattle.sip_view.specs.field.declared.field.Field.{Field}
-use Rattle.sip_view.specs.field.declared.field_name.FieldName.{FieldName}
-use Rattle.sip_view.specs.field.declared.field_name.FieldName.TheVariants as Name
-use Rattle.sip_view.specs.field.FieldName.{is_same_name}
-use Rattle.sip_view.specs.field.Named.{first_named, all_named}
-use Rattle.sip_view.specs.field.Values.{values_of, first_value}
+use Rattle.sip_message_fields.specs.declared.field.Field.{Field}
+use Rattle.sip_message_fields.specs.declared.field_name.FieldName.{FieldName}
+use Rattle.sip_message_fields.specs.declared.field_name.FieldName.TheVariants as Name
+use Rattle.sip_message_fields.specs.FieldName.{is_same_name}
+use Rattle.sip_message_fields.specs.Named.{first_named, all_named}
+use Rattle.sip_message_fields.specs.Values.{values_of, first_value}
 use Rattle.sip_header.specs.declared.via.Via.{Via}
 use Rattle.sip_header.specs.Via.{via_of}
-use Rattle.sip_way.specs.declared.own.Own.{Own}
-use Rattle.sip_way.specs.Own.{is_own_via}
+use Rattle.sip_route.specs.declared.own.Own.{Own}
+use Rattle.sip_route.specs.Own.{is_own_via}
 use Rattle.sip_validate.specs.Candidate.{Candidate}
 use Rattle.sip_validate.specs.Refusal.{has_own_via}
 

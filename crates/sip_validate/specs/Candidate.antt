@@ -1,13 +1,13 @@
 -- A request that is checked.
 use Rattle.std.specs.Prelude.{ℕ, Bool, true, false, List, codes, Option, Some, None}
 use Rattle.std.specs.Str.{bytes_eq}
-use Rattle.sip_view.specs.field.declared.field.Field.{Field}
-use Rattle.sip_header.specs.form.declared.message.Start.{Start}
-use Rattle.sip_header.specs.form.declared.message.Start.TheVariants.{Request, Status}
-use Rattle.sip_way.specs.declared.own.Own.{Own}
+use Rattle.sip_message_fields.specs.declared.field.Field.{Field}
+use Rattle.sip_message_form.specs.declared.message.Start.{Start}
+use Rattle.sip_message_form.specs.declared.message.Start.TheVariants.{Request, Status}
+use Rattle.sip_route.specs.declared.own.Own.{Own}
 use Rattle.sip_header.specs.declared.core_fields.CoreFields.{CoreFields}
-use Rattle.sip_way.specs.declared.way.Way.{Way}
-use Rattle.sip_way.specs.Way.{way_from}
+use Rattle.sip_route.specs.declared.way.Way.{Way}
+use Rattle.sip_route.specs.Way.{way_from}
 
 -- where it is checked, its parts, whether fewer bytes of its body came than its length says, and what is read of it
 pub record Candidate : Type 0 where

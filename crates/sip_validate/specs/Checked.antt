@@ -2,18 +2,18 @@
 use Rattle.std.specs.Prelude.{◌≡◌, ◌⊎◌, ℕ, Bool, List, [], Option, Some, None, option_map, Result, Ok, Err}
 use Rattle.std.specs.Option.{ok_or}
 use Rattle.std.specs.Result.{result_ok}
-use Rattle.sip_header.specs.form.declared.message.Message.{Message}
-use Rattle.sip_way.specs.declared.own.Own.{Own}
+use Rattle.sip_message_form.specs.declared.message.Message.{Message}
+use Rattle.sip_route.specs.declared.own.Own.{Own}
 use Rattle.sip_header.specs.declared.core_fields.CoreFields.{CoreFields}
 use Rattle.sip_header.specs.CoreFields.{core_of}
-use Rattle.sip_way.specs.Way.{way_of}
+use Rattle.sip_route.specs.Way.{way_of, request_uri_of}
 use Rattle.sip_validate.specs.declared.checked.Checked.{Checked}
 use Rattle.sip_validate.specs.declared.refused.Refused.{Refused}
 use Rattle.sip_validate.specs.Refusal.{refusal_of}
 
 -- what is read of a request with these core fields
 abbrev pub checked_with : Own → Message → CoreFields → Checked
-checked_with own m core = record { core = core; way = way_of own m }
+checked_with own m core = record { core = core; way = way_of own m; uri = request_uri_of own m }
 
 -- what is read of a request whose core fields can be read
 abbrev pub checked_of : Own → Message → Option Checked

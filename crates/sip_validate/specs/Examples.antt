@@ -1,11 +1,11 @@
 -- Requests for the worked examples.
 use Rattle.std.specs.Prelude.{ℕ, List, [], ◌∷◌, ◌++◌, replicate, codes}
 use Rattle.std.specs.Str.{byte}
-use Rattle.sip_view.specs.field.declared.field.Field.{Field}
-use Rattle.sip_view.specs.field.declared.field_name.FieldName.{FieldName}
-use Rattle.sip_view.specs.field.declared.field_name.FieldName.TheVariants as Name
-use Rattle.sip_header.specs.form.declared.message.Start.TheVariants.{Request, Status}
-use Rattle.sip_header.specs.form.declared.message.Message.{Message}
+use Rattle.sip_message_fields.specs.declared.field.Field.{Field}
+use Rattle.sip_message_fields.specs.declared.field_name.FieldName.{FieldName}
+use Rattle.sip_message_fields.specs.declared.field_name.FieldName.TheVariants as Name
+use Rattle.sip_message_form.specs.declared.message.Start.TheVariants.{Request, Status}
+use Rattle.sip_message_form.specs.declared.message.Message.{Message}
 
 abbrev pub field : FieldName → List ℕ → Field
 field name value = record { name = name; value = value }

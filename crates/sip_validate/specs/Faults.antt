@@ -3,18 +3,18 @@ use Rattle.std.specs.Prelude.{ℕ, Bool, true, false, ◌&&◌, not, nat_lt, Lis
 use Rattle.std.specs.Option.{option_map_or}
 use Rattle.std.specs.List.{list_all, list_any}
 use Rattle.std.specs.Str.{byte, bytes_eq}
-use Rattle.sip_uri.specs.text.Words.{is_same_text}
+use Rattle.sip_text.specs.Words.{is_same_text}
 use Rattle.sip_uri.specs.Uri.{text_of}
 use Rattle.sip_uri.specs.Reading.{reading_of}
-use Rattle.sip_uri.specs.text.Splits.{split_at_byte}
-use Rattle.sip_view.specs.field.declared.field_name.FieldName.TheVariants as Name
+use Rattle.sip_text.specs.Splits.{split_at_byte}
+use Rattle.sip_message_fields.specs.declared.field_name.FieldName.TheVariants as Name
 use Rattle.sip_header.specs.declared.name_addr.AnyUri.{AnyUri}
 use Rattle.sip_header.specs.declared.name_addr.AnyUri.TheVariants.{Sip, Other}
 use Rattle.sip_header.specs.declared.contact_item.ContactItem.{ContactItem}
 use Rattle.sip_header.specs.declared.contact_item.ContactItem.TheVariants.{Star, Address}
 use Rattle.sip_header.specs.declared.max_forwards.MaxForwards.{MaxForwards}
 use Rattle.sip_header.specs.declared.max_forwards.MaxForwards.TheVariants.{Absent, Hops, Malformed}
-use Rattle.sip_view.specs.field.Values.{values_of}
+use Rattle.sip_message_fields.specs.Values.{values_of}
 use Rattle.sip_header.specs.Via.{via_of}
 use Rattle.sip_header.specs.Route.{route_of}
 use Rattle.sip_header.specs.ContactItem.{contact_of}

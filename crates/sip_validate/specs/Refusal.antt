@@ -4,20 +4,20 @@ use Rattle.std.specs.Option.{option_map_or}
 use Rattle.std.specs.Result.{result_ok}
 use Rattle.std.specs.List.{list_any, join_by}
 use Rattle.std.specs.Str.{bytes_eq}
-use Rattle.sip_view.specs.field.declared.field_name.FieldName.{FieldName}
-use Rattle.sip_view.specs.field.declared.field_name.FieldName.TheVariants as Name
-use Rattle.sip_view.specs.field.declared.field.Field.{Field}
-use Rattle.sip_header.specs.form.declared.message.Start.{Start}
-use Rattle.sip_header.specs.form.declared.message.Message.{Message}
+use Rattle.sip_message_fields.specs.declared.field_name.FieldName.{FieldName}
+use Rattle.sip_message_fields.specs.declared.field_name.FieldName.TheVariants as Name
+use Rattle.sip_message_fields.specs.declared.field.Field.{Field}
+use Rattle.sip_message_form.specs.declared.message.Start.{Start}
+use Rattle.sip_message_form.specs.declared.message.Message.{Message}
 use Rattle.sip_header.specs.declared.max_forwards.MaxForwards.{MaxForwards}
 use Rattle.sip_header.specs.declared.max_forwards.MaxForwards.TheVariants.{Absent, Hops, Malformed}
-use Rattle.sip_way.specs.declared.own.Own.{Own}
-use Rattle.sip_view.specs.field.Values.{values_of, first_value}
+use Rattle.sip_route.specs.declared.own.Own.{Own}
+use Rattle.sip_message_fields.specs.Values.{values_of, first_value}
 use Rattle.sip_header.specs.CoreFields.{core_in}
 use Rattle.sip_header.specs.Parameters.{tag_of}
 use Rattle.sip_header.specs.Via.{via_of}
 use Rattle.sip_header.specs.MaxForwards.{max_forwards_of}
-use Rattle.sip_way.specs.Own.{is_own_via}
+use Rattle.sip_route.specs.Own.{is_own_via}
 use Rattle.sip_validate.specs.Candidate.{Candidate, is_register, candidate_with}
 use Rattle.sip_validate.specs.Faults.{has_sip_scheme, is_bad}
 

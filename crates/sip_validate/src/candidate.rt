@@ -1,15 +1,16 @@
-ghost use Rattle.std.specs.Prelude.{◌≡◌, Some};
+ghost use Rattle.std.specs.Prelude.{◌≡◌, Some, is_ok};
 ghost use Rattle.std.specs.Option.{option_and_then};
-ghost use Rattle.sip_view.specs.field.declared.field_name.FieldName.TheVariants as Name;
-ghost use Rattle.sip_view.specs.field.Values.{first_value};
+ghost use Rattle.sip_message_fields.specs.declared.field_name.FieldName.TheVariants as Name;
+ghost use Rattle.sip_message_fields.specs.Values.{first_value};
+ghost use Rattle.sip_uri.specs.Reading.{reading_of};
 ghost use Rattle.sip_header.specs.Via.{via_of};
 ghost use Rattle.sip_validate.specs.Candidate.{candidate_with};
 
-use sip_header::form::{View, ViewStart};
 use sip_header::{CoreFields, Via};
-use sip_uri::text::same_bytes;
-use sip_view::ViewFields;
-use sip_way::Own;
+use sip_message_fields::ViewFields;
+use sip_message_form::{View, ViewStart};
+use sip_route::{Own, Way};
+use sip_text::same_bytes;
 use std::marker::Model;
 
 /// A request that is checked: where it is, its parts, whether fewer bytes of its body came than its Content-Length
@@ -25,22 +26,25 @@ pub(crate) struct Candidate<'a> {
     pub(crate) via: &'a Via<'a>,
     pub(crate) short: bool,
     pub(crate) core: &'a CoreFields<'a>,
+    /// Whether the Request-URI, as it came, is a SIP or SIPS URI, where that was read.
+    pub(crate) is_uri: Option<bool>,
 }
 
 impl<'a> Model for Candidate<'a> {
-    ghost use Rattle.std.specs.Prelude.{◌≡◌, Some};
+    ghost use Rattle.std.specs.Prelude.{◌≡◌, Some, IfSome, is_ok};
     ghost use Rattle.std.specs.Option.{option_and_then};
-    ghost use Rattle.sip_view.specs.field.declared.field_name.FieldName.TheVariants as Name;
-    ghost use Rattle.sip_view.specs.field.Values.{first_value};
+    ghost use Rattle.sip_message_fields.specs.declared.field_name.FieldName.TheVariants as Name;
+    ghost use Rattle.sip_message_fields.specs.Values.{first_value};
+    ghost use Rattle.sip_uri.specs.Reading.{reading_of};
     ghost use Rattle.sip_header.specs.Via.{via_of};
-    ghost use Rattle.sip_way.specs.Way.{way_from};
+    ghost use Rattle.sip_route.specs.Way.{way_from};
     ghost use Rattle.sip_validate.specs.Candidate.{Candidate};
 
     ghost Value = { Candidate };
 
     ghost view = { λ r. record { own = r.own.now; method = r.method.now; uri = r.uri.now; version = r.version.now; fields = r.fields.now; short = r.short; core = Some r.core.now; way = way_from r.own.now r.uri.now r.fields.now } };
 
-    ghost invariant = { λ r. option_and_then via_of (first_value Name.Via r.fields.now) ≡ Some r.via.now };
+    ghost invariant = { λ r. (option_and_then via_of (first_value Name.Via r.fields.now) ≡ Some r.via.now) × IfSome r.is_uri (λ is_uri. is_uri ≡ is_ok (reading_of r.uri.now)) };
 }
 
 impl<'a> Candidate<'a> {
@@ -74,7 +78,24 @@ impl<'a> Candidate<'a> {
             via,
             short,
             core,
+            is_uri: None,
         })
+    }
+
+    /// The same request, whose Request-URI that is left on this way is a SIP or SIPS URI or not: where it is left as it
+    /// came, it needn't be read again.
+    #[tactic(auto, using(crate::proofs::Uris::by_bytes))]
+    pub(crate) fn with_uri_left(self, way: &Way<'_>, is_uri: bool) -> Self
+        requires { is_uri ≡ is_ok (reading_of way.now.uri) }
+        ensures { result ≡ self.entry }
+    {
+        if !same_bytes(way.uri.as_slice(), self.uri) {
+            return self;
+        }
+        Candidate {
+            is_uri: Some(is_uri),
+            ..self
+        }
     }
 
     /// Whether it is a REGISTER.

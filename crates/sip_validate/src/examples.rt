@@ -1,6 +1,6 @@
 ghost use Rattle.std.specs.Prelude.{◌≡◌, [], ◌∷◌, codes, true, false, Some, None};
-ghost use Rattle.sip_view.specs.field.declared.field_name.FieldName.TheVariants as Name;
-ghost use Rattle.sip_way.specs.Examples.{own};
+ghost use Rattle.sip_message_fields.specs.declared.field_name.FieldName.TheVariants as Name;
+ghost use Rattle.sip_route.specs.Examples.{own};
 ghost use Rattle.sip_validate.specs.Refusal.{refusal_of, is_bad_request};
 ghost use Rattle.sip_validate.specs.Examples.{field, fields_with, all_with, invite, invite_with, invite_to, register, register_with, response, long_contact, without_call_id};
 

@@ -1,13 +1,13 @@
 ghost use Rattle.std.specs.Prelude.{◌≡◌, ◌&&◌, ◌||◌, not, drop, IfOk, IfSome, is_some, is_ok, true, false};
 ghost use Rattle.std.specs.List.{list_all, list_any};
 ghost use Rattle.std.specs.Option.{option_and_then, option_map_or};
-ghost use Rattle.sip_view.specs.field.Values.{first_value, values_of};
-ghost use Rattle.sip_view.specs.field.declared.field_name.FieldName.TheVariants as Name;
+ghost use Rattle.sip_message_fields.specs.Values.{first_value, values_of};
+ghost use Rattle.sip_message_fields.specs.declared.field_name.FieldName.TheVariants as Name;
 ghost use Rattle.sip_uri.specs.Reading.{reading_of};
 ghost use Rattle.sip_header.specs.Via as Vias;
 ghost use Rattle.sip_header.specs.Route as Routes;
 ghost use Rattle.sip_header.specs.ContactItem as Contacts;
-ghost use Rattle.sip_way.specs.Own as Owns;
+ghost use Rattle.sip_route.specs.Own as Owns;
 ghost use Rattle.sip_validate.specs.Faults as Definition;
 ghost use Rattle.sip_validate.specs.Refusal.{has_own_via};
 
@@ -16,11 +16,10 @@ use sip_header::{
     AnyUri, ContactItem, MaxForwards, Via, bracketed_place, contact_of, max_forwards_of, route_of,
     via_of,
 };
-use sip_uri::text::{same_bytes, same_no_case, split_once};
+use sip_message_fields::{FieldName, ViewField};
+use sip_route::Own;
+use sip_text::{same_bytes, same_no_case, split_once};
 use sip_uri::{UriError, parse_uri, write_uri};
-use sip_view::ViewField;
-use sip_view::field::FieldName;
-use sip_way::Own;
 use std::alloc::{AllocError, Global};
 
 /// The most bytes of a contact's URI.
@@ -260,6 +259,16 @@ impl<'a> Candidate<'a> {
         }
     }
 
+    /// Whether the Request-URI, as it came, is a SIP or SIPS URI. It is read where it wasn't before.
+    fn is_uri(&self, alloc: Global) -> Result<bool, AllocError>
+        ensures { IfOk result (λ is_uri. is_uri ≡ is_ok (reading_of self.now.uri)) }
+    {
+        match self.is_uri {
+            Some(is_uri) => Ok(is_uri),
+            None => is_uri(alloc, self.uri),
+        }
+    }
+
     /// Whether the Request-URI, as it came, begins with `sip:` and isn't a SIP URI (RFC 3261 16.3 step 1).
     fn has_bad_uri(&self, alloc: Global) -> Result<bool, AllocError>
         ensures { IfOk result (λ bad. bad ≡ Definition.has_bad_uri self.now) }
@@ -267,7 +276,7 @@ impl<'a> Candidate<'a> {
         if !has_sip_scheme(self.uri) {
             return Ok(false);
         }
-        Ok(!is_uri(alloc, self.uri)?)
+        Ok(!self.is_uri(alloc)?)
     }
 
     /// Whether, in a REGISTER, To is neither a SIP nor a SIPS URI (RFC 3261 10.2, 10.3 step 5).

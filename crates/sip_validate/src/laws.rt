@@ -1,14 +1,14 @@
 ghost use Rattle.std.specs.Prelude.{◌≡◌, ◌↔◌, ℕ, Bool, List, Some, None, Ok, Err};
-ghost use Rattle.sip_header.specs.form.declared.message.Message.{Message};
-ghost use Rattle.sip_header.specs.form.declared.message.Start.TheVariants.{Request};
-ghost use Rattle.sip_way.specs.declared.own.Own.{Own};
+ghost use Rattle.sip_message_form.specs.declared.message.Message.{Message};
+ghost use Rattle.sip_message_form.specs.declared.message.Start.TheVariants.{Request};
+ghost use Rattle.sip_route.specs.declared.own.Own.{Own};
 ghost use Rattle.sip_validate.specs.declared.checked.Checked.{Checked};
 ghost use Rattle.sip_validate.specs.declared.refused.Refused.{Refused};
 ghost use Rattle.sip_validate.specs.Refusal.{refusal_of};
 ghost use Rattle.sip_validate.specs.Checked.{checked_of, validation_of};
 
-/// A request may be served exactly where no row of the table applies, and its core fields and its way are
-/// what was read of it. Another is refused with the first row's status, and with no other.
+/// A request may be served exactly where no row of the table applies, and its core fields, its way and the Request-URI
+/// that is left are what was read of it. Another is refused with the first row's status, and with no other.
 pub fn first_row_refuses()
     ensures served { (own : Own) (m : Message) (short : Bool) (checked : Checked)
         → ((validation_of own m short ≡ Ok checked) ↔ ((refusal_of own m short ≡ None) × (checked_of own m ≡ Some checked))) }

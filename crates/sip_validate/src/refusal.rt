@@ -1,9 +1,9 @@
 ghost use Rattle.std.specs.Prelude.{◌≡◌, ◌++◌, IfOk, OnOk, codes, true, is_some, map, option_map};
 ghost use Rattle.std.specs.List.{flat_map, join_by, list_all};
-ghost use Rattle.sip_view.specs.field.declared.field_name.FieldName.TheVariants as Name;
-ghost use Rattle.sip_view.specs.field.Values.{values_of};
+ghost use Rattle.sip_message_fields.specs.declared.field_name.FieldName.TheVariants as Name;
+ghost use Rattle.sip_message_fields.specs.Values.{values_of};
 ghost use Rattle.sip_header.specs.Route.{route_of};
-ghost use Rattle.sip_way.specs.Way.{way_from};
+ghost use Rattle.sip_route.specs.Way.{way_from};
 ghost use Rattle.sip_validate.specs.Candidate.{on_way};
 ghost use Rattle.sip_validate.specs.Refusal as Definition;
 ghost use Rattle.sip_validate.specs.Refused.{refused_with};
@@ -12,9 +12,9 @@ use crate::candidate::Candidate;
 use crate::faults::has_sip_scheme;
 use crate::refused::Refused;
 use sip_header::{MaxForwards, max_forwards_of, tag_of};
-use sip_uri::text::{Bytes, same_bytes};
-use sip_view::field::FieldName;
-use sip_way::Way;
+use sip_message_fields::FieldName;
+use sip_route::Way;
+use sip_text::{Bytes, same_bytes};
 use std::alloc::{AllocError, Global};
 
 /// Whether a Max-Forwards is 0.

@@ -1,7 +1,7 @@
 ghost use Rattle.std.specs.Prelude.{◌≡◌, []};
 ghost use Rattle.sip_validate.specs.declared.refused.Refused.TheVariants.{NoMemory, Status};
 
-use sip_uri::text::Bytes;
+use sip_text::Bytes;
 use std::alloc::{AllocError, AllocFailed, Global};
 use std::error::Error;
 use std::fmt;

@@ -1,11 +1,12 @@
-ghost use Rattle.std.specs.Prelude.{◌≡◌, IfOk, Some, None, false, option_map};
+ghost use Rattle.std.specs.Prelude.{◌≡◌, IfOk, Some, None, false, is_ok, option_map};
 ghost use Rattle.std.specs.Result.{result_ok};
 ghost use Rattle.std.specs.Option.{option_and_then, option_map_or};
-ghost use Rattle.sip_view.specs.field.declared.field_name.FieldName.TheVariants as Name;
-ghost use Rattle.sip_view.specs.field.Values.{first_value};
+ghost use Rattle.sip_message_fields.specs.declared.field_name.FieldName.TheVariants as Name;
+ghost use Rattle.sip_message_fields.specs.Values.{first_value};
+ghost use Rattle.sip_uri.specs.Reading.{reading_of};
 ghost use Rattle.sip_header.specs.CoreFields as Cores;
 ghost use Rattle.sip_header.specs.Via.{via_of};
-ghost use Rattle.sip_way.specs.Way as Ways;
+ghost use Rattle.sip_route.specs.Way as Ways;
 ghost use Rattle.sip_validate.specs.Candidate.{on_way, candidate_with, is_request};
 ghost use Rattle.sip_validate.specs.Faults;
 ghost use Rattle.sip_validate.specs.Refusal as Definition;
@@ -15,9 +16,9 @@ ghost use Rattle.sip_validate.specs.Checked.{Validates, validation_of};
 use crate::candidate::Candidate;
 use crate::checked::Checked;
 use crate::refused::Refused;
-use sip_header::form::{View, ViewStart};
 use sip_header::{CoreFields, HeaderError, Via, core_of};
-use sip_way::{Own, Way, way_of};
+use sip_message_form::{View, ViewStart};
+use sip_route::{Own, Way, way_of};
 use std::alloc::{AllocError, Global};
 
 /// The core fields of a message, if each stands there once and can be read.
@@ -31,7 +32,8 @@ fn core_read<'v>(alloc: Global, message: &'v View<'_>) -> Result<Option<CoreFiel
     }
 }
 
-/// What refuses a message, if these are its top Via and core fields; nothing refuses a response.
+/// What refuses a message, if these are its top Via, its core fields and its way, and the Request-URI that is left is a
+/// SIP or SIPS URI or not; nothing refuses a response.
 #[tactic(auto, using(crate::proofs::Routes::of_candidate))]
 fn refusal(
     alloc: Global,
@@ -41,13 +43,15 @@ fn refusal(
     own: &Own,
     core: &CoreFields<'_>,
     way: &Way<'_>,
+    is_uri: bool,
 ) -> Result<Option<Refused>, AllocError>
     requires via { option_and_then via_of (first_value Name.Via message.now.fields) ≡ Some via.now }
     requires way { way.now ≡ Ways.way_of own.now message.now }
+    requires uri { is_uri ≡ is_ok (reading_of way.now.uri) }
     ensures { IfOk result (λ refused. refused ≡ option_map refused_with (option_map_or (λ r. Definition.refusal (on_way way.now r)) (candidate_with (Some core.now) own.now message.now.fields short message.now.start) None)) }
 {
     match Candidate::of(own, message, via, short, core) {
-        Some(candidate) => candidate.refusal(alloc, way),
+        Some(candidate) => candidate.with_uri_left(way, is_uri).refusal(alloc, way),
         None => Ok(None),
     }
 }
@@ -80,11 +84,11 @@ fn is_request(message: &View<'_>) -> bool
     }
 }
 
-/// What is read of a request that passes every check (RFC 3261 16.3, 8.2.2, 10.3), each once: its core fields and
-/// its way; its top Via was read before. `short` says that fewer bytes of its body came than its Content-Length says.
-/// Refusals: `Status` with the status of the first row of the table that applies, and the value of Unsupported in a
-/// 420; `NoMemory`. Of a response only the core fields are asked for, and 400 is its only status.
-#[tactic(auto, using(crate::proofs::Serving::lacking))]
+/// What is read of a request that passes every check (RFC 3261 16.3, 8.2.2, 10.3), each once: its core fields, its way
+/// and its Request-URI; its top Via was read before. `short` says that fewer bytes of its body came than its
+/// Content-Length says. Refusals: `Status` with the status of the first row of the table that applies, and the value of
+/// Unsupported in a 420; `NoMemory`. Of a response only the core fields are asked for, and 400 is its only status.
+#[tactic(auto, using(crate::proofs::Serving::lacking, crate::proofs::Uris::read_is_uri))]
 pub fn validate<'v>(
     alloc: Global,
     request: &'v View<'_>,
@@ -99,10 +103,12 @@ pub fn validate<'v>(
         return Err(Refused::of(alloc, 400));
     };
     let way = way_of(alloc, own, request)?;
-    if let Some(refused) = refusal(alloc, request, via, short, own, &core, &way)? {
+    let uri = way.request_uri(alloc)?;
+    let is_uri = uri.is_some();
+    if let Some(refused) = refusal(alloc, request, via, short, own, &core, &way, is_uri)? {
         return Err(refused);
     }
-    Ok(Checked { core, way })
+    Ok(Checked { core, way, uri })
 }
 
 /// Whether a request with this top Via is a bad one: what refuses a CANCEL, which no other row does (RFC 3261 9.2,

@@ -1,9 +1,10 @@
 //! The program `sipd`: a command line over the process's words, standard streams and exit status.
 #![tactic(auto)]
 
-use sip_command::{Exit, command};
-use sip_index::IndexedRules;
-use sip_wheel::WheelTimers;
+use sip_policy_index::IndexedRules;
+use sip_timers_wheel::WheelTimers;
+use sipd_arguments::Exit;
+use sipd_command::command;
 use std::io::{BufWriter, Read, Write};
 use std::process::ExitCode;
 use std::{env, io};

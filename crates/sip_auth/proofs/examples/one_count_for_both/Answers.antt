@@ -3,8 +3,8 @@ use Rattle.std.specs.Fmt.{digits}
 use Rattle.md5.specs.Md5.{block_words, rounds, compress, hash_after, digest_bytes, md5}
 use Rattle.sha2.specs.Sha256.{first_words, schedule, rounds as rounds256, compress as compress256, hash_after as hash_after256, digest_bytes as digest_bytes256, sha256}
 use Rattle.hex.specs.Hex.{encode_with}
-use Rattle.sip_policy.specs.uri.Reading.{rest_of, reading_of}
-use Rattle.sip_nonces.specs.NonceText.{nonce_text}
+use Rattle.sip_uri.specs.Reading.{rest_of, reading_of}
+use Rattle.sip_digest.specs.NonceText.{nonce_text}
 use Rattle.sip_auth.proofs.examples.one_count_for_both.Goals as goal
 
 pub returns-clause-md5 : goal.returns-clause-md5

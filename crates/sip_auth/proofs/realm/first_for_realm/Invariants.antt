@@ -1,5 +1,5 @@
 use Rattle.std.proofs.Common.{◌≡◌, drop}
-use Rattle.sip_credentials.specs.field.Values.{values_of}
+use Rattle.sip_message_fields.specs.Values.{values_of}
 use Rattle.sip_auth.specs.Proof.{first_for_realm}
 use Rattle.sip_auth.proofs.realm.first_for_realm.Given as goal
 

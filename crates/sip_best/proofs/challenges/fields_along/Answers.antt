@@ -1,5 +1,5 @@
 use Rattle.std.proofs.Common.{◌≡◌, ◌++◌, [], ◌∷◌}
-use Rattle.sip_form.specs.declared.message.Message.{Message}
+use Rattle.sip_message_form.specs.declared.message.Message.{Message}
 use Rattle.sip_best.proofs.Lengths.{stops, goes_on, room_left}
 use Rattle.sip_best.proofs.challenges.fields_along.Goals as goal
 

@@ -1,5 +1,5 @@
 use Rattle.std.proofs.Common.{◌≡◌, ◌-◌, length, drop}
-use Rattle.sip_form.specs.Text.{text_of}
+use Rattle.sip_message_form.specs.Text.{text_of}
 use Rattle.sip_best.specs.Best.{taking_along}
 use Rattle.sip_best.proofs.challenges.fields_along.Given as goal
 

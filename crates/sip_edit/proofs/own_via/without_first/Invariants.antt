@@ -1,5 +1,5 @@
 use Rattle.std.proofs.Common.{◌≡◌, ◌++◌, cond, drop}
-use Rattle.sip_credentials.specs.field.Values.{without_first}
+use Rattle.sip_message_fields.specs.Values.{without_first}
 use Rattle.sip_edit.proofs.own_via.without_first.Given as goal
 
 -- the fields so far, and what stays of the rest

@@ -1,5 +1,5 @@
 use Rattle.sip_engine.proofs.Heard.{copied, repeats, sends}
-use Rattle.sip_firing.specs.proxy.verdict.Verdict as Verdict
+use Rattle.sip_core.specs.verdict_model.Verdict as Verdict
 use Rattle.sip_engine.proofs.laws.what_goes_again.Goals as goal
 
 pub returns-clause-copied : goal.returns-clause-copied

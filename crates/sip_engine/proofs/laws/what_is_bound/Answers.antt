@@ -1,6 +1,6 @@
 use Rattle.sip_engine.proofs.Heard.{binds}
-use Rattle.sip_firing.specs.proxy.targets.declared.targets.Targets.TheVariants as Targets
-use Rattle.sip_firing.specs.proxy.verdict.Verdict as Verdict
+use Rattle.sip_targets.specs.declared.targets.Targets.TheVariants as Targets
+use Rattle.sip_core.specs.verdict_model.Verdict as Verdict
 use Rattle.sip_engine.proofs.laws.what_is_bound.Goals as goal
 
 pub returns-clause-bound : goal.returns-clause-bound

@@ -1,7 +1,7 @@
 use Rattle.sip_engine.proofs.Heard.{records, sends}
-use Rattle.sip_firing.specs.proxy.targets.declared.targets.Targets.TheVariants as Targets
+use Rattle.sip_targets.specs.declared.targets.Targets.TheVariants as Targets
 use Rattle.std.specs.Prelude.{Some}
-use Rattle.sip_firing.specs.proxy.verdict.Verdict as Verdict
+use Rattle.sip_core.specs.verdict_model.Verdict as Verdict
 use Rattle.sip_engine.proofs.laws.what_is_sent.Goals as goal
 
 pub returns-clause-called : goal.returns-clause-called

@@ -1,5 +1,5 @@
 use Rattle.std.proofs.Common.{◌≡◌, List, get_or, sym, ◌∙◌, subst}
-use Rattle.sip_model.specs.state.declared.branch.Branch.{Branch}
+use Rattle.sip_dialog_lessons.specs.state.declared.branch.Branch.{Branch}
 use Rattle.sip_fork.specs.Due.{is_at}
 use Rattle.sip_fork.proofs.Dues.{ends_then, found_of}
 use Rattle.sip_fork.proofs.due.branch_what.Goals as goal
@@ -7,18 +7,18 @@ use Rattle.sip_fork.proofs.due.branch_what.Goals as goal
 pub returns-clause-some : goal.returns-clause-some
 returns-clause-some c =
     let x : Branch = c.index-as_slice-place.result in
-    ends_then c.args.call.now c.args.owner c.args.due c.in_ok-place.place x (sym c.place_of.ensures ∙ c.in_ok-place.was)
+    ends_then c.args.request.now c.args.owner c.args.due c.in_ok-place.place x (sym c.place_of.ensures ∙ c.in_ok-place.was)
     (sym (subst (λ (bs : List Branch). x ≡ get_or bs c.in_ok-place.place x) c.as_slice.ensures c.index-as_slice-place.is))
     (sym (subst (λ o. c.is_at.result ≡ is_at o c.args.due) c.branch_due.ensures c.is_at.ensures) ∙ c.if-is_at.false)
 
 pub returns-then-is_at-clause-part : goal.returns-then-is_at-clause-part
 returns-then-is_at-clause-part c =
     let x : Branch = c.index-as_slice-place.result in
-    found_of c.args.call.now c.args.owner c.args.due c.in_ok-place.place x (sym c.place_of.ensures ∙ c.in_ok-place.was)
+    found_of c.args.request.now c.args.owner c.args.due c.in_ok-place.place x (sym c.place_of.ensures ∙ c.in_ok-place.was)
     (sym (subst (λ (bs : List Branch). x ≡ get_or bs c.in_ok-place.place x) c.as_slice.ensures c.index-as_slice-place.is))
 
 pub returns-clause-part : goal.returns-clause-part
 returns-clause-part c =
     let x : Branch = c.index-as_slice-place.result in
-    found_of c.args.call.now c.args.owner c.args.due c.in_ok-place.place x (sym c.place_of.ensures ∙ c.in_ok-place.was)
+    found_of c.args.request.now c.args.owner c.args.due c.in_ok-place.place x (sym c.place_of.ensures ∙ c.in_ok-place.was)
     (sym (subst (λ (bs : List Branch). x ≡ get_or bs c.in_ok-place.place x) c.as_slice.ensures c.index-as_slice-place.is))

@@ -1,6 +1,6 @@
 use Rattle.std.proofs.Common.{◌≡◌, List, Some, slice_get, sym, ◌∙◌, ap, subst}
-use Rattle.sip_model.specs.state.declared.open_request.OpenRequest.{OpenRequest}
-use Rattle.sip_keeping.specs.request.declared.request.Request.{Request}
+use Rattle.sip_dialog_lessons.specs.state.declared.open_request.OpenRequest.{OpenRequest}
+use Rattle.sip_request.specs.declared.request.Request.{Request}
 use Rattle.sip_fork.specs.Contexts.{AreTied, IsFitting}
 use Rattle.sip_fork.proofs.Tying.{held_at, timed_at, ready, kept_new, changed, seen_changed}
 use Rattle.sip_fork.proofs.moving.change_row.Goals as goal

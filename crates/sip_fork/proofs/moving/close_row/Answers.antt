@@ -1,5 +1,5 @@
 use Rattle.std.proofs.Common.{◌≡◌, List, Some, slice_get, sym, subst}
-use Rattle.sip_keeping.specs.request.declared.request.Request.{Request}
+use Rattle.sip_request.specs.declared.request.Request.{Request}
 use Rattle.sip_fork.specs.Contexts.{AreTied}
 use Rattle.sip_fork.proofs.Tying.{held_at, timed_at, closed}
 use Rattle.sip_fork.proofs.moving.close_row.Goals as goal

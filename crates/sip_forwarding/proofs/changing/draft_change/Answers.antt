@@ -1,6 +1,6 @@
 use Rattle.std.proofs.Common.{◌∙◌, ◌++◌}
-use Rattle.sip_opening.specs.model.Effect.{change_packets}
-use Rattle.sip_inputs.specs.Inputs.{outcome}
+use Rattle.sip_context_opening.specs.steps_model.Effect.{change_packets}
+use Rattle.sip_context.specs.Inputs.{outcome}
 use Rattle.sip_forwarding.specs.Forwarding.{change_of}
 use Rattle.sip_forwarding.proofs.Drafts.{behind_none, change_told, draft_is, few_alone}
 use Rattle.sip_forwarding.proofs.changing.draft_change.Goals as goal

@@ -1,6 +1,6 @@
 use Rattle.std.proofs.Common.{◌≡◌, ◌+◌, drop}
 use Rattle.std.specs.List.{position_or_len}
-use Rattle.sip_equality.specs.Equality.{same}
+use Rattle.sip_uri_equality.specs.Equality.{same}
 use Rattle.sip_location.proofs.candidates.place_of.Given as goal
 
 -- none of those before is equal

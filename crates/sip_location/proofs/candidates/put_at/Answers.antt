@@ -2,7 +2,7 @@ use Rattle.std.proofs.Common.{◌≡◌, ◌+◌, ℕ, List, false, arith, sym, 
 use Rattle.std.specs.Prelude.{◌-◌, length, take, drop, set}
 use Rattle.std.specs.List.{list_any}
 use Rattle.sip_uri.specs.declared.uri.Uri.{Uri}
-use Rattle.sip_equality.specs.Equality.{same}
+use Rattle.sip_uri_equality.specs.Equality.{same}
 use Rattle.sip_location.specs.declared.binding.Binding.{Binding}
 use Rattle.sip_location.proofs.Places.{place, place-le, put_is, put_over, rest_taken}
 use Rattle.sip_location.proofs.candidates.put_at.Goals as goal

@@ -1,7 +1,7 @@
 use Rattle.std.proofs.Common.{◌≡◌, ap, drop, get_or, subst, List}
 use Rattle.std.proofs.lemmas.Result.{err_from_is_err_and, on_ok_weaker}
 use Rattle.sip_event.specs.declared.packet.Packet.{Packet}
-use Rattle.sip_engine.specs.Engine.{Engine}
+use Rattle.sip_run.specs.engine.Engine.{Engine}
 use Rattle.sip_loop.proofs.Handed.{faulted_all, faulted_some, on_err_of, unfaulted, unsent, went}
 use Rattle.sip_loop.proofs.handing.hand_one.Goals as goal
 

@@ -1,5 +1,5 @@
 use Rattle.std.proofs.Common.{◌≡◌, ◌+◌, ◌-◌, ◌≤◌, None, drop, length}
-use Rattle.sip_model.specs.Ends.{sends_left}
+use Rattle.model_bounds.specs.model.Ends.{sends_left}
 use Rattle.sip_loop.specs.Courses.{Hands, IsNoFurther}
 use Rattle.sip_loop.proofs.handing.hand_out.Given as goal
 

@@ -1,6 +1,6 @@
 use Rattle.std.proofs.Common.{◌∙◌, [], None, subst}
 use Rattle.std.proofs.lemmas.Result.{err_from_is_err_and}
-use Rattle.sip_model.specs.state.declared.server.Server.{Server}
+use Rattle.model_bounds.specs.state.declared.server.Server.{Server}
 use Rattle.sip_loop.specs.Courses.{Hands, HandsSome, TakesDue}
 use Rattle.sip_loop.proofs.Turning.{fires_on, fires_some}
 use Rattle.sip_loop.proofs.serving.fire_due.Goals as goal

@@ -1,5 +1,5 @@
 use Rattle.std.proofs.Common.{◌≡◌, [], None, Some}
-use Rattle.sip_model.specs.Ends.{steps_left}
+use Rattle.model_bounds.specs.model.Ends.{steps_left}
 use Rattle.sip_loop.specs.Courses.{Course}
 use Rattle.sip_loop.proofs.serving.fire_due.Given as goal
 

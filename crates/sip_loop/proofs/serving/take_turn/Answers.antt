@@ -1,9 +1,9 @@
 use Rattle.std.proofs.Common.{ap, subst, List, Option, None, []}
 use Rattle.std.proofs.lemmas.Result.{err_from_is_err_and, on_ok_weaker}
-use Rattle.sip_link.specs.declared.datagram.Given.{Given}
-use Rattle.sip_model.specs.Step.{Given as ForEvent}
-use Rattle.sip_model.specs.state.declared.server.Server.{Server}
-use Rattle.sip_engine.specs.Engine.{Engine}
+use Rattle.sip_loop_link.specs.declared.datagram.Given.{Given}
+use Rattle.model_bounds.specs.steps_model.Step.{Given as ForEvent}
+use Rattle.model_bounds.specs.state.declared.server.Server.{Server}
+use Rattle.sip_run.specs.engine.Engine.{Engine}
 use Rattle.sip_loop.specs.Courses.{BreaksOff, Hands, HandsSome}
 use Rattle.sip_loop.specs.Serving.{event_of_turn}
 use Rattle.sip_loop.proofs.Handed.{unsent}

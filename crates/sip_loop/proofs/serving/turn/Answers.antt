@@ -1,8 +1,8 @@
 use Rattle.std.proofs.Common.{◌∙◌, zero, suc, ap, arith, refl, subst, Option, List}
 use Rattle.std.proofs.lemmas.Result.{err_from_is_err_and, on_ok_weaker, IfErr-weaker}
-use Rattle.sip_link.specs.Told.{counted}
-use Rattle.sip_link.specs.declared.datagram.Heard.{Heard}
-use Rattle.sip_model.specs.state.declared.server.Server.{Server}
+use Rattle.sip_loop_link.specs.Told.{counted}
+use Rattle.sip_loop_link.specs.declared.datagram.Heard.{Heard}
+use Rattle.model_bounds.specs.state.declared.server.Server.{Server}
 use Rattle.sip_loop.specs.Courses.{Breaks, BreaksOff, GoesOn}
 use Rattle.sip_loop.specs.Serving.{Told}
 use Rattle.sip_loop.proofs.Turning.{turn_broken, turn_goes, turn_unfired}

@@ -1,5 +1,5 @@
 use Rattle.std.proofs.Common.{◌∙◌, Err, inr, sym, ap, refl, rules, arith}
-use Rattle.sip_form.specs.declared.error.ReadError.{ReadError}
+use Rattle.sip_message_form.specs.declared.error.ReadError.{ReadError}
 use Rattle.sip_message.proofs.Rows.{empty_or, shorter}
 use Rattle.sip_message.proofs.Wholes.{cut_length}
 use Rattle.sip_message.proofs.HeadLines.{none_read, line_read, all_said, all_cut, no_end, refusal}

@@ -2,7 +2,7 @@ use Rattle.std.proofs.Common.{◌≡◌, ℕ, List, Some, map, subst}
 use Rattle.sip_text.specs.declared.span.Span.{Span}
 use Rattle.sip_text.specs.Span.{part}
 use Rattle.sip_text.specs.Lists.{cut}
-use Rattle.sip_form.specs.view.Piece.{bytes_of}
+use Rattle.sip_message_fields.specs.Piece.{bytes_of}
 use Rattle.sip_message.specs.Parts.{AreItemsKept}
 use Rattle.sip_message.proofs.Keeps.{items_kept}
 use Rattle.sip_message.proofs.keeping.keep_items.Goals as goal

@@ -1,7 +1,7 @@
 use Rattle.std.proofs.Common.{Result, subst}
 use Rattle.std.proofs.lemmas.Result.{err_from_is_err_and}
-use Rattle.sip_form.specs.declared.message.Message.{Message}
-use Rattle.sip_form.specs.declared.error.ReadError.{ReadError}
+use Rattle.sip_message_form.specs.declared.message.Message.{Message}
+use Rattle.sip_message_form.specs.declared.error.ReadError.{ReadError}
 use Rattle.sip_message.specs.Parts.{parts_seen}
 use Rattle.sip_message.specs.Reading.{Gives}
 use Rattle.sip_message.proofs.Limits.{fault_first, reading_limited}

@@ -1,9 +1,9 @@
 use Rattle.std.proofs.Common.{◌≡◌, ◌∙◌, sym}
-use Rattle.sip_verdict.specs.event.declared.event.Event.TheVariants.{Datagram, Time, Fault}
-use Rattle.sip_verdict.specs.event.declared.event.StepOut.{StepOut}
-use Rattle.sip_verdict.specs.state.declared.server.Server.{Server}
-use Rattle.sip_verdict.specs.state.declared.proxy_state.ProxyState.{ProxyState}
-use Rattle.sip_model.specs.Step.{Act, Given, Passing, IsStep}
+use Rattle.sip_event.specs.declared.event.Event.TheVariants.{Datagram, Time, Fault}
+use Rattle.sip_event.specs.declared.event.StepOut.{StepOut}
+use Rattle.model_steps.specs.state.declared.server.Server.{Server}
+use Rattle.model_steps.specs.state.declared.proxy_state.ProxyState.{ProxyState}
+use Rattle.model_steps.specs.Step.{Act, Given, Passing, IsStep}
 use Rattle.sip_model.proofs.Steps.{step_taken}
 use Rattle.sip_model.proofs.histories.steps_stand_at_their_moments.Goals as goal
 

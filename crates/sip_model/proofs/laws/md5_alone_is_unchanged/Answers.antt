@@ -1,9 +1,9 @@
 use Rattle.std.proofs.Common.{ap, Bool}
-use Rattle.sip_verdict.specs.nonces.NonceText.{nonce_text}
-use Rattle.sip_verdict.specs.auth.Proof.{is_stale}
-use Rattle.sip_verdict.proofs.of_auth.Algorithms.{alone_is}
-use Rattle.sip_verdict.specs.reply.Challenges.{challenge_fields}
-use Rattle.sip_model.specs.Effect.{challenge_name}
+use Rattle.sip_digest.specs.NonceText.{nonce_text}
+use Rattle.sip_auth.specs.Proof.{is_stale}
+use Rattle.sip_auth.proofs.Algorithms.{alone_is}
+use Rattle.sip_edit_response.specs.Challenges.{challenge_fields}
+use Rattle.model_steps.specs.Effect.{challenge_name}
 use Rattle.sip_model.proofs.laws.md5_alone_is_unchanged.Goals as goal
 
 pub returns : goal.returns

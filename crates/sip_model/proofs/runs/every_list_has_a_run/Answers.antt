@@ -1,5 +1,5 @@
 use Rattle.std.proofs.Common.{[], refl}
-use Rattle.sip_verdict.specs.state.State.{first_state}
+use Rattle.model_steps.specs.state.State.{first_state}
 use Rattle.sip_model.proofs.Passing.{goes_on}
 use Rattle.sip_model.proofs.runs.every_list_has_a_run.Goals as goal
 

@@ -1,5 +1,5 @@
 use Rattle.std.proofs.Common.{◌≤◌, arith}
-use Rattle.sip_fork.specs.keeping.Keeping.{IsKeptAs}
+use Rattle.sip_fork.specs.Keeping.{IsKeptAs}
 use Rattle.sip_fork.specs.request.Near.{most_timers}
 use Rattle.sip_proxy.proofs.cancelling.open_and_change_at.Goals as goal
 

@@ -1,8 +1,8 @@
 use Rattle.std.proofs.Common.{◌≡◌, ℕ, List, Option, ◌∙◌, ◌⊎◌, sym, ap, subst, refl, arith}
 use Rattle.std.proofs.lemmas.Result.{err_from_is_err_and}
-use Rattle.sip_model.specs.state.State.{first_state}
-use Rattle.sip_script.specs.Devices.{later, GaveUp}
-use Rattle.sip_script.specs.Lines.{Reading, IsSpent}
+use Rattle.model_bounds.specs.state.State.{first_state}
+use Rattle.sip_replay_script.specs.Devices.{later, GaveUp}
+use Rattle.sip_replay_script.specs.Lines.{Reading, IsSpent}
 use Rattle.sip_replay.specs.Replays.{server_with, IsReplay}
 use Rattle.sip_replay.proofs.Calls.{asked_so_far, spent_at_last, faulted_spent}
 use Rattle.sip_replay.proofs.Refusing.{play_refused, refuses_at_once}

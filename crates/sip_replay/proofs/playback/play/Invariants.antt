@@ -1,7 +1,7 @@
 use Rattle.std.proofs.Common.{◌≡◌, ◌≤◌}
-use Rattle.sip_model.specs.state.State.{first_state}
-use Rattle.sip_script.specs.Devices.{later}
-use Rattle.sip_script.specs.Lines.{left}
+use Rattle.model_bounds.specs.state.State.{first_state}
+use Rattle.sip_replay_script.specs.Devices.{later}
+use Rattle.sip_replay_script.specs.Lines.{left}
 use Rattle.sip_replay.specs.Replays.{server_with}
 use Rattle.sip_replay.proofs.Replaying.{Replays}
 use Rattle.sip_replay.proofs.playback.play.Given as goal

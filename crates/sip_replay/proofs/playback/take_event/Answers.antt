@@ -1,5 +1,5 @@
 use Rattle.std.proofs.lemmas.Result.{err_from_is_err_and}
-use Rattle.sip_script.specs.Devices.{GaveUp}
+use Rattle.sip_replay_script.specs.Devices.{GaveUp}
 use Rattle.sip_replay.proofs.Running.{plays_event}
 use Rattle.sip_replay.proofs.Stopping.{taking_unfired, taking_refused, taking_unprinted}
 use Rattle.sip_replay.proofs.playback.take_event.Goals as goal

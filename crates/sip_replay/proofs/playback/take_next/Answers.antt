@@ -1,7 +1,7 @@
 use Rattle.std.proofs.Common.{◌+◌, sym, ap, subst}
-use Rattle.sip_script.specs.Devices.{GaveUp}
+use Rattle.sip_replay_script.specs.Devices.{GaveUp}
 use Rattle.sip_replay.specs.Errors.{IsFaulted}
-use Rattle.sip_script.specs.Lines.{pending, IsSpent}
+use Rattle.sip_replay_script.specs.Lines.{pending, IsSpent}
 use Rattle.sip_replay.specs.Refusals.{Refuses}
 use Rattle.sip_replay.proofs.Refusing.{event_refused, event_faulted, taking_refuses, taking_faulted}
 use Rattle.sip_replay.proofs.playback.take_next.Goals as goal

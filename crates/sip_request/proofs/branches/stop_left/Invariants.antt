@@ -1,5 +1,5 @@
 use Rattle.std.proofs.Common.{◌≡◌, ◌≤◌, ◌-◌, length}
-use Rattle.sip_running.specs.Moves.{Moves}
+use Rattle.sip_timers.specs.Moves.{Moves}
 use Rattle.sip_request.specs.Walk.{left_timers}
 use Rattle.sip_request.proofs.branches.stop_left.Given as goal
 

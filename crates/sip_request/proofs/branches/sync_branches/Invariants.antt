@@ -1,6 +1,6 @@
 use Rattle.std.proofs.Common.{◌≡◌, ◌≤◌, ◌+◌, ◌*◌, ◌++◌, take}
-use Rattle.sip_running.specs.Moves.{Moves}
-use Rattle.sip_ties.specs.Ties.{branches_timers}
+use Rattle.sip_timers.specs.Moves.{Moves}
+use Rattle.model_transactions.specs.Ties.{branches_timers}
 use Rattle.sip_request.specs.Walk.{left_timers}
 use Rattle.sip_request.proofs.branches.sync_branches.Given as goal
 

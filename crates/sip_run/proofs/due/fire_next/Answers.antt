@@ -1,6 +1,6 @@
 use Rattle.std.proofs.Common.{◌≡◌, ◌≤◌, ◌⊎◌, Ok, arith}
 use Rattle.sip_event.specs.declared.event.StepOut.{StepOut}
-use Rattle.sip_model.specs.Step.{moment_of, IsDeadline, IsResend}
+use Rattle.sip_engine.specs.steps_model.Step.{moment_of, IsDeadline, IsResend}
 use Rattle.sip_engine.specs.StepError.{refusal_at}
 use Rattle.sip_run.proofs.Refusing.{not_refused}
 use Rattle.sip_run.proofs.Waiting.{none_some, not_yet}

@@ -1,5 +1,5 @@
 use Rattle.std.proofs.Common.{◌≡◌, [], Some}
-use Rattle.sip_model.specs.Ends.{steps_left}
+use Rattle.sip_engine.specs.model.Ends.{steps_left}
 use Rattle.sip_run.specs.Runs.{Goes}
 use Rattle.sip_run.proofs.running.fire_due.Given as goal
 

@@ -1,9 +1,9 @@
 use Rattle.std.proofs.Common.{refl}
 use Rattle.std.specs.Fmt.{digits}
 use Rattle.hex.specs.Hex.{encode_with}
-use Rattle.sip_dialog.specs.uri.Reading.{rest_of, reading_of}
-use Rattle.sip_dialog.specs.header.CoreFields.{core_in}
-use Rattle.sip_nonces.specs.NonceText.{nonce_text}
+use Rattle.sip_uri.specs.Reading.{rest_of, reading_of}
+use Rattle.sip_header.specs.CoreFields.{core_in}
+use Rattle.sip_digest.specs.NonceText.{nonce_text}
 use Rattle.sip_state.proofs.dialogs.renewed_dialog.Goals as goal
 
 pub returns-clause-last : goal.returns-clause-last

@@ -1,5 +1,5 @@
 use Rattle.std.proofs.Common.{ℕ, List, map, Bor, ap, ◌∙◌}
-use Rattle.sip_host.specs.text.Distinct.{all_differ}
+use Rattle.sip_text.specs.Distinct.{all_differ}
 use Rattle.sip_uri.proofs.Names.{differ_as_texts}
 use Rattle.sip_uri.proofs.parameters.names_differ.Goals as goal
 

@@ -1,6 +1,6 @@
 use Rattle.std.proofs.Common.{◌≡◌, drop, is_some}
 use Rattle.std.specs.List.{list_all}
-use Rattle.sip_view.specs.field.Values.{values_of}
+use Rattle.sip_message_fields.specs.Values.{values_of}
 use Rattle.sip_header.specs.Route.{route_of}
 use Rattle.sip_validate.proofs.faults.are_routes.Given as goal
 

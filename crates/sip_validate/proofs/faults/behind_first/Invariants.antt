@@ -1,5 +1,5 @@
 use Rattle.std.proofs.Common.{◌≡◌, drop}
-use Rattle.sip_view.specs.field.Values.{values_of}
+use Rattle.sip_message_fields.specs.Values.{values_of}
 use Rattle.sip_validate.proofs.faults.behind_first.Given as goal
 
 -- those that are left have all the values

@@ -8,4 +8,4 @@ returns-in-Some-2 c =
 
 pub returns : goal.returns
 returns c =
-    validated c.args.own.now c.args.request.now c.args.short c.in-Some.core c.in_ok-way.way (sym c.in-Some.is ∙ c.in_ok-core.ensures) c.in_ok-way.ensures (sym c.in_default-2.is ∙ c.in_ok-refused.ensures)
+    validated c.args.own.now c.args.request.now c.args.short c.in-Some.core c.in_ok-way.way c.in_ok-uri.uri (sym c.in-Some.is ∙ c.in_ok-core.ensures) c.in_ok-way.ensures c.in_ok-uri.ensures (sym c.in_default-2.is ∙ c.in_ok-refused.ensures)

@@ -2,7 +2,7 @@ use Rattle.std.proofs.Common.{◌≡◌, ◌+◌, List, [], ◌∷◌, ◌++◌,
 use Rattle.std.proofs.lemmas.List.Edits.{length-swap}
 use Rattle.indexmap.specs.IndexMap.{IndexMap, insert_entry, spare}
 use Rattle.indexmap.proofs.CallerLemmas.{insert_entry-new}
-use Rattle.sip_hasher.specs.declared.keyed.Keyed.{Keyed}
+use Rattle.sip_base.specs.declared.keyed.Keyed.{Keyed}
 use Rattle.sip_dialog.specs.declared.dialog.DialogId.{DialogId}
 use Rattle.sip_dialog.specs.declared.dialog.Dialog.{Dialog}
 use Rattle.sip_dialog.specs.declared.standing.Standing.{Standing}

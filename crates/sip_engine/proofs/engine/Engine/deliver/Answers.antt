@@ -1,5 +1,5 @@
-use Rattle.sip_firing.specs.proxy.event.declared.event.Event.TheVariants.{Datagram}
-use Rattle.sip_firing.specs.proxy.model.Step.{Given}
+use Rattle.sip_event.specs.declared.event.Event.TheVariants.{Datagram}
+use Rattle.sip_model.specs.steps_model.Step.{Given}
 use Rattle.sip_engine.proofs.Leading.{led_by}
 use Rattle.sip_engine.proofs.engine.Engine.deliver.Goals as goal
 

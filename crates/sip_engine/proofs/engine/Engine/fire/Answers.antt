@@ -1,7 +1,7 @@
 use Rattle.std.proofs.Common.{◌≤◌, ◌⊎◌, ℕ, IfOk, subst}
-use Rattle.sip_firing.specs.Next.{IsNext}
-use Rattle.sip_firing.specs.Timers.{IsFiredFirst}
-use Rattle.sip_firing.specs.proxy.model.Step.{Passing, IsDeadline, IsResend, moment_of}
+use Rattle.sip_engine_time.specs.Next.{IsNext}
+use Rattle.sip_engine_time.specs.Timers.{IsFiredFirst}
+use Rattle.sip_model.specs.steps_model.Step.{Passing, IsDeadline, IsResend, moment_of}
 use Rattle.sip_engine.specs.Engine.{Engine}
 use Rattle.sip_engine.proofs.Leading.{led_by}
 use Rattle.sip_engine.proofs.engine.Engine.fire.Goals as goal

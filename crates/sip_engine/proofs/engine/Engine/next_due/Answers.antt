@@ -1,5 +1,5 @@
 use Rattle.std.proofs.Common.{◌≡◌, ◌≤◌, ◌<◌, ℕ, Some, IfSome, subst}
-use Rattle.sip_firing.specs.proxy.model.Step.{NoneAgainBy, NoneBy}
+use Rattle.sip_model.specs.steps_model.Step.{NoneAgainBy, NoneBy}
 use Rattle.sip_engine.specs.Engine.{Engine}
 use Rattle.sip_engine.proofs.Waiting.{no_earlier, none_by}
 use Rattle.sip_engine.proofs.engine.Engine.next_due.Goals as goal

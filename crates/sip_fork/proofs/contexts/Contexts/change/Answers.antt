@@ -1,8 +1,8 @@
 use Rattle.std.proofs.Common.{◌≡◌, ◌==◌, Some, position, slice_get, sym, ◌∙◌, ap, subst, List}
-use Rattle.sip_model.specs.Effect.{replaced}
-use Rattle.sip_model.specs.state.declared.open_request.OpenRequest.{OpenRequest}
-use Rattle.sip_keeping.specs.request.declared.request.Request.{Request}
-use Rattle.sip_keeping.specs.moments.Near.{IsWithin}
+use Rattle.model_steps.specs.Effect.{replaced}
+use Rattle.sip_dialog_lessons.specs.state.declared.open_request.OpenRequest.{OpenRequest}
+use Rattle.sip_request.specs.declared.request.Request.{Request}
+use Rattle.sip_request.specs.transactions_model.Near.{IsWithin}
 use Rattle.sip_fork.specs.Contexts.{Contexts, IsSame}
 use Rattle.sip_fork.proofs.OnTime.{whole}
 use Rattle.sip_fork.proofs.Tying.{contexts, place_of, replaced_in, replaced_out, seen_at}
@@ -10,12 +10,12 @@ use Rattle.sip_fork.proofs.contexts.Contexts.change.Goals as goal
 
 pub change_row-requires-clause-same : goal.change_row-requires-clause-same
 change_row-requires-clause-same g c = λ r at.
-    c.requires.same r.context (subst (λ (v : Contexts). slice_get v.requests c.args.place ≡ Some r.context) c.self.view_is (seen_at c.self.inside.table.rows c.args.place r at))
+    c.requires.same r.open_request (subst (λ (v : Contexts). slice_get v.requests c.args.place ≡ Some r.open_request) c.self.view_is (seen_at c.self.inside.table.rows c.args.place r at))
 
 pub returns-then-closes-clause-requests : goal.returns-then-closes-clause-requests
 returns-then-closes-clause-requests g c =
-    let same : IsSame c.get-stood.result.now.context c.args.change =
-    c.requires.same c.get-stood.result.now.context (subst (λ (v : Contexts). slice_get v.requests c.args.place ≡ Some c.get-stood.result.now.context) c.self.view_is (seen_at c.self.inside.table.rows c.args.place c.get-stood.result.now c.get-stood.ensures.row)) in
+    let same : IsSame c.get-stood.result.now.open_request c.args.change =
+    c.requires.same c.get-stood.result.now.open_request (subst (λ (v : Contexts). slice_get v.requests c.args.place ≡ Some c.get-stood.result.now.open_request) c.self.view_is (seen_at c.self.inside.table.rows c.args.place c.get-stood.result.now c.get-stood.ensures.row)) in
     let found : position (λ (x : OpenRequest). x.number == c.args.change.number) (contexts c.self.inside.table.rows) ≡ Some c.args.place =
     place_of c.args.change c.self.inside.table.rows c.args.place c.get-stood.result.now same.number c.get-stood.ensures.number in
     subst (λ (v : Contexts). contexts c.close_row.new.table.rows ≡ replaced c.args.change v.requests) c.self.view_is
@@ -23,8 +23,8 @@ returns-then-closes-clause-requests g c =
 
 pub returns-else-closes-clause-requests : goal.returns-else-closes-clause-requests
 returns-else-closes-clause-requests g c =
-    let same : IsSame c.get-stood.result.now.context c.args.change =
-    c.requires.same c.get-stood.result.now.context (subst (λ (v : Contexts). slice_get v.requests c.args.place ≡ Some c.get-stood.result.now.context) c.self.view_is (seen_at c.self.inside.table.rows c.args.place c.get-stood.result.now c.get-stood.ensures.row)) in
+    let same : IsSame c.get-stood.result.now.open_request c.args.change =
+    c.requires.same c.get-stood.result.now.open_request (subst (λ (v : Contexts). slice_get v.requests c.args.place ≡ Some c.get-stood.result.now.open_request) c.self.view_is (seen_at c.self.inside.table.rows c.args.place c.get-stood.result.now c.get-stood.ensures.row)) in
     let found : position (λ (x : OpenRequest). x.number == c.args.change.number) (contexts c.self.inside.table.rows) ≡ Some c.args.place =
     place_of c.args.change c.self.inside.table.rows c.args.place c.get-stood.result.now same.number c.get-stood.ensures.number in
     subst (λ (v : Contexts). contexts c.change_row.new.table.rows ≡ replaced c.args.change v.requests) c.self.view_is
@@ -32,8 +32,8 @@ returns-else-closes-clause-requests g c =
 
 pub invariant_of-self : goal.invariant_of-self
 invariant_of-self g c =
-    let same : IsSame c.get-stood.result.now.context c.args.change =
-    c.requires.same c.get-stood.result.now.context (subst (λ (v : Contexts). slice_get v.requests c.args.place ≡ Some c.get-stood.result.now.context) c.self.view_is (seen_at c.self.inside.table.rows c.args.place c.get-stood.result.now c.get-stood.ensures.row)) in
+    let same : IsSame c.get-stood.result.now.open_request c.args.change =
+    c.requires.same c.get-stood.result.now.open_request (subst (λ (v : Contexts). slice_get v.requests c.args.place ≡ Some c.get-stood.result.now.open_request) c.self.view_is (seen_at c.self.inside.table.rows c.args.place c.get-stood.result.now c.get-stood.ensures.row)) in
     let found : position (λ (x : OpenRequest). x.number == c.args.change.number) (contexts c.self.inside.table.rows) ≡ Some c.args.place =
     place_of c.args.change c.self.inside.table.rows c.args.place c.get-stood.result.now same.number c.get-stood.ensures.number in
     let near : IsWithin c.self.inside.moment c.args.change = subst (λ (v : Contexts). IsWithin v.moment c.args.change) (sym c.self.view_is) c.requires.within in

@@ -1,7 +1,7 @@
 use Rattle.std.proofs.Common.{◌≡◌}
 use Rattle.std.specs.List.{AllByRecursion}
-use Rattle.sip_model.specs.context.BranchById.{HasNumbers, branch_by_id}
-use Rattle.sip_model.specs.context.FoundBranch.{found_branch}
+use Rattle.model_steps.specs.context_model.BranchById.{HasNumbers, branch_by_id}
+use Rattle.model_steps.specs.context_model.FoundBranch.{found_branch}
 use Rattle.sip_fork.proofs.Sent.{one_number, have_numbers, not_named, no_request, no_branch, this_branch}
 use Rattle.sip_fork.proofs.contexts.Contexts.find_branch.Goals as goal
 

@@ -23,7 +23,7 @@ unwrap-what-requires g c =
 pub returns-clause-first : goal.returns-clause-first
 returns-clause-first g c =
     let at : slice_get c.self.inside.table.rows c.unwrap-place.result ≡ Some c.row.inside.request = rw c.row.view_is c.get-row.ensures.row in
-    let is : IsDue c.row.inside.request.context c.in_ok-due.due c.unwrap-what.result = subst (λ (o : Option Due). IfSome o (IsDue c.row.inside.request.context c.in_ok-due.due)) c.unwrap-what.ensures c.what_at.ensures.some in
+    let is : IsDue c.row.inside.request.open_request c.in_ok-due.due c.unwrap-what.result = subst (λ (o : Option Due). IfSome o (IsDue c.row.inside.request.open_request c.in_ok-due.due)) c.unwrap-what.ensures c.what_at.ensures.some in
     rw (← c.self.view_is)
     (is_first c.timers_stand_for_moments.ensures c.self.inside.timers.pending c.self.inside.timers.reached c.self.inside.table.rows c.self.invariant.tied c.in_ok-due.due c.in_ok-due.name c.first.ensures.order (sym c.in_ok-due.ensures.first)
     c.unwrap-place.result c.row.inside.request c.unwrap-what.result at is)
@@ -32,8 +32,8 @@ pub returns-clause-in_order : goal.returns-clause-in_order
 returns-clause-in_order g c =
     let at : slice_get c.self.inside.table.rows c.unwrap-place.result ≡ Some c.row.inside.request = rw c.row.view_is c.get-row.ensures.row in
     let found = sym c.find_number.ensures.place ∙ c.unwrap-place.ensures in
-    let is : IsOfOwner c.row.inside.request.context c.in_ok-due.name.owner c.unwrap-what.result =
-    subst (λ (o : Option Due). IfSome o (IsOfOwner c.row.inside.request.context c.in_ok-due.name.owner)) c.unwrap-what.ensures c.what_at.ensures.part in
+    let is : IsOfOwner c.row.inside.request.open_request c.in_ok-due.name.owner c.unwrap-what.result =
+    subst (λ (o : Option Due). IfSome o (IsOfOwner c.row.inside.request.open_request c.in_ok-due.name.owner)) c.unwrap-what.ensures c.what_at.ensures.part in
     rw (← c.self.view_is)
     (of_first c.self.inside.timers.pending c.self.inside.table.rows c.in_ok-due.due c.in_ok-due.name (sym c.in_ok-due.ensures.first) c.unwrap-place.result c.row.inside.request c.unwrap-what.result at
     (number_there c.in_ok-due.name.request c.self.inside.table.rows c.unwrap-place.result c.row.inside.request found at) is)

@@ -1,5 +1,5 @@
 use Rattle.std.proofs.Common.{◌≤◌, ℕ, sym, subst}
-use Rattle.sip_model.specs.Step.{NoneBefore, NoneAgainBefore}
+use Rattle.model_steps.specs.Step.{NoneBefore, NoneAgainBefore}
 use Rattle.sip_fork.specs.Contexts.{AreOnTime, Contexts}
 use Rattle.sip_fork.proofs.OnTime.{come, told}
 use Rattle.sip_fork.proofs.Tying.{contexts}

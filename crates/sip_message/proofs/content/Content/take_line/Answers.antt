@@ -1,6 +1,6 @@
 use Rattle.std.proofs.Common.{sym, ◌∙◌, inr, ap, Some}
 use Rattle.std.proofs.lemmas.Result.{err_from_is_err_and}
-use Rattle.sip_form.specs.field.declared.field_name.FieldName.{FieldName}
+use Rattle.sip_message_fields.specs.declared.field_name.FieldName.{FieldName}
 use Rattle.sip_message.proofs.LineSteps.{bad_here, fault_here, taken_here, part_cut}
 use Rattle.sip_message.proofs.content.Content.take_line.Goals as goal
 

@@ -1,5 +1,0 @@
-use Rattle.access_examples.proofs.Copying.{other_refused}
-use Rattle.access_examples.proofs.early_copies.copy_says_what_went.Goals as goal
-
-pub returns : goal.returns
-returns c = other_refused

@@ -1,5 +1,0 @@
-use Rattle.access_examples.proofs.CallRequests.{copied_refused}
-use Rattle.access_examples.proofs.extra_requests.copy_stays.Goals as goal
-
-pub returns : goal.returns
-returns c = copied_refused

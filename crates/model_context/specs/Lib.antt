@@ -1,0 +1,11 @@
+pub mod Sending
+pub mod Branches
+pub mod FoundBranch
+pub mod BranchById
+pub mod Calls
+pub mod Opening
+pub mod Retransmission
+pub mod Examples
+pub use Rattle.sip_state.specs.context_request
+pub use Rattle.sip_state.specs.edit_onward
+pub use Rattle.sip_state.specs as state

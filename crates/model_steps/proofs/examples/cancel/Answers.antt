@@ -1,0 +1,19 @@
+use Rattle.std.proofs.Common.{refl}
+use Rattle.std.specs.Fmt.{digits}
+use Rattle.hex.specs.Hex.{encode_with}
+use Rattle.sip_uri.specs.Reading.{rest_of, reading_of}
+use Rattle.sip_header.specs.CoreFields.{core_in}
+use Rattle.sip_digest.specs.NonceText.{nonce_text}
+use Rattle.model_steps.proofs.examples.cancel.Goals as goal
+
+pub returns-clause-answered : goal.returns-clause-answered
+unfolding digits encode_with rest_of reading_of core_in nonce_text
+returns-clause-answered c = refl
+
+pub returns-clause-rings : goal.returns-clause-rings
+unfolding digits encode_with rest_of reading_of core_in nonce_text
+returns-clause-rings c = refl
+
+pub returns-clause-from_elsewhere : goal.returns-clause-from_elsewhere
+unfolding digits encode_with rest_of reading_of core_in nonce_text
+returns-clause-from_elsewhere c = refl

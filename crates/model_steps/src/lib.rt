@@ -1,0 +1,29 @@
+//! What a datagram does to what a proxy knows, and what a step is: a datagram taken, a deadline passed, something sent again,
+//! a send that failed, or time alone (RFC 3261 16, 17). Definitions, which worked examples compute; nothing runs here. What
+//! holds of every run of such steps is said in `sip_model`.
+#![tactic(auto)]
+
+pub mod configurations;
+pub mod examples;
+pub mod registrations;
+pub mod steps;
+
+/// Of `model_context`.
+pub mod context_model {
+    pub use model_verdict::context_model::laws;
+}
+
+/// Of `sip_context_request`.
+pub mod context_request {
+    pub use model_verdict::context_request::{Heard, received_value};
+}
+
+/// Of `sip_edit_onward`.
+pub mod edit_onward {
+    pub use model_verdict::edit_onward::{onward_base, onward_uri, to_target};
+}
+
+/// Of `sip_state`.
+pub mod state {
+    pub use model_verdict::state::{Branch, LastAnswer, OpenRequest, Phase, Server, Side, Upward};
+}

@@ -1,0 +1,29 @@
+//! What is to be done with a datagram, of all that a proxy knows: the first case that applies (RFC 3261 9.2,
+//! 10.3, 16.3 to 16.5, 17.1.3, 17.2.3). Nothing runs here.
+#![tactic(auto)]
+
+pub mod examples;
+pub mod laws;
+mod question;
+
+pub use question::Question;
+
+/// Of `model_context`.
+pub mod context_model {
+    pub use model_context::laws;
+}
+
+/// Of `sip_context_request`.
+pub mod context_request {
+    pub use model_context::context_request::{Heard, Names, received_value};
+}
+
+/// Of `sip_edit_onward`.
+pub mod edit_onward {
+    pub use model_context::edit_onward::{onward_base, onward_uri, to_target};
+}
+
+/// Of `sip_state`.
+pub mod state {
+    pub use model_context::state::{Branch, LastAnswer, OpenRequest, Phase, Server, Side, Upward};
+}

@@ -1,5 +1,0 @@
-use Rattle.sip_answering.proofs.Planned.{lists}
-use Rattle.sip_answering.proofs.contacts.contact_fields.Goals as goal
-
-pub returns-clause-registered : goal.returns-clause-registered
-returns-clause-registered c = lists c.fields_of.result c.args.now c.args.plan.now c.bindings.result c.bindings.ensures c.fields_of.ensures

@@ -1,3 +1,0 @@
-pub mod Going
-pub mod Checking
-pub mod Deciding

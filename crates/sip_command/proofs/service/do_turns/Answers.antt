@@ -1,6 +1,0 @@
-use Rattle.std.proofs.Common.{rules}
-use Rattle.sip_command.proofs.Printed.{prints_more}
-use Rattle.sip_command.proofs.service.do_turns.Goals as goal
-
-pub loop-preserved : goal.loop-preserved
-loop-preserved g c = prints_more (g.W.Write.contents c.args.output.now) (g.W.Write.contents c.loop.output) (g.W.Write.contents c.do_turn.new.output) c.loop.invariant (search rules)

@@ -1,5 +1,0 @@
-use Rattle.sip_command.specs.Printing.{PrintsRecords}
-use Rattle.sip_command.proofs.service.do_turns.Given as goal
-
-abbrev pub invariant-loop : goal.invariant-loop
-invariant-loop g l = PrintsRecords (g.W.Write.contents l.initial.output) (g.W.Write.contents l.output)

@@ -1,0 +1,4 @@
+pub mod ValueRows
+pub mod Keys
+pub mod Rows
+pub mod Groups

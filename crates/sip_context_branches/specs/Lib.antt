@@ -1,0 +1,3 @@
+pub mod Early
+pub use Rattle.model_context.specs as context_model
+pub use Rattle.model_context.specs.state

@@ -1,0 +1,104 @@
+ghost use Rattle.std.specs.Prelude.{◌≡◌, ◌+◌, ◌<◌, ◌^◌, true, if◌then◌else◌, IfOk, OnOk};
+ghost use Rattle.model_context.specs.state.State as States;
+ghost use Rattle.model_context.specs.Branches as Contexts;
+
+use crate::phase::{is_final, is_ready};
+use model_context::state::{Branch, Phase, Resend};
+use std::alloc::AllocError;
+
+/// How long a CANCEL, and a branch that was sent one, wait for their final answers, in milliseconds.
+pub(crate) const FINAL_WAIT: u64 = 32_000;
+
+/// How long what was sent waits before it goes again for the first time, in milliseconds (RFC 3261 17.1.1.1: T1).
+const FIRST_WAIT: u64 = 500;
+
+/// Whether two branches are one: their numbers and whether they are CANCELs agree.
+pub(crate) fn is_same_branch(left: &Branch, right: &Branch) -> bool
+    ensures { result ≡ Contexts.is_same_branch left.now right.now }
+{
+    left.number == right.number && left.is_cancel == right.is_cancel
+}
+
+/// Gives a branch a phase, and what another one says of its ACK and of when it goes again.
+fn turn(place: &mut Branch, branch: &Branch, phase: Phase) -> Result<(), AllocError>
+    ensures { OnOk result (place.new ≡ Contexts.turned branch.now phase place.old) }
+{
+    place.final_to = branch.final_to.clone()?;
+    place.phase = phase;
+    place.again = branch.again;
+    Ok(())
+}
+
+/// Does so if both are one branch.
+pub(crate) fn turn_same(place: &mut Branch, branch: &Branch, phase: Phase) -> Result<(), AllocError>
+    ensures { OnOk result (place.new ≡ Contexts.phased branch.now phase place.old) }
+{
+    if is_same_branch(place, branch) {
+        turn(place, branch, phase)
+    } else {
+        Ok(())
+    }
+}
+
+/// A branch is to be cancelled if it is this one.
+pub(crate) fn want_same(place: &mut Branch, branch: &Branch)
+    ensures { place.new ≡ (if Contexts.is_same_branch place.old branch.now then record place.old { wants_cancel = true } else place.old) }
+{
+    if is_same_branch(place, branch) {
+        place.wants_cancel = true;
+    }
+}
+
+/// A branch to a target is to be cancelled if it has no final answer.
+pub(crate) fn mark_branch(branch: &mut Branch)
+    ensures { branch.new ≡ Contexts.marked_branch branch.old }
+{
+    if !branch.is_cancel && !is_final(branch.phase) {
+        branch.wants_cancel = true;
+    }
+}
+
+/// Whether a branch to a target is sent its CANCEL now (RFC 3261 9.1).
+pub(crate) fn is_cancellable(branch: &Branch) -> bool
+    ensures { result ≡ Contexts.is_cancellable branch.now }
+{
+    !branch.is_cancel && branch.wants_cancel && is_ready(branch.phase)
+}
+
+/// What is sent at a moment goes again for the first time (RFC 3261 17.1.1.2).
+fn first_resend(now: u64) -> Resend
+    requires { now + 32000 < 2 ^ 64 }
+    ensures { result ≡ States.first_resend now }
+{
+    Resend {
+        due: now + FIRST_WAIT,
+        wait: FIRST_WAIT,
+    }
+}
+
+/// The CANCEL of a branch, which is sent now.
+pub(crate) fn cancel_branch(now: u64, branch: &Branch) -> Result<Branch, AllocError>
+    requires { now + 32000 < 2 ^ 64 }
+    ensures { IfOk result (λ cancel. cancel ≡ Contexts.cancel_branch now branch.now) }
+{
+    let mut cancel = branch.clone()?;
+    cancel.is_cancel = true;
+    cancel.wants_cancel = false;
+    cancel.phase = Phase::Unheard {
+        until: now + FINAL_WAIT,
+    };
+    cancel.again = first_resend(now);
+    Ok(cancel)
+}
+
+/// The branch, which is sent its CANCEL now and has some time more for its final answer.
+pub(crate) fn held_branch(now: u64, branch: &Branch) -> Result<Branch, AllocError>
+    requires { now + 32000 < 2 ^ 64 }
+    ensures { IfOk result (λ held. held ≡ Contexts.held_branch now branch.now) }
+{
+    let mut held = branch.clone()?;
+    held.phase = Phase::Cancelled {
+        until: now + FINAL_WAIT,
+    };
+    Ok(held)
+}

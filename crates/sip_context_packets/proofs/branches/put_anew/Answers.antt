@@ -1,0 +1,15 @@
+use Rattle.std.proofs.Common.{refl}
+use Rattle.sip_message_fields.specs.declared.field_name.FieldName.TheVariants as Name
+use Rattle.sip_message_fields.specs.Values.{with_first}
+use Rattle.sip_context_packets.specs.Base.{base_over}
+use Rattle.sip_context_packets.proofs.Sent.{left_of, one_sent}
+use Rattle.sip_context_packets.proofs.branches.put_anew.Goals as goal
+
+pub put_received_branch-requires : goal.put_received_branch-requires
+put_received_branch-requires c =
+    left_of c.args.server.now.config.own c.in_ok-routes.routes c.get-heard.result.now c.get-heard.result.now c.as_slice.result.now refl c.in_ok-routes.ensures
+
+pub returns : goal.returns
+returns c =
+    one_sent c.put_received_branch.result c.put_received_branch.new.out c.args.out.now c.args.server.now c.args.again c.args.request.now c.args.branch.now c.get-heard.result.now c.get-heard.result.now (record c.get-heard.result.now { fields = with_first Name.Via c.as_slice.result.now c.get-heard.result.now.fields }) (base_over c.args.server.now c.in_ok-begins.begins c.as_slice.result.now c.get-heard.result.now) c.in_ok-begins.begins c.in_ok-via.via c.as_slice.result.now
+    c.get-heard.ensures refl c.in_ok-begins.ensures c.in_ok-via.ensures c.as_slice.ensures refl refl c.put_received_branch.ensures

@@ -1,0 +1,108 @@
+ghost use Rattle.std.specs.Prelude.{◌≡◌, [], IfOk};
+ghost use Rattle.sip_message_form.specs.Text.{text_of};
+ghost use Rattle.sip_edit_response.specs.Reply.{reply_of};
+ghost use Rattle.model_context.specs.Sending as Spec;
+
+use model_context::context_request::Heard;
+use model_context::state::{OpenRequest, Server, Written};
+use sip_edit_response::{reply_view, respond, to_tag};
+use sip_event::{Packet, Ticket};
+use sip_message_fields::Fields;
+use sip_message_form::View;
+use sip_text::Bytes;
+use sip_uri::Addr;
+use std::alloc::{AllocError, Global};
+
+/// The packet of an answer, of which this is the text, to a request that came from an address in the datagram of a number
+/// (RFC 3261 18.2.2). `AllocError` is the only refusal.
+pub fn answer_packet(
+    alloc: Global,
+    again: bool,
+    number: u64,
+    request: &Heard,
+    from: Addr,
+    text: Bytes,
+) -> Result<Packet, AllocError>
+    ensures { IfOk result (λ packet. packet ≡ Spec.answer_packet again number request.now from text) }
+{
+    let to = request.reply_to(alloc, from)?;
+    Ok(Packet {
+        to,
+        bytes: text,
+        ticket: Ticket {
+            datagram: number,
+            branch: 0,
+        },
+        again,
+    })
+}
+
+/// The packet of an answer to an open request, of which this is the text. `AllocError` is the only refusal.
+pub fn answer_to(
+    alloc: Global,
+    again: bool,
+    open_request: &OpenRequest,
+    text: Bytes,
+) -> Result<Packet, AllocError>
+    ensures { IfOk result (λ packet. packet ≡ Spec.answer_to again open_request.now text) }
+{
+    let request = open_request.request.get();
+    answer_packet(
+        alloc,
+        again,
+        open_request.number,
+        request,
+        open_request.source,
+        text,
+    )
+}
+
+/// The text of an answer that is made here to a request that came from an address in the datagram of a number (RFC 3261
+/// 8.2.6): with this status and these further fields. `AllocError` is the only refusal.
+pub fn made_answer(
+    alloc: Global,
+    server: &Server,
+    number: u64,
+    request: &Heard,
+    from: Addr,
+    status: u16,
+    extras: &Fields,
+) -> Result<Bytes, AllocError>
+    ensures { IfOk result (λ text. text ≡ text_of (Spec.made_answer server.now number request.now from status extras.now)) }
+{
+    let via = request.received_via(alloc, from)?;
+    let received = request.with_top_via(alloc, via.as_slice())?;
+    let tag = to_tag(alloc, server.word, number)?;
+    respond(alloc, &received, status, tag.as_slice(), extras)
+}
+
+/// A response to a request without further fields, kept with its text.
+fn written_reply(
+    alloc: Global,
+    request: &View<'_>,
+    status: u16,
+    to_tag: &[u8],
+) -> Result<Written, AllocError>
+    ensures { IfOk result (λ written. written ≡ reply_of request.now status to_tag.now []) }
+{
+    let extras = Fields::new(alloc);
+    let answer = reply_view(alloc, request, status, to_tag, &extras)?;
+    Written::of_view(alloc, &answer)
+}
+
+/// The answer of a status that is made here to an open request, as a message that is kept with its text. `AllocError` is
+/// the only refusal.
+pub fn written_answer(
+    alloc: Global,
+    server: &Server,
+    open_request: &OpenRequest,
+    status: u16,
+) -> Result<Written, AllocError>
+    ensures { IfOk result (λ written. written ≡ Spec.made_answer server.now open_request.now.number open_request.now.request open_request.now.source status []) }
+{
+    let request = open_request.request.get();
+    let via = request.received_via(alloc, open_request.source)?;
+    let received = request.with_top_via(alloc, via.as_slice())?;
+    let tag = to_tag(alloc, server.word, open_request.number)?;
+    written_reply(alloc, &received, status, tag.as_slice())
+}

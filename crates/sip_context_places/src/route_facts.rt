@@ -1,0 +1,306 @@
+ghost use Rattle.std.specs.Prelude.{◌≡◌, IfOk, map, is_some, if◌then◌else◌, false, codes, Some, None, ◌∷◌, [], decimal};
+ghost use Rattle.std.specs.Option.{option_map_or};
+ghost use Rattle.sip_uri_equality.specs.Equality.{both_or_none, says_same_no_case as SaysSame};
+ghost use Rattle.sip_text.specs.Splits.{split_at_byte};
+ghost use Rattle.sip_message_form.specs.ViewStart.{start_seen};
+ghost use Rattle.sip_message_fields.specs.declared.field_name.FieldName.TheVariants as Name;
+ghost use Rattle.sip_message_fields.specs.Values.{values_of};
+ghost use Rattle.sip_route.specs.Way as Ways;
+ghost use Rattle.sip_route.specs.Routes.{all_but_last};
+ghost use Rattle.sip_context_places.specs.RouteFacts as Facts;
+
+use sip_header::{AnyUri, bracketed_place, route_of};
+use sip_message_fields::FieldName;
+use sip_message_form::{View, ViewStart};
+use sip_route::{Own, RoutesKept};
+use sip_text::{Bytes, Items, split_once};
+use sip_uri::{Parameter, Scheme, Uri, UriError, parse_uri};
+use sip_uri_equality::{same, says_same_no_case};
+use std::alloc::{AllocError, Global};
+
+/// Where a SIP or SIPS URI leads: its host, and the number of its port, 5060 where none is written.
+#[derive(Drop)]
+pub struct Place {
+    pub host: Bytes,
+    pub port: u16,
+}
+
+/// Where a Request-URI leads that the server there put into Record-Route.
+#[derive(Drop)]
+pub struct RecordedPlace {
+    /// Its host, as it was written.
+    pub host: Bytes,
+    /// The digits of its port, where a `:` stands.
+    pub port: Option<Bytes>,
+    /// Where the first Route but the last one leads.
+    pub first: Option<Place>,
+}
+
+/// What of a request decides which of its Routes are left, whichever server asks (RFC 3261 16.4).
+#[derive(Drop)]
+pub struct RouteFacts {
+    /// Where its Request-URI leads, if a server may have put it into Record-Route and the last Route can take its place.
+    pub recorded: Option<RecordedPlace>,
+    /// Where its first Route leads.
+    pub first: Option<Place>,
+    /// How many Routes it has.
+    pub count: usize,
+}
+
+/// Where a URI of any scheme leads.
+fn place_in(alloc: Global, uri: &AnyUri<'_>) -> Result<Option<Place>, AllocError>
+    ensures { IfOk result (λ place. place ≡ Facts.place_in uri.now) }
+{
+    match uri {
+        AnyUri::Sip(uri) => Ok(Some(Place {
+            host: Bytes::copy(alloc, uri.host.as_slice())?,
+            port: uri.port_number().unwrap_or(5060),
+        })),
+        AnyUri::Other(_) => Ok(None),
+    }
+}
+
+/// Where an item of Route leads: no URI is made of one as proxies write them.
+#[tactic(auto, using(crate::proofs::PlainPlaces::first_is))]
+fn place_of(alloc: Global, value: &[u8]) -> Result<Option<Place>, AllocError>
+    ensures { IfOk result (λ place. place ≡ Facts.first_place (value.now ∷ [])) }
+{
+    if let Some((host, port)) = bracketed_place(value) {
+        return Ok(Some(Place {
+            host: Bytes::copy(alloc, host)?,
+            port: port.unwrap_or(5060),
+        }));
+    }
+    match route_of(alloc, value)? {
+        Some(route) => place_in(alloc, &route.uri),
+        None => Ok(None),
+    }
+}
+
+/// Where the first of some Routes leads.
+fn first_place(alloc: Global, routes: &[&[u8]]) -> Result<Option<Place>, AllocError>
+    ensures { IfOk result (λ place. place ≡ Facts.first_place (map (λ x. x.now) routes.now)) }
+{
+    match routes.split_first() {
+        Some((first, _)) => place_of(alloc, first),
+        None => Ok(None),
+    }
+}
+
+/// The same of all but the last of some Routes.
+#[tactic(auto, using(crate::proofs::LastRoute::others_lead, crate::proofs::LastRoute::none_lead))]
+fn first_of_others(alloc: Global, routes: &[&[u8]]) -> Result<Option<Place>, AllocError>
+    ensures { IfOk result (λ place. place ≡ Facts.first_place (all_but_last (map (λ x. x.now) routes.now))) }
+{
+    match routes.split_last() {
+        Some((_, others)) => first_place(alloc, others),
+        None => Ok(None),
+    }
+}
+
+/// Whether the last of some Routes can be read.
+#[tactic(auto, using(crate::proofs::LastRoute::last_is, crate::proofs::LastRoute::no_last))]
+fn can_replace(alloc: Global, routes: &[&[u8]]) -> Result<bool, AllocError>
+    ensures { IfOk result (λ t. t ≡ is_some (Ways.last_route (map (λ x. x.now) routes.now))) }
+{
+    match routes.split_last() {
+        Some((last, _)) => Ok(route_of(alloc, last)?.is_some()),
+        None => Ok(false),
+    }
+}
+
+/// The parameter `lr`, alone.
+fn loose_routing(alloc: Global) -> Result<Items<Parameter>, AllocError>
+    ensures { IfOk result (λ parameters. parameters ≡ record { name = codes "lr"; value = None } ∷ []) }
+{
+    let mut parameters = Items::new(alloc);
+    let name = Bytes::copy(alloc, b"lr")?;
+    parameters.push(Parameter { name, value: None })?;
+    Ok(parameters)
+}
+
+/// The URI that a server at the host and the port of another puts into Record-Route.
+fn route_at(alloc: Global, uri: &Uri) -> Result<Uri, AllocError>
+    ensures { IfOk result (λ route. route ≡ Facts.route_at uri.now.host uri.now.port) }
+{
+    let host = uri.host.clone()?;
+    let port = uri.port.clone()?;
+    let parameters = loose_routing(alloc)?;
+    Ok(Uri {
+        scheme: Scheme::Sip,
+        userinfo: None,
+        host,
+        port,
+        parameters,
+        headers: Items::new(alloc),
+    })
+}
+
+/// Whether a URI has `lr` (RFC 3261 19.1.1), escapes resolved.
+fn has_lr(uri: &Uri) -> bool
+    ensures { result ≡ Ways.has_lr uri.now }
+{
+    uri.parameters.as_slice().iter().any(|parameter| says_same_no_case(
+        parameter.name.as_slice(),
+        b"lr",
+    ))
+}
+
+/// Whether a URI is the one that the server at its own host and port puts into Record-Route.
+fn is_recorded(alloc: Global, uri: &Uri) -> Result<bool, AllocError>
+    ensures { IfOk result (λ t. t ≡ Facts.is_recorded uri.now) }
+{
+    if !has_lr(uri) {
+        return Ok(false);
+    }
+    let route = route_at(alloc, uri)?;
+    Ok(same(uri, &route))
+}
+
+/// Where a URI leads, and where the first Route but the last one does.
+fn recorded_place(alloc: Global, uri: &Uri, routes: &[&[u8]]) -> Result<RecordedPlace, AllocError>
+    ensures { IfOk result (λ place. place ≡ record { host = uri.now.host; port = uri.now.port; first = Facts.first_place (all_but_last (map (λ x. x.now) routes.now)) }) }
+{
+    let host = uri.host.clone()?;
+    let port = uri.port.clone()?;
+    let first = first_of_others(alloc, routes)?;
+    Ok(RecordedPlace { host, port, first })
+}
+
+/// The same of a URI that a server put into Record-Route, where a last Route can take its place. That is read only for
+/// such a URI.
+#[tactic(auto, using(crate::proofs::Unparted::none_in, crate::proofs::Unparted::some_in))]
+fn recorded_in(
+    alloc: Global,
+    uri: &Uri,
+    routes: &[&[u8]],
+) -> Result<Option<RecordedPlace>, AllocError>
+    ensures { IfOk result (λ place. place ≡ if is_some (Ways.last_route (map (λ x. x.now) routes.now)) then Facts.recorded_in (map (λ x. x.now) routes.now) uri.now else None) }
+{
+    if !is_recorded(alloc, uri)? {
+        return Ok(None);
+    }
+    if !can_replace(alloc, routes)? {
+        return Ok(None);
+    }
+    Ok(Some(recorded_place(alloc, uri, routes)?))
+}
+
+/// Whether a Request-URI may have parameters. One without a `;` has none, also not `lr`.
+fn may_have_parameters(uri: &[u8]) -> bool
+    ensures { result ≡ is_some (split_at_byte 59 uri.now) }
+{
+    split_once(uri, b';').is_some()
+}
+
+/// The same of a Request-URI.
+#[tactic(auto, using(crate::proofs::Unparted::none_recorded, crate::proofs::Unparted::none_replaces, crate::proofs::Unparted::none_read))]
+fn recorded_of(
+    alloc: Global,
+    uri: &[u8],
+    routes: &[&[u8]],
+) -> Result<Option<RecordedPlace>, AllocError>
+    ensures { IfOk result (λ place. place ≡ Facts.recorded_of uri.now (map (λ x. x.now) routes.now)) }
+{
+    if routes.is_empty() {
+        return Ok(None);
+    }
+    if !may_have_parameters(uri) {
+        return Ok(None);
+    }
+    match parse_uri(alloc, uri) {
+        Ok(uri) => recorded_in(alloc, &uri, routes),
+        Err(UriError::NoMemory) => Err(AllocError),
+        Err(_) => Ok(None),
+    }
+}
+
+/// What decides, of a Request-URI and the values of Route.
+fn facts_of(alloc: Global, uri: &[u8], routes: &[&[u8]]) -> Result<RouteFacts, AllocError>
+    ensures { IfOk result (λ facts. facts ≡ Facts.facts_of uri.now (map (λ x. x.now) routes.now)) }
+{
+    let recorded = recorded_of(alloc, uri, routes)?;
+    let first = first_place(alloc, routes)?;
+    Ok(RouteFacts {
+        recorded,
+        first,
+        count: routes.len(),
+    })
+}
+
+/// The Request-URI as it came; a response has none.
+fn request_uri<'v>(start: &ViewStart<'v>) -> &'v [u8]
+    ensures { result.now ≡ Ways.request_uri (start_seen start.now) }
+{
+    match start {
+        ViewStart::Request { uri, .. } => uri,
+        ViewStart::Status { .. } => b"",
+    }
+}
+
+/// Whether some digits of a port are those of a number.
+fn is_port(alloc: Global, digits: &Option<Bytes>, number: u16) -> Result<bool, AllocError>
+    ensures { IfOk result (λ t. t ≡ both_or_none SaysSame digits.now (Some (decimal number))) }
+{
+    let Some(digits) = digits else {
+        return Ok(false);
+    };
+    let mut text = Bytes::new(alloc);
+    text.push_decimal(u64::from(number))?;
+    Ok(says_same_no_case(digits.as_slice(), text.as_slice()))
+}
+
+impl RecordedPlace {
+    /// Whether it is what this server put into Record-Route.
+    fn is_own(&self, alloc: Global, own: &Own) -> Result<bool, AllocError>
+        ensures { IfOk result (λ t. t ≡ Facts.is_own_record own.now self.now) }
+    {
+        if !says_same_no_case(self.host.as_slice(), own.host.as_slice()) {
+            return Ok(false);
+        }
+        is_port(alloc, &self.port, own.port)
+    }
+}
+
+/// Whether a place is known, and is a server's own.
+fn is_own(own: &Own, place: &Option<Place>) -> bool
+    ensures { result ≡ option_map_or (Facts.is_own own.now) place.now false }
+{
+    match place {
+        Some(place) => own.is_own_host(place.host.as_slice()) && place.port == own.port,
+        None => false,
+    }
+}
+
+/// Of so many Routes all stay, without a first one that is the server's own.
+fn kept_from(own: &Own, first: &Option<Place>, count: usize) -> RoutesKept
+    ensures { result ≡ Facts.kept_from own.now first.now count }
+{
+    let skipped = if is_own(own, first) { 1 } else { 0 };
+    RoutesKept {
+        skipped,
+        kept: count.saturating_sub(skipped),
+    }
+}
+
+impl RouteFacts {
+    /// What of a request decides which of its Routes are left. `AllocError` is the only refusal.
+    pub fn of(alloc: Global, request: &View<'_>) -> Result<Self, AllocError>
+        ensures { IfOk result (λ facts. facts ≡ Facts.facts_of (Ways.request_uri request.now.start) (values_of Name.Route request.now.fields)) }
+    {
+        let routes = request.fields().values(alloc, &FieldName::Route)?;
+        facts_of(alloc, request_uri(request.start()), routes.as_slice())
+    }
+
+    /// Which Routes are left for a server. `AllocError` is the only refusal.
+    pub fn kept(&self, alloc: Global, own: &Own) -> Result<RoutesKept, AllocError>
+        ensures { IfOk result (λ kept. kept ≡ Facts.kept_by own.now self.now) }
+    {
+        if let Some(place) = &self.recorded {
+            if place.is_own(alloc, own)? {
+                return Ok(kept_from(own, &place.first, self.count.saturating_sub(1)));
+            }
+        }
+        Ok(kept_from(own, &self.first, self.count))
+    }
+}

@@ -1,0 +1,2 @@
+pub mod Refusals
+pub use Rattle.model_context.specs as context_model

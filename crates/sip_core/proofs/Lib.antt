@@ -1,0 +1,5 @@
+pub mod Outcomes
+pub mod ByMethod
+pub mod Going
+pub mod Checking
+pub mod Deciding

@@ -1,0 +1,10 @@
+use Rattle.std.proofs.Common.{subst}
+use Rattle.sip_policy.specs.declared.decision.Decision.{Decision}
+use Rattle.model_verdict.specs.Verdict as Definition
+use Rattle.sip_core.specs.Verdict.{IsOutcome}
+use Rattle.sip_core.proofs.policy.judged.Goals as goal
+
+pub returns-clause-outcome : goal.returns-clause-outcome
+returns-clause-outcome g c =
+    λ state same.
+    subst (λ (d : Decision). IsOutcome c.args.locations.now.rows c.args.now c.args.question (Definition.decided c.args.judge.now state c.args.now c.args.request.now c.args.method.now c.args.checked.now.core c.args.question d) c.in_ok-outcome.outcome) c.ruling-ruling.ensures.decision (c.in_ok-outcome.ensures.outcome state same)

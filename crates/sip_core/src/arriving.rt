@@ -1,0 +1,298 @@
+ghost use Rattle.std.specs.Prelude.{◌≡◌, ◌<◌, ◌^◌, IfOk, Bool, false, ℕ, List, Option, Some, None, is_some, [], codes};
+ghost use Rattle.std.specs.Str.{bytes_eq};
+ghost use Rattle.std.specs.Result.{result_ok};
+ghost use Rattle.sip_dialog.specs.DialogId.{id_of};
+ghost use Rattle.sip_edit.specs.ReceivedRequest.{top_via};
+ghost use Rattle.sip_message_form.specs.declared.message.Message.{Message};
+ghost use Rattle.sip_header.specs.CoreFields.{core_of};
+ghost use Rattle.sip_transaction_table.specs.declared.key.Key.{Key};
+ghost use Rattle.sip_location.specs.declared.binding.Binding.{Binding};
+ghost use Rattle.model_verdict.specs.state.Arrival.{Arrival};
+ghost use Rattle.model_verdict.specs.context_request.Names.{AreNames};
+ghost use Rattle.model_verdict.specs.state.declared.open_request.OpenRequest.{OpenRequest};
+ghost use Rattle.model_verdict.specs.state.declared.proxy_state.ProxyState.{ProxyState};
+ghost use Rattle.model_verdict.specs.state.declared.server.Server.{Server};
+ghost use Rattle.sip_route.specs.Way.{way_of, request_uri_of};
+ghost use Rattle.sip_validate.specs.Refusal.{refusal_of};
+ghost use Rattle.model_verdict.specs.Verdict as Definition;
+ghost use Rattle.sip_core.specs.Verdict as Spec;
+ghost use Rattle.sip_core.specs.Verdict.{Is, IsRequestOf, Knows, HasRoom, goes_on};
+
+use crate::acknowledging::ack_verdict;
+use crate::cancelling::cancel_verdict;
+use crate::checks::check;
+use crate::policy::policy_verdict;
+use crate::verdict::{Outcome, Verdict};
+use crate::within::within;
+use crate::{Judge, is_register};
+use model_verdict::context_request::Names;
+use sip_dialog::Dialogs;
+use sip_digest::Nonces;
+use sip_edit_response::unsupported_field;
+use sip_header::{CoreFields, Via, tag_of};
+use sip_location::Locations;
+use sip_message_fields::Fields;
+use sip_message_form::View;
+use sip_policy::Rules;
+use sip_targets::Targets;
+use sip_validate::{Checked, Refused};
+use std::alloc::{AllocError, Global};
+
+/// The fields of a status that refuses a request (RFC 3261 8.2.2.3).
+fn refusal_fields(alloc: Global, status: u16, items: &[u8]) -> Result<Fields, AllocError>
+    ensures { IfOk result (λ fields. fields ≡ Definition.refusal_fields (status, items.now)) }
+{
+    let mut fields = Fields::new(alloc);
+    if status == 420 {
+        fields.push(unsupported_field(alloc, items)?)?;
+    }
+    Ok(fields)
+}
+
+/// A request that the checks refuse is answered so.
+fn refusal_verdict<'v>(alloc: Global, status: u16, items: &[u8]) -> Result<Verdict<'v>, AllocError>
+    ensures verdict { IfOk result (λ verdict. (server : Server) (state : ProxyState) (now : ℕ) (m : Message) (method : List ℕ) (rows : List Binding) (named : Option OpenRequest)
+        → Is server rows now named (Definition.checked_verdict server state now m method (Some (status, items.now))) verdict) }
+    ensures room { IfOk result (λ verdict. (room : ℕ) → HasRoom room verdict) }
+    ensures kept { IfOk result (λ verdict. goes_on verdict ≡ false) }
+{
+    Ok(Verdict::Answer(status, refusal_fields(alloc, status, items)?))
+}
+
+/// Whether To has a tag, so that a request names a dialog (RFC 3261 12.2).
+fn names_dialog(core: &CoreFields<'_>) -> bool
+    ensures { result ≡ is_some (id_of core.now) }
+{
+    match tag_of(&core.to.parameters) {
+        Some(_) => true,
+        None => false,
+    }
+}
+
+/// Whether a request is outside a dialog: its To has no tag, or it is a REGISTER, which belongs to none (RFC 3261 10.2,
+/// 12.2).
+fn is_outside(method: &[u8], core: &CoreFields<'_>) -> bool
+    ensures { result ≡ Definition.is_outside method.now core.now }
+{
+    if is_register(method) {
+        return true;
+    }
+    !names_dialog(core)
+}
+
+/// Whether a request goes to somebody by what policy decided.
+fn goes_out(outcome: &Outcome) -> bool
+    ensures { result ≡ Spec.goes_out outcome.now }
+{
+    match outcome {
+        Outcome::Send(_, targets) => match targets {
+            Targets::Bindings(_) | Targets::Hop(_, _) => true,
+            Targets::NotFound | Targets::Unavailable => false,
+        },
+        Outcome::Challenge | Outcome::Deny(_) | Outcome::Register(_, _) => false,
+    }
+}
+
+/// A request of which this was read goes on in its dialog; where that isn't known, it is answered 481.
+fn request_within<'v, R: Rules>(
+    alloc: Global,
+    judge: &Judge<R>,
+    dialogs: &Dialogs,
+    now: u64,
+    request: &'v View<'_>,
+    checked: &Checked<'_>,
+    names: &mut Option<Names>,
+) -> Result<Verdict<'v>, AllocError>
+    requires core { result_ok (core_of request.now) ≡ Some checked.now.core }
+    requires way { checked.now.way ≡ way_of judge.now.config.own request.now }
+    requires uri { checked.now.uri ≡ request_uri_of judge.now.config.own request.now }
+    requires names { AreNames request.now names.now }
+    requires none { names.now ≡ None }
+    ensures verdict { IfOk result (λ verdict. (state : ProxyState) → state.dialogs ≡ dialogs.now.dialogs → (rows : List Binding) (named : Option OpenRequest)
+        → Is judge.now rows now named (Definition.within judge.now state now request.now Definition.InDialog (Definition.Answer 481 [])) verdict) }
+    ensures room { IfOk result (λ verdict. (room : ℕ) → HasRoom room verdict) }
+    ensures names { AreNames request.now names.new }
+    ensures made { IfOk result (λ verdict. is_some names.new ≡ goes_on verdict) }
+{
+    match within(alloc, judge, dialogs, now, request, checked)? {
+        Some((address, id)) => {
+            *names = Some(Names::of(alloc, &checked.core)?);
+            Ok(Verdict::InDialog(address, id))
+        }
+        None => Ok(Verdict::Answer(481, Fields::new(alloc))),
+    }
+}
+
+/// The verdict on a request that passed the checks, of which this was read, and for which there is room.
+fn core_verdict<'v, R: Rules>(
+    alloc: Global,
+    judge: &Judge<R>,
+    locations: &mut Locations,
+    nonces: &Nonces,
+    dialogs: &Dialogs,
+    now: u64,
+    request: &'v View<'_>,
+    method: &[u8],
+    checked: &Checked<'_>,
+    names: &mut Option<Names>,
+) -> Result<Verdict<'v>, AllocError>
+    requires moment { now < 2 ^ 62 }
+    requires core { result_ok (core_of request.now) ≡ Some checked.now.core }
+    requires way { checked.now.way ≡ way_of judge.now.config.own request.now }
+    requires uri { checked.now.uri ≡ request_uri_of judge.now.config.own request.now }
+    requires names { AreNames request.now names.now }
+    requires none { names.now ≡ None }
+    ensures verdict { IfOk result (λ verdict. (state : ProxyState) (is_full : Bool) → Knows state locations.old.rows nonces.now dialogs.now.dialogs is_full → (named : Option OpenRequest)
+        → Is judge.now locations.old.rows now named (Definition.core_verdict judge.now state now request.now method.now (Some checked.now.core)) verdict) }
+    ensures unchanged { locations.new.rows ≡ locations.old.rows }
+    ensures room { IfOk result (HasRoom locations.new.room) }
+    ensures names { AreNames request.now names.new }
+    ensures made { IfOk result (λ verdict. is_some names.new ≡ goes_on verdict) }
+{
+    if is_outside(method, &checked.core) {
+        let judged = policy_verdict(
+            alloc, judge, locations, nonces, now, request, method, checked,
+        )?;
+        if goes_out(&judged.outcome) {
+            *names = Some(Names::of(alloc, &checked.core)?);
+        }
+        return Ok(Verdict::Judged(judged));
+    }
+    request_within(alloc, judge, dialogs, now, request, checked, names)
+}
+
+/// The verdict on a request that passed the checks, of which this was read: 503 without room, else it is served.
+fn passed_verdict<'v, R: Rules>(
+    alloc: Global,
+    judge: &Judge<R>,
+    locations: &mut Locations,
+    nonces: &Nonces,
+    dialogs: &Dialogs,
+    is_full: bool,
+    now: u64,
+    request: &'v View<'_>,
+    method: &[u8],
+    checked: &Checked<'_>,
+    names: &mut Option<Names>,
+) -> Result<Verdict<'v>, AllocError>
+    requires moment { now < 2 ^ 62 }
+    requires core { result_ok (core_of request.now) ≡ Some checked.now.core }
+    requires way { checked.now.way ≡ way_of judge.now.config.own request.now }
+    requires uri { checked.now.uri ≡ request_uri_of judge.now.config.own request.now }
+    requires names { AreNames request.now names.now }
+    requires none { names.now ≡ None }
+    ensures verdict { IfOk result (λ verdict. (state : ProxyState) → Knows state locations.old.rows nonces.now dialogs.now.dialogs is_full → (named : Option OpenRequest)
+        → Is judge.now locations.old.rows now named (Definition.checked_verdict judge.now state now request.now method.now None) verdict) }
+    ensures unchanged { locations.new.rows ≡ locations.old.rows }
+    ensures room { IfOk result (HasRoom locations.new.room) }
+    ensures names { AreNames request.now names.new }
+    ensures made { IfOk result (λ verdict. is_some names.new ≡ goes_on verdict) }
+{
+    if is_full {
+        return Ok(Verdict::Answer(503, Fields::new(alloc)));
+    }
+    core_verdict(
+        alloc, judge, locations, nonces, dialogs, now, request, method, checked, names,
+    )
+}
+
+/// The verdict on a request with this Via on top that isn't ACK or CANCEL.
+fn checked_verdict<'v, R: Rules>(
+    alloc: Global,
+    judge: &Judge<R>,
+    locations: &mut Locations,
+    nonces: &Nonces,
+    dialogs: &Dialogs,
+    is_full: bool,
+    now: u64,
+    request: &'v View<'_>,
+    via: &Via<'_>,
+    method: &[u8],
+    short: bool,
+    names: &mut Option<Names>,
+) -> Result<Verdict<'v>, AllocError>
+    requires moment { now < 2 ^ 62 }
+    requires request { IsRequestOf method.now request.now.start }
+    requires via { top_via request.now ≡ Some via.now }
+    requires names { AreNames request.now names.now }
+    requires none { names.now ≡ None }
+    ensures verdict { IfOk result (λ verdict. (state : ProxyState) → Knows state locations.old.rows nonces.now dialogs.now.dialogs is_full → (named : Option OpenRequest)
+        → Is judge.now locations.old.rows now named (Definition.checked_verdict judge.now state now request.now method.now (refusal_of judge.now.config.own request.now short)) verdict) }
+    ensures unchanged { locations.new.rows ≡ locations.old.rows }
+    ensures room { IfOk result (HasRoom locations.new.room) }
+    ensures names { AreNames request.now names.new }
+    ensures made { IfOk result (λ verdict. is_some names.new ≡ goes_on verdict) }
+{
+    match check(alloc, judge, request, via, method, short) {
+        Ok(checked) => passed_verdict(
+            alloc, judge, locations, nonces, dialogs, is_full, now, request, method, &checked,
+            names,
+        ),
+        Err(Refused::NoMemory) => Err(AllocError),
+        Err(Refused::Status(status, items)) => refusal_verdict(alloc, status, items.as_slice()),
+    }
+}
+
+/// Whether a method is ACK.
+fn is_ack(method: &[u8]) -> bool
+    ensures { result ≡ bytes_eq method.now (codes "ACK") }
+{
+    method == b"ACK".as_slice()
+}
+
+/// Whether a method is CANCEL.
+fn is_cancel(method: &[u8]) -> bool
+    ensures { result ≡ bytes_eq method.now (codes "CANCEL") }
+{
+    method == b"CANCEL".as_slice()
+}
+
+/// The verdict on a request of a method, with this Via on top, that no open one is found for, of whose body fewer bytes
+/// may have come than its length says: the first case that applies. An ACK is sent on in a dialog or dropped; a CANCEL
+/// is decided by the request that it names, unless it is bad or there is no room; every other is refused by the checks,
+/// answered 503 where 1,024 requests are open, sent on in its dialog, or judged by policy, and then registered or sent
+/// to its targets (RFC 3261 9.2, 10.3, 16.3 to 16.5). What names its dialogs is made exactly where it goes on and is
+/// kept, of what the checks read. No binding changes; there is room for the plan that a REGISTER gives. `AllocError` is
+/// the only refusal. Moments are in milliseconds, below 2^62.
+pub fn new_verdict<'v, R: Rules>(
+    alloc: Global,
+    judge: &Judge<R>,
+    locations: &mut Locations,
+    nonces: &Nonces,
+    dialogs: &Dialogs,
+    is_full: bool,
+    now: u64,
+    request: &'v View<'_>,
+    via: &Via<'_>,
+    method: &[u8],
+    short: bool,
+    names: &mut Option<Names>,
+) -> Result<Verdict<'v>, AllocError>
+    requires moment { now < 2 ^ 62 }
+    requires request { IsRequestOf method.now request.now.start }
+    requires via { top_via request.now ≡ Some via.now }
+    ensures verdict { IfOk result (λ verdict. (state : ProxyState) → Knows state locations.old.rows nonces.now dialogs.now.dialogs is_full → (a : Arrival) (key : Key) → a.now ≡ now
+        → Is judge.now locations.old.rows now (Definition.found_for_cancel state key a.from) (Definition.new_verdict judge.now state a request.now short method.now key) verdict) }
+    ensures unchanged { locations.new.rows ≡ locations.old.rows }
+    ensures room { IfOk result (HasRoom locations.new.room) }
+    ensures names { AreNames request.now names.new }
+    ensures made { IfOk result (λ verdict. is_some names.new ≡ goes_on verdict) }
+{
+    *names = None;
+    if is_ack(method) {
+        return ack_verdict(alloc, judge, dialogs, now, request, via, method, short);
+    }
+    if is_cancel(method) {
+        return cancel_verdict(
+            alloc,
+            &judge.server().config.own,
+            is_full,
+            request,
+            via,
+            short,
+        );
+    }
+    checked_verdict(
+        alloc, judge, locations, nonces, dialogs, is_full, now, request, via, method, short, names,
+    )
+}

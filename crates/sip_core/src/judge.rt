@@ -1,0 +1,105 @@
+ghost use Rattle.std.specs.Prelude.{◌≡◌, IfOk};
+ghost use Rattle.sip_hops.specs.HostAddress.{address_of};
+ghost use Rattle.model_verdict.specs.Verdict.{answer_of, minute_on};
+
+use crate::copies::{copy_addresses, copy_hops};
+use model_verdict::Question;
+use model_verdict::state::Server;
+use sip_hops::Hops;
+use sip_policy::{Rules, Ruling};
+use sip_uri::{Addr, Uri};
+use std::alloc::{AllocError, Global};
+use std::marker::Model;
+
+/// A configured server with its rules and its tables of addresses, by which it judges requests. Seen as the server:
+/// the rules and tables are those that it was configured with.
+pub struct Judge<R: Rules> {
+    server: Server,
+    rules: R,
+    hops: Hops,
+}
+
+/// Written out, so that it is proved once and not wherever one is dropped.
+impl<R: Rules> Drop for Judge<R> {
+    fn drop(self) {
+        let Judge {
+            server: _,
+            rules: _,
+            hops: _,
+        } = self;
+    }
+}
+
+impl<R: Rules> Model for Judge<R> {
+    ghost use Rattle.sip_core.specs.Judge.{IsConfigured};
+    ghost use Rattle.model_verdict.specs.state.declared.server.Server.{Server};
+
+    ghost Value = { Server };
+
+    ghost view = { λ j. j.server };
+
+    ghost invariant = { λ j. IsConfigured j.server.config (R.rules_of j.rules) (R.users_of j.rules) (R.domains_of j.rules) j.hops };
+}
+
+impl<R: Rules> Judge<R> {
+    /// The judge of a server. `AllocError` is the only refusal.
+    pub fn new(alloc: Global, server: Server) -> Result<Self, AllocError>
+        ensures { IfOk result (λ judge. judge ≡ server) }
+    {
+        let config = &server.config;
+        let Ok(rules) = R::new(alloc, &config.rules, &config.users, &config.own.domains) else {
+            return Err(AllocError);
+        };
+        let addresses = copy_addresses(alloc, config.addresses.as_slice())?;
+        let hops = copy_hops(alloc, config.hops.as_slice())?;
+        let Ok(hops) = Hops::new(alloc, addresses, hops) else {
+            return Err(AllocError);
+        };
+        Ok(Judge {
+            server,
+            rules,
+            hops,
+        })
+    }
+
+    /// The server.
+    pub fn server(&self) -> &Server
+        ensures { result.now ≡ self.now }
+    {
+        &self.server
+    }
+
+    /// Its tables of addresses.
+    pub fn hops(&self) -> &Hops
+        ensures addresses { result.now.addresses ≡ self.now.config.addresses }
+        ensures hops { result.now.hops ≡ self.now.config.hops }
+    {
+        &self.hops
+    }
+
+    /// The address to which a request for a URI goes, if it has one. Takes no memory.
+    pub fn address_of(&self, uri: &Uri) -> Option<Addr>
+        ensures { result ≡ address_of self.now.config.addresses uri.now }
+    {
+        self.hops.address_of(uri)
+    }
+
+    /// What the first rule that applies decides, with the minute that is recorded of it. Takes no memory.
+    pub fn ruling(&self, question: &Question<'_>) -> Ruling
+        ensures decision { result.decision ≡ answer_of self.now question.now }
+        ensures minute { result.minute ≡ minute_on self.now question.now }
+    {
+        match question.proof.name() {
+            Some(name) => self.rules.decide(
+                name,
+                &question.operation,
+                &question.target,
+                question.minute,
+            ),
+            None => {
+                self.rules
+                    .decide_unproven(&question.operation, &question.target, question.minute)
+            }
+        }
+    }
+}

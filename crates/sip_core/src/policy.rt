@@ -1,0 +1,145 @@
+ghost use Rattle.std.specs.Prelude.{◌≡◌, ◌<◌, ◌^◌, IfOk};
+ghost use Rattle.model_verdict.specs.state.declared.proxy_state.ProxyState.{ProxyState};
+ghost use Rattle.sip_route.specs.Way.{request_uri_of};
+ghost use Rattle.model_verdict.specs.Verdict as Definition;
+ghost use Rattle.sip_core.specs.Verdict.{IsOutcome, HasRoomFor};
+
+use crate::verdict::{Judged, Outcome};
+use crate::{Judge, is_register};
+use model_verdict::Question;
+use sip_digest::Nonces;
+use sip_location::Locations;
+use sip_message_form::View;
+use sip_policy::{Decision, Rules};
+use sip_validate::Checked;
+use std::alloc::{AllocError, Global};
+
+/// What comes of a request that a rule let through: a REGISTER is taken, every other is sent to its targets.
+fn let_through<R: Rules>(
+    alloc: Global,
+    judge: &Judge<R>,
+    locations: &mut Locations,
+    now: u64,
+    request: &View<'_>,
+    method: &[u8],
+    checked: &Checked<'_>,
+    question: &Question<'_>,
+    id: u32,
+    decision: &Decision,
+) -> Result<Outcome, AllocError>
+    requires moment { now < 2 ^ 62 }
+    requires uri { checked.now.uri ≡ request_uri_of judge.now.config.own request.now }
+    requires question { question.now.target ≡ Definition.target_of judge.now request.now method.now checked.now.core }
+    ensures outcome { IfOk result (λ outcome. (state : ProxyState) → state.bindings ≡ locations.old.rows
+        → IsOutcome locations.old.rows now question.now (Definition.let_through judge.now state now request.now method.now checked.now.core question.now id decision.now) outcome) }
+    ensures unchanged { locations.new.rows ≡ locations.old.rows }
+    ensures room { IfOk result (HasRoomFor locations.new.room) }
+{
+    if is_register(method) {
+        let target = &question.target;
+        let registering = judge.registering(alloc, locations, now, request, checked, target)?;
+        return Ok(Outcome::Register(id, registering));
+    }
+    let uri = checked.uri.as_ref();
+    let targets = judge.targets_by(alloc, locations, now, question, decision, uri)?;
+    Ok(Outcome::Send(id, targets))
+}
+
+/// What comes of a decision about a request.
+fn decided<R: Rules>(
+    alloc: Global,
+    judge: &Judge<R>,
+    locations: &mut Locations,
+    now: u64,
+    request: &View<'_>,
+    method: &[u8],
+    checked: &Checked<'_>,
+    question: &Question<'_>,
+    decision: &Decision,
+) -> Result<Outcome, AllocError>
+    requires moment { now < 2 ^ 62 }
+    requires uri { checked.now.uri ≡ request_uri_of judge.now.config.own request.now }
+    requires question { question.now.target ≡ Definition.target_of judge.now request.now method.now checked.now.core }
+    ensures outcome { IfOk result (λ outcome. (state : ProxyState) → state.bindings ≡ locations.old.rows
+        → IsOutcome locations.old.rows now question.now (Definition.decided judge.now state now request.now method.now checked.now.core question.now decision.now) outcome) }
+    ensures unchanged { locations.new.rows ≡ locations.old.rows }
+    ensures room { IfOk result (HasRoomFor locations.new.room) }
+{
+    match decision {
+        Decision::Challenge => Ok(Outcome::Challenge),
+        Decision::Deny(id) => Ok(Outcome::Deny(*id)),
+        Decision::Allow(id) => let_through(
+            alloc, judge, locations, now, request, method, checked, question, *id, decision,
+        ),
+        Decision::Via(id, _) => let_through(
+            alloc, judge, locations, now, request, method, checked, question, *id, decision,
+        ),
+    }
+}
+
+/// What policy decides about a request, about which it is asked this.
+fn judged<'v, R: Rules>(
+    alloc: Global,
+    judge: &Judge<R>,
+    locations: &mut Locations,
+    now: u64,
+    request: &View<'_>,
+    method: &[u8],
+    checked: &Checked<'_>,
+    question: Question<'v>,
+) -> Result<Judged<'v>, AllocError>
+    requires moment { now < 2 ^ 62 }
+    requires uri { checked.now.uri ≡ request_uri_of judge.now.config.own request.now }
+    requires question { question.target ≡ Definition.target_of judge.now request.now method.now checked.now.core }
+    ensures question { IfOk result (λ judged. judged.question ≡ question.entry) }
+    ensures minute { IfOk result (λ judged. judged.minute ≡ Definition.minute_on judge.now judged.question) }
+    ensures outcome { IfOk result (λ judged. (state : ProxyState) → state.bindings ≡ locations.old.rows
+        → IsOutcome locations.old.rows now judged.question (Definition.decided judge.now state now request.now method.now checked.now.core judged.question (Definition.answer_of judge.now judged.question)) judged.outcome) }
+    ensures unchanged { locations.new.rows ≡ locations.old.rows }
+    ensures room { IfOk result (λ judged. HasRoomFor locations.new.room judged.outcome) }
+{
+    let ruling = judge.ruling(&question);
+    let outcome = decided(
+        alloc,
+        judge,
+        locations,
+        now,
+        request,
+        method,
+        checked,
+        &question,
+        &ruling.decision,
+    )?;
+    Ok(Judged {
+        question,
+        minute: ruling.minute,
+        outcome,
+    })
+}
+
+/// What policy says of a request outside a dialog, of which this was read (RFC 3261 16.3 step 6, 16.5, 10.3).
+pub(crate) fn policy_verdict<'v, R: Rules>(
+    alloc: Global,
+    judge: &Judge<R>,
+    locations: &mut Locations,
+    nonces: &Nonces,
+    now: u64,
+    request: &'v View<'_>,
+    method: &[u8],
+    checked: &Checked<'_>,
+) -> Result<Judged<'v>, AllocError>
+    requires moment { now < 2 ^ 62 }
+    requires uri { checked.now.uri ≡ request_uri_of judge.now.config.own request.now }
+    ensures minute { IfOk result (λ judged. judged.minute ≡ Definition.minute_on judge.now judged.question) }
+    ensures outcome { IfOk result (λ judged. (state : ProxyState) → state.bindings ≡ locations.old.rows → state.nonces ≡ nonces.now
+        → IsOutcome locations.old.rows now judged.question (Definition.policy_verdict judge.now state now request.now method.now checked.now.core) judged.outcome) }
+    ensures unchanged { locations.new.rows ≡ locations.old.rows }
+    ensures room { IfOk result (λ judged. HasRoomFor locations.new.room judged.outcome) }
+{
+    let uri = checked.uri.as_ref();
+    let core = &checked.core;
+    let question = judge.question_of(alloc, nonces, now, request, method, core, uri)?;
+    judged(
+        alloc, judge, locations, now, request, method, checked, question,
+    )
+}

@@ -1,0 +1,100 @@
+ghost use Rattle.std.specs.Prelude.{◌≡◌, false, IfOk, if◌then◌else◌};
+ghost use Rattle.std.specs.Option.{option_copied};
+ghost use Rattle.sip_policy.specs.Operation as Operations;
+ghost use Rattle.sip_location.specs.Registering as Naming;
+ghost use Rattle.sip_route.specs.Way.{request_uri_of};
+ghost use Rattle.model_verdict.specs.Verdict as Verdict;
+
+use crate::judge::Judge;
+use model_verdict::Question;
+use sip_auth::proof_of;
+use sip_digest::Nonces;
+use sip_header::CoreFields;
+use sip_message_fields::FieldName;
+use sip_message_form::View;
+use sip_policy::{Operation, Rules, minute_of};
+use sip_text::Bytes;
+use sip_uri::{Aor, Uri, aor_of};
+use std::alloc::{AllocError, Global};
+
+/// Whether a method is REGISTER. Takes no memory.
+pub fn is_register(method: &[u8]) -> bool
+    ensures { result ≡ Verdict.is_register method.now }
+{
+    method == b"REGISTER".as_slice()
+}
+
+/// The address of record of a URI; without one, what names nobody.
+fn aor_or_nobody(alloc: Global, uri: Option<&Uri>) -> Result<Aor, AllocError>
+    ensures { IfOk result (λ aor. aor ≡ Naming.aor_or_nobody (option_copied uri.entry)) }
+{
+    match uri {
+        Some(uri) => aor_of(alloc, uri),
+        None => Ok(Aor {
+            user: Bytes::new(alloc),
+            host: Bytes::new(alloc),
+        }),
+    }
+}
+
+/// The address of record that To names (RFC 3261 10.3 step 5).
+fn to_aor(alloc: Global, core: &CoreFields<'_>) -> Result<Aor, AllocError>
+    ensures { IfOk result (λ aor. aor ≡ Naming.to_aor core.now) }
+{
+    aor_or_nobody(alloc, core.to.uri.sip_uri())
+}
+
+/// The address of record that a request is for: To's of a REGISTER, that of the Request-URI of any other.
+fn target_of(
+    alloc: Global,
+    method: &[u8],
+    core: &CoreFields<'_>,
+    uri: Option<&Uri>,
+) -> Result<Aor, AllocError>
+    ensures { IfOk result (λ aor. aor ≡ (if Verdict.is_register method.now then Naming.to_aor core.now else Naming.aor_or_nobody (option_copied uri.entry))) }
+{
+    if is_register(method) {
+        to_aor(alloc, core)
+    } else {
+        aor_or_nobody(alloc, uri)
+    }
+}
+
+/// What a request asks for.
+fn operation_of(alloc: Global, method: &[u8], request: &View<'_>) -> Result<Operation, AllocError>
+    ensures { IfOk result (λ operation. operation ≡ Operations.operation_of method.now (Verdict.has_contact request.now.fields)) }
+{
+    let has_contact = request.fields().first(&FieldName::Contact).is_some();
+    Operation::of_request(alloc, method, has_contact)
+}
+
+impl<R: Rules> Judge<R> {
+    /// What policy is asked about a request of a method, of which this was read, with the Request-URI of one that is no
+    /// REGISTER. `AllocError` is the only refusal.
+    #[tactic(auto, using(crate::proofs::ByMethod::target_by_method))]
+    pub fn question_of<'v>(
+        &self,
+        alloc: Global,
+        nonces: &Nonces,
+        now: u64,
+        request: &'v View<'_>,
+        method: &[u8],
+        core: &CoreFields<'_>,
+        uri: Option<&Uri>,
+    ) -> Result<Question<'v>, AllocError>
+        requires { Verdict.is_register method.now ≡ false → option_copied uri ≡ request_uri_of self.now.config.own request.now }
+        ensures { IfOk result (λ question. question ≡ Verdict.question_of self.now nonces.now now request.now method.now core.now) }
+    {
+        let config = &self.server().config;
+        let target = target_of(alloc, method, core, uri)?;
+        let operation = operation_of(alloc, method, request)?;
+        let realm = config.realm.as_slice();
+        let proof = proof_of(alloc, realm, &config.users, nonces, now, request)?;
+        Ok(Question {
+            proof,
+            operation,
+            target,
+            minute: minute_of(now, config.offset),
+        })
+    }
+}

@@ -1,0 +1,111 @@
+ghost use Rattle.std.specs.Prelude.{◌≡◌, IfOk, Some, []};
+ghost use Rattle.std.specs.Option.{option_and_then, option_copied, unwrap_or};
+ghost use Rattle.std.specs.Result.{result_ok};
+ghost use Rattle.sip_dialog.specs.DialogId as Names;
+ghost use Rattle.sip_header.specs.CoreFields.{core_of};
+ghost use Rattle.sip_header.specs.Parameters as Parameters;
+ghost use Rattle.sip_hops.specs.HostAddress.{address_of};
+ghost use Rattle.sip_route.specs.Way as Ways;
+ghost use Rattle.sip_core.specs.Within.{GoesOn};
+
+use crate::Judge;
+use sip_dialog::{DialogId, Dialogs};
+use sip_header::{CoreFields, tag_of};
+use sip_message_form::View;
+use sip_policy::Rules;
+use sip_text::Bytes;
+use sip_uri::{Addr, Uri};
+use sip_validate::Checked;
+use std::alloc::{AllocError, Global};
+
+/// The tag of From; it is empty where there is none.
+fn from_tag<'v>(core: &CoreFields<'v>) -> &'v [u8]
+    ensures { result.now ≡ unwrap_or (Parameters.tag_of core.now.from.parameters) [] }
+{
+    match tag_of(&core.from.parameters) {
+        Some(tag) => tag,
+        None => b"",
+    }
+}
+
+/// The dialog of a Call-ID and two tags.
+fn named(
+    alloc: Global,
+    call_id: &[u8],
+    from_tag: &[u8],
+    to_tag: &[u8],
+) -> Result<DialogId, AllocError>
+    ensures { IfOk result (λ id. id ≡ record { call_id = call_id.now; from_tag = from_tag.now; to_tag = to_tag.now }) }
+{
+    Ok(DialogId {
+        call_id: Bytes::copy(alloc, call_id)?,
+        from_tag: Bytes::copy(alloc, from_tag)?,
+        to_tag: Bytes::copy(alloc, to_tag)?,
+    })
+}
+
+/// The dialog that a request with these core fields names, if its To has a tag (RFC 3261 12.2.2).
+fn dialog_of(alloc: Global, core: &CoreFields<'_>) -> Result<Option<DialogId>, AllocError>
+    ensures { IfOk result (λ id. id ≡ Names.id_of core.now) }
+{
+    let Some(to_tag) = tag_of(&core.to.parameters) else {
+        return Ok(None);
+    };
+    let id = named(alloc, core.call_id.as_slice(), from_tag(core), to_tag)?;
+    Ok(Some(id))
+}
+
+/// The address to which a request for a URI goes, if it has one.
+fn address_for<R: Rules>(judge: &Judge<R>, uri: Option<&Uri>) -> Option<Addr>
+    ensures { result ≡ option_and_then (address_of judge.now.config.addresses) (option_copied uri.entry) }
+{
+    match uri {
+        Some(uri) => judge.address_of(uri),
+        None => None,
+    }
+}
+
+/// The address where a request of which this was read is to go next. Its Request-URI isn't read again.
+#[tactic(auto, using(crate::proofs::Going::straight))]
+fn next_address<R: Rules>(
+    alloc: Global,
+    judge: &Judge<R>,
+    checked: &Checked<'_>,
+) -> Result<Option<Addr>, AllocError>
+    requires { checked.now.uri ≡ Ways.request_uri_in checked.now.way }
+    ensures { IfOk result (λ address. address ≡ option_and_then (address_of judge.now.config.addresses) (Ways.next_uri checked.now.way)) }
+{
+    if checked.way.routes.as_slice().is_empty() {
+        return Ok(address_for(judge, checked.uri.as_ref()));
+    }
+    let uri = checked.way.next_uri(alloc)?;
+    Ok(address_for(judge, uri.as_ref()))
+}
+
+/// Where a request of which this was read goes in a dialog that is known: to the next address of its way, if the dialog
+/// that it names holds that (RFC 3261 12.2.2, 16.12.1). None where it isn't in a dialog that is known.
+#[tactic(auto, using(crate::proofs::Going::unnamed, crate::proofs::Going::unaddressed, crate::proofs::Going::held, crate::proofs::Going::not_held, crate::proofs::Going::left))]
+pub(crate) fn within<R: Rules>(
+    alloc: Global,
+    judge: &Judge<R>,
+    dialogs: &Dialogs,
+    now: u64,
+    request: &View<'_>,
+    checked: &Checked<'_>,
+) -> Result<Option<(Addr, DialogId)>, AllocError>
+    requires core { result_ok (core_of request.now) ≡ Some checked.now.core }
+    requires way { checked.now.way ≡ Ways.way_of judge.now.config.own request.now }
+    requires uri { checked.now.uri ≡ Ways.request_uri_of judge.now.config.own request.now }
+    ensures { IfOk result (GoesOn judge.now dialogs.now.dialogs now request.now) }
+{
+    let Some(id) = dialog_of(alloc, &checked.core)? else {
+        return Ok(None);
+    };
+    let Some(address) = next_address(alloc, judge, checked)? else {
+        return Ok(None);
+    };
+    if dialogs.allows(&id, address, now) {
+        return Ok(Some((address, id)));
+    }
+    Ok(None)
+}

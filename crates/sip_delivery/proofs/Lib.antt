@@ -1,3 +1,0 @@
-mod Judged
-mod Taken
-mod Places

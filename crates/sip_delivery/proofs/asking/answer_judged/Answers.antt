@@ -1,7 +1,0 @@
-use Rattle.sip_delivery.proofs.Taken.{told}
-use Rattle.sip_delivery.proofs.asking.answer_judged.Goals as goal
-
-pub returns-clause-does : goal.returns-clause-does
-returns-clause-does g c =
-    told c.args.server.now c.args.arrival c.args.proxy.now.state c.take_judged.new.proxy.state c.args.key c.args.message.now c.in_ok-kept.kept.message c.args.judged c.take_judged.result
-    c.in_ok-kept.ensures.message c.take_judged.ensures.does

@@ -1,5 +1,0 @@
-use Rattle.sip_delivery.proofs.Judged.{new_place}
-use Rattle.sip_delivery.proofs.laws.new_requests_need_room.Goals as goal
-
-pub returns : goal.returns
-returns c = new_place

@@ -1,0 +1,14 @@
+use Rattle.sip_dialog_lessons.specs.Lessons.{after_lessons, beginnings}
+use Rattle.sip_dialog_lessons.proofs.Told.{next_told, next_counted}
+use Rattle.sip_dialog_lessons.proofs.lessons.put_answers.Goals as goal
+
+pub loop-up-preserved : goal.loop-up-preserved
+loop-up-preserved c =
+    record {
+      told = λ server now dialogs e.
+          next_told server now c.args.request.now c.args.upward.now c.loop-up.up-index c.up-item.result (after_lessons now c.loop-up.list.items dialogs) _ _ c.loop-up-test.true c.up-item.is
+          (c.loop-up.invariant.told server now dialogs e) (c.in_ok-put_answer.ensures.told server now dialogs e);
+      room =
+          next_counted c.args.upward.now c.loop-up.up-index c.up-item.result (beginnings c.loop-up.list.items) _ _ c.loop-up-test.true c.up-item.is c.loop-up.invariant.room
+          c.in_ok-put_answer.ensures.room;
+    }

@@ -1,0 +1,3 @@
+pub mod Lessons
+pub mod Telling
+pub use Rattle.sip_state.specs as state

@@ -1,0 +1,4 @@
+pub mod Lowering
+pub mod Tail
+pub mod Onward
+pub mod OnwardExamples

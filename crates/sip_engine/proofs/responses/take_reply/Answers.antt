@@ -1,0 +1,23 @@
+use Rattle.std.proofs.Common.{refl}
+use Rattle.sip_core.specs.context_model.FoundBranch.{found_branch}
+use Rattle.sip_engine_time.specs.context_opening.Arrivals.{arrival_of}
+use Rattle.sip_engine.proofs.Taken.{replied, unfound}
+use Rattle.sip_engine.proofs.responses.take_reply.Goals as goal
+
+pub returns-in-Some-clause-does : goal.returns-in-Some-clause-does
+returns-in-Some-clause-does g c =
+    replied c.args.server.now c.args.arrival c.args.proxy.now.state c.take_found.new.proxy.state c.args.message.now c.args.short c.in-Some.place c.in-Some.number c.args.status c.args.has_more_vias
+    (found_branch c.args.server.now c.args.branch.now c.args.method.now c.args.proxy.now.state.requests) c.take_found.result c.in-Some.ensures
+    (λ r b is.
+    c.responses.ensures.found c.args.server.now.config.own c.args.message.now c.args.short c.args.status c.args.branch.now c.args.method.now c.args.has_more_vias c.requires.response c.args.server.now
+    c.args.proxy.now.state (arrival_of c.args.arrival) refl r b is)
+    c.take_found.ensures.does
+
+pub returns-in-None-clause-does : goal.returns-in-None-clause-does
+returns-in-None-clause-does g c =
+    unfound c.args.server.now c.args.arrival c.args.proxy.now.state c.take_dropped.new.proxy.state c.args.message.now c.args.short
+    (found_branch c.args.server.now c.args.branch.now c.args.method.now c.args.proxy.now.state.requests) c.take_dropped.result c.in-None.ensures
+    (λ is.
+    c.responses.ensures.lost c.args.server.now.config.own c.args.message.now c.args.short c.args.status c.args.branch.now c.args.method.now c.args.has_more_vias c.requires.response c.args.server.now
+    c.args.proxy.now.state (arrival_of c.args.arrival) refl is)
+    (c.take_dropped.ensures.drops c.args.server.now c.args.message.now)

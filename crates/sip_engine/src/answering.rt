@@ -1,0 +1,77 @@
+ghost use Rattle.std.specs.Prelude.{◌≡◌, position, false, None, Some, IfOk, OnErr};
+ghost use Rattle.sip_engine_time.specs.proxy.Proxy.{IsComing};
+ghost use Rattle.sip_edit.specs.ReceivedRequest.{top_via};
+ghost use Rattle.sip_engine_time.specs.transactions_model.Fits.{IsFinalAnswer};
+ghost use Rattle.sip_transaction_table.specs.Key.{key_of};
+ghost use Rattle.sip_engine_time.specs.context_opening.Arrivals.{arrival_of};
+ghost use Rattle.sip_core.specs.state.State.{has_key};
+ghost use Rattle.sip_core.specs.verdict_model.Verdict as Definition;
+ghost use Rattle.sip_engine.specs.Delivery.{Takes};
+
+use crate::keeping::{NewRequest, keep};
+use sip_core::state::Server;
+use sip_engine_answer::{take_answered, take_cancel};
+use sip_engine_time::context_opening::Arrival;
+use sip_engine_time::proxy::Proxy;
+use sip_event::StepOut;
+use sip_header::Via;
+use sip_hops::Hops;
+use sip_message_fields::Fields;
+use sip_message_form::View;
+use sip_timers::Timers;
+use sip_transaction_table::Key;
+use std::alloc::{AllocError, Global};
+
+/// A new request with a key is answered at once, with a status and further fields. `AllocError` is the only refusal;
+/// nothing is changed then.
+pub(crate) fn answer<T: Timers>(
+    alloc: Global,
+    server: &Server,
+    proxy: &mut Proxy<T>,
+    arrival: Arrival,
+    key: Key,
+    message: &View<'_>,
+    via: &Via<'_>,
+    status: u16,
+    extras: &Fields,
+) -> Result<StepOut, AllocError>
+    requires coming { IsComing proxy.old.state arrival }
+    requires key { key_of message.now ≡ Some key }
+    requires via { top_via message.now ≡ Some via.now }
+    requires alone { position (has_key key) proxy.old.state.requests ≡ None }
+    requires final_status { IsFinalAnswer status }
+    ensures does { IfOk result (λ out. Takes server.now proxy.old.state arrival message.now (Definition.Answer status extras.now) out proxy.new.state) }
+    ensures unchanged { OnErr result (proxy.new.state ≡ proxy.old.state) }
+    ensures timers { OnErr result (proxy.new.timers ≡ proxy.old.timers) }
+{
+    let kept = keep(alloc, key, message, via, arrival.from)?;
+    let NewRequest { key, message } = kept;
+    take_answered(alloc, server, proxy, arrival, key, message, status, extras)
+}
+
+/// A CANCEL with a key cancels the request that it names, if there is one (RFC 3261 9.2). `AllocError` is the only
+/// refusal; nothing is changed then.
+pub(crate) fn cancel<T: Timers>(
+    alloc: Global,
+    server: &Server,
+    hops: &Hops,
+    proxy: &mut Proxy<T>,
+    arrival: Arrival,
+    key: Key,
+    message: &View<'_>,
+    via: &Via<'_>,
+) -> Result<StepOut, AllocError>
+    requires coming { IsComing proxy.old.state arrival }
+    requires key { key_of message.now ≡ Some key }
+    requires via { top_via message.now ≡ Some via.now }
+    requires alone { position (has_key key) proxy.old.state.requests ≡ None }
+    requires space { Definition.is_full proxy.old.state ≡ false }
+    requires rows { hops.now.addresses ≡ server.now.config.addresses }
+    ensures does { IfOk result (λ out. Takes server.now proxy.old.state arrival message.now (Definition.Cancel (Definition.found_for_cancel proxy.old.state key arrival.from)) out proxy.new.state) }
+    ensures unchanged { OnErr result (proxy.new.state ≡ proxy.old.state) }
+    ensures timers { OnErr result (proxy.new.timers ≡ proxy.old.timers) }
+{
+    let kept = keep(alloc, key, message, via, arrival.from)?;
+    let NewRequest { key, message } = kept;
+    take_cancel(alloc, server, hops, proxy, arrival, key, message)
+}

@@ -1,0 +1,120 @@
+ghost use Rattle.std.specs.Prelude.{◌≡◌, IfOk, OnErr};
+ghost use Rattle.sip_matching.specs.Incoming.{IsRequest};
+ghost use Rattle.sip_engine_time.specs.proxy.Proxy.{IsComing};
+ghost use Rattle.sip_model.specs.steps_model.Effect.{datagram_effect};
+ghost use Rattle.sip_model.specs.steps_model.Step.{Does};
+ghost use Rattle.sip_engine_time.specs.context_opening.Arrivals.{arrival_of};
+ghost use Rattle.sip_core.specs.verdict_model.Verdict as Definition;
+ghost use Rattle.sip_engine.specs.Delivery.{Takes};
+
+use crate::known::take_known;
+use crate::new::take_new;
+use crate::responses::take_reply;
+use sip_core::Judge;
+use sip_engine_open::take_dropped;
+use sip_engine_time::context_opening::Arrival;
+use sip_engine_time::proxy::Proxy;
+use sip_event::StepOut;
+use sip_header::Via;
+use sip_matching::{Incoming, incoming_of, laws, read_datagram};
+use sip_message_form::View;
+use sip_policy::Rules;
+use sip_timers::Timers;
+use sip_transaction_table::Key;
+use std::alloc::{AllocError, Global};
+
+/// The step of a request of a method with a key and this Via on top: it belongs to the open one with that key, or is
+/// new (RFC 3261 17.2.3). `AllocError` is the only refusal; nothing is changed then.
+fn take_request<T: Timers, R: Rules>(
+    alloc: Global,
+    judge: &Judge<R>,
+    proxy: &mut Proxy<T>,
+    arrival: Arrival,
+    key: Key,
+    method: &[u8],
+    message: &View<'_>,
+    via: &Via<'_>,
+    short: bool,
+) -> Result<StepOut, AllocError>
+    requires coming { IsComing proxy.old.state arrival }
+    requires request { IsRequest message.now short method.now via.now key }
+    ensures does { IfOk result (λ out. Takes judge.now proxy.old.state arrival message.now (Definition.message_verdict judge.now proxy.old.state (arrival_of arrival) message.now short) out proxy.new.state) }
+    ensures unchanged { OnErr result (proxy.new.state ≡ proxy.old.state) }
+    ensures timers { OnErr result (proxy.new.timers ≡ proxy.old.timers) }
+{
+    laws::requests();
+    match proxy.find(&key) {
+        Some(place) => take_known(
+            alloc, judge, proxy, arrival, place, method, message, via, short,
+        ),
+        None => take_new(
+            alloc, judge, proxy, arrival, key, method, message, via, short,
+        ),
+    }
+}
+
+/// The step of a message, of whose body fewer bytes may have come than its length says. `AllocError` is the only refusal;
+/// nothing is changed then.
+fn take_message<T: Timers, R: Rules>(
+    alloc: Global,
+    judge: &Judge<R>,
+    proxy: &mut Proxy<T>,
+    arrival: Arrival,
+    message: &View<'_>,
+    short: bool,
+) -> Result<StepOut, AllocError>
+    requires coming { IsComing proxy.old.state arrival }
+    ensures does { IfOk result (λ out. Takes judge.now proxy.old.state arrival message.now (Definition.message_verdict judge.now proxy.old.state (arrival_of arrival) message.now short) out proxy.new.state) }
+    ensures unchanged { OnErr result (proxy.new.state ≡ proxy.old.state) }
+    ensures timers { OnErr result (proxy.new.timers ≡ proxy.old.timers) }
+{
+    let incoming = incoming_of(alloc, &judge.server().config.own, message, short)?;
+    match incoming {
+        Incoming::Dropped => Ok(take_dropped(alloc, proxy, arrival)),
+        Incoming::Response {
+            status,
+            branch,
+            method,
+            has_more_vias,
+        } => take_reply(
+            alloc,
+            judge.server(),
+            judge.hops(),
+            proxy,
+            arrival,
+            status,
+            branch,
+            method,
+            has_more_vias,
+            message,
+            short,
+        ),
+        Incoming::Request { method, via, key } => {
+            take_request(
+                alloc, judge, proxy, arrival, key, method, message, &via, short,
+            )
+        }
+    }
+}
+
+/// The step of the bytes of a datagram that comes (RFC 3261 16, 17, 18): exactly what the model says that it does. Bytes that say
+/// no message are dropped. `AllocError` is the only refusal; nothing is changed then.
+pub fn take_datagram<T: Timers, R: Rules>(
+    alloc: Global,
+    judge: &Judge<R>,
+    proxy: &mut Proxy<T>,
+    arrival: Arrival,
+    bytes: &[u8],
+) -> Result<StepOut, AllocError>
+    requires coming { IsComing proxy.old.state arrival }
+    ensures does { IfOk result (λ out. Does judge.now proxy.old.state arrival.now (datagram_effect judge.now proxy.old.state (arrival_of arrival) bytes.now) out proxy.new.state) }
+    ensures unchanged { OnErr result (proxy.new.state ≡ proxy.old.state) }
+    ensures timers { OnErr result (proxy.new.timers ≡ proxy.old.timers) }
+{
+    laws::datagrams();
+    let said = read_datagram(alloc, bytes)?;
+    match said {
+        Some((message, short)) => take_message(alloc, judge, proxy, arrival, &message, short),
+        None => Ok(take_dropped(alloc, proxy, arrival)),
+    }
+}

@@ -1,0 +1,96 @@
+ghost use Rattle.std.specs.Prelude.{◌≡◌, position, true, false, None, Some, IfOk, OnErr};
+ghost use Rattle.sip_engine_time.specs.proxy.Proxy.{IsComing};
+ghost use Rattle.sip_edit.specs.ReceivedRequest.{top_via};
+ghost use Rattle.sip_core.specs.context_request.Names.{AreNames};
+ghost use Rattle.sip_transaction_table.specs.Key.{key_of};
+ghost use Rattle.sip_core.specs.state.State.{has_key};
+ghost use Rattle.sip_core.specs.verdict_model.Verdict as Definition;
+ghost use Rattle.sip_engine_forward.specs.Routing.{are_somebody};
+ghost use Rattle.sip_engine.specs.Delivery.{Takes};
+
+use crate::keeping::{NewRequest, keep_onward};
+use sip_core::Judged;
+use sip_core::context_request::Names;
+use sip_core::state::Server;
+use sip_dialog::DialogId;
+use sip_engine_forward::{send_to, send_within};
+use sip_engine_time::context_opening::Arrival;
+use sip_engine_time::proxy::Proxy;
+use sip_event::StepOut;
+use sip_header::Via;
+use sip_hops::Hops;
+use sip_message_form::View;
+use sip_targets::Targets;
+use sip_timers::Timers;
+use sip_transaction_table::Key;
+use sip_uri::Addr;
+use std::alloc::{AllocError, Global};
+
+/// A new request with a key goes to its targets, which are somebody, by a rule (RFC 3261 16.5, 16.6). `AllocError` is the
+/// only refusal; nothing is changed then.
+pub(crate) fn go_to<T: Timers>(
+    alloc: Global,
+    server: &Server,
+    hops: &Hops,
+    proxy: &mut Proxy<T>,
+    arrival: Arrival,
+    key: Key,
+    message: &View<'_>,
+    via: &Via<'_>,
+    names: Option<Names>,
+    judged: &Judged<'_>,
+    rule: u32,
+    targets: &Targets,
+) -> Result<StepOut, AllocError>
+    requires coming { IsComing proxy.old.state arrival }
+    requires key { key_of message.now ≡ Some key }
+    requires via { top_via message.now ≡ Some via.now }
+    requires names { AreNames message.now names }
+    requires alone { position (has_key key) proxy.old.state.requests ≡ None }
+    requires space { Definition.is_full proxy.old.state ≡ false }
+    requires rows { hops.now.addresses ≡ server.now.config.addresses }
+    requires minute { judged.now.minute ≡ Definition.minute_on server.now judged.now.question }
+    requires somebody { are_somebody targets.now ≡ true }
+    ensures does { IfOk result (λ out. Takes server.now proxy.old.state arrival message.now (Definition.Send judged.now.question rule targets.now) out proxy.new.state) }
+    ensures unchanged { OnErr result (proxy.new.state ≡ proxy.old.state) }
+    ensures timers { OnErr result (proxy.new.timers ≡ proxy.old.timers) }
+{
+    let kept = keep_onward(alloc, server, key, message, via, names, arrival.from)?;
+    let NewRequest { key, message } = kept;
+    send_to(
+        alloc, server, hops, proxy, arrival, key, message, judged, rule, targets,
+    )
+}
+
+/// A new request with a key goes on in its dialog (RFC 3261 12.2, 16.12). `AllocError` is the only refusal; nothing is
+/// changed then.
+pub(crate) fn go_within<T: Timers>(
+    alloc: Global,
+    server: &Server,
+    hops: &Hops,
+    proxy: &mut Proxy<T>,
+    arrival: Arrival,
+    key: Key,
+    message: &View<'_>,
+    via: &Via<'_>,
+    names: Option<Names>,
+    address: Addr,
+    id: DialogId,
+) -> Result<StepOut, AllocError>
+    requires coming { IsComing proxy.old.state arrival }
+    requires key { key_of message.now ≡ Some key }
+    requires via { top_via message.now ≡ Some via.now }
+    requires names { AreNames message.now names }
+    requires alone { position (has_key key) proxy.old.state.requests ≡ None }
+    requires space { Definition.is_full proxy.old.state ≡ false }
+    requires rows { hops.now.addresses ≡ server.now.config.addresses }
+    ensures does { IfOk result (λ out. Takes server.now proxy.old.state arrival message.now (Definition.InDialog address id) out proxy.new.state) }
+    ensures unchanged { OnErr result (proxy.new.state ≡ proxy.old.state) }
+    ensures timers { OnErr result (proxy.new.timers ≡ proxy.old.timers) }
+{
+    let kept = keep_onward(alloc, server, key, message, via, names, arrival.from)?;
+    let NewRequest { key, message } = kept;
+    send_within(
+        alloc, server, hops, proxy, arrival, key, message, address, id,
+    )
+}

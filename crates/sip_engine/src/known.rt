@@ -1,0 +1,113 @@
+ghost use Rattle.std.specs.Prelude.{◌≡◌, ◌<◌, ◌&&◌, codes, length, slice_get, Some, IfOk, OnErr};
+ghost use Rattle.std.specs.Str.{bytes_eq};
+ghost use Rattle.sip_engine_time.specs.proxy.Proxy.{IsComing};
+ghost use Rattle.sip_core.specs.Verdict.{IsRequestOf};
+ghost use Rattle.sip_edit.specs.ReceivedRequest.{top_via};
+ghost use Rattle.sip_transaction_table.specs.declared.key.Key.{Key};
+ghost use Rattle.sip_engine_time.specs.context_opening.Arrivals.{arrival_of};
+ghost use Rattle.sip_core.specs.state.declared.open_request.OpenRequest.{OpenRequest};
+ghost use Rattle.sip_core.specs.verdict_model.Verdict as Definition;
+ghost use Rattle.sip_core.specs.context_model.Branches as Branches;
+ghost use Rattle.sip_engine.specs.Delivery.{Takes};
+ghost use Rattle.sip_engine.specs.Delivery as Delivery;
+
+use crate::delivery_laws::acks_are_dropped_or_go_on;
+use sip_core::state::OpenRequest;
+use sip_core::{Judge, Verdict};
+use sip_dialog::DialogId;
+use sip_engine_forward::send_ack;
+use sip_engine_open::{take_copy, take_dropped};
+use sip_engine_time::context_events::is_accepted;
+use sip_engine_time::context_opening::Arrival;
+use sip_engine_time::proxy::Proxy;
+use sip_event::StepOut;
+use sip_header::Via;
+use sip_message_form::View;
+use sip_policy::Rules;
+use sip_timers::Timers;
+use sip_uri::Addr;
+use std::alloc::{AllocError, Global};
+
+/// Whether a request of a method with the key of an open one is an ACK of its 2xx, which is an own transaction (RFC 3261
+/// 13.2.2.4, 17.2.3).
+fn acknowledges_success(method: &[u8], request: &OpenRequest) -> bool
+    ensures { result ≡ (bytes_eq method.now (codes "ACK") && Branches.is_accepted request.now) }
+{
+    method == b"ACK".as_slice() && is_accepted(request)
+}
+
+/// Where an ACK goes on, if it does: the address and its dialog.
+fn way_on(decided: Verdict<'_>) -> Option<(Addr, DialogId)>
+    ensures { result ≡ Delivery.way_on decided.entry }
+{
+    match decided {
+        Verdict::AckOn(address, id) => Some((address, id)),
+        Verdict::Dropped
+        | Verdict::Cancel
+        | Verdict::Answer(_, _)
+        | Verdict::InDialog(_, _)
+        | Verdict::Judged(_) => None,
+    }
+}
+
+/// The step of an ACK that no server transaction takes, with this Via on top: it goes on in its dialog, or is dropped
+/// (RFC 3261 13.2.2.4, 16.11). `AllocError` is the only refusal; nothing is changed then.
+fn take_ack<T: Timers, R: Rules>(
+    alloc: Global,
+    judge: &Judge<R>,
+    proxy: &mut Proxy<T>,
+    arrival: Arrival,
+    method: &[u8],
+    message: &View<'_>,
+    via: &Via<'_>,
+    short: bool,
+) -> Result<StepOut, AllocError>
+    requires coming { IsComing proxy.old.state arrival }
+    requires request { IsRequestOf method.now message.now.start }
+    requires via { top_via message.now ≡ Some via.now }
+    ensures does { IfOk result (λ out. Takes judge.now proxy.old.state arrival message.now (Definition.ack_verdict judge.now proxy.old.state arrival.now message.now short) out proxy.new.state) }
+    ensures unchanged { OnErr result (proxy.new.state ≡ proxy.old.state) }
+    ensures timers { OnErr result (proxy.new.timers ≡ proxy.old.timers) }
+{
+    acks_are_dropped_or_go_on();
+    let decided = proxy.ack_verdict(alloc, judge, arrival.now, message, via, method, short)?;
+    match way_on(decided) {
+        Some((address, id)) => {
+            let server = judge.server();
+            let hops = judge.hops();
+            send_ack(alloc, server, hops, proxy, arrival, message, address, id)
+        }
+        None => Ok(take_dropped(alloc, proxy, arrival)),
+    }
+}
+
+/// The step of a request of a method, with this Via on top and the key of the open one at a place: an ACK of a 2xx is
+/// an own transaction; any other belongs to the open request (RFC 3261 13.2.2.4, 17.2). `AllocError` is the only
+/// refusal; nothing is changed then.
+pub(crate) fn take_known<T: Timers, R: Rules>(
+    alloc: Global,
+    judge: &Judge<R>,
+    proxy: &mut Proxy<T>,
+    arrival: Arrival,
+    place: usize,
+    method: &[u8],
+    message: &View<'_>,
+    via: &Via<'_>,
+    short: bool,
+) -> Result<StepOut, AllocError>
+    requires coming { IsComing proxy.old.state arrival }
+    requires place { place < length proxy.old.state.requests }
+    requires request { IsRequestOf method.now message.now.start }
+    requires via { top_via message.now ≡ Some via.now }
+    ensures does { IfOk result (λ out. (key : Key) (r : OpenRequest) → slice_get proxy.old.state.requests place ≡ Some r
+        → Takes judge.now proxy.old.state arrival message.now (Definition.by_open judge.now proxy.old.state (arrival_of arrival) message.now short method.now key (Some r)) out proxy.new.state) }
+    ensures unchanged { OnErr result (proxy.new.state ≡ proxy.old.state) }
+    ensures timers { OnErr result (proxy.new.timers ≡ proxy.old.timers) }
+{
+    if acknowledges_success(method, proxy.get(place)) {
+        return take_ack(alloc, judge, proxy, arrival, method, message, via, short);
+    }
+    let server = judge.server();
+    let hops = judge.hops();
+    take_copy(alloc, server, hops, proxy, arrival, place, method, message)
+}

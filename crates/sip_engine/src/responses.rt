@@ -1,0 +1,98 @@
+ghost use Rattle.std.specs.Prelude.{◌≡◌, ◌||◌, if◌then◌else◌, Some, IsSome, IfOk, OnErr};
+ghost use Rattle.sip_matching.specs.Incoming.{IsResponse};
+ghost use Rattle.sip_engine_time.specs.proxy.Proxy.{IsComing};
+ghost use Rattle.sip_engine_time.specs.fork.Places.{branch_at};
+ghost use Rattle.sip_engine_time.specs.context_opening.Arrivals.{arrival_of};
+ghost use Rattle.sip_core.specs.state.declared.branch.Branch.{Branch};
+ghost use Rattle.sip_core.specs.state.declared.open_request.OpenRequest.{OpenRequest};
+ghost use Rattle.sip_core.specs.verdict_model.Verdict as Definition;
+ghost use Rattle.sip_engine.specs.Delivery.{Takes};
+
+use sip_core::state::Server;
+use sip_engine_open::{take_dropped, take_response};
+use sip_engine_time::context_opening::Arrival;
+use sip_engine_time::proxy::Proxy;
+use sip_event::StepOut;
+use sip_hops::Hops;
+use sip_matching::laws;
+use sip_message_form::View;
+use sip_timers::Timers;
+use std::alloc::{AllocError, Global};
+
+/// Whether a response to the branch at these places is taken: it has a second Via, or is to a CANCEL of this server.
+fn is_taken<T: Timers>(proxy: &Proxy<T>, place: usize, branch: usize, has_more_vias: bool) -> bool
+    requires { IsSome (branch_at proxy.now.state.requests (place, branch)) }
+    ensures { (r : OpenRequest) (b : Branch) → branch_at proxy.now.state.requests (place, branch) ≡ Some (r, b) → result ≡ (b.is_cancel || has_more_vias) }
+{
+    proxy.get(place).branches.as_slice()[branch].is_cancel || has_more_vias
+}
+
+/// The step of a response of a status to the branch at these places: one without a second Via is dropped, but one to a
+/// CANCEL of this server (RFC 3261 16.7). `AllocError` is the only refusal; nothing is changed then.
+fn take_found<T: Timers>(
+    alloc: Global,
+    server: &Server,
+    hops: &Hops,
+    proxy: &mut Proxy<T>,
+    arrival: Arrival,
+    place: usize,
+    branch: usize,
+    status: u16,
+    has_more_vias: bool,
+    message: &View<'_>,
+) -> Result<StepOut, AllocError>
+    requires coming { IsComing proxy.old.state arrival }
+    requires rows { hops.now.addresses ≡ server.now.config.addresses }
+    requires found { IsSome (branch_at proxy.old.state.requests (place, branch)) }
+    ensures does { IfOk result (λ out. (r : OpenRequest) (b : Branch) → branch_at proxy.old.state.requests (place, branch) ≡ Some (r, b)
+        → Takes server.now proxy.old.state arrival message.now (if b.is_cancel || has_more_vias then Definition.Respond r b status else Definition.Drop) out proxy.new.state) }
+    ensures unchanged { OnErr result (proxy.new.state ≡ proxy.old.state) }
+    ensures timers { OnErr result (proxy.new.timers ≡ proxy.old.timers) }
+{
+    if is_taken(proxy, place, branch, has_more_vias) {
+        return take_response(
+            alloc, server, hops, proxy, arrival, place, branch, status, message,
+        );
+    }
+    Ok(take_dropped(alloc, proxy, arrival))
+}
+
+/// The step of a response of a status to the branch with this text that was sent with this method; one whose branch isn't
+/// found is dropped (RFC 3261 16.7, 17.1.3). `AllocError` is the only refusal; nothing is changed then.
+pub(crate) fn take_reply<T: Timers>(
+    alloc: Global,
+    server: &Server,
+    hops: &Hops,
+    proxy: &mut Proxy<T>,
+    arrival: Arrival,
+    status: u16,
+    branch: &[u8],
+    method: &[u8],
+    has_more_vias: bool,
+    message: &View<'_>,
+    short: bool,
+) -> Result<StepOut, AllocError>
+    requires coming { IsComing proxy.old.state arrival }
+    requires rows { hops.now.addresses ≡ server.now.config.addresses }
+    requires response { IsResponse server.now.config.own message.now short status branch.now method.now has_more_vias }
+    ensures does { IfOk result (λ out. Takes server.now proxy.old.state arrival message.now (Definition.message_verdict server.now proxy.old.state (arrival_of arrival) message.now short) out proxy.new.state) }
+    ensures unchanged { OnErr result (proxy.new.state ≡ proxy.old.state) }
+    ensures timers { OnErr result (proxy.new.timers ≡ proxy.old.timers) }
+{
+    laws::responses();
+    match proxy.find_branch(server, branch, method) {
+        Some((place, number)) => take_found(
+            alloc,
+            server,
+            hops,
+            proxy,
+            arrival,
+            place,
+            number,
+            status,
+            has_more_vias,
+            message,
+        ),
+        None => Ok(take_dropped(alloc, proxy, arrival)),
+    }
+}

@@ -1,0 +1,2 @@
+pub mod Routing
+pub use Rattle.sip_uas.specs as uas

@@ -1,0 +1,132 @@
+ghost use Rattle.std.specs.Prelude.{◌≡◌, ◌≤◌, ◌<◌, ◌^◌, ℕ, [], true, false, codes, length, slice_get, Some, IfOk, OnErr};
+ghost use Rattle.std.specs.Str.{bytes_eq};
+ghost use Rattle.sip_proxy.specs.Proxy.{IsComing};
+ghost use Rattle.sip_core.specs.Verdict.{IsRequestOf};
+ghost use Rattle.sip_core.specs.context_model.Branches.{acknowledged};
+ghost use Rattle.sip_proxy.specs.fork.Keeping.{IsKeptAs};
+ghost use Rattle.sip_message_form.specs.declared.message.Message.{Message};
+ghost use Rattle.sip_proxy.specs.steps_model.Effect.{counted, effect_of, method_of};
+ghost use Rattle.sip_proxy.specs.steps_model.Step.{Does};
+ghost use Rattle.sip_proxy.specs.context_opening.Arrivals.{arrival_of};
+ghost use Rattle.sip_dialog_lessons.specs.state.declared.open_request.OpenRequest.{OpenRequest};
+ghost use Rattle.sip_dialog_lessons.specs.state.declared.server.Server.{Server};
+ghost use Rattle.sip_core.specs.verdict_model.Verdict.{Copy};
+
+use crate::counting::{change, pass};
+use sip_dialog_lessons::Lessons;
+use sip_dialog_lessons::state::Server;
+use sip_event::StepOut;
+use sip_hops::Hops;
+use sip_message_form::View;
+use sip_proxy::context::Input;
+use sip_proxy::context_opening::{Arrival, copy_packets};
+use sip_proxy::forwarding::Drafted;
+use sip_proxy::{Draft, Proxy};
+use sip_text::Items;
+use sip_timers::Timers;
+use std::alloc::{AllocError, Global};
+
+/// Whether a method is ACK.
+fn is_ack(method: &[u8]) -> bool
+    ensures { result ≡ bytes_eq method.now (codes "ACK") }
+{
+    method == b"ACK".as_slice()
+}
+
+/// Drafts what an ACK makes of the open request at a place: nothing is sent, and the dialogs learn nothing. `AllocError`
+/// is the only refusal.
+fn draft_ack<T: Timers>(
+    alloc: Global,
+    server: &Server,
+    hops: &Hops,
+    proxy: &Proxy<T>,
+    now: u64,
+    place: usize,
+) -> Result<Draft, AllocError>
+    requires place { place < length proxy.now.state.requests }
+    requires later { proxy.now.state.moment ≤ now }
+    requires small { now < 2 ^ 62 }
+    ensures request { IfOk result (λ draft. (r : OpenRequest) → slice_get proxy.now.state.requests place ≡ Some r → draft.change ≡ acknowledged now r) }
+    ensures kept { IfOk result (λ draft. (r : OpenRequest) → slice_get proxy.now.state.requests place ≡ Some r → IsKeptAs now r draft.change) }
+    ensures sends { IfOk result (λ draft. draft.drafted.packets ≡ []) }
+    ensures tells { IfOk result (λ draft. draft.drafted.lessons ≡ []) }
+{
+    let draft = proxy.draft_input(alloc, server, hops, now, place, Input::Ack)?;
+    let Draft {
+        change,
+        drafted: _drafted,
+    } = draft;
+    let drafted = Drafted {
+        packets: Items::new(alloc),
+        lessons: Lessons::new(alloc),
+    };
+    Ok(Draft { change, drafted })
+}
+
+/// An ACK acknowledges the final answer of the open request at a place, and nothing is sent. `AllocError` is the only
+/// refusal; nothing is changed then.
+fn acknowledge<T: Timers>(
+    alloc: Global,
+    server: &Server,
+    hops: &Hops,
+    proxy: &mut Proxy<T>,
+    arrival: Arrival,
+    place: usize,
+) -> Result<StepOut, AllocError>
+    requires coming { IsComing proxy.old.state arrival }
+    requires place { place < length proxy.old.state.requests }
+    ensures does { IfOk result (λ out. (server : Server) (m : Message) (r : OpenRequest) → bytes_eq (method_of m.start) (codes "ACK") ≡ true → slice_get proxy.old.state.requests place ≡ Some r
+        → Does server proxy.old.state arrival.now (effect_of server (arrival_of arrival) m (Copy r) (counted (arrival_of arrival) proxy.old.state)) out proxy.new.state) }
+    ensures unchanged { OnErr result (proxy.new.state ≡ proxy.old.state) }
+    ensures timers { OnErr result (proxy.new.timers ≡ proxy.old.timers) }
+{
+    let draft = draft_ack(alloc, server, hops, proxy, arrival.now, place)?;
+    change(alloc, proxy, arrival, place, draft)
+}
+
+/// The last answer of the open request at a place goes again, and the request stays as it is. `AllocError` is the only
+/// refusal; nothing is changed then.
+fn answer_again<T: Timers>(
+    alloc: Global,
+    proxy: &mut Proxy<T>,
+    arrival: Arrival,
+    place: usize,
+) -> Result<StepOut, AllocError>
+    requires coming { IsComing proxy.old.state arrival }
+    requires place { place < length proxy.old.state.requests }
+    ensures does { IfOk result (λ out. (server : Server) (m : Message) (r : OpenRequest) → bytes_eq (method_of m.start) (codes "ACK") ≡ false → slice_get proxy.old.state.requests place ≡ Some r
+        → Does server proxy.old.state arrival.now (effect_of server (arrival_of arrival) m (Copy r) (counted (arrival_of arrival) proxy.old.state)) out proxy.new.state) }
+    ensures unchanged { OnErr result (proxy.new.state ≡ proxy.old.state) }
+    ensures timers { proxy.new.timers ≡ proxy.old.timers }
+{
+    let mut packets = Items::new(alloc);
+    copy_packets(alloc, &mut packets, proxy.get(place))?;
+    Ok(pass(alloc, proxy, arrival, packets))
+}
+
+/// The step of a request of a method with the key of the open request at a place: an ACK acknowledges its final answer; any
+/// other is a copy and gets the last answer again, but no 2xx to an INVITE, and nothing once an ACK came or the transaction
+/// ended (RFC 3261 13.3.1.4, 17.2). `AllocError` is the only refusal; nothing is changed then.
+pub fn take_copy<T: Timers>(
+    alloc: Global,
+    server: &Server,
+    hops: &Hops,
+    proxy: &mut Proxy<T>,
+    arrival: Arrival,
+    place: usize,
+    method: &[u8],
+    request: &View<'_>,
+) -> Result<StepOut, AllocError>
+    requires coming { IsComing proxy.old.state arrival }
+    requires place { place < length proxy.old.state.requests }
+    requires request { IsRequestOf method.now request.now.start }
+    ensures does { IfOk result (λ out. (r : OpenRequest) → slice_get proxy.old.state.requests place ≡ Some r
+        → Does server.now proxy.old.state arrival.now (effect_of server.now (arrival_of arrival) request.now (Copy r) (counted (arrival_of arrival) proxy.old.state)) out proxy.new.state) }
+    ensures unchanged { OnErr result (proxy.new.state ≡ proxy.old.state) }
+    ensures timers { OnErr result (proxy.new.timers ≡ proxy.old.timers) }
+{
+    if is_ack(method) {
+        return acknowledge(alloc, server, hops, proxy, arrival, place);
+    }
+    answer_again(alloc, proxy, arrival, place)
+}

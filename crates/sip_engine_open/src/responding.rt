@@ -1,0 +1,107 @@
+ghost use Rattle.std.specs.Prelude.{◌≡◌, ◌≤◌, ◌<◌, ◌^◌, ℕ, List, length, slice_get, Some, IsSome, IfOk, OnErr};
+ghost use Rattle.sip_proxy.specs.Proxy.{IsComing};
+ghost use Rattle.sip_core.specs.context_model.Branches.{responded};
+ghost use Rattle.sip_proxy.specs.fork.Places.{branch_at};
+ghost use Rattle.sip_proxy.specs.fork.Keeping.{IsKeptAs};
+ghost use Rattle.sip_dialog_lessons.specs.Lessons.{beginnings};
+ghost use Rattle.sip_proxy.specs.steps_model.Effect.{counted, effect_of};
+ghost use Rattle.sip_proxy.specs.steps_model.Step.{Does};
+ghost use Rattle.sip_proxy.specs.context_opening.Arrivals.{arrival_of};
+ghost use Rattle.sip_core.specs.context_model.Retransmission.{acked_again};
+ghost use Rattle.sip_dialog_lessons.specs.state.declared.branch.Branch.{Branch};
+ghost use Rattle.sip_dialog_lessons.specs.state.declared.open_request.OpenRequest.{OpenRequest};
+ghost use Rattle.sip_core.specs.verdict_model.Verdict.{Respond};
+ghost use Rattle.sip_engine_open.specs.Steps.{IsDraftOf};
+
+use crate::counting::change;
+use sip_dialog_lessons::state::{Branch, OpenRequest, Server};
+use sip_event::StepOut;
+use sip_hops::Hops;
+use sip_message_form::View;
+use sip_proxy::context::Input;
+use sip_proxy::context_opening::Arrival;
+use sip_proxy::{Draft, Proxy};
+use sip_timers::Timers;
+use std::alloc::{AllocError, Global};
+
+/// Places at which an open request and its branch are found are places of theirs.
+fn found_places_are_within()
+    ensures request { (requests : List OpenRequest) (place branch : ℕ) → IsSome (branch_at requests (place, branch)) → place < length requests }
+    ensures branch { (requests : List OpenRequest) (place branch : ℕ) (r : OpenRequest) → IsSome (branch_at requests (place, branch)) → slice_get requests place ≡ Some r → branch < length r.branches }
+{}
+
+/// The branch of an open request at a place.
+fn branch_of(open_request: &OpenRequest, branch: usize) -> &Branch
+    requires { branch < length open_request.now.branches }
+    ensures { slice_get open_request.now.branches branch ≡ Some result.now }
+{
+    &open_request.branches.as_slice()[branch]
+}
+
+/// Drafts what a response of a status makes of the open request at a place, to whose branch at a place it came.
+/// `AllocError` is the only refusal.
+fn draft_response<T: Timers>(
+    alloc: Global,
+    server: &Server,
+    hops: &Hops,
+    proxy: &Proxy<T>,
+    now: u64,
+    place: usize,
+    branch: usize,
+    status: u16,
+    response: &View<'_>,
+) -> Result<Draft, AllocError>
+    requires found { IsSome (branch_at proxy.now.state.requests (place, branch)) }
+    requires later { proxy.now.state.moment ≤ now }
+    requires small { now < 2 ^ 62 }
+    ensures draft { IfOk result (λ draft. (found : OpenRequest × Branch) → branch_at proxy.now.state.requests (place, branch) ≡ Some found
+        → IsDraftOf hops.now.addresses server.now now found.0 (responded server.now now found.0 found.1 status response.now) (acked_again server.now found.0 found.1 status) draft) }
+    ensures kept { IfOk result (λ draft. (r : OpenRequest) → slice_get proxy.now.state.requests place ≡ Some r → IsKeptAs now r draft.change) }
+    ensures few { IfOk result (λ draft. beginnings draft.drafted.lessons ≤ 1) }
+{
+    found_places_are_within();
+    let branch = branch_of(proxy.get(place), branch);
+    let input = Input::Response {
+        branch,
+        status,
+        response,
+    };
+    proxy.draft_input(alloc, server, hops, now, place, input)
+}
+
+/// The step of a response of a status that came to a branch of an open request, by their places as [`Proxy::find_branch`]
+/// gives them: ACKs go first, then what goes to the caller, then CANCELs; a further 300 to 699 to an INVITE gets its ACK
+/// again (RFC 3261 16.7, 17.1). `AllocError` is the only refusal; nothing is changed then.
+pub fn take_response<T: Timers>(
+    alloc: Global,
+    server: &Server,
+    hops: &Hops,
+    proxy: &mut Proxy<T>,
+    arrival: Arrival,
+    place: usize,
+    branch: usize,
+    status: u16,
+    response: &View<'_>,
+) -> Result<StepOut, AllocError>
+    requires coming { IsComing proxy.old.state arrival }
+    requires found { IsSome (branch_at proxy.old.state.requests (place, branch)) }
+    requires rows { hops.now.addresses ≡ server.now.config.addresses }
+    ensures does { IfOk result (λ out. (found : OpenRequest × Branch) → branch_at proxy.old.state.requests (place, branch) ≡ Some found
+        → Does server.now proxy.old.state arrival.now (effect_of server.now (arrival_of arrival) response.now (Respond found.0 found.1 status) (counted (arrival_of arrival) proxy.old.state)) out proxy.new.state) }
+    ensures unchanged { OnErr result (proxy.new.state ≡ proxy.old.state) }
+    ensures timers { OnErr result (proxy.new.timers ≡ proxy.old.timers) }
+{
+    found_places_are_within();
+    let draft = draft_response(
+        alloc,
+        server,
+        hops,
+        proxy,
+        arrival.now,
+        place,
+        branch,
+        status,
+        response,
+    )?;
+    change(alloc, proxy, arrival, place, draft)
+}

@@ -1,5 +1,0 @@
-use Rattle.sip_equality.proofs.Equal.{symmetric}
-use Rattle.sip_equality.proofs.laws.equality_is_symmetric.Goals as goal
-
-pub returns : goal.returns
-returns c = symmetric

@@ -1,5 +1,0 @@
-pub mod Phases
-pub mod Sides
-pub mod Settled
-pub mod Staying
-pub mod States

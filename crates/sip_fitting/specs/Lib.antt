@@ -1,3 +1,0 @@
-pub mod Fits
-pub use Rattle.sip_machines.specs.transaction
-pub use Rattle.sip_machines.specs.retransmission

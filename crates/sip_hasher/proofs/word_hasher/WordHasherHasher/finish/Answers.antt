@@ -1,6 +1,0 @@
-use Rattle.sip_hasher.specs.WordHasher.{finish}
-use Rattle.sip_hasher.proofs.word_hasher.WordHasherHasher.finish.Goals as goal
-
-pub returns : goal.returns
-unfolding finish
-returns c = simp (c.round-3.ensures, c.round-2.ensures, c.round.ensures)

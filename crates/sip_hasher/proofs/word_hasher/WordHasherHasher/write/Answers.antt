@@ -1,6 +1,0 @@
-use Rattle.std.proofs.Common.{rules, ◌∙◌}
-use Rattle.sip_hasher.proofs.Words.{no_word}
-use Rattle.sip_hasher.proofs.word_hasher.WordHasherHasher.write.Goals as goal
-
-pub returns-else-not-is_empty : goal.returns-else-not-is_empty
-returns-else-not-is_empty c = no_word c.loop-word.self c.loop-word.rest.now (search rules) ∙ c.loop-word.invariant

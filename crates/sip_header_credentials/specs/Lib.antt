@@ -1,0 +1,2 @@
+pub mod Credentials
+pub mod UsualItems

@@ -1,0 +1,9 @@
+//! Digest credentials (RFC 2617 3.2.2, RFC 3261 20.7 and 20.28): what the value of an Authorization or a
+//! Proxy-Authorization says, or that it is malformed.
+#![tactic(auto)]
+
+mod credentials;
+pub mod examples;
+pub mod laws;
+
+pub use credentials::{Credentials, credentials_of};

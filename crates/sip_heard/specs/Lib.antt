@@ -1,4 +1,0 @@
-pub mod TopVia
-pub mod Names
-pub mod Tail
-pub mod Heard

@@ -1,3 +1,0 @@
-pub mod Dotted
-pub mod Dots
-pub mod Places

@@ -1,8 +1,0 @@
-use Rattle.std.proofs.Common.{◌≡◌, drop}
-use Rattle.sip_host.proofs.Dots.{read_on}
-use Rattle.sip_host.specs.Addresses.{number_at}
-use Rattle.sip_host.proofs.addr.number_at.Given as goal
-
--- what the rest adds to the number so far is the answer
-abbrev pub invariant-loop-at : goal.invariant-loop-at
-invariant-loop-at l = read_on l.number (drop l.at l.text) ≡ number_at l.text

@@ -1,3 +1,0 @@
-pub mod Same
-pub mod Once
-pub mod Copied

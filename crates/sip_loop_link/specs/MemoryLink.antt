@@ -1,0 +1,76 @@
+-- A link over memory: what it hears, what it was given, and at which calls it fails.
+use Rattle.std.specs.Prelude.{ℕ, ◌+◌, zero, suc, nat_eq, nat_lt, Bool, ◌||◌, not, List, [], ◌∷◌, ◌++◌, length, Option, None, Some, Result, Ok, Err, if◌then◌else◌}
+use Rattle.std.specs.List.{list_any}
+use Rattle.sip_loop_link.specs.Told.{most, counted}
+use Rattle.sip_loop_link.specs.declared.datagram.Heard.{Heard}
+use Rattle.sip_loop_link.specs.declared.datagram.Given.{Given}
+use Rattle.sip_loop_link.specs.declared.datagram.LinkFault.{LinkFault}
+use Rattle.sip_loop_link.specs.declared.datagram.Sending.{Sending}
+use Rattle.sip_loop_link.specs.declared.datagram.Sending.TheVariants.{Went, Failed}
+use Rattle.sip_loop_link.specs.declared.posted.Posted.{Posted}
+use Rattle.sip_uri.specs.declared.addr.Addr.{Addr}
+
+-- what a link over memory is seen as: the datagrams that it is yet to hear; what each receive that didn't fail heard; what it
+-- was given; the bytes of the datagram that it heard last; how many receives there were, and how many of them failed; and the
+-- numbers, from 1, of the receives and of the sends that fail
+pub record MemoryState : Type 0 where
+  pub waiting : List Heard
+  pub heard : List (Option Heard)
+  pub given : List Given
+  pub held : List ℕ
+  pub receives : ℕ
+  pub failures : ℕ
+  pub receive_fails : List ℕ
+  pub send_fails : List ℕ
+
+-- whether the next receive fails: its number is among those, or can't be counted
+abbrev pub next_receive_fails : MemoryState → Bool
+next_receive_fails link = not (nat_lt link.receives most) || list_any (λ number. nat_eq number (link.receives + 1)) link.receive_fails
+
+-- whether the next send fails: its number is among those
+abbrev pub next_send_fails : MemoryState → Bool
+next_send_fails link = list_any (λ number. nat_eq number (length link.given + 1)) link.send_fails
+
+-- how the next send goes
+abbrev pub next_sending : MemoryState → Sending
+next_sending link = if next_send_fails link then Failed else Went
+
+-- the source of the first of the datagrams that are yet to be heard
+abbrev pub first_from : List Heard → Option Addr
+first_from [] = None
+first_from (datagram ∷ rest) = Some datagram.from
+
+-- what the next receive answers
+abbrev pub next_answer : MemoryState → Result (Option Addr) LinkFault
+next_answer link = if next_receive_fails link then Err (record {}) else Ok (first_from link.waiting)
+
+-- a link that hears the first of these datagrams, or nothing
+abbrev pub hearing : List Heard → MemoryState → MemoryState
+hearing [] link = record link { heard = link.heard ++ None ∷ [] }
+hearing (datagram ∷ rest) link = record link { waiting = rest; heard = link.heard ++ Some datagram ∷ []; held = datagram.bytes }
+
+-- a link behind its next receive
+abbrev pub received : MemoryState → MemoryState
+received link =
+    if next_receive_fails link
+    then record link { receives = counted link.receives; failures = counted link.failures }
+    else record (hearing link.waiting link) { receives = counted link.receives }
+
+-- the datagram, before which so many receives heard nothing
+abbrev pub datagram_of : Posted → Heard
+datagram_of posted = posted.datagram
+
+-- so many receives that heard nothing
+abbrev pub nothings : ℕ → List (Option Heard)
+nothings zero = []
+nothings (suc n) = None ∷ nothings n
+
+-- what was heard up to the last of these
+abbrev pub heard_by : List Posted → List (Option Heard)
+heard_by [] = []
+heard_by (posted ∷ rest) = nothings posted.silent ++ Some posted.datagram ∷ heard_by rest
+
+-- the bytes of the last of these, or none
+abbrev pub last_bytes : List ℕ → List Posted → List ℕ
+last_bytes none [] = none
+last_bytes none (posted ∷ rest) = last_bytes posted.datagram.bytes rest

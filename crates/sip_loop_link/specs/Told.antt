@@ -1,0 +1,27 @@
+-- What a link and a clock count, and what they tell, where they tell it.
+use Rattle.std.specs.Prelude.{ℕ, ◌+◌, ◌-◌, ◌^◌, nat_lt, List, [], ◌∷◌, ◌++◌, length, Option, None, Some, if◌then◌else◌}
+use Rattle.sip_loop_link.specs.declared.datagram.Heard.{Heard}
+use Rattle.sip_uri.specs.declared.addr.Addr.{Addr}
+
+-- the greatest count
+abbrev pub most : ℕ
+most = 2 ^ 64 - 1
+
+-- one more, up to the greatest count
+abbrev pub counted : ℕ → ℕ
+counted n = if nat_lt n most then n + 1 else most
+
+-- what a `receive` heard that answered this source, with the bytes that are held then
+abbrev pub heard_of : Option Addr → List ℕ → Option Heard
+heard_of None bytes = None
+heard_of (Some from) bytes = Some (record { from = from; bytes = bytes })
+
+-- a list that is told grows by one at its end
+abbrev pub and_then : {A : Type 0} → Option (List A) → A → Option (List A)
+and_then None last = None
+and_then (Some list) last = Some (list ++ last ∷ [])
+
+-- the same, where a list with the greatest count is told no more
+abbrev pub and_counted : {A : Type 0} → Option (List A) → A → Option (List A)
+and_counted None last = None
+and_counted (Some list) last = if nat_lt (length list) most then Some (list ++ last ∷ []) else None

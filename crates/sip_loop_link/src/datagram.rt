@@ -1,0 +1,28 @@
+use sip_text::Bytes;
+use sip_uri::Addr;
+
+/// A `receive` that failed.
+#[derive(Clone, Copy, Debug, PartialEq, Eq)]
+pub struct LinkFault;
+
+/// Whether a datagram that was given to a link went out.
+#[derive(Clone, Copy, Debug, PartialEq, Eq)]
+pub enum Sending {
+    Went,
+    Failed,
+}
+
+/// A datagram that a link heard.
+#[derive(Debug, Drop)]
+pub struct Heard {
+    pub from: Addr,
+    pub bytes: Bytes,
+}
+
+/// A datagram that a link was given, and whether it went out.
+#[derive(Debug, Drop)]
+pub struct Given {
+    pub to: Addr,
+    pub bytes: Bytes,
+    pub sending: Sending,
+}

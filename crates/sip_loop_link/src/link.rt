@@ -1,0 +1,43 @@
+ghost use Rattle.std.specs.Prelude.{◌≡◌, ℕ, IfOk, OnOk, OnErr, Option, List};
+ghost use Rattle.sip_loop_link.specs.Told.{counted, heard_of, and_then};
+ghost use Rattle.sip_loop_link.specs.declared.datagram.Heard.{Heard};
+ghost use Rattle.sip_loop_link.specs.declared.datagram.Given.{Given};
+
+use crate::datagram::{LinkFault, Sending};
+use sip_uri::Addr;
+use std::alloc::AllocError;
+
+/// What hears and sends datagrams. It counts how often it was asked for one, and how often that failed, and may tell
+/// what it heard and what it was given, oldest first.
+pub trait Link: Drop {
+    ghost receives: { Self → ℕ };
+
+    ghost failures: { Self → ℕ };
+
+    ghost heard: { Self → Option (List (Option Heard)) };
+
+    ghost given: { Self → Option (List Given) };
+
+    ghost held: { Self → List ℕ };
+
+    /// The source of the next datagram, or nothing where there is none now. Doesn't wait.
+    fn receive(&mut self) -> Result<Option<Addr>, LinkFault>
+        ensures counted { receives self.new ≡ counted (receives self.old) }
+        ensures ok { OnOk result (failures self.new ≡ failures self.old) }
+        ensures err { OnErr result (failures self.new ≡ counted (failures self.old)) }
+        ensures tells { IfOk result (λ from. heard self.new ≡ and_then (heard self.old) (heard_of from (held self.new))) }
+        ensures silent { OnErr result (heard self.new ≡ heard self.old) }
+        ensures given { given self.new ≡ given self.old };
+
+    /// The bytes of the datagram that it heard last.
+    fn bytes(&self) -> &[u8]
+        ensures { result.now ≡ held self.now };
+
+    /// Sends a datagram. Refused for want of memory alone, and then the datagram was not given to it.
+    fn send(&mut self, to: Addr, bytes: &[u8]) -> Result<Sending, AllocError>
+        ensures counted { receives self.new ≡ receives self.old }
+        ensures failures { failures self.new ≡ failures self.old }
+        ensures heard { heard self.new ≡ heard self.old }
+        ensures ok { IfOk result (λ sending. given self.new ≡ and_then (given self.old) (record { to = to; bytes = bytes.now; sending = sending })) }
+        ensures err { OnErr result (given self.new ≡ given self.old) };
+}

@@ -1,0 +1,188 @@
+ghost use Rattle.std.specs.Prelude.{◌≡◌, ◌+◌, ◌<◌, ◌∷◌, ◌++◌, [], length, slice_set, slice_index_or, nat_eq, IfOk, OnOk, OnErr, Some};
+ghost use Rattle.std.specs.List.{list_any};
+ghost use Rattle.sip_loop_link.specs.Told.{most, counted, heard_of, and_then};
+ghost use Rattle.sip_loop_link.specs.declared.posted.Posted.{Posted};
+ghost use Rattle.sip_loop_link.specs.MemoryLink.{first_from, hearing, next_answer, next_sending, received};
+
+use crate::datagram::{Given, Heard, LinkFault, Sending};
+use crate::link::Link;
+use crate::posted::Posted;
+use sip_text::Bytes;
+use sip_uri::Addr;
+use std::alloc::{AllocError, Global};
+use std::marker::Model;
+
+/// A link over memory: it hears the datagrams of a list one after the other, then nothing, keeps what it was given, and
+/// fails at the receives and sends whose numbers it was told, counted from 1.
+#[derive(Drop)]
+pub struct MemoryLink {
+    alloc: Global,
+    inbox: Vec<Posted>,
+    /// How many of these it heard.
+    taken: usize,
+    /// How many receives heard nothing since the last of these.
+    silent: u64,
+    given: Vec<Given>,
+    receives: u64,
+    failures: u64,
+    receive_fails: Vec<u64>,
+    send_fails: Vec<u64>,
+}
+
+impl Model for MemoryLink {
+    ghost use Rattle.std.specs.Prelude.{◌≤◌, ◌++◌, [], length, take, drop, map};
+    ghost use Rattle.sip_loop_link.specs.MemoryLink.{MemoryState, heard_by, nothings, datagram_of, last_bytes};
+
+    ghost Value = { MemoryState };
+
+    ghost view = { λ l. record {
+      waiting = map datagram_of (drop l.taken l.inbox.items);
+      heard = heard_by (take l.taken l.inbox.items) ++ nothings l.silent;
+      given = l.given.items;
+      held = last_bytes [] (take l.taken l.inbox.items);
+      receives = l.receives;
+      failures = l.failures;
+      receive_fails = l.receive_fails.items;
+      send_fails = l.send_fails.items;
+    } };
+
+    ghost invariant = { λ l. (l.taken ≤ length l.inbox.items) × (l.silent ≤ l.receives) × (l.failures ≤ l.receives) };
+}
+
+/// Whether the number is one of these.
+fn is_among(numbers: &[u64], number: u64) -> bool
+    ensures { result ≡ list_any (λ n. nat_eq n number) numbers.now }
+{
+    numbers.contains(&number)
+}
+
+/// Notes before one of the datagrams how many receives heard nothing, and answers its source.
+fn note_silence(inbox: &mut Vec<Posted>, place: usize, silent: u64) -> Addr
+    requires { place < length inbox.old.items }
+    ensures from { (d : Posted) → result ≡ (slice_index_or inbox.old.items place d).datagram.from }
+    ensures noted { (d : Posted) → inbox.new.items ≡ slice_set inbox.old.items place (record (slice_index_or inbox.old.items place d) { silent = silent }) }
+{
+    inbox[place].silent = silent;
+    inbox[place].datagram.from
+}
+
+impl MemoryLink {
+    /// A link that hears nothing, and fails at the receives and sends of these numbers.
+    pub fn new(alloc: Global, receive_fails: Vec<u64>, send_fails: Vec<u64>) -> Self
+        ensures { result ≡ record { waiting = []; heard = []; given = []; held = []; receives = 0; failures = 0; receive_fails = receive_fails.items; send_fails = send_fails.items } }
+    {
+        MemoryLink {
+            alloc,
+            inbox: Vec::new(alloc),
+            taken: 0,
+            silent: 0,
+            given: Vec::new(alloc),
+            receives: 0,
+            failures: 0,
+            receive_fails,
+            send_fails,
+        }
+    }
+
+    /// Lets it hear a datagram behind those that it is yet to hear. Refused for want of memory alone.
+    pub fn hear(&mut self, from: Addr, bytes: &[u8]) -> Result<(), AllocError>
+        ensures ok { OnOk result (self.new ≡ record self.old { waiting = self.old.waiting ++ record { from = from; bytes = bytes.now } ∷ [] }) }
+        ensures err { OnErr result (self.new ≡ self.old) }
+    {
+        let bytes = Bytes::copy(self.alloc, bytes)?;
+        let datagram = Heard { from, bytes };
+        self.inbox.push(Posted {
+            silent: 0,
+            datagram,
+        })?;
+        Ok(())
+    }
+
+    /// What it was given, oldest first.
+    pub fn given(&self) -> &[Given]
+        ensures { result.now ≡ self.now.given }
+    {
+        self.given.as_slice()
+    }
+
+    /// Hears the next datagram, or nothing, and answers its source.
+    #[tactic(auto, using(crate::proofs::Turns::first_none, crate::proofs::Turns::first_some))]
+    fn hear_next(&mut self) -> Option<Addr>
+        requires { self.old.receives < most }
+        ensures from { result ≡ first_from self.old.waiting }
+        ensures heard { self.new ≡ record (hearing self.old.waiting self.old) { receives = self.old.receives + 1 } }
+    {
+        self.receives += 1;
+        if self.taken == self.inbox.len() {
+            self.silent += 1;
+            return None;
+        }
+        let from = note_silence(&mut self.inbox, self.taken, self.silent);
+        self.silent = 0;
+        self.taken += 1;
+        Some(from)
+    }
+}
+
+impl Link for MemoryLink {
+    ghost receives = { λ l. l.receives };
+
+    ghost failures = { λ l. l.failures };
+
+    ghost heard = { λ l. Some l.heard };
+
+    ghost given = { λ l. Some l.given };
+
+    ghost held = { λ l. l.held };
+
+    fn receive(&mut self) -> Result<Option<Addr>, LinkFault>
+        ensures counted { self.new.receives ≡ counted self.old.receives }
+        ensures ok { OnOk result (self.new.failures ≡ self.old.failures) }
+        ensures err { OnErr result (self.new.failures ≡ counted self.old.failures) }
+        ensures tells { IfOk result (λ from. Some self.new.heard ≡ and_then (Some self.old.heard) (heard_of from self.new.held)) }
+        ensures silent { OnErr result (Some self.new.heard ≡ Some self.old.heard) }
+        ensures given { Some self.new.given ≡ Some self.old.given }
+        ensures answer { result ≡ next_answer self.old }
+        ensures behind { self.new ≡ received self.old }
+    {
+        if self.receives == u64::MAX {
+            self.failures = self.failures.saturating_add(1);
+            return Err(LinkFault);
+        }
+        if is_among(self.receive_fails.as_slice(), self.receives + 1) {
+            self.receives += 1;
+            self.failures += 1;
+            return Err(LinkFault);
+        }
+        Ok(self.hear_next())
+    }
+
+    #[tactic(auto, using(crate::proofs::Turns::held_is))]
+    fn bytes(&self) -> &[u8] {
+        match self.taken.checked_sub(1) {
+            None => &[],
+            Some(place) => self.inbox[place].datagram.bytes.as_slice(),
+        }
+    }
+
+    fn send(&mut self, to: Addr, bytes: &[u8]) -> Result<Sending, AllocError>
+        ensures counted { self.new.receives ≡ self.old.receives }
+        ensures failures { self.new.failures ≡ self.old.failures }
+        ensures heard { Some self.new.heard ≡ Some self.old.heard }
+        ensures ok { IfOk result (λ sending. Some self.new.given ≡ and_then (Some self.old.given) (record { to = to; bytes = bytes.now; sending = sending })) }
+        ensures err { OnErr result (Some self.new.given ≡ Some self.old.given) }
+        ensures sending { IfOk result (λ sending. sending ≡ next_sending self.old) }
+        ensures taken { OnOk result (self.new ≡ record self.old { given = self.new.given }) }
+        ensures whole { OnErr result (self.new ≡ self.old) }
+    {
+        let bytes = Bytes::copy(self.alloc, bytes)?;
+        let number = self.given.len() as u64 + 1;
+        let sending = if is_among(self.send_fails.as_slice(), number) {
+            Sending::Failed
+        } else {
+            Sending::Went
+        };
+        self.given.push(Given { to, bytes, sending })?;
+        Ok(sending)
+    }
+}

@@ -1,0 +1,230 @@
+ghost use Rattle.std.specs.Prelude.{◌≡◌, ◌≤◌, [], length, IfOk, IfSome, IsSome, OnOk, OnErr, Some, None};
+ghost use Rattle.sip_loop_link.specs.Told.{counted};
+ghost use Rattle.sip_loop_link.specs.UdpLink.{handed};
+
+use crate::datagram::{LinkFault, Sending};
+use crate::link::Link;
+use sip_uri::Addr;
+use std::alloc::{AllocError, Global};
+use std::io;
+use std::io::ErrorKind;
+use std::marker::Model;
+use std::net::{IpAddr, Ipv4Addr, Net, SocketAddr, UdpSocket};
+use std::time::Duration;
+
+/// One byte more than the longest datagram over IPv4 has, so that a longer one is seen to be too long.
+const ROOM: usize = 65_508;
+
+/// A link over a UDP socket of IPv4. It tells nothing of what it hears and is given.
+#[derive(Drop)]
+pub struct UdpLink {
+    socket: UdpSocket,
+    /// Whether the socket answers at once where nothing is there.
+    at_once: bool,
+    /// How long the socket waits else, in milliseconds; at first 0, forever.
+    timeout: u64,
+    buffer: Vec<u8>,
+    /// How many bytes at the buffer's front are those of the last datagram.
+    held: usize,
+    kept: Option<Result<Addr, LinkFault>>,
+    receives: u64,
+    failures: u64,
+}
+
+impl Model for UdpLink {
+    ghost use Rattle.std.specs.Prelude.{◌≤◌, take, length};
+    ghost use Rattle.sip_loop_link.specs.UdpLink.{UdpState};
+
+    ghost Value = { UdpState };
+
+    ghost view = { λ l. record { kept = l.kept; held = take l.held l.buffer.items; receives = l.receives; failures = l.failures } };
+
+    ghost invariant = { λ l. l.held ≤ length l.buffer.items };
+}
+
+/// That many zeros.
+fn zeros(alloc: Global, count: usize) -> Result<Vec<u8>, AllocError>
+    ensures { IfOk result (λ v. length v.items ≡ count) }
+{
+    vec![in alloc; 0; count]
+}
+
+/// The socket's address that this is.
+fn socket_address(addr: Addr) -> SocketAddr {
+    let [a, b, c, d] = addr.ip;
+    SocketAddr::new(IpAddr::V4(Ipv4Addr::new(a, b, c, d)), addr.port)
+}
+
+/// Whether such a receive heard nothing, and didn't fail.
+fn is_nothing(kind: ErrorKind) -> bool {
+    matches!(
+        kind,
+        ErrorKind::WouldBlock | ErrorKind::TimedOut | ErrorKind::Interrupted
+    )
+}
+
+/// The next datagram's length and source, put into the buffer, or nothing.
+fn hear(socket: &UdpSocket, buffer: &mut [u8]) -> Result<Option<(usize, Addr)>, LinkFault>
+    ensures { IfOk result (λ found. IfSome found (λ heard. heard.0 ≤ length buffer.new)) }
+{
+    match socket.recv_from(buffer) {
+        Ok((length, SocketAddr::V4(from))) => {
+            let ip = from.ip().octets();
+            let port = from.port();
+            Ok(Some((length, Addr { ip, port })))
+        }
+        Ok((_, SocketAddr::V6(_))) => Ok(None),
+        Err(fault) if is_nothing(fault.kind()) => Ok(None),
+        Err(_) => Err(LinkFault),
+    }
+}
+
+impl UdpLink {
+    /// Binds the address; port 0 is one that is free. Its buffer is made here, once.
+    pub fn bind<R: Net>(rt: &R, alloc: Global, addr: Addr) -> io::Result<UdpLink>
+        ensures { IfOk result (λ link. link ≡ record { kept = None; held = []; receives = 0; failures = 0 }) }
+    {
+        let buffer = zeros(alloc, ROOM)?;
+        let socket = UdpSocket::bind(rt, socket_address(addr))?;
+        Ok(UdpLink {
+            socket,
+            at_once: false,
+            timeout: 0,
+            buffer,
+            held: 0,
+            kept: None,
+            receives: 0,
+            failures: 0,
+        })
+    }
+
+    /// The port that it is bound to.
+    pub fn port(&self) -> io::Result<u16> {
+        Ok(self.socket.local_addr()?.port())
+    }
+
+    /// Waits for a datagram, so many milliseconds at most, and keeps it for the next `receive`; a fault is kept as well. Doesn't
+    /// wait where something is kept already.
+    pub fn wait(&mut self, milliseconds: u64)
+        ensures receives { self.new.receives ≡ self.old.receives }
+        ensures failures { self.new.failures ≡ self.old.failures }
+        ensures at_once { milliseconds ≡ 0 → self.new ≡ self.old }
+        ensures keeps { IsSome self.old.kept → self.new ≡ self.old }
+    {
+        if self.kept.is_some() || milliseconds == 0 {
+            return;
+        }
+        self.kept = match self.hear_within(milliseconds) {
+            Ok(None) => None,
+            Ok(Some(from)) => Some(Ok(from)),
+            Err(fault) => Some(Err(fault)),
+        };
+    }
+
+    /// The next datagram, waited for so many milliseconds at most.
+    fn hear_within(&mut self, milliseconds: u64) -> Result<Option<Addr>, LinkFault>
+        ensures same { (self.new.receives ≡ self.old.receives) × (self.new.failures ≡ self.old.failures) × (self.new.kept ≡ self.old.kept) }
+    {
+        if self.at_once {
+            self.set_at_once(false)?;
+        }
+        if self.timeout != milliseconds {
+            let timeout = Duration::from_millis(milliseconds);
+            match self.socket.set_read_timeout(Some(timeout)) {
+                Ok(()) => self.timeout = milliseconds,
+                Err(_) => return Err(LinkFault),
+            }
+        }
+        self.hear()
+    }
+
+    /// The next datagram, where one is there.
+    fn hear_at_once(&mut self) -> Result<Option<Addr>, LinkFault>
+        ensures same { (self.new.receives ≡ self.old.receives) × (self.new.failures ≡ self.old.failures) × (self.new.kept ≡ self.old.kept) }
+    {
+        if !self.at_once {
+            self.set_at_once(true)?;
+        }
+        self.hear()
+    }
+
+    /// Lets the socket answer at once, or wait.
+    fn set_at_once(&mut self, at_once: bool) -> Result<(), LinkFault>
+        ensures { self.new ≡ self.old }
+    {
+        match self.socket.set_nonblocking(at_once) {
+            Ok(()) => {
+                self.at_once = at_once;
+                Ok(())
+            }
+            Err(_) => Err(LinkFault),
+        }
+    }
+
+    /// The next datagram as the socket has it, held from here on.
+    fn hear(&mut self) -> Result<Option<Addr>, LinkFault>
+        ensures same { (self.new.receives ≡ self.old.receives) × (self.new.failures ≡ self.old.failures) × (self.new.kept ≡ self.old.kept) }
+    {
+        self.held = 0;
+        let Some((length, from)) = hear(&self.socket, self.buffer.as_mut_slice())? else {
+            return Ok(None);
+        };
+        self.held = length;
+        Ok(Some(from))
+    }
+
+    /// What was kept, or else what is there.
+    fn take_kept(&mut self) -> Result<Option<Addr>, LinkFault>
+        ensures same { (self.new.receives ≡ self.old.receives) × (self.new.failures ≡ self.old.failures) }
+        ensures kept { IfSome self.old.kept (λ found. (result ≡ handed found) × (self.new.held ≡ self.old.held)) }
+        ensures none { self.new.kept ≡ None }
+    {
+        match self.kept {
+            None => self.hear_at_once(),
+            Some(found) => {
+                self.kept = None;
+                found.map(Some)
+            }
+        }
+    }
+}
+
+impl Link for UdpLink {
+    ghost receives = { λ l. l.receives };
+
+    ghost failures = { λ l. l.failures };
+
+    ghost heard = { λ _. None };
+
+    ghost given = { λ _. None };
+
+    ghost held = { λ l. l.held };
+
+    fn receive(&mut self) -> Result<Option<Addr>, LinkFault>
+        ensures counted { self.new.receives ≡ counted self.old.receives }
+        ensures ok { OnOk result (self.new.failures ≡ self.old.failures) }
+        ensures err { OnErr result (self.new.failures ≡ counted self.old.failures) }
+        ensures kept { IfSome self.old.kept (λ found. (result ≡ handed found) × (self.new.held ≡ self.old.held)) }
+        ensures none { self.new.kept ≡ None }
+    {
+        self.receives = self.receives.saturating_add(1);
+        let found = self.take_kept();
+        if found.is_err() {
+            self.failures = self.failures.saturating_add(1);
+        }
+        found
+    }
+
+    fn bytes(&self) -> &[u8] {
+        &self.buffer.as_slice()[..self.held]
+    }
+
+    fn send(&mut self, to: Addr, bytes: &[u8]) -> Result<Sending, AllocError>
+        ensures { self.new ≡ self.old }
+    {
+        match self.socket.send_to(bytes, socket_address(to)) {
+            Ok(length) if length == bytes.len() => Ok(Sending::Went),
+            _ => Ok(Sending::Failed),
+        }
+    }
+}

@@ -1,7 +1,0 @@
-use Rattle.std.proofs.Common.{◌+◌, refl}
-use Rattle.sip_retransmission.specs.state.State.{first_resend}
-use Rattle.sip_machines.specs.InviteClient.{WhileUnheard}
-use Rattle.sip_machines.proofs.invite_client.begins.Goals as goal
-
-pub returns : goal.returns
-returns c = λ now. record { fits = WhileUnheard (now + 32000) (first_resend now); does = refl; timers = refl }

@@ -1,0 +1,5 @@
+pub mod Counting
+pub mod KnownNames
+pub mod Spelled
+pub mod Keeping
+pub mod Slicing

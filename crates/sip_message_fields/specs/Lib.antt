@@ -1,0 +1,8 @@
+pub mod FieldName
+pub mod KnownName
+pub mod Named
+pub mod Spellings
+pub mod Values
+pub mod Piece
+pub mod Slice
+pub mod KeptField

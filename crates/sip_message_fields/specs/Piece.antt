@@ -1,0 +1,9 @@
+-- Bytes as a view has them.
+use Rattle.std.specs.Prelude.{ℕ, List}
+use Rattle.sip_message_fields.specs.declared.piece.Piece.{Piece}
+use Rattle.sip_message_fields.specs.declared.piece.Piece.TheVariants.{Part, Joined}
+
+-- the bytes of a piece, wherever they stand
+abbrev pub bytes_of : Piece → List ℕ
+bytes_of (Part part) = part.now
+bytes_of (Joined bytes) = bytes

@@ -1,0 +1,33 @@
+//! The fields of SIP messages (RFC 3261 7.3): the names that this project knows and their compact forms, a field, and a list
+//! of fields with what is looked up, copied and edited in it by name. The same as parts of what was read, which copy no byte
+//! where none was joined (`ViewField`, `ViewFields`), and put into a store, where their bytes stand once.
+#![tactic(auto)]
+
+mod field;
+mod field_name;
+mod fields;
+mod kept_field;
+mod known;
+mod named;
+mod piece;
+mod slices;
+mod store;
+mod value;
+mod view_edits;
+mod view_field;
+mod view_fields;
+mod view_name;
+mod view_named;
+
+pub use field::Field;
+pub use field_name::{FieldName, known_name};
+pub use fields::Fields;
+pub use kept_field::KeptField;
+pub use known::KnownName;
+pub use piece::Piece;
+pub use slices::{slice_before, slice_from, slice_of};
+pub use store::{fields_in, fields_in_with_first, put, put_fields};
+pub use value::Value;
+pub use view_field::ViewField;
+pub use view_fields::ViewFields;
+pub use view_name::ViewName;

@@ -1,0 +1,160 @@
+ghost use Rattle.std.specs.Prelude.{◌≡◌, [], ◌∷◌, ◌++◌, IfOk, OnOk, OnErr, length, map, option_map};
+
+use crate::view_edits::{put_all, put_named, with_first};
+use crate::view_field::ViewField;
+use crate::view_named::{count_of, fields_of, first_of, values_in, views_of};
+use crate::{FieldName, Fields};
+use std::alloc::{AllocError, Global};
+use std::marker::Model;
+
+/// The fields of a view, in their order, seen as the list of them.
+#[derive(Clone, Drop)]
+pub struct ViewFields<'a> {
+    list: Vec<ViewField<'a>>,
+}
+
+impl<'a> Model for ViewFields<'a> {
+    ghost use Rattle.std.specs.Prelude.{List};
+    ghost use Rattle.sip_message_fields.specs.declared.field.Field.{Field};
+
+    ghost Value = { List Field };
+
+    ghost view = { λ f. f.list.items };
+}
+
+impl<'a> ViewFields<'a> {
+    ghost use Rattle.sip_message_fields.specs.Named.{first_named, all_named};
+    ghost use Rattle.sip_message_fields.specs.Values;
+    ghost use Rattle.sip_message_fields.specs.Values.{values_of, first_value};
+
+    /// No fields. Takes no memory.
+    pub fn new(alloc: Global) -> Self
+        ensures { result ≡ [] }
+    {
+        ViewFields {
+            list: Vec::new(alloc),
+        }
+    }
+
+    /// No fields, and room for so many.
+    pub fn with_room(alloc: Global, room: usize) -> Result<Self, AllocError>
+        ensures { IfOk result (λ views. views ≡ []) }
+    {
+        Ok(ViewFields {
+            list: Vec::with_capacity(alloc, room)?,
+        })
+    }
+
+    /// Fields that were made, of which no byte is copied.
+    pub fn of_fields(alloc: Global, fields: &'a Fields) -> Result<Self, AllocError>
+        ensures { IfOk result (λ views. views ≡ fields.now) }
+    {
+        views_of(alloc, fields.as_slice())
+    }
+
+    /// Adds a field at the end. At an error the fields are as before.
+    #[inline]
+    pub fn push(&mut self, field: ViewField<'a>) -> Result<(), AllocError>
+        ensures ok { OnOk result (self.new ≡ self.old ++ field.entry ∷ []) }
+        ensures err { OnErr result (self.new ≡ self.old) }
+    {
+        if self.list.len() < self.list.capacity() {
+            self.list.push_reserved(field);
+            return Ok(());
+        }
+        self.append(field)
+    }
+
+    /// Adds a field at the end, for which room may have to be made. It stands apart, so that where there is room a field
+    /// is written in place.
+    pub(crate) fn append(&mut self, field: ViewField<'a>) -> Result<(), AllocError>
+        ensures ok { OnOk result (self.new ≡ self.old ++ field.entry ∷ []) }
+        ensures err { OnErr result (self.new ≡ self.old) }
+    {
+        self.list.push(field)?;
+        Ok(())
+    }
+
+    /// Adds fields that were made, of which no byte is copied.
+    pub fn extend(&mut self, fields: &'a Fields) -> Result<(), AllocError>
+        ensures { OnOk result (self.new ≡ self.old ++ fields.now) }
+    {
+        put_all(self, fields.as_slice())
+    }
+
+    /// Adds those of other fields that have a name, of which no byte is copied.
+    pub fn extend_named(
+        &mut self,
+        name: &FieldName,
+        others: &'a ViewFields<'_>,
+    ) -> Result<(), AllocError>
+        ensures { OnOk result (self.new ≡ self.old ++ all_named name.now others.now) }
+    {
+        put_named(self, others.as_slice(), name)
+    }
+
+    /// The fields, the first of a name with another value. No byte is copied.
+    pub fn with_first<'v>(
+        &'v self,
+        alloc: Global,
+        name: &FieldName,
+        value: &'v [u8],
+    ) -> Result<ViewFields<'v>, AllocError>
+        ensures { IfOk result (λ edited. edited ≡ Values.with_first name.now value.now self.now) }
+    {
+        with_first(alloc, self.as_slice(), name, value)
+    }
+
+    /// The fields, in their order.
+    #[inline]
+    pub fn as_slice(&self) -> &[ViewField<'a>]
+        ensures { result.now ≡ self.now }
+    {
+        self.list.as_slice()
+    }
+
+    /// The first field of a name.
+    pub fn first_field(&self, name: &FieldName) -> Option<&ViewField<'a>>
+        ensures { option_map (λ field. field.now) result ≡ first_named name.now self.now }
+    {
+        first_of(self.list.as_slice(), name)
+    }
+
+    /// The value of the first field of a name.
+    pub fn first(&self, name: &FieldName) -> Option<&[u8]>
+        ensures { option_map (λ value. value.now) result ≡ first_value name.now self.now }
+    {
+        let field = self.first_field(name)?;
+        Some(field.value().as_slice())
+    }
+
+    /// The values of the fields of a name, in their order.
+    pub fn values(&self, alloc: Global, name: &FieldName) -> Result<Vec<&[u8]>, AllocError>
+        ensures { IfOk result (λ values. map (λ value. value.now) values.items ≡ values_of name.now self.now) }
+    {
+        values_in(alloc, self.list.as_slice(), name)
+    }
+
+    /// How many fields have a name.
+    #[tactic(auto, using(crate::proofs::Counting::count_values))]
+    pub fn count(&self, name: &FieldName) -> usize
+        ensures { result ≡ length (values_of name.now self.now) }
+    {
+        count_of(self.list.as_slice(), name)
+    }
+
+    /// The fields, which own their bytes.
+    pub fn to_fields(&self, alloc: Global) -> Result<Fields, AllocError>
+        ensures { IfOk result (λ fields. fields ≡ self.now) }
+    {
+        fields_of(alloc, self.list.as_slice())
+    }
+
+    /// The fields as a list, which they give up.
+    pub fn into_list(self) -> Vec<ViewField<'a>>
+        ensures { result.items ≡ self.entry }
+    {
+        let ViewFields { list } = self;
+        list
+    }
+}

@@ -1,0 +1,179 @@
+ghost use Rattle.std.specs.Prelude.{◌≡◌, IfOk};
+ghost use Rattle.sip_message_fields.specs.declared.field_name.FieldName.TheVariants.{Other};
+ghost use Rattle.sip_message_fields.specs.FieldName.{spelling, name_of, is_length, is_list, is_same_name};
+ghost use Rattle.sip_message_fields.specs.KnownName.{field_name_of, name_seen};
+
+use crate::{FieldName, KnownName};
+use sip_text::{Bytes, same_no_case};
+use std::alloc::{AllocError, Global};
+use std::marker::Model;
+
+/// The name of a field of a view, seen as that name: one that this project knows, or any other as a part of what
+/// was read.
+#[derive(Clone, Drop)]
+pub struct ViewName<'a> {
+    known: Option<KnownName>,
+    spelling: &'a [u8],
+}
+
+impl<'a> Model for ViewName<'a> {
+    ghost use Rattle.sip_message_fields.specs.declared.field_name.FieldName.{FieldName};
+    ghost use Rattle.sip_message_fields.specs.KnownName.{name_seen};
+
+    ghost Value = { FieldName };
+
+    ghost view = { λ n. name_seen n.known n.spelling.now };
+}
+
+impl<'a> ViewName<'a> {
+    /// A name that this project knows.
+    #[inline]
+    pub fn of_name(name: KnownName) -> Self
+        ensures { result ≡ field_name_of name }
+    {
+        ViewName {
+            known: Some(name),
+            spelling: b"",
+        }
+    }
+
+    /// The name that is written so (RFC 3261 7.3.1 and 7.3.3).
+    #[inline]
+    pub fn of_part(name: &'a [u8]) -> Self
+        ensures { result ≡ name_of name.now }
+    {
+        ViewName {
+            known: KnownName::from_bytes(name),
+            spelling: name,
+        }
+    }
+
+    /// The name of a field that was made, of which no byte is copied.
+    #[inline]
+    pub fn of_field_name(name: &'a FieldName) -> Self
+        ensures { result ≡ name.now }
+    {
+        ViewName {
+            known: KnownName::of(name),
+            spelling: name.spelling(),
+        }
+    }
+
+    /// A name that this project doesn't know.
+    #[inline]
+    pub fn of_other(spelling: &'a [u8]) -> Self
+        ensures { result ≡ Other spelling.now }
+    {
+        ViewName {
+            known: None,
+            spelling,
+        }
+    }
+
+    /// The name that was kept so.
+    #[inline]
+    pub(crate) fn of_kept(known: Option<KnownName>, spelling: &'a [u8]) -> Self
+        ensures { result ≡ name_seen known spelling.now }
+    {
+        ViewName { known, spelling }
+    }
+
+    /// The same name, of which no byte is copied.
+    #[inline]
+    pub fn lent(&self) -> Result<ViewName<'_>, AllocError>
+        ensures { IfOk result (λ view. view ≡ self.now) }
+    {
+        Ok(ViewName {
+            known: self.known,
+            spelling: self.spelling,
+        })
+    }
+
+    /// The name if this project knows it, and otherwise what was written.
+    #[inline]
+    pub(crate) fn known_or_written(&self) -> (Option<KnownName>, &[u8])
+        ensures { name_seen result.0 result.1.now ≡ self.now }
+    {
+        match self.known {
+            Some(known) => (Some(known), b""),
+            None => (None, self.spelling),
+        }
+    }
+
+    /// The name in its full spelling (RFC 3261 20); another name as it was written.
+    #[inline]
+    pub fn spelling(&self) -> &[u8]
+        ensures { result.now ≡ spelling self.now }
+    {
+        match self.known {
+            Some(known) => known.spelling(),
+            None => self.spelling,
+        }
+    }
+
+    /// The name, which owns its bytes.
+    pub fn to_name(&self, alloc: Global) -> Result<FieldName, AllocError>
+        ensures { IfOk result (λ name. name ≡ self.now) }
+    {
+        match self.known {
+            Some(known) => Ok(known.to_name()),
+            None => {
+                let spelling = Bytes::copy(alloc, self.spelling)?;
+                Ok(FieldName::Other(spelling))
+            }
+        }
+    }
+
+    /// Whether it is a name, of which it is known whether this project knows it: only of other names the spelling is
+    /// compared.
+    #[inline]
+    pub(crate) fn is_named(&self, known: Option<KnownName>, name: &FieldName) -> bool
+        requires { name_seen known (spelling name.now) ≡ name.now }
+        ensures { result ≡ is_same_name self.now name.now }
+    {
+        match (self.known, known) {
+            (Some(left), Some(right)) => left.is_same(right),
+            _ => self.is_spelled(name),
+        }
+    }
+
+    /// Whether it is spelled as a name is. It stands apart, so that where a field is looked for known names are compared
+    /// in place.
+    fn is_spelled(&self, name: &FieldName) -> bool
+        ensures { result ≡ is_same_name self.now name.now }
+    {
+        same_no_case(self.spelling(), name.spelling())
+    }
+
+    /// Whether it is this name: names are compared without case (RFC 3261 7.3.1). Takes no memory.
+    pub fn is_same(&self, other: &FieldName) -> bool
+        ensures { result ≡ is_same_name self.now other.now }
+    {
+        match KnownName::of(other) {
+            Some(known) => self.is_named(Some(known), other),
+            None => self.is_spelled(other),
+        }
+    }
+
+    /// Whether it is Content-Length, which a message that was read doesn't keep as a field.
+    #[inline]
+    pub fn is_content_length(&self) -> bool
+        ensures { result ≡ is_length self.now }
+    {
+        match self.known {
+            Some(known) => known.is_content_length(),
+            None => false,
+        }
+    }
+
+    /// Whether values of this name are cut at their commas, so that each item is a field of its own.
+    #[inline]
+    pub fn is_list(&self) -> bool
+        ensures { result ≡ is_list self.now }
+    {
+        match self.known {
+            Some(known) => known.is_list(),
+            None => false,
+        }
+    }
+}

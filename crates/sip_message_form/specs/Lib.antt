@@ -1,0 +1,6 @@
+pub mod Text
+pub mod ReadError
+pub mod ViewStart
+pub mod ViewRefusal
+pub mod KeptStart
+pub mod Kept

@@ -1,9 +1,0 @@
-use Rattle.sip_moments.specs.Near.{IsBranchWithin}
-use Rattle.sip_moments.proofs.Lists.{all_contains, all_find}
-use Rattle.sip_moments.proofs.bounds.branches_are_within.Goals as goal
-
-pub returns-clause-each : goal.returns-clause-each
-returns-clause-each c = λ bound r b w there. all_contains (IsBranchWithin bound) r.branches b w.branches_within there
-
-pub returns-clause-found : goal.returns-clause-found
-returns-clause-found c = λ bound r test w. all_find (IsBranchWithin bound) test r.branches w.branches_within

@@ -1,8 +1,0 @@
-use Rattle.sip_moments.proofs.Opened.{targets_within, dialog_within}
-use Rattle.sip_moments.proofs.openings.branches_begin.Goals as goal
-
-pub returns-clause-targets : goal.returns-clause-targets
-returns-clause-targets c = targets_within
-
-pub returns-clause-dialog : goal.returns-clause-dialog
-returns-clause-dialog c = dialog_within

@@ -1,5 +1,0 @@
-use Rattle.sip_nonces.proofs.Replays.{counts_once}
-use Rattle.sip_nonces.proofs.laws.one_count_for_both.Goals as goal
-
-pub returns : goal.returns
-returns c = counts_once

@@ -1,4 +1,0 @@
-pub mod NonceText
-pub mod Nonces
-pub mod Rows
-pub use Rattle.sip_digest.specs as digest

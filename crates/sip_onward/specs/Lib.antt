@@ -1,2 +1,0 @@
-pub mod Lowering
-pub mod Tail

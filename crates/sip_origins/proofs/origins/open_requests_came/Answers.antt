@@ -1,5 +1,0 @@
-use Rattle.sip_origins.proofs.Requests.{chain_come}
-use Rattle.sip_origins.proofs.origins.open_requests_came.Goals as goal
-
-pub returns : goal.returns
-returns c = chain_come c.steps_have_parts.ensures

@@ -1,0 +1,146 @@
+-- The first LF of some bytes, and lines read in parts.
+use Rattle.std.proofs.Common.{◌≡◌, ℕ, zero, suc, ◌+◌, ◌-◌, ◌<◌, ◌≤◌, List, ◌∷◌, ◌++◌, length, take, drop, get_or, Bool, true, false, Option, None, Some, MatchOption, refl, sym, ◌∙◌, ap, subst, arith, append-nil, append_assoc, length-append, [], add-one, take-append-drop, slice_range}
+use Rattle.std.specs.Prelude.{count_by, cond, ◌≢◌, IfSome, IfErr, Result, Ok, Err}
+use Rattle.std.specs.Io.KnownBytes.{Consumes, Keeps, IsAtEnd}
+use Rattle.std.proofs.lemmas.Bool.Decides.{nat_tests}
+use Rattle.std.proofs.lemmas.List.{take_all, drop-take, drop-drop, length-take, take-append-le}
+use Rattle.std.proofs.lemmas.List.Sums.{count_by_more_no, sum_by-append, sum_by-take-le}
+use Rattle.std.proofs.Math.Seq.{drop-cons}
+use Rattle.memchr.specs.Find.{IsFirstByte, is_byte}
+use Rattle.sip_replay_script.specs.Lines.{Reading, is_end, pending, EndsAt, EndsLine, IsLine, IsUnended, IsTooLong, LineStops, PartStops, PutStops}
+use Rattle.sip_replay_script.specs.declared.stop.Stop.{Stop}
+use Rattle.sip_replay_script.specs.declared.stop.Stop.TheVariants as stops
+
+not_true : (b : Bool) → (b ≡ true → ⊥) → b ≡ false
+not_true true h = absurd (h refl)
+not_true false h = refl
+
+-- none of the first bytes is LF
+none_before : (text : List ℕ) (i : ℕ) → i ≤ length text → ((k : ℕ) → k < i → is_end (get_or text k 0) ≡ false) → count_by is_end (take i text) ≡ 0
+none_before text zero le h = refl
+none_before text (suc i) le h =
+    let lt : i < length text = omega arith in
+    let rest : count_by is_end (take i text) ≡ 0 = none_before text i (omega arith) (λ k b. h k (omega arith)) in
+    let more : count_by is_end (take (i + 1) text) ≡ count_by is_end (take i text) = count_by_more_no is_end text i 0 lt (h i (omega arith)) in
+    let same : suc i ≡ i + 1 = omega arith in
+    ap (λ n. count_by is_end (take n text)) same ∙ more ∙ rest
+
+ends_at : (text : List ℕ) (place : ℕ) → place < length text → ((k : ℕ) → k < place → is_end (get_or text k 0) ≡ false) → get_or text place 0 ≡ 10 → EndsAt text place
+ends_at text place lt before is = record {
+  inside = lt;
+  single = none_before text place (omega arith) before;
+  cut = sym (take-append-drop place text) ∙ ap (λ l. take place text ++ l) (drop-cons text place 0 lt ∙ ap (λ b. b ∷ drop (suc place) text) is ∙ ap (λ n. 10 ∷ drop n text) (sym (add-one place)));
+}
+
+pub first_end : (text : List ℕ) (place : Option ℕ) → IsFirstByte (is_byte 10) text place → MatchOption place (count_by is_end text ≡ 0) (λ i. EndsAt text i)
+first_end text None h =
+    subst (λ l. count_by is_end l ≡ 0) (take_all (length text) text (omega arith)) (none_before text (length text) (omega arith) (λ k b. not_true (is_end (get_or text k 0)) (h k (omega arith) b)))
+first_end text (Some i) h =
+    let first = h.0 in
+    let is : get_or text i 0 ≡ 10 = grind (arith, nat_tests, h.1) in
+    ends_at text i first.high (λ k b. not_true (is_end (get_or text k 0)) (first.before k (omega arith) b)) is
+
+-- what is left of a part behind its front
+pub range_rest : (xs : List ℕ) (start stop n : ℕ) → start + n ≤ stop → slice_range xs (start + n) stop ≡ drop n (slice_range xs start stop)
+range_rest xs start stop n le =
+    let sizes : n + (stop - (start + n)) ≡ stop - start = omega arith in
+    ap (take (stop - (start + n))) (sym (drop-drop n start xs)) ∙ sym (drop-take n (stop - (start + n)) (drop start xs)) ∙ ap (λ m. drop n (take m (drop start xs))) sizes
+
+-- a line is passed that stands in a part
+pub range_behind : (xs unread : List ℕ) (start stop count : ℕ) → slice_range xs start stop ≡ unread → start ≤ stop → count < length unread → slice_range xs (start + count + 1) stop ≡ drop (count + 1) unread
+range_behind xs unread start stop count is le lt =
+    let most : length (slice_range xs start stop) ≤ stop - start = omega (arith, length-take (stop - start) (drop start xs)) in
+    let same : start + count + 1 ≡ start + (count + 1) = omega arith in
+    ap (λ n. slice_range xs n stop) same ∙ range_rest xs start stop (count + 1) (omega (arith, most, ap length is, lt, le)) ∙ ap (drop (count + 1)) is
+
+-- a line ends in a part
+pub part_ends : (xs ys : List ℕ) (start stop asks number place : ℕ) (before after : List ℕ) → ys ≡ xs → EndsAt (slice_range ys start stop) place → after ≡ before ++ take place (slice_range ys start stop)
+    → EndsLine (record { unread = slice_range xs start stop; asks = asks; number = number }) (record { unread = slice_range xs (start + (place + 1)) stop; asks = asks; number = number + 1 }) before after
+part_ends xs ys start stop asks number place before after same ends grown =
+    let most : length (slice_range ys start stop) ≤ stop - start = omega (arith, length-take (stop - start) (drop start ys)) in
+    let inside : place < length (slice_range ys start stop) = ends.inside in
+    let rest : slice_range xs (start + (place + 1)) stop ≡ drop (place + 1) (slice_range xs start stop) = range_rest xs start stop (place + 1) (omega arith) in
+    let cut : slice_range xs start stop ≡ take place (slice_range ys start stop) ++ 10 ∷ drop (place + 1) (slice_range ys start stop) =
+    ap (λ l. slice_range l start stop) (sym same) ∙ ends.cut in
+    record {
+      part = take place (slice_range ys start stop);
+      grown = grown;
+      single = ends.single;
+      unread = cut ∙ ap (λ l. take place (slice_range ys start stop) ++ 10 ∷ l) (ap (λ l. drop (place + 1) (slice_range l start stop)) same ∙ sym rest);
+      number = refl;
+      asks = refl;
+    }
+
+-- ---- how many LFs there are
+
+pub ends_add : (text more : List ℕ) → count_by is_end (text ++ more) ≡ count_by is_end text + count_by is_end more
+ends_add text more = sum_by-append (λ b. cond (is_end b) 1 0) text more
+
+-- a line with its LF has one
+pub one_end : (line : List ℕ) → IsLine line → count_by is_end (line ++ 10 ∷ []) ≡ 1
+one_end line h = let single : count_by is_end line ≡ 0 = h.single in let sum : count_by is_end (line ++ 10 ∷ []) ≡ count_by is_end line + 1 = ends_add line (10 ∷ []) in omega (arith, single, sum)
+
+-- ---- where no line stands
+
+-- none in a front that is long enough
+none_in_front : (n : ℕ) (front more : List ℕ) → n ≤ length front → count_by is_end front ≡ 0 → count_by is_end (take n (front ++ more)) ≡ 0
+none_in_front n front more le none =
+    let least : count_by is_end (take n front) ≤ count_by is_end front = sum_by-take-le (λ b. cond (is_end b) 1 0) front n in
+    ap (count_by is_end) (take-append-le n front more le) ∙ omega (arith, least, none)
+
+-- none in all that is left
+pub no_line_in : (n : ℕ) (text : List ℕ) → count_by is_end text ≡ 0 → count_by is_end (take n text) ≡ 0
+no_line_in n text none =
+    let least : count_by is_end (take n text) ≤ count_by is_end text = sum_by-take-le (λ b. cond (is_end b) 1 0) text n in
+    omega (arith, least, none)
+
+-- the script ends where a line has begun
+pub unended_at_end : (a b c : Option (List ℕ)) (line : List ℕ) → Consumes a b line → Keeps b c → IsAtEnd c → line ≢ [] → count_by is_end line ≡ 0 → IfSome a IsUnended
+unended_at_end None b c line h k e begun none = tt
+unended_at_end (Some xs) None c line h k e begun none = absurd h
+unended_at_end (Some xs) (Some ys) None line h k e begun none = absurd k
+unended_at_end (Some xs) (Some ys) (Some zs) line h k e begun none =
+    let all : xs ≡ line = h ∙ ap (λ l. line ++ l) (sym k ∙ e) ∙ append-nil line in
+    (λ is. begun (sym all ∙ is), ap (λ l. count_by is_end (take 200001 l)) all ∙ no_line_in 200001 line none)
+
+-- a line is too long
+not_empty : (xs : List ℕ) (n : ℕ) → n < length xs → xs ≢ []
+not_empty xs n lt is = absurd (omega (arith, lt, ap length is))
+
+unended_long : (xs line part rest : List ℕ) → xs ≡ line ++ (part ++ rest) → count_by is_end line ≡ 0 → count_by is_end part ≡ 0 → 200000 < length line + length part → IsUnended xs
+unended_long xs line part rest is none none_more long =
+    let front : xs ≡ (line ++ part) ++ rest = is ∙ sym (append_assoc line part rest) in
+    let size : length (line ++ part) ≡ length line + length part = length-append line part in
+    let total : length ((line ++ part) ++ rest) ≡ length (line ++ part) + length rest = length-append (line ++ part) rest in
+    let sum : count_by is_end (line ++ part) ≡ count_by is_end line + count_by is_end part = ends_add line part in (
+      not_empty xs 0 (omega (arith, ap length front, size, total, long)),
+      ap (λ l. count_by is_end (take 200001 l)) front ∙ none_in_front 200001 (line ++ part) rest (omega (arith, size, long)) (omega (arith, sum, none, none_more)),
+    )
+
+pub too_long : (a b : Option (List ℕ)) (r : Reading) (c : Option (List ℕ)) (line : List ℕ) → Consumes a b line → Keeps b (pending r c) → count_by is_end line ≡ 0 → IsTooLong r.unread line → IfSome a IsUnended
+too_long None b r c line h k none long = tt
+too_long (Some xs) None r c line h k none long = absurd h
+too_long (Some xs) (Some ys) r None line h k none long = absurd k
+too_long (Some xs) (Some ys) r (Some zs) line h k none long =
+    unended_long xs line long.part (long.rest ++ zs)
+    (h ∙ ap (λ l. line ++ l) (sym k ∙ ap (λ l. l ++ zs) long.cut ∙ append_assoc long.part long.rest zs)) none long.single long.long
+
+-- a part that isn't added
+pub part_stops : (unread before part rest : List ℕ) (stop : Stop) → unread ≡ part ++ rest → count_by is_end part ≡ 0 → PutStops part before stop → PartStops unread before stop
+part_stops unread before part rest stops.NoMemory cut none h = tt
+part_stops unread before part rest stops.Script cut none h = record { part = part; rest = rest; cut = cut; single = none; long = h }
+part_stops unread before part rest stops.Read cut none h = h
+part_stops unread before part rest stops.Write cut none h = h
+
+-- why no line is given, at the end and where one is too long
+pub over_stops : (F : Type 0) (a b c : Option (List ℕ)) (line seen : List ℕ) (r : Result Bool Stop) → Consumes a b line → Keeps b c → IsAtEnd c → IsLine line → seen ≡ line
+    → IfErr r (λ stop. (stop ≡ stops.Script) × (seen ≢ [])) → IfErr r (LineStops F a)
+over_stops F a b c line seen (Ok more) h k e is_line same s = tt
+over_stops F a b c line seen (Err stop) h k e is_line same s =
+    subst (λ x. LineStops F a x) (sym s.0) (unended_at_end a b c line h k e (λ is. s.1 (same ∙ is)) is_line.single)
+
+pub part_stops_line : (F : Type 0) (a b : Option (List ℕ)) (r : Reading) (c : Option (List ℕ)) (line : List ℕ) (stop : Stop) → Consumes a b line → Keeps b (pending r c) → IsLine line → PartStops r.unread line stop → LineStops F a stop
+part_stops_line F a b r c line stops.NoMemory h k is_line s = tt
+part_stops_line F a b r c line stops.Script h k is_line s = too_long a b r c line h k is_line.single s
+part_stops_line F a b r c line stops.Read h k is_line s = absurd s
+part_stops_line F a b r c line stops.Write h k is_line s = s

@@ -1,0 +1,144 @@
+-- The events that the text of a script says.
+use Rattle.std.specs.Prelude.{◌≡◌, ◌+◌, ◌<◌, ◌⊎◌, ⊤, ℕ, Bool, false, List, [], ◌∷◌, ◌++◌, take, count_by, Option, Some, None, All, IfSome}
+use Rattle.std.specs.List.{flat_map, list_any}
+use Rattle.std.specs.Str.{bytes_eq}
+use Rattle.std.specs.Io.KnownBytes.{Consumes}
+use Rattle.sip_event.specs.declared.event.Event.{Event}
+use Rattle.sip_replay_script.specs.declared.script.DatagramHead.{DatagramHead}
+use Rattle.sip_replay_script.specs.declared.script.Line.TheVariants.{Head, Whole}
+use Rattle.sip_replay_script.specs.Lines.{Reading, IsLine, IsUnended, HasNoLine, is_end, pending, left}
+use Rattle.sip_replay_script.specs.declared.stop.Stop.{Stop}
+use Rattle.sip_replay_script.specs.declared.stop.Stop.TheVariants as stops
+use Rattle.sip_replay_script.specs.Script.{line_of, unstuffed, datagram_at}
+
+-- a line with its LF
+abbrev pub ended : List ℕ → List ℕ
+ended line = line ++ 10 ∷ []
+
+-- the line that ends a datagram
+abbrev pub is_dot : List ℕ → Bool
+is_dot line = bytes_eq line (46 ∷ [])
+
+-- what a line of a datagram says: its bytes, and CRLF
+abbrev pub said : List ℕ → List ℕ
+said line = unstuffed line ++ 13 ∷ 10 ∷ []
+
+-- lines, none of which is a dot, and the bytes that they say
+pub record SaysBytes (text bytes : List ℕ) : Type 0 where
+  pub lines : List (List ℕ)
+  pub text_is : text ≡ flat_map ended lines
+  pub are_lines : All IsLine lines
+  pub no_dot : list_any is_dot lines ≡ false
+  pub bytes_are : bytes ≡ flat_map said lines
+
+-- such lines and a dot; of the bytes 65,508 are kept, which is one more than a datagram has
+pub record SaysDatagram (text bytes : List ℕ) : Type 0 where
+  pub before : List ℕ
+  pub whole : List ℕ
+  pub says : SaysBytes before whole
+  pub text_is : text ≡ before ++ 46 ∷ 10 ∷ []
+  pub kept : bytes ≡ take 65508 whole
+
+-- a line that says an event by itself
+pub record SaysWhole (text : List ℕ) (event : Event) : Type 0 where
+  pub line : List ℕ
+  pub is_line : IsLine line
+  pub text_is : text ≡ ended line
+  pub says : line_of line ≡ Some (Whole event)
+
+-- a line that begins a datagram, and its lines
+pub record SaysHead (text : List ℕ) (event : Event) : Type 0 where
+  pub line : List ℕ
+  pub head : DatagramHead
+  pub rest : List ℕ
+  pub bytes : List ℕ
+  pub is_line : IsLine line
+  pub text_is : text ≡ ended line ++ rest
+  pub says : line_of line ≡ Some (Head head)
+  pub lines : SaysDatagram rest bytes
+  pub event_is : event ≡ datagram_at head bytes
+
+abbrev pub SaysEvent : List ℕ → Event → Type 0
+SaysEvent text event = SaysWhole text event ⊎ SaysHead text event
+
+-- ---- what says no event
+
+-- lines, none of which is a dot, and no line behind them
+pub record IsNoDatagram (rest : List ℕ) : Type 0 where
+  pub front : List ℕ
+  pub bytes : List ℕ
+  pub more : List ℕ
+  pub cut : rest ≡ front ++ more
+  pub says : SaysBytes front bytes
+  pub unended : HasNoLine more
+
+-- a line that begins no event
+pub record IsOtherLine (rest : List ℕ) : Type 0 where
+  pub line : List ℕ
+  pub more : List ℕ
+  pub is_line : IsLine line
+  pub cut : rest ≡ ended line ++ more
+  pub says : line_of line ≡ None
+
+-- a line that begins a datagram, which doesn't end
+pub record IsCutShort (rest : List ℕ) : Type 0 where
+  pub line : List ℕ
+  pub head : DatagramHead
+  pub more : List ℕ
+  pub is_line : IsLine line
+  pub cut : rest ≡ ended line ++ more
+  pub says : line_of line ≡ Some (Head head)
+  pub lines : IsNoDatagram more
+
+-- what is left, which is something, begins with no event
+abbrev pub IsNoEvent : List ℕ → Type 0
+IsNoEvent rest = IsUnended rest ⊎ (IsOtherLine rest ⊎ IsCutShort rest)
+
+-- ---- what is read
+
+-- the next text of the script says that event
+pub record GivesEvent (old new : Reading) (before after : Option (List ℕ)) (event : Event) : Type 0 where
+  pub text : List ℕ
+  pub says : SaysEvent text event
+  pub consumes : Consumes (pending old before) (pending new after) text
+  pub number : new.number ≡ old.number + count_by is_end text
+  pub fewer : left new < left old
+
+-- and the same of the bytes of a datagram
+pub record GivesDatagram (old new : Reading) (before after : Option (List ℕ)) (bytes : List ℕ) : Type 0 where
+  pub text : List ℕ
+  pub says : SaysDatagram text bytes
+  pub consumes : Consumes (pending old before) (pending new after) text
+  pub number : new.number ≡ old.number + count_by is_end text
+
+-- a line of a datagram that stood whole among what was read is passed, and its bytes are kept
+pub record KeepsLine (old new : Reading) (before after : List ℕ) : Type 0 where
+  pub line : List ℕ
+  pub is_line : IsLine line
+  pub no_dot : is_dot line ≡ false
+  pub unread : old.unread ≡ ended line ++ new.unread
+  pub number : new.number ≡ old.number + 1
+  pub kept : after ≡ take 65508 (before ++ said line)
+
+-- and so are all that did, up to a dot
+pub record KeepsLines (old new : Reading) (before after : List ℕ) : Type 0 where
+  pub text : List ℕ
+  pub whole : List ℕ
+  pub says : SaysBytes text whole
+  pub unread : old.unread ≡ text ++ new.unread
+  pub number : new.number ≡ old.number + count_by is_end text
+  pub kept : after ≡ take 65508 (before ++ whole)
+
+-- why no datagram is given of what is still to come
+abbrev pub DatagramStops : Type 0 → Option (List ℕ) → Stop → Type 0
+DatagramStops spent script stops.NoMemory = ⊤
+DatagramStops spent script stops.Script = IfSome script IsNoDatagram
+DatagramStops spent script stops.Read = spent
+DatagramStops spent script stops.Write = ⊥
+
+-- and why no event
+abbrev pub EventStops : Type 0 → Option (List ℕ) → Stop → Type 0
+EventStops spent script stops.NoMemory = ⊤
+EventStops spent script stops.Script = IfSome script IsNoEvent
+EventStops spent script stops.Read = spent
+EventStops spent script stops.Write = ⊥

@@ -1,0 +1,154 @@
+ghost use Rattle.std.specs.Prelude.{◌≡◌, IfOk, Some, None, MatchOption};
+ghost use Rattle.sip_text.specs.Numbers;
+ghost use Rattle.sip_replay_script.specs.Script;
+
+use sip_digest::word_of;
+use sip_event::{Event, Ticket};
+use sip_text::{hex_bytes, plain_decimal, plain_decimal_below, same_bytes, split_once};
+use sip_uri::{Addr, addr_of};
+use std::alloc::{AllocError, Global};
+
+/// The first moment that is too large, in milliseconds.
+const TOO_LARGE: u64 = 0x4000_0000_0000_0000;
+
+/// A datagram without its bytes: the moment in milliseconds, the word of a nonce, and the source.
+#[derive(Clone, Copy)]
+pub struct DatagramHead {
+    pub at: u64,
+    pub word: u128,
+    pub from: Addr,
+}
+
+/// What the first line of an event says.
+#[derive(Drop)]
+pub enum Line {
+    /// A datagram whose bytes stand in the lines that follow.
+    Head(DatagramHead),
+    /// An event that the line holds whole.
+    Whole(Event),
+}
+
+/// A moment that the server takes.
+fn at_of(text: &[u8]) -> Option<u64>
+    ensures { result ≡ Script.at_of text.now }
+{
+    plain_decimal_below(text, TOO_LARGE)
+}
+
+fn branch_of(digits: &[u8]) -> Option<u32>
+    ensures { result ≡ Numbers.plain_decimal_below 0x1_0000_0000 digits.now }
+{
+    let number = plain_decimal_below(digits, 0x1_0000_0000)?;
+    Some(number as u32)
+}
+
+fn ticket_of(text: &[u8]) -> Option<Ticket>
+    ensures { result ≡ Script.ticket_of text.now }
+{
+    let (datagram, branch) = split_once(text, b'/')?;
+    let datagram = plain_decimal(datagram)?;
+    let branch = branch_of(branch)?;
+    Some(Ticket { datagram, branch })
+}
+
+fn head_of(at: &[u8], from: &[u8], word: &[u8]) -> Option<DatagramHead>
+    ensures { result ≡ Script.head_of at.now from.now word.now }
+{
+    let at = at_of(at)?;
+    let from = addr_of(from)?;
+    let word = word_of(word)?;
+    Some(DatagramHead { at, word, from })
+}
+
+fn datagram_line(text: &[u8]) -> Option<Line>
+    ensures { result ≡ Script.datagram_line text.now }
+{
+    let (at, rest) = split_once(text, b' ')?;
+    let (from, word) = split_once(rest, b' ')?;
+    let head = head_of(at, from, word)?;
+    Some(Line::Head(head))
+}
+
+fn time_line(text: &[u8]) -> Option<Line>
+    ensures { result ≡ Script.time_line text.now }
+{
+    let at = at_of(text)?;
+    Some(Line::Whole(Event::Time { at }))
+}
+
+fn fault_line(text: &[u8]) -> Option<Line>
+    ensures { result ≡ Script.fault_line text.now }
+{
+    let (at, ticket) = split_once(text, b' ')?;
+    let at = at_of(at)?;
+    let ticket = ticket_of(ticket)?;
+    Some(Line::Whole(Event::Fault { at, ticket }))
+}
+
+/// The head and the digits behind the word `hex`.
+fn hex_parts(text: &[u8]) -> Option<(DatagramHead, &[u8])>
+    ensures { MatchOption result (Script.hex_parts text.now ≡ None) (λ parts. Script.hex_parts text.now ≡ Some (parts.0, parts.1.now)) }
+{
+    let (at, rest) = split_once(text, b' ')?;
+    let (from, rest) = split_once(rest, b' ')?;
+    let (word, digits) = split_once(rest, b' ')?;
+    let head = head_of(at, from, word)?;
+    Some((head, digits))
+}
+
+fn hex_line(alloc: Global, text: &[u8]) -> Result<Option<Line>, AllocError>
+    ensures { IfOk result (λ line. line ≡ Script.hex_line text.now) }
+{
+    let Some((head, digits)) = hex_parts(text) else {
+        return Ok(None);
+    };
+    match hex_bytes(alloc, digits)? {
+        Some(bytes) => Ok(Some(Line::Whole(Event::Datagram {
+            at: head.at,
+            word: head.word,
+            from: head.from,
+            bytes,
+        }))),
+        None => Ok(None),
+    }
+}
+
+fn line_of_kind(alloc: Global, kind: &[u8], rest: &[u8]) -> Result<Option<Line>, AllocError>
+    ensures { IfOk result (λ line. line ≡ Script.line_of_kind kind.now rest.now) }
+{
+    if same_bytes(kind, b"datagram") {
+        return Ok(datagram_line(rest));
+    }
+    if same_bytes(kind, b"hex") {
+        return hex_line(alloc, rest);
+    }
+    if same_bytes(kind, b"time") {
+        return Ok(time_line(rest));
+    }
+    if same_bytes(kind, b"fault") {
+        return Ok(fault_line(rest));
+    }
+    Ok(None)
+}
+
+/// What an event's first line says: `datagram AT IP:PORT WORD`, `hex AT IP:PORT WORD DIGITS`, `time AT`
+/// or `fault AT D/K`; `None` where it is any other line. Moments are in milliseconds below 2^62.
+pub fn line_of(alloc: Global, text: &[u8]) -> Result<Option<Line>, AllocError>
+    ensures { IfOk result (λ line. line ≡ Script.line_of text.now) }
+{
+    match split_once(text, b' ') {
+        Some((kind, rest)) => line_of_kind(alloc, kind, rest),
+        None => Ok(None),
+    }
+}
+
+/// A line of a datagram without the `.` that it may begin with.
+pub fn unstuffed(line: &[u8]) -> &[u8]
+    ensures { result.now ≡ Script.unstuffed line.now }
+{
+    if !line.is_empty() && line[0] == b'.' {
+        &line[1..]
+    } else {
+        line
+    }
+}

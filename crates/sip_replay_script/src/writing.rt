@@ -1,0 +1,91 @@
+ghost use Rattle.std.specs.Prelude.{◌≡◌, ◌≤◌, ◌<◌, [], ◌++◌, take, length, IfOk, OnOk, OnErr, IfErr};
+ghost use Rattle.std.specs.Io.KnownBytes.{Appends, Keeps};
+ghost use Rattle.sip_replay_script.specs.Devices.{later, GaveUp, PrintStops, WritesFront};
+ghost use Rattle.sip_replay_script.specs.declared.stop.Stop.TheVariants.{Write};
+
+use crate::device::TellingWriter;
+use crate::stop::Stop;
+use std::io::ErrorKind;
+
+/// One write: how many bytes it took, 0 where it was interrupted.
+#[tactic(auto, using(crate::proofs::Fronts::appends_none, crate::proofs::Written::appends_nothing))]
+fn put_some<W: TellingWriter>(writer: &mut W, rest: &[u8]) -> Result<usize, Stop>
+    requires { 0 < length rest.now }
+    ensures within { IfOk result (λ n. n ≤ length rest.now) }
+    ensures bytes { IfOk result (λ n. Appends (W.contents writer.old) (W.contents writer.new) (take n rest.now)) }
+    ensures nothing { OnErr result (Appends (W.contents writer.old) (W.contents writer.new) []) }
+    ensures called { W.called writer.new ≡ later 1 (W.called writer.old) }
+    ensures failed { IfErr result (λ stop. (stop ≡ Write) × W.has_failed writer.new) }
+{
+    match writer.give(rest) {
+        Ok(0) => Err(Stop::Write),
+        Ok(count) => Ok(count),
+        Err(e) => match e.kind() {
+            ErrorKind::Interrupted => Ok(0),
+            _ => Err(Stop::Write),
+        },
+    }
+}
+
+/// Writes a text whole, whatever parts the writer takes at a time.
+#[tactic(auto, using(crate::proofs::Fronts::appends_all, crate::proofs::Written::appends_nothing, crate::proofs::Fronts::front_of, crate::proofs::Fronts::front_kept, crate::proofs::Calls::later_more))]
+pub fn put<W: TellingWriter>(writer: &mut W, text: &[u8]) -> Result<(), Stop>
+    ensures ok { OnOk result (Appends (W.contents writer.old) (W.contents writer.new) text.now) }
+    ensures front { OnErr result (WritesFront (W.contents writer.old) (W.contents writer.new) text.now) }
+    ensures failed { IfErr result (λ stop. (stop ≡ Write) × GaveUp (W.has_failed writer.new) (W.called writer.new)) }
+{
+    let mut done = 0;
+    for tries in 0..u64::MAX {
+        if done >= text.len() {
+            return Ok(());
+        }
+        done += put_some(writer, &text[done..])?;
+    }
+    Err(Stop::Write)
+}
+
+/// Writes three texts, one after the other.
+#[tactic(auto, using(crate::proofs::Written::appends_both, crate::proofs::Fronts::front_first, crate::proofs::Fronts::front_second))]
+pub fn put_three<W: TellingWriter>(
+    writer: &mut W,
+    first: &[u8],
+    second: &[u8],
+    third: &[u8],
+) -> Result<(), Stop>
+    ensures ok { OnOk result (Appends (W.contents writer.old) (W.contents writer.new) (first.now ++ second.now ++ third.now)) }
+    ensures front { OnErr result (WritesFront (W.contents writer.old) (W.contents writer.new) (first.now ++ second.now ++ third.now)) }
+    ensures stopped { IfErr result (PrintStops (GaveUp (W.has_failed writer.new) (W.called writer.new))) }
+{
+    match put(writer, first) {
+        Ok(()) => {}
+        Err(stop) => return Err(stop),
+    }
+    match put(writer, second) {
+        Ok(()) => {}
+        Err(stop) => return Err(stop),
+    }
+    match put(writer, third) {
+        Ok(()) => Ok(()),
+        Err(stop) => Err(stop),
+    }
+}
+
+/// Has the writer hand on what it holds back.
+#[tactic(auto, using(crate::proofs::Written::keeps_both, crate::proofs::Written::keeps_itself, crate::proofs::Calls::later_more))]
+pub fn hand_on<W: TellingWriter>(writer: &mut W) -> Result<(), Stop>
+    ensures kept { Keeps (W.contents writer.old) (W.contents writer.new) }
+    ensures flushed { OnOk result (W.is_flushed writer.new) }
+    ensures failed { IfErr result (λ stop. (stop ≡ Write) × GaveUp (W.has_failed writer.new) (W.called writer.new)) }
+    ensures still { GaveUp (W.has_failed writer.old) (W.called writer.old) → GaveUp (W.has_failed writer.new) (W.called writer.new) }
+{
+    for tries in 0..u64::MAX {
+        match writer.hand_on() {
+            Ok(()) => return Ok(()),
+            Err(e) => match e.kind() {
+                ErrorKind::Interrupted => {}
+                _ => return Err(Stop::Write),
+            },
+        }
+    }
+    Err(Stop::Write)
+}

@@ -1,2 +1,0 @@
-pub mod Firsts
-pub mod Lists

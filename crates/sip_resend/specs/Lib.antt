@@ -1,3 +1,0 @@
-pub mod Refusals
-pub mod NextResend
-pub use Rattle.sip_retransmission.specs as retransmission

@@ -1,0 +1,5 @@
+pub mod Own
+pub mod Way
+pub mod Routes
+pub mod RoutesKept
+pub mod Examples

@@ -1,2 +1,0 @@
-pub mod Base
-pub use Rattle.sip_onward.specs as onward

@@ -1,4 +1,0 @@
-pub mod Replying
-pub mod Answered
-pub mod Serving
-pub mod Final

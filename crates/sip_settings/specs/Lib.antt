@@ -1,2 +1,0 @@
-pub mod Sample
-pub use Rattle.sip_hops.specs as hops

@@ -1,5 +1,0 @@
-pub mod Threads
-pub mod Dues
-pub mod Holding
-pub mod Whole
-pub mod Looking

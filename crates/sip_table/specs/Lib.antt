@@ -1,4 +1,0 @@
-pub mod Digest
-pub mod Keys
-pub mod Numbered
-pub mod Rows

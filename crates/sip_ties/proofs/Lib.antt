@@ -1,4 +1,0 @@
-pub mod Counted
-pub mod Sendings
-pub mod CopiesLeft
-pub mod Names

@@ -1,0 +1,14 @@
+pub mod Threads
+pub mod Dues
+pub mod Holding
+pub mod Whole
+pub mod Looking
+pub mod Changes
+pub mod First
+pub mod Lists
+pub mod Marked
+pub mod NextMark
+pub mod Moves
+pub mod Order
+pub mod Steps
+pub mod Moments

@@ -1,0 +1,156 @@
+-- What each call of a wheel leaves.
+use Rattle.std.proofs.Common.{◌≡◌, ◌≢◌, ℕ, ◌+◌, ◌/◌, ◌%◌, ◌≤◌, ◌<◌, List, [], ◌∷◌, ◌++◌, length, eqb, leb, cond, true, false, refl, ap, sym, ◌∙◌, arith, subst, set, drop, Option, Some, None}
+use Rattle.std.specs.Prelude.{not, ◌&&◌, count_by, MatchOption}
+use Rattle.std.proofs.lemmas.Bool.Decides.{nat_tests}
+use Rattle.std.proofs.lemmas.List.{length-set, length-append, get_or_past}
+use Rattle.std.proofs.lemmas.List.Elements.{filter-append}
+use Rattle.sip_timers.specs.declared.timer.Timer.{Timer}
+use Rattle.sip_timers.specs.Timers.{placed, without, keys_with, first_due, popped, AreOrdered}
+use Rattle.sip_timers_wheel.specs.Lists.{list_at, concat, least}
+use Rattle.sip_timers_wheel.specs.Places.{slot_of, start_of, level_of, width}
+use Rattle.sip_timers_wheel.specs.Order.{due_at}
+use Rattle.sip_timers_wheel.specs.Wheel.{IsWheel, pending_in, IsFirstSlot, IsEmptyLevel, AreMoved, AreUnreached, GoesElsewhere}
+use Rattle.sip_timers_wheel.proofs.Order.{StaysOrdered, StandsThen, due_at-same, count-in_order}
+use Rattle.sip_timers_wheel.proofs.Moments.{slot_known, slot-none, slot-in, level_below}
+use Rattle.sip_timers_wheel.proofs.Lists.{count-cons, without-none}
+use Rattle.sip_timers_wheel.proofs.Changes.{by_same, pushed-in_place, pushed-pending, key-here, gone-in_place, gone-pending}
+use Rattle.sip_timers_wheel.proofs.Moves.{by_moment, near_by_slot, moved-more, new-slot}
+use Rattle.sip_timers_wheel.proofs.First.{none-least, head-first, none-pending}
+
+-- a moment whose slot has a list is near
+pub near-by : (b d : ℕ) → slot_of b d < 321 → d < b + 1073741824
+near-by b d h = by_moment (d < b + 1073741824) b d (λ le. omega (arith, le)) (λ lt near. near) (λ far. absurd (omega (arith, h, slot-none b d far)))
+
+-- ---- a timer is set
+
+module _ (b : ℕ) (lists new : List (List Timer)) (t : Timer) (slot : ℕ) (wheel : IsWheel b lists) (near : t.due < b + 1073741824) (at : slot ≡ slot_of b t.due) (pushed : new ≡ set lists slot (list_at lists slot ++ t ∷ [])) where
+  in-range : slot < length lists
+  in-range = omega (arith, wheel.slots, at, slot_known b t.due near)
+
+  pub added-wheel : IsWheel b new
+  added-wheel = subst (λ l. IsWheel b l) (sym pushed) (record {
+    slots = length-set lists slot (list_at lists slot ++ t ∷ []) ∙ wheel.slots;
+    in_place = pushed-in_place b lists t slot (sym at) in-range wheel.in_place;
+  })
+
+  pub added-pending : StaysOrdered → pending_in new ≡ placed t (pending_in lists)
+  added-pending stays = ap (λ l. pending_in l) pushed ∙ pushed-pending b lists t slot (sym at) in-range wheel.in_place stays
+
+pub added-fresh : StandsThen → (key : ℕ) (lists : List (List Timer)) → keys_with key (concat lists) ≡ 0 → keys_with key (pending_in lists) ≡ 0
+added-fresh stands key lists h = count-in_order stands (λ t. eqb t.key key) (concat lists) ∙ h
+
+-- ---- a timer is taken out
+
+module _ (stands : StandsThen) (key : ℕ) (lists : List (List Timer)) where
+  pub present-in : 1 ≤ keys_with key (pending_in lists) → 1 ≤ keys_with key (concat lists)
+  present-in h = omega (arith, h, count-in_order stands (λ t. eqb t.key key) (concat lists))
+
+  pub once-in : keys_with key (concat lists) ≤ 1 → keys_with key (pending_in lists) ≤ 1
+  once-in h = omega (arith, h, count-in_order stands (λ t. eqb t.key key) (concat lists))
+
+module _ (b : ℕ) (lists : List (List Timer)) (key due : ℕ) (wheel : IsWheel b lists) (known : count_by (λ t. eqb t.key key && not (eqb t.due due)) (concat lists) ≡ 0) (some : 1 ≤ keys_with key (concat lists)) where
+  pub taken-present : 1 ≤ keys_with key (list_at lists (slot_of b due))
+  taken-present = key-here b lists key due wheel.in_place known some
+
+  pub taken-known : slot_of b due < 321
+  taken-known = by_moment (slot_of b due < 321) b due
+      (λ le. slot_known b due (omega (arith, le)))
+      (λ lt near. slot_known b due near)
+      (λ far. absurd (omega (arith, taken-present, ap (λ l. keys_with key l) (ap (λ i. list_at lists i) (slot-none b due far) ∙ get_or_past lists 321 [] (omega (arith, wheel.slots))))))
+
+  pub taken-near : due < b + 1073741824
+  taken-near = near-by b due taken-known
+
+  module _ (new : List (List Timer)) (slot : ℕ) (at : slot ≡ slot_of b due) (gone : new ≡ set lists slot (without key (list_at lists slot))) where
+    taken-range : slot < length lists
+    taken-range = omega (arith, wheel.slots, at, taken-known)
+
+    pub taken-wheel : IsWheel b new
+    taken-wheel = subst (λ l. IsWheel b l) (sym gone) (record {
+      slots = length-set lists slot (without key (list_at lists slot)) ∙ wheel.slots;
+      in_place = gone-in_place b lists key due wheel.in_place known slot (sym at) taken-range;
+    })
+
+    pub taken-pending : StaysOrdered → ((k : ℕ) (ts : List Timer) → AreOrdered ts → AreOrdered (without k ts)) → pending_in new ≡ without key (pending_in lists)
+    taken-pending stays left = ap (λ l. pending_in l) gone ∙ gone-pending b lists key due wheel.in_place known slot (sym at) taken-range stays left
+
+-- ---- the first one is taken out
+
+pub first-has : (t : Timer) (ts rest : List Timer) → ts ≡ t ∷ rest → 1 ≤ keys_with t.key ts
+first-has t ts rest e = subst (λ l. 1 ≤ keys_with t.key l) (sym e) (grind (arith, nat_tests, count-cons (λ u. eqb u.key t.key) t rest))
+
+pub first-goes-out : (t : Timer) (ts : List Timer) → ts ≡ t ∷ drop 1 ts → keys_with t.key ts ≤ 1 → without t.key ts ≡ drop 1 ts
+first-goes-out t ts e once =
+    let rest : keys_with t.key (drop 1 ts) ≡ 0 = grind (arith, nat_tests, count-cons (λ u. eqb u.key t.key) t (drop 1 ts), ap (λ l. keys_with t.key l) e, once) in
+    ap (λ l. without t.key l) e ∙ elim (eqb t.key t.key) as (λ v. (eqb t.key t.key ≡ v) → cond (not v) (t ∷ without t.key (drop 1 ts)) (without t.key (drop 1 ts)) ≡ drop 1 ts) [
+      | true ↦ (λ k. without-none t.key (drop 1 ts) rest)
+      | false ↦ (λ k. absurd (grind (arith, nat_tests, k)))
+    ] refl
+
+abbrev pub pair : Timer → List Timer → Option Timer × List Timer
+pair t l = (Some t, l)
+
+popped-cons : (now : ℕ) (t : Timer) (rest : List Timer) → t.due ≤ now → popped now (t ∷ rest) ≡ pair t rest
+popped-cons now t rest le = elim (leb t.due now) as (λ v. (leb t.due now ≡ v) → cond {A = Option Timer × List Timer} v (Some t, rest) (None, t ∷ rest) ≡ pair t rest) [
+  | true ↦ (λ k. refl)
+  | false ↦ (λ k. absurd (grind (arith, nat_tests, k, le)))
+] refl
+
+pub popped-first : (now : ℕ) (t : Timer) (old ts new : List Timer) → old ≡ ts → ts ≡ t ∷ drop 1 ts → new ≡ without t.key ts → keys_with t.key ts ≤ 1 → t.due ≤ now → pair t new ≡ popped now old
+popped-first now t old ts new same e gone once le =
+    let out : new ≡ drop 1 ts = gone ∙ first-goes-out t ts e once in
+    ap (λ (l : List Timer). pair t l) out ∙ (sym (popped-cons now t (drop 1 ts) le) ∙ ap (λ l. popped now l) (sym (same ∙ e)))
+
+pub first-split : (t : Timer) (old ts new : List Timer) → old ≡ ts → ts ≡ t ∷ drop 1 ts → new ≡ without t.key ts → keys_with t.key ts ≤ 1 → old ≡ t ∷ new
+first-split t old ts new same e gone once = same ∙ (e ∙ ap (λ l. t ∷ l) (sym (gone ∙ first-goes-out t ts e once)))
+
+-- ---- one timer moves
+
+pub by_due : (P : Type 0) (ts : List Timer) (due : ℕ) → first_due ts ≡ Some due → ((t : Timer) (rest : List Timer) → ts ≡ t ∷ rest → t.due ≡ due → P) → P
+by_due P [] due h some = absurd (grind (arith, h))
+by_due P (t ∷ rest) due h some = some t rest refl (grind (arith, h))
+
+pub some-due : (ts : List Timer) (due : ℕ) → first_due ts ≡ Some due → 1 ≤ length (due_at due ts)
+some-due ts due h = by_due (1 ≤ length (due_at due ts)) ts due h (λ t rest e d. subst (λ l. 1 ≤ length (due_at due l)) (sym e) (subst (λ x. 1 ≤ length (due_at x (t ∷ rest))) d (omega (arith, ap (λ l. length l) (due_at-same t rest)))))
+
+pub due-some : (ts : List Timer) (due : ℕ) → first_due ts ≡ Some due → 1 ≤ length ts
+due-some [] due h = absurd (grind (arith, h))
+due-some (t ∷ ts) due h = omega arith
+
+module _ (start slot : ℕ) (moved : List Timer) (old now : List (List Timer)) (due : ℕ) (so_far : AreMoved start slot moved old now) (first : first_due (list_at now slot) ≡ Some due) (goes : GoesElsewhere start slot old) (slots : length old ≡ 321) (low : slot < 321) where
+  pub goes-now : (slot_of start due ≢ slot) × (slot_of start due < length old)
+  goes-now = goes due (subst (λ l. 1 ≤ length (due_at due l)) (sym so_far.left) (omega (arith, some-due (list_at now slot) due first, ap (λ l. length l) (filter-append (λ t. eqb t.due due) moved (list_at now slot)), length-append (due_at due moved) (due_at due (list_at now slot)))))
+
+  module _ (new-lists : List (List Timer)) (to : ℕ) (at : to ≡ slot_of start due) (moves : (t : Timer) (rest : List Timer) → list_at now slot ≡ t ∷ rest → new-lists ≡ set (set now slot rest) to (list_at now to ++ t ∷ [])) where
+    pub still-moved : (x : List Timer) × AreMoved start slot x old new-lists
+    still-moved = by_due ((x : List Timer) × AreMoved start slot x old new-lists) (list_at now slot) due first (λ t rest e d. (
+      moved ++ t ∷ [],
+      subst (λ l. AreMoved start slot (moved ++ t ∷ []) old l) (sym (moves t rest e))
+          (moved-more start slot moved old now t rest to so_far e (ap (λ x. slot_of start x) d ∙ sym at) (λ k. goes-now.0 (sym at ∙ k)) (omega (arith, so_far.slots, slots, low)) (omega (arith, so_far.slots, at, goes-now.1))),
+    ))
+
+    pub fewer-left : length (list_at new-lists slot) < length (list_at now slot)
+    fewer-left = by_due (length (list_at new-lists slot) < length (list_at now slot)) (list_at now slot) due first (λ t rest e d.
+        omega (arith, ap (λ l. length l) e, ap (λ l. length (list_at l slot)) (moves t rest e), ap (λ l. length l) (new-slot start slot moved old now t rest to so_far e (ap (λ x. slot_of start x) d ∙ sym at) (λ k. goes-now.0 (sym at ∙ k)) (omega (arith, so_far.slots, slots, low)) (omega (arith, so_far.slots, at, goes-now.1)))))
+
+-- ---- what is first
+
+module _ (stays : StaysOrdered) (b : ℕ) (lists : List (List Timer)) (wheel : IsWheel b lists) (none-late : least (list_at lists 320) ≡ None) where
+  pub first-none : ((level : ℕ) → level < 5 → IsEmptyLevel lists level) → pending_in lists ≡ []
+  first-none none = none-pending stays b lists wheel (none-least (list_at lists 320) none-late) none
+
+  pub first-some : (slot start end : ℕ) (result : Option Timer) → IsFirstSlot b lists slot start end → result ≡ least (list_at lists slot) → MatchOption result (pending_in lists ≡ []) (λ first. pending_in lists ≡ first ∷ drop 1 (pending_in lists))
+  first-some slot start end None first e = absurd (omega (arith, first.holds, ap (λ l. length l) (none-least (list_at lists slot) (sym e))))
+  first-some slot start end (Some l) first e = head-first stays b lists wheel slot start end l (none-least (list_at lists 320) none-late) first (sym e)
+
+-- ---- what isn't reached
+
+pub none-reached : (b now : ℕ) (lists : List (List Timer)) → ((level : ℕ) → level < 5 → IsEmptyLevel lists level) → AreUnreached b now lists
+none-reached b now lists none d low some =
+    let near : (b < d) × (d < b + 1073741824) = near_by_slot b d low in
+    absurd (omega (arith, some, ap (λ l. length l) (ap (λ i. list_at lists i) (slot-in b d near.0 near.1) ∙ none (level_of b d) (level_below b d) (d / width (level_of b d) % 64) (omega arith))))
+
+pub later-reached : (b now : ℕ) (lists : List (List Timer)) (slot start end : ℕ) → IsFirstSlot b lists slot start end → now < start → AreUnreached b now lists
+later-reached b now lists slot start end first later d low some = by_same (now < start_of b d) (slot_of b d) slot
+    (λ e. omega (arith, later, first.start_is d e))
+    (λ n. omega (arith, later, first.spans, first.others d n low some))

@@ -1,0 +1,14 @@
+use Rattle.std.proofs.Common.{◌≡◌, sym, ◌∙◌, ap}
+use Rattle.sip_timers_wheel.specs.Wheel.{pending_in}
+use Rattle.sip_timers_wheel.proofs.Steps.{popped-first, first-split}
+use Rattle.sip_timers_wheel.proofs.wheel_timers.WheelTimersTimers.pop_due.Goals as goal
+
+pub returns-clause-taken : goal.returns-clause-taken
+returns-clause-taken c =
+    let same : c.args.self.now.pending ≡ pending_in c.self.inside.levels.lists = sym c.reach.ensures.same ∙ ap (λ q. q.pending) (sym c.self.view_is) in
+    popped-first c.args.now c.in_ok-first.first c.args.self.now.pending (pending_in c.self.inside.levels.lists) (pending_in c.take_out.new.levels.lists) same c.in_ok-first.ensures c.take_out.ensures.gone c.take_out.ensures.once c.if-first-now.false
+
+pub returns-clause-some : goal.returns-clause-some
+returns-clause-some c =
+    let same : c.args.self.now.pending ≡ pending_in c.self.inside.levels.lists = sym c.reach.ensures.same ∙ ap (λ q. q.pending) (sym c.self.view_is) in
+    (first-split c.in_ok-first.first c.args.self.now.pending (pending_in c.self.inside.levels.lists) (pending_in c.take_out.new.levels.lists) same c.in_ok-first.ensures c.take_out.ensures.gone c.take_out.ensures.once, c.if-first-now.false)

@@ -1,0 +1,212 @@
+ghost use Rattle.std.specs.Prelude.{◌≡◌, ◌≤◌, ◌<◌, ℕ, List, [], ◌∷◌, drop, MatchOption, length, max};
+ghost use Rattle.sip_timers.specs.declared.timer.Timer.{Timer};
+ghost use Rattle.sip_timers.specs.Timers.{keys_with, without};
+ghost use Rattle.sip_timers_wheel.specs.Lists.{list_at};
+ghost use Rattle.sip_timers_wheel.specs.Wheel.{IsWheel, IsFirstSlot, IsEmptyLevel, AreMoved, AreUnreached, GoesElsewhere, pending_in};
+
+use crate::levels::Levels;
+use crate::places::{LATE, LEVELS, SLOTS, position, slot_of, width};
+use sip_timers::laws::{earlier_fires_first, timer_stands};
+use sip_timers::{Name, Timer, TimerError, Timers};
+use std::alloc::Global;
+use std::marker::Model;
+
+/// The first distance past the greatest moment that was given to `pop_due` at which no timer is set, in
+/// milliseconds.
+const TOO_FAR: u64 = 1 << 30;
+
+/// A timer wheel: 5 levels of 64 slots, of 1 ms each at the lowest level and 64 times as long at each further one. What is
+/// due by the greatest moment that was given to `pop_due` stands in a slot of its own.
+#[derive(Drop)]
+pub struct WheelTimers {
+    levels: Levels,
+    reached: u64,
+}
+
+impl Model for WheelTimers {
+    ghost use Rattle.sip_timers.specs.Queue.{TimerQueue};
+    ghost use Rattle.sip_timers_wheel.specs.Wheel.{IsWheel, pending_in};
+
+    ghost Value = { TimerQueue };
+
+    ghost view = { λ w. record { pending = pending_in w.levels.lists; reached = w.reached; room = w.levels.room } };
+
+    ghost invariant = { λ w. IsWheel w.reached w.levels.lists };
+}
+
+impl Timers for WheelTimers {
+    ghost pending = { λ t. t.pending };
+
+    ghost reached = { λ t. t.reached };
+
+    ghost room = { λ t. t.room };
+
+    fn new(alloc: Global) -> Result<Self, TimerError> {
+        Ok(WheelTimers {
+            levels: Levels::new(alloc)?,
+            reached: 0,
+        })
+    }
+
+    fn reserve(&mut self, more: usize) -> Result<(), TimerError> {
+        self.levels.reserve(more)?;
+        Ok(())
+    }
+
+    fn add(&mut self, due: u64, name: Name) -> Result<usize, TimerError> {
+        earlier_fires_first();
+        timer_stands();
+        if due.saturating_sub(self.reached) >= TOO_FAR {
+            return Err(TimerError::TooFar);
+        }
+        let slot = slot_of(self.reached, due);
+        let key = self.levels.push(slot, due, name)?;
+        Ok(key)
+    }
+
+    fn cancel(&mut self, key: usize) {
+        take_out(&mut self.levels, self.reached, key);
+    }
+
+    fn next(&self) -> Option<(u64, Name)> {
+        let first = first_timer(&self.levels, self.reached)?;
+        Some((first.due, first.name))
+    }
+
+    fn pop_due(&mut self, now: u64) -> Option<Timer> {
+        self.reach(now);
+        let first = first_timer(&self.levels, self.reached)?;
+        if first.due > now {
+            return None;
+        }
+        take_out(&mut self.levels, self.reached, first.key);
+        Some(first)
+    }
+}
+
+impl WheelTimers {
+    /// Takes a moment as reached, unless a later one was.
+    fn reach(&mut self, now: u64)
+        ensures same { self.new.pending ≡ self.old.pending }
+        ensures later { self.new.reached ≡ max self.old.reached now }
+        ensures left { self.old.room ≤ self.new.room }
+    {
+        if self.reached < now {
+            reach(&mut self.levels, self.reached, now);
+            self.reached = now;
+        }
+    }
+}
+
+/// The slot of the levels whose timers are due first, and its first moment.
+#[derive(Clone, Copy)]
+struct FirstSlot {
+    slot: usize,
+    start: u64,
+}
+
+/// The first slot of the levels that has a timer.
+fn first_slot(levels: &Levels, reached: u64) -> Option<FirstSlot>
+    requires { IsWheel reached levels.now.lists }
+    ensures { MatchOption result ((level : ℕ) → level < 5 → IsEmptyLevel levels.now.lists level) (λ first. (end : ℕ) × IsFirstSlot reached levels.now.lists first.slot first.start end) }
+{
+    for level in 0..LEVELS {
+        let from = ((position(level, reached) % 64 + 1) % 64) as usize;
+        if let Some(offset) = levels.next_in(level, from) {
+            let slot = level * SLOTS + (from + offset) % SLOTS;
+            let due = levels.first_due(slot)?;
+            let start = position(level, due) * width(level);
+            return Some(FirstSlot { slot, start });
+        }
+    }
+    None
+}
+
+/// The timer that fires first.
+fn first_timer(levels: &Levels, reached: u64) -> Option<Timer>
+    requires { IsWheel reached levels.now.lists }
+    ensures { MatchOption result (pending_in levels.now.lists ≡ []) (λ first. pending_in levels.now.lists ≡ first ∷ drop 1 (pending_in levels.now.lists)) }
+{
+    earlier_fires_first();
+    if let Some(late) = levels.least(LATE) {
+        return Some(late);
+    }
+    match first_slot(levels, reached) {
+        Some(first) => levels.least(first.slot),
+        None => None,
+    }
+}
+
+/// Looks up the timer that fires first, where it stands in a slot of the levels, so that to ask for it takes a fixed time.
+fn remember_first(levels: &mut Levels, reached: u64)
+    requires { IsWheel reached levels.old.lists }
+    ensures same { levels.new.lists ≡ levels.old.lists }
+    ensures left { levels.old.room ≤ levels.new.room }
+{
+    if let Some(first) = first_slot(levels, reached) {
+        levels.remember_least(first.slot);
+    }
+}
+
+/// Takes the timer of a key out.
+fn take_out(levels: &mut Levels, reached: u64, key: usize)
+    requires wheel { IsWheel reached levels.old.lists }
+    requires present { 1 ≤ keys_with key (pending_in levels.old.lists) }
+    ensures wheel { IsWheel reached levels.new.lists }
+    ensures gone { pending_in levels.new.lists ≡ without key (pending_in levels.old.lists) }
+    ensures once { keys_with key (pending_in levels.old.lists) ≤ 1 }
+    ensures left { levels.old.room ≤ levels.new.room }
+{
+    earlier_fires_first();
+    timer_stands();
+    let due = levels.due_of(key);
+    let slot = slot_of(reached, due);
+    levels.remove(slot, key);
+    remember_first(levels, reached);
+}
+
+/// Moves the timers of each slot down that is reached by a moment.
+fn reach(levels: &mut Levels, reached: u64, now: u64)
+    requires wheel { IsWheel reached levels.old.lists }
+    requires later { reached ≤ now }
+    ensures wheel { IsWheel now levels.new.lists }
+    ensures same { pending_in levels.new.lists ≡ pending_in levels.old.lists }
+    ensures left { levels.old.room ≤ levels.new.room }
+{
+    let mut begun = reached;
+    while let Some(start) = move_down(levels, begun, now) {
+        begun = start;
+    }
+}
+
+/// Moves the timers of the first slot down, where it begins by a moment, and gives its first moment.
+fn move_down(levels: &mut Levels, reached: u64, now: u64) -> Option<u64>
+    requires { IsWheel reached levels.old.lists }
+    ensures none { MatchOption result (AreUnreached reached now levels.new.lists × IsWheel reached levels.new.lists) (λ start. (reached < start) × (start ≤ now) × IsWheel start levels.new.lists) }
+    ensures same { pending_in levels.new.lists ≡ pending_in levels.old.lists }
+    ensures left { levels.old.room ≤ levels.new.room }
+{
+    earlier_fires_first();
+    let Some(first) = first_slot(levels, reached) else {
+        return None;
+    };
+    if first.start > now {
+        return None;
+    }
+    empty_slot(levels, first.slot, first.start);
+    Some(first.start)
+}
+
+/// Moves each timer of a slot to that of its moment.
+fn empty_slot(levels: &mut Levels, slot: usize, reached: u64)
+    requires slots { (length levels.old.lists ≡ 321) × (slot < 321) }
+    requires goes { GoesElsewhere reached slot levels.old.lists }
+    ensures moved { (moved : List Timer) × AreMoved reached slot moved levels.old.lists levels.new.lists }
+    ensures emptied { list_at levels.new.lists slot ≡ [] }
+    ensures left { levels.old.room ≤ levels.new.room }
+{
+    while let Some(due) = levels.first_due(slot) {
+        let to = slot_of(reached, due);
+        levels.move_first(slot, to);
+    }
+}

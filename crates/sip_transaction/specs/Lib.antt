@@ -1,3 +1,0 @@
-pub mod Lives
-pub mod Machine
-pub mod Resends

@@ -1,0 +1,10 @@
+use Rattle.std.proofs.Common.{rules, ◌∙◌}
+use Rattle.std.proofs.lemmas.List.Sorted.{answers_always}
+use Rattle.sip_transaction_table.proofs.Numbers.{searched}
+use Rattle.sip_transaction_table.proofs.numbered.Numbered.find.Goals as goal
+
+pub returns : goal.returns
+returns g c =
+    let facts = c.binary_search_by_key.ensures in
+    let by_number = facts.position g.R.Row.number (answers_always _ _ _ (λ f a r h called. search rules)) in
+    rw (← c.self.view_is, ← c.as_slice.ensures.value) (c.ok.ensures.value ∙ searched g.R.Row.number _ c.args.number _ (rw c.as_slice.ensures.value c.self.invariant.rise) facts.bound by_number)

@@ -1,0 +1,17 @@
+-- The rows of a table.
+use Rattle.std.specs.Prelude.{◌≡◌, ℕ, ◌==◌, false, List, count_by}
+use Rattle.std.specs.List.{AllPairs}
+use Rattle.sip_transaction_table.specs.declared.key.Key.{Key}
+use Rattle.sip_transaction_table.specs.Key.{same_key}
+use Rattle.sip_transaction_table.specs.Digest.{digest_of}
+use Rattle.sip_transaction_table.specs.Keys.{Filed, count_in}
+
+-- What a table shows: its rows in rising order of their numbers, and how many more can be added with no memory.
+pub record Rows (R : Type 0) : Type 0 where
+  pub rows : List R
+  pub room : ℕ
+
+-- Keys differ from row to row, and each is filed, and nothing else.
+pub record AreFiled {R : Type 0} (key : R → Key) (rows : List R) (filed : Filed) : Type 0 where
+  pub apart : AllPairs (λ a b. same_key (key a) (key b) ≡ false) rows
+  pub counted : (d : ℕ) → count_by (λ r. digest_of filed.secret (key r) == d) rows ≡ count_in d filed.entries

@@ -1,0 +1,19 @@
+//! By what a server transaction is found (RFC 3261 17.2.3): the key of a request, that is branch, sent-by and method of its
+//! top Via; and the table of open requests, at most 1,024 rows in rising order of the numbers of the datagrams that opened
+//! them, found by number by bisection, and by their key through a hash under a secret, whichever keys peers choose. A row
+//! that closes moves the addresses of those behind it, and no row.
+#![tactic(auto)]
+
+mod digest;
+pub mod examples;
+mod held;
+mod key;
+mod keys;
+mod numbered;
+mod row;
+mod table;
+
+pub use held::Held;
+pub use key::{Key, same_key};
+pub use row::Row;
+pub use table::Table;

@@ -1,0 +1,116 @@
+ghost use Rattle.std.specs.Prelude.{◌≡◌, ◌<◌, ◌≤◌, ◌++◌, ◌∷◌, ◌==◌, [], ℕ, length, position, remove, slice_get, slice_set, Some, IfOk};
+ghost use Rattle.std.specs.List.{All, AllPairs};
+ghost use Rattle.sip_transaction_table.specs.Key.{same_key};
+
+use crate::held::Held;
+use crate::row::Row;
+use crate::{Key, same_key};
+use std::alloc::{AllocError, Global};
+use std::marker::Model;
+
+/// How many rows there are room for.
+const ROOM: usize = 1024;
+
+/// At most 1,024 rows, whose numbers rise, seen as the list of them.
+#[derive(Drop)]
+pub(crate) struct Numbered<R: Row> {
+    rows: Vec<Held<R>>,
+}
+
+impl<R: Row> Model for Numbered<R> {
+    ghost use Rattle.std.specs.Prelude.{List};
+    ghost use Rattle.std.specs.Vec.{vec_capacity};
+    ghost use Rattle.sip_transaction_table.specs.Numbered.{IsNumbered};
+
+    ghost Value = { List R };
+
+    ghost view = { λ n. n.rows.items };
+
+    ghost invariant = { λ n. IsNumbered R.number n.rows.items (vec_capacity n.rows) };
+}
+
+impl<R: Row> Numbered<R> {
+    /// No row, and room for all that may stand. `AllocError` is the only refusal.
+    pub(crate) fn new(alloc: Global) -> Result<Self, AllocError>
+        ensures { IfOk result (λ rows. rows ≡ []) }
+    {
+        let rows = Vec::with_capacity(alloc, ROOM)?;
+        Ok(Numbered { rows })
+    }
+
+    /// How many rows there are.
+    pub(crate) fn len(&self) -> usize
+        ensures value { result ≡ length self.now }
+        ensures few { result ≤ 1024 }
+        ensures rise { AllPairs (λ a b. R.number a < R.number b) self.now }
+    {
+        self.rows.len()
+    }
+
+    /// The row at a place.
+    pub(crate) fn get(&self, place: usize) -> &R
+        requires { place < length self.now }
+        ensures row { slice_get self.now place ≡ Some result.now }
+        ensures number { position (λ r. R.number r == R.number result.now) self.now ≡ Some place }
+    {
+        self.rows[place].get()
+    }
+
+    /// The place of the row with a number, by bisection.
+    pub(crate) fn find(&self, number: u64) -> Option<usize>
+        ensures { result ≡ position (λ r. R.number r == number) self.now }
+    {
+        self.rows
+            .as_slice()
+            .binary_search_by_key(&number, |row| row.get().number())
+            .ok()
+    }
+
+    /// The place of the first row with a key, row by row.
+    pub(crate) fn scan(&self, key: &Key) -> Option<usize>
+        ensures { result ≡ position (λ r. same_key (R.key r) key.now) self.now }
+    {
+        self.rows
+            .as_slice()
+            .iter()
+            .position(|row| same_key(row.get().key(), key))
+    }
+
+    /// The place of the first row that a CANCEL with this key names, row by row.
+    pub(crate) fn scan_cancelled(&self, key: &Key) -> Option<usize>
+        ensures { result ≡ position (R.is_cancelled_by key.now) self.now }
+    {
+        self.rows
+            .as_slice()
+            .iter()
+            .position(|row| row.get().is_cancelled_by(key))
+    }
+
+    /// Adds a row behind all others. Takes no memory.
+    pub(crate) fn push(&mut self, row: Held<R>)
+        requires room { length self.old < 1024 }
+        requires last { All (λ r. R.number r < R.number row) self.old }
+        ensures { self.new ≡ self.old ++ row ∷ [] }
+    {
+        let _pushed = self.rows.push(row).unwrap();
+    }
+
+    /// Puts a row in the place of one with its number, and gives that one back. Takes no memory.
+    pub(crate) fn replace(&mut self, place: usize, row: R) -> R
+        requires number { (r : R) → slice_get self.old place ≡ Some r → R.number row ≡ R.number r }
+        requires place { place < length self.old }
+        ensures new { self.new ≡ slice_set self.old place row }
+        ensures old { slice_get self.old place ≡ Some result }
+    {
+        self.rows[place].replace(row)
+    }
+
+    /// Takes a row out. Takes no memory.
+    pub(crate) fn remove(&mut self, place: usize) -> R
+        requires { place < length self.old }
+        ensures new { self.new ≡ remove self.old place }
+        ensures old { slice_get self.old place ≡ Some result }
+    {
+        self.rows.remove(place).into_value()
+    }
+}

@@ -1,0 +1,5 @@
+pub mod Planned
+pub mod Replying
+pub mod Answered
+pub mod Serving
+pub mod Final

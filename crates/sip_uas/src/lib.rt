@@ -1,0 +1,35 @@
+//! What is answered here (RFC 3261 8.2, 9.2, 10.3, 16.5, 22): an answer, the challenge, the denial, and what becomes of a
+//! REGISTER or of a request that goes to nobody; and what such an answer says and what is recorded of it: challenges,
+//! denials, the bindings that a 200 lists, the extensions that a 420 names. All of it is drafted, with all memory, before
+//! anything changes.
+#![tactic(auto)]
+
+mod answers;
+mod asking;
+mod challenges;
+mod contacts;
+mod draft;
+mod judging;
+pub mod laws;
+mod policy_records;
+mod records;
+mod refusals;
+
+pub use answers::answer;
+pub use asking::is_answered_here;
+pub use challenges::{challenge_name, challenge_status, challenges_to};
+pub use contacts::contact_fields;
+pub use draft::Draft;
+pub use judging::judged;
+pub use records::{method_of, record_of, recorded};
+pub use refusals::denial_fields;
+
+/// Of `sip_context_opening`.
+pub mod context_opening {
+    pub use sip_context_opening::{Arrival, change_packets, reply};
+}
+
+/// Of `model_transactions`.
+pub mod transactions_model {
+    pub use model_transactions::{fitting_events, openings};
+}

@@ -1,0 +1,39 @@
+ghost use Rattle.std.specs.Prelude.{◌≡◌, [], ◌∷◌, IfOk};
+ghost use Rattle.sip_context_opening.specs.Arrivals.{arrival_of};
+ghost use Rattle.sip_context_opening.specs.steps_model.Effect as Effects;
+ghost use Rattle.sip_dialog_lessons.specs.state.declared.server.Server.{Server};
+ghost use Rattle.sip_core.specs.verdict_model.Verdict.{minute_on};
+
+use crate::record_of;
+use sip_audit::{Outcome, Record};
+use sip_context_opening::Arrival;
+use sip_core::Judged;
+use sip_core::context_request::Heard;
+use sip_text::Items;
+use std::alloc::{AllocError, Global};
+
+/// What is recorded of a request that policy was asked about, and of which this became.
+pub(crate) fn records_of(
+    alloc: Global,
+    arrival: Arrival,
+    request: &Heard,
+    judged: &Judged<'_>,
+    outcome: Outcome,
+) -> Result<Items<Record>, AllocError>
+    ensures { IfOk result (λ records. (server : Server) → judged.now.minute ≡ minute_on server judged.now.question
+        → records ≡ Effects.record_of server (arrival_of arrival) request.now judged.now.question outcome ∷ []) }
+{
+    let question = &judged.question;
+    let record = record_of(
+        alloc,
+        arrival.number,
+        arrival.now,
+        &request.start(),
+        question,
+        judged.minute,
+        outcome,
+    )?;
+    let mut records = Items::new(alloc);
+    records.push(record)?;
+    Ok(records)
+}

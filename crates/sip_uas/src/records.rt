@@ -1,0 +1,75 @@
+ghost use Rattle.std.specs.Prelude.{◌≡◌, ℕ, IfOk};
+ghost use Rattle.std.specs.Option.{option_copied};
+ghost use Rattle.sip_message_form.specs.declared.message.Message.{Message};
+ghost use Rattle.sip_message_form.specs.ViewStart.{start_seen};
+ghost use Rattle.sip_uri.specs.declared.addr.Addr.{Addr};
+ghost use Rattle.sip_context_opening.specs.steps_model.Effect as Effects;
+ghost use Rattle.sip_dialog_lessons.specs.state.declared.server.Server.{Server};
+ghost use Rattle.sip_core.specs.verdict_model.Verdict.{minute_on};
+
+use sip_audit::{Outcome, Record};
+use sip_core::verdict_model::Question;
+use sip_message_form::ViewStart;
+use sip_policy::Operation;
+use sip_text::Bytes;
+use std::alloc::{AllocError, Global};
+
+/// The method that the first line of a request says; a response has none. Takes no memory.
+pub fn method_of<'v>(start: &ViewStart<'v>) -> &'v [u8]
+    ensures { result.now ≡ Effects.method_of (start_seen start.now) }
+{
+    match start {
+        ViewStart::Request { method, .. } => method,
+        ViewStart::Status { .. } => &[],
+    }
+}
+
+/// An operation as it is recorded. Takes no memory.
+pub fn recorded(operation: &Operation) -> sip_audit::Operation
+    ensures { result ≡ Effects.recorded operation.now }
+{
+    match operation {
+        Operation::Register => sip_audit::Operation::Register,
+        Operation::List => sip_audit::Operation::List,
+        Operation::Send(_) => sip_audit::Operation::Send,
+    }
+}
+
+/// The same name, or none.
+fn copied_name(alloc: Global, name: Option<&[u8]>) -> Result<Option<Bytes>, AllocError>
+    ensures { IfOk result (λ copy. copy ≡ option_copied name.entry) }
+{
+    match name {
+        Some(name) => Ok(Some(Bytes::copy(alloc, name)?)),
+        None => Ok(None),
+    }
+}
+
+/// What is recorded of a request with this first line that policy was asked about, and that came at a moment in the
+/// datagram of a number: its method, the name of the user that it proves to come from, the address of record that it is
+/// for, the minute of the ruling on it, and what became of it. `AllocError` is the only refusal.
+pub fn record_of(
+    alloc: Global,
+    number: u64,
+    now: u64,
+    start: &ViewStart<'_>,
+    question: &Question<'_>,
+    minute: Option<u16>,
+    outcome: Outcome,
+) -> Result<Record, AllocError>
+    ensures { IfOk result (λ made. (server : Server) (word : ℕ) (from : Addr) (request : Message) → request.start ≡ start_seen start.now → minute ≡ minute_on server question.now → made ≡ Effects.record_of server (record { number = number; now = now; word = word; from = from }) request question.now outcome) }
+{
+    let method = Bytes::copy(alloc, method_of(start))?;
+    let who = copied_name(alloc, question.proof.name())?;
+    let target = question.target.clone()?;
+    Ok(Record {
+        at: now,
+        number,
+        method,
+        who,
+        target,
+        operation: recorded(&question.operation),
+        minute,
+        outcome,
+    })
+}

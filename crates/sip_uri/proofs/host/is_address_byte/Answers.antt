@@ -1,0 +1,8 @@
+use Rattle.std.proofs.Common.{ℕ, ◌==◌, not, bit_and, get_or, refl, arith}
+use Rattle.std.proofs.lemmas.Bool.{agree_below_at}
+use Rattle.sip_uri.specs.declared.host.TheConstants.{HOST_CLASSES}
+use Rattle.sip_uri.specs.Host.{is_address_byte}
+use Rattle.sip_uri.proofs.host.is_address_byte.Goals as goal
+
+pub returns : goal.returns
+returns c = agree_below_at (λ (b : ℕ). not (bit_and (get_or HOST_CLASSES b 0) 2 == 0)) is_address_byte 256 c.args.byte refl (omega arith)

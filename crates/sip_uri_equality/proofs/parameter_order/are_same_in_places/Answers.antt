@@ -1,0 +1,6 @@
+use Rattle.std.proofs.Common.{◌∙◌}
+use Rattle.sip_uri_equality.proofs.ParameterLaws.{in_any_order}
+use Rattle.sip_uri_equality.proofs.parameter_order.are_same_in_places.Goals as goal
+
+pub returns : goal.returns
+returns c = c.ordered_are_same.ensures ∙ in_any_order c.args.left.now c.args.right.now _ _ c.put_in_order.ensures.moved c.put_in_order-2.ensures.moved

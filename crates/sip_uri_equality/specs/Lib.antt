@@ -1,0 +1,4 @@
+pub mod Equality
+pub mod Order
+pub mod Walk
+pub mod Examples

@@ -1,5 +1,0 @@
-use Rattle.std.proofs.Common.{◌∙◌}
-use Rattle.sip_users.proofs.users.UsersClone.clone.Goals as goal
-
-pub returns-in-Ok : goal.returns-in-Ok
-returns-in-Ok c = record { cases = c.in-Ok.ensures.ok ∙ c.in_ok-list.ensures ∙ c.as_slice.ensures ∙ c.self.view_is }

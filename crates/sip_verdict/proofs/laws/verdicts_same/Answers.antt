@@ -1,5 +1,0 @@
-use Rattle.sip_verdict.proofs.Alike.{verdicts_alike}
-use Rattle.sip_verdict.proofs.laws.verdicts_same.Goals as goal
-
-pub returns : goal.returns
-returns c = verdicts_alike

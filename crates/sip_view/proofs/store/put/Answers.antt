@@ -1,6 +1,0 @@
-use Rattle.std.proofs.Common.{rules}
-use Rattle.sip_view.proofs.Keeping.{put_is}
-use Rattle.sip_view.proofs.store.put.Goals as goal
-
-pub returns : goal.returns
-returns c = put_is _ _ _ _ (search rules) (search rules) (search rules)

@@ -1,6 +1,0 @@
-use Rattle.std.proofs.Common.{◌≡◌, ◌++◌, take}
-use Rattle.sip_field.specs.Named.{all_named}
-use Rattle.sip_view.proofs.view_edits.put_named.Given as goal
-
-abbrev pub invariant-loop-field : goal.invariant-loop-field
-invariant-loop-field l = l.out ≡ l.fn.out ++ all_named l.name (take l.field-index l.fields)

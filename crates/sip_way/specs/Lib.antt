@@ -1,6 +1,0 @@
-pub mod Own
-pub mod Way
-pub mod Routes
-pub mod RoutesKept
-pub mod Examples
-pub use Rattle.sip_equality.specs as equality

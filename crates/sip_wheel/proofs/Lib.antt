@@ -1,9 +1,0 @@
-pub mod Changes
-pub mod First
-pub mod Lists
-pub mod Marked
-pub mod NextMark
-pub mod Moves
-pub mod Order
-pub mod Steps
-pub mod Moments

@@ -1,4 +1,0 @@
-pub mod Places
-pub mod Order
-pub mod Wheel
-pub mod Marks

@@ -1,0 +1,85 @@
+ghost use Rattle.std.specs.Prelude.{◌≡◌, ◌≤◌};
+ghost use Rattle.sipd_arguments.specs.Exits.{status_of, exit_of_config};
+ghost use Rattle.sipd_arguments.specs.declared.exit.Exit.TheVariants.{Memory};
+
+use sip_config_rules::ConfigError;
+use std::alloc::{AllocError, AllocFailed};
+use std::{fmt, io};
+
+/// Why the program stops.
+#[derive(Drop)]
+pub enum Exit {
+    /// The command line is none that it knows; the text says how to call it.
+    Usage(String),
+    /// The configuration is refused with this number.
+    Configuration(u8),
+    /// The event that begins with this line of the script.
+    Script(u64),
+    Device,
+    Memory,
+}
+
+impl Exit {
+    /// The exit status.
+    pub fn status(&self) -> u8
+        ensures { result ≡ status_of self.now }
+    {
+        match self {
+            Exit::Usage(_) => 1,
+            Exit::Configuration(_) => 2,
+            Exit::Script(_) => 3,
+            Exit::Device => 4,
+            Exit::Memory => 5,
+        }
+    }
+}
+
+/// What is complained about.
+impl fmt::Display for Exit {
+    fn fmt<W: fmt::Write>(&self, f: &mut fmt::Formatter<W>) -> fmt::Result {
+        match self {
+            Exit::Usage(text) => write!(f, "{}", text.trim_end()),
+            Exit::Configuration(number) => write!(f, "sipd: configuration refused {number}"),
+            Exit::Script(line) => write!(f, "sipd: script line {line}"),
+            Exit::Device => write!(f, "sipd: device"),
+            Exit::Memory => write!(f, "sipd: memory"),
+        }
+    }
+}
+
+impl From<AllocError> for Exit {
+    ghost from_gives = { λ _ exit. exit ≡ Memory };
+
+    fn from(_e: AllocError) -> Exit {
+        Exit::Memory
+    }
+}
+
+impl<T: Drop> From<AllocFailed<T>> for Exit {
+    ghost from_gives = { λ _ exit. exit ≡ Memory };
+
+    fn from(_e: AllocFailed<T>) -> Exit {
+        Exit::Memory
+    }
+}
+
+/// A fault of the system, or want of memory.
+impl From<io::Error> for Exit {
+    fn from(e: io::Error) -> Exit {
+        match e.kind() {
+            io::ErrorKind::OutOfMemory => Exit::Memory,
+            _ => Exit::Device,
+        }
+    }
+}
+
+impl From<ConfigError> for Exit {
+    ghost from_gives = { λ e exit. exit ≡ exit_of_config e };
+
+    fn from(e: ConfigError) -> Exit {
+        match e {
+            ConfigError::NoMemory => Exit::Memory,
+            _ => Exit::Configuration(e as u8),
+        }
+    }
+}

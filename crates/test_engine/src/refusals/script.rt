@@ -1,0 +1,93 @@
+use crate::fault::Fault;
+use crate::kinds::Server;
+use crate::refusals::take::take;
+use sip_config_types::Config;
+use sip_event::{Boot, Event};
+use sip_replay_script::{Lines, next_event, print_step};
+use std::alloc::Global;
+use std::io::{Read, Write};
+
+/// What a replay starts with.
+const BOOT: Boot = Boot {
+    word: 0,
+    first: 1,
+    keys: 0,
+};
+
+/// Takes the steps of an event, those of what is due before it first, and prints them; how many were refused at first.
+fn take_event<W: Write, M: Write>(
+    alloc: Global,
+    engine: &mut Server,
+    event: &Event,
+    output: &mut W,
+    marks: &mut M,
+) -> Result<u64, Fault> {
+    let mut refused = 0u64;
+    for _ in 0..u64::MAX {
+        let taken = take(alloc, engine, event, marks)?;
+        print_step(alloc, output, &taken.out)?;
+        refused = refused.saturating_add(u64::from(taken.is_refused));
+        if taken.is_own {
+            return Ok(refused);
+        }
+    }
+    Err(Fault::Script)
+}
+
+/// Takes the next event of a script, if there is one; how many of its steps were refused at first.
+fn take_next<I: Read, W: Write, M: Write>(
+    alloc: Global,
+    engine: &mut Server,
+    lines: &mut Lines,
+    line: &mut Vec<u8>,
+    input: &mut I,
+    output: &mut W,
+    marks: &mut M,
+) -> Result<Option<u64>, Fault> {
+    match next_event(alloc, lines, input, line)? {
+        Some(event) => Ok(Some(take_event(alloc, engine, &event, output, marks)?)),
+        None => Ok(None),
+    }
+}
+
+/// Takes all events of a script; how many steps were refused at first.
+fn take_all<I: Read, W: Write, M: Write>(
+    alloc: Global,
+    engine: &mut Server,
+    lines: &mut Lines,
+    line: &mut Vec<u8>,
+    input: &mut I,
+    output: &mut W,
+    marks: &mut M,
+) -> Result<u64, Fault> {
+    let mut refused = 0u64;
+    for _ in 0..u64::MAX {
+        match take_next(alloc, engine, lines, line, input, output, marks)? {
+            Some(more) => refused = refused.saturating_add(more),
+            None => return Ok(refused),
+        }
+    }
+    Err(Fault::Script)
+}
+
+/// Plays a script and prints its steps; how many were refused at first.
+pub fn play<I: Read, W: Write, M: Write>(
+    alloc: Global,
+    config: Config,
+    input: &mut I,
+    output: &mut W,
+    marks: &mut M,
+) -> Result<u64, Fault> {
+    let mut engine = Server::open(alloc, config, BOOT)?;
+    let mut lines = Lines::new(alloc)?;
+    let mut line = Vec::new(alloc);
+    take_all(
+        alloc,
+        &mut engine,
+        &mut lines,
+        &mut line,
+        input,
+        output,
+        marks,
+    )
+}

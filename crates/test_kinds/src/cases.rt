@@ -1,0 +1,57 @@
+use crate::rule_cases::{
+    call_challenge, foreign_domain_denied, gateway, no_binding_no_user, third_party_register,
+    vault_denied,
+};
+use crate::timer_cases::{timer_order, wheel_order};
+use sip_policy::{ListRules, Rules};
+use sip_policy_index::IndexedRules;
+use sip_timers::{ListTimers, Timers};
+use sip_timers_wheel::WheelTimers;
+use std::io;
+
+fn tell<R: Print>(rt: &R, name: &str, kind: &str, holds: bool) -> io::Result<()> {
+    if holds {
+        println!(rt; "{name} holds on {kind}")
+    } else {
+        println!(rt; "{name} FAILS on {kind}")
+    }
+}
+
+fn tell_timers<T: Timers, R: Print + AllocGlobal>(rt: &R, kind: &str) -> io::Result<()> {
+    let alloc = rt.alloc();
+    tell(rt, "wheel_order", kind, wheel_order::<T>(alloc))?;
+    tell(rt, "timer_order", kind, timer_order::<T>(alloc))
+}
+
+fn tell_rules<P: Rules, R: Print + AllocGlobal>(rt: &R, kind: &str) -> io::Result<()> {
+    let alloc = rt.alloc();
+    tell(rt, "call_challenge", kind, call_challenge::<P>(alloc))?;
+    tell(rt, "vault_denied", kind, vault_denied::<P>(alloc))?;
+    tell(
+        rt,
+        "foreign_domain_denied",
+        kind,
+        foreign_domain_denied::<P>(alloc),
+    )?;
+    tell(rt, "gateway", kind, gateway::<P>(alloc))?;
+    tell(
+        rt,
+        "no_binding_no_user",
+        kind,
+        no_binding_no_user::<P>(alloc),
+    )?;
+    tell(
+        rt,
+        "third_party_register",
+        kind,
+        third_party_register::<P>(alloc),
+    )
+}
+
+/// Each case on each kind: its name, and whether it held.
+pub fn tell_all<R: Print + AllocGlobal>(rt: &R) -> io::Result<()> {
+    tell_timers::<ListTimers, R>(rt, "a list")?;
+    tell_timers::<WheelTimers, R>(rt, "a wheel")?;
+    tell_rules::<ListRules, R>(rt, "a list")?;
+    tell_rules::<IndexedRules, R>(rt, "an index")
+}

@@ -1,0 +1,97 @@
+use sip_message::{read, view};
+use sip_message_fields::FieldName;
+use sip_message_form::{Message, View, write, written_length};
+use std::alloc::Global;
+use test_forms::{gives, gives_bytes};
+
+const COMPACT_AND_FOLDED: &[u8] =
+    b"\r\n\r\nOPTIONS sip:a@host.com sip/2.0\r\nv : SIP/2.0/UDP a;branch=1 , \tSIP/2.0/UDP b\r\nSubject: I know\r\n  you\r\nX-Note: one \r\n \r\n\ttwo\r\nl: 2\r\n\r\nabcd";
+
+const WRITTEN: &[u8] =
+    b"OPTIONS sip:a@host.com SIP/2.0\r\nVia: SIP/2.0/UDP a;branch=1\r\nVia: SIP/2.0/UDP b\r\nSubject: I know you\r\nX-Note: one two\r\nContent-Length: 2\r\n\r\nab";
+
+/// Whether a message is the one of these texts: four fields, two of them a Via.
+fn is_message(alloc: Global, message: &Message) -> bool {
+    gives_bytes(write(alloc, message), WRITTEN)
+        && written_length(message) == WRITTEN.len()
+        && gives(message.fields.clone(), |copy| copy.as_slice().len() == 4)
+        && gives(
+            message.fields.values(alloc, &FieldName::Via),
+            |vias| vias.len() == 2,
+        )
+}
+
+/// Whether a view is of that message.
+fn is_seen(alloc: Global, view: &View<'_>) -> bool {
+    gives(view.to_message(alloc), |message| is_message(alloc, message))
+}
+
+#[test]
+fn read_seen_and_written(rt: HostRuntime) {
+    let alloc = rt.alloc();
+    for text in [COMPACT_AND_FOLDED, WRITTEN] {
+        assert!(rt;
+            gives(
+                read(alloc, text),
+                |message| gives(message.view(alloc), |view| is_seen(alloc, view))
+            ),
+            "{text:?}"
+        );
+    }
+}
+
+/// Whether the first value of a name is a part of what was read.
+fn is_part(view: &View<'_>, name: &FieldName) -> bool {
+    match view.fields().first_field(name) {
+        Some(field) => field.value().as_part().is_some(),
+        None => false,
+    }
+}
+
+/// No byte of a value is copied, but of one with a fold.
+#[test]
+fn parts_of_the_datagram(rt: HostRuntime) {
+    assert!(rt;
+        gives(
+            view(rt.alloc(), COMPACT_AND_FOLDED),
+            |view| is_part(view, &FieldName::Via) && !is_part(view, &FieldName::Subject)
+        )
+    );
+}
+
+/// Texts, and the numbers of their refusals, 0 where they are read.
+const TEXTS: &[(&[u8], u8)] = &[
+    (b"OPTIONS sip:a SIP/7.10\r\n\r\n", 0),
+    (b"SIP/2.0 200 \r\n\r\n", 0),
+    // an empty line is missing: NotSip comes before the bad field
+    (b"OPTIONS sip:a SIP/2.0\r\nbad\r\n", 2),
+    (b"OPTIONS sip:a SIP/2.0\r\nbad\r\n\r\n", 3),
+    (b"OPTIONS sip:a SIP/2.0\r\nX: a\nb\r\n\r\n", 3),
+    (b"SIP/2.0 200 O\nK\r\n\r\n", 2),
+    (b"OPTIONS sip:a SIP/2.0\r\n X: a\r\n\r\n", 3),
+    (
+        b"OPTIONS sip:a SIP/2.0\r\nl: 1\r\nContent-Length: 1\r\n\r\na",
+        3,
+    ),
+    (b"OPTIONS sip:a SIP/2.0\r\nl: +1\r\n\r\na", 3),
+    (b"OPTIONS sip:a SIP/2.0\r\nContact: <a\r\n\r\n", 3),
+    (b"SIP/7.10 200 \r\n\r\n", 2),
+    (b"SIP/2.0 700 x\r\n\r\n", 2),
+    (b"\r\n\r\n", 2),
+    (b"OPTIONS sip:a SIP/2.0\r\nl: 3\r\n\r\nab", 4),
+];
+
+/// The number of a text's refusal, 0 where it is read.
+fn refusal_of(alloc: Global, text: &[u8]) -> u8 {
+    match read(alloc, text) {
+        Ok(_) => 0,
+        Err(e) => e.number(),
+    }
+}
+
+#[test]
+fn refusals(rt: HostRuntime) {
+    for (text, number) in TEXTS {
+        assert!(rt; refusal_of(rt.alloc(), text) == *number, "{text:?}");
+    }
+}

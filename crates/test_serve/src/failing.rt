@@ -1,0 +1,102 @@
+//! Devices that fail. The first three packets go to `help`, who registers two addresses; then it is called.
+
+use crate::datagrams::{
+    ASKS, BINDS, BINDS_AGAIN, BOUND, CALLS, CHALLENGE, Datagram, FAILED, INVITE_1, INVITE_2,
+    REGISTERS, TRYING,
+};
+use crate::trial::{Trial, over_memory};
+use sip_loop::{ServeError, Served};
+use sip_loop_link::Sending::{Failed, Went};
+use sip_loop_link::{MemoryLink, Sending};
+use std::alloc::{AllocError, Global};
+
+/// A datagram of this number has none.
+const WORN: u64 = 4_611_686_018_427_387_904;
+
+/// The moments of the call and of what comes before it, one at which nothing is due yet, and that of the first copies.
+const READINGS: [u64; 6] = [1_000, 2_000, 3_000, 62_000, 62_499, 62_500];
+
+/// A trial of the call whose link fails at the receives and sends of these numbers.
+fn called(
+    alloc: Global,
+    receive_fails: &[u64],
+    send_fails: &[u64],
+) -> Result<Trial<MemoryLink>, AllocError> {
+    let heard = [ASKS, BINDS, BINDS_AGAIN, CALLS];
+    over_memory(alloc, 1, &heard, receive_fails, send_fails, &READINGS)
+}
+
+/// The sends of both INVITEs fail: the answer goes out behind them.
+pub fn both_sends_fail(alloc: Global) -> bool {
+    const GIVEN: [(Datagram, Sending); 4] = [
+        (TRYING, Went),
+        (INVITE_1, Failed),
+        (INVITE_2, Failed),
+        (FAILED, Went),
+    ];
+    match called(alloc, &[], &[5, 6]) {
+        Ok(mut trial) => trial.is_served(4) && trial.gave(3, &GIVEN),
+        Err(_) => false,
+    }
+}
+
+/// The send of the 100 fails: both INVITEs go out, and go again 500 ms later.
+pub fn trying_send_fails(alloc: Global) -> bool {
+    const GIVEN: [(Datagram, Sending); 3] = [(TRYING, Failed), (INVITE_1, Went), (INVITE_2, Went)];
+    const COPIES: [(Datagram, Sending); 2] = [(INVITE_1, Went), (INVITE_2, Went)];
+    match called(alloc, &[], &[4]) {
+        Ok(mut trial) => {
+            trial.is_served(5)
+                && trial.gave(3, &GIVEN)
+                && trial.is_served(1)
+                && trial.gave(6, &COPIES)
+        }
+        Err(_) => false,
+    }
+}
+
+/// The send of the answer fails as well: it goes again 500 ms later, and not before.
+pub fn final_send_fails(alloc: Global) -> bool {
+    const GIVEN: [(Datagram, Sending); 4] = [
+        (TRYING, Went),
+        (INVITE_1, Failed),
+        (INVITE_2, Failed),
+        (FAILED, Failed),
+    ];
+    match called(alloc, &[], &[5, 6, 7]) {
+        Ok(mut trial) => {
+            trial.is_served(5)
+                && trial.gave(3, &GIVEN)
+                && trial.is_served(1)
+                && trial.gave(7, &[(FAILED, Went)])
+        }
+        Err(_) => false,
+    }
+}
+
+/// Whether serving was refused so, by a refusal of this number.
+fn is_refused(answer: &Result<Served, ServeError>, refusal: ServeError, number: u8) -> bool {
+    match answer {
+        Ok(_) => false,
+        Err(e) => *e == refusal && e.number() == number,
+    }
+}
+
+/// The third receive fails: what the first two turns sent stands.
+pub fn receive_fails(alloc: Global) -> bool {
+    match called(alloc, &[3], &[]) {
+        Ok(mut trial) => {
+            is_refused(&trial.serve(4), ServeError::Link, 5)
+                && trial.gave(0, &[(CHALLENGE, Went), (BOUND, Went)])
+        }
+        Err(_) => false,
+    }
+}
+
+/// An engine hears a datagram that has no number any more.
+pub fn numbers_worn(alloc: Global) -> bool {
+    match over_memory(alloc, WORN, &[REGISTERS], &[], &[], &[1_000]) {
+        Ok(mut trial) => is_refused(&trial.serve(1), ServeError::Step, 6) && trial.gave(0, &[]),
+        Err(_) => false,
+    }
+}

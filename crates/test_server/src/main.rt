@@ -1,0 +1,138 @@
+//! Trials of the whole server, and of its parts: one program, since each that holds the server costs the gate minutes.
+//! Without words it tries all that the gate compares: the stored runs, the cases that have a name, the steps of one
+//! stored run, and each kind of calls that `bench/` counts, on small tables and on the configuration of standard input.
+//! With words it tries one thing:
+//!
+//! - `runs`: every stored run of the folder that it runs in;
+//! - `cases`: what no stored run shows of the engine, of replays, of runs over lists of events and of `serve`;
+//! - `refusals`: the steps of the script of standard input, where `tests/refuse_each.sh` refuses their memory;
+//! - `tables CASE SIZE TIMES`: calls on a table of a size, so many times, which `bench/measure_tables.py` counts;
+//! - `parts CASE TARGETS TIMES`: calls on the parts, so many times, which `bench/measure_parts.py` counts;
+//! - `kinds timers SEED CALLS` and `kinds rules SEED CALLS`: whether two kinds of them answer so many random calls alike,
+//!   which `tests/compare_kinds.sh` asks.
+//!
+//! Exit statuses: 0 done, 1 a refused step changed something, 2 other words, 3 script, 4 device, 5 memory outside of
+//! steps. What doesn't hold is told by what is printed, which is compared.
+#![tactic(auto)]
+
+mod runs;
+
+use sip_config_types::sample;
+use sip_text::decimal;
+use std::io::{BufWriter, Write};
+use std::process::ExitCode;
+use std::{env, io};
+use test_counts::{parts, tables};
+use test_engine::{Fault, cases, refusals};
+
+/// The exit status where all that was asked for is done.
+const DONE: u8 = 0;
+
+/// The exit status where the words ask for nothing that is here.
+const OTHER_WORDS: u8 = 2;
+
+/// The words of the command line, the program's own name first.
+fn words<R: env::Env + AllocGlobal>(rt: &R) -> Result<Vec<String>, Fault> {
+    let mut words = Vec::new(rt.alloc());
+    for word in env::args(rt)? {
+        words.push(word)?;
+    }
+    Ok(words)
+}
+
+/// The number that a word writes, and 0 where it writes none.
+fn number(word: &str) -> u32 {
+    match decimal(word.as_bytes()) {
+        Some(number) => u32::try_from(number).unwrap_or(0),
+        None => 0,
+    }
+}
+
+/// All that the gate compares.
+fn try_all(rt: &HostRuntime) -> io::Result<()> {
+    let text = io::read_to_string(rt.alloc(), rt.reader())?;
+    runs::tell_all(rt)?;
+    cases::tell_all(rt)?;
+    test_serve::tell_all(rt)?;
+    test_kinds::tell_all(rt)?;
+    runs::tell_steps(rt, "registered")?;
+    tables::tell_all(rt)?;
+    parts::tell_all(rt, text.as_str())
+}
+
+/// The steps of the script of standard input, each taken once more where it is refused for want of memory.
+fn try_steps(rt: &HostRuntime) -> Result<(), Fault> {
+    let config = sample(rt.alloc())?;
+    let mut input = rt.reader();
+    let mut output = BufWriter::new(rt.alloc(), io::writer(rt))?;
+    let mut marks = rt.stderr();
+    let refused = refusals::play(rt.alloc(), config, &mut input, &mut output, &mut marks)?;
+    output.flush()?;
+    eprintln!(rt; "refused {refused}")?;
+    Ok(())
+}
+
+/// One trial by its name.
+fn try_one(rt: &HostRuntime, trial: &str) -> Result<u8, Fault> {
+    match trial {
+        "runs" => runs::tell_all(rt)?,
+        "cases" => {
+            cases::tell_all(rt)?;
+            test_serve::tell_all(rt)?;
+            test_kinds::tell_all(rt)?;
+        }
+        "refusals" => try_steps(rt)?,
+        _ => return Ok(OTHER_WORDS),
+    }
+    Ok(DONE)
+}
+
+/// Whether both kinds answer alike.
+fn compare(rt: &HostRuntime, what: &str, seed: u32, calls: u32) -> io::Result<u8> {
+    match what {
+        "timers" => test_kinds::tell_timers(rt, seed, calls)?,
+        "rules" => test_kinds::tell_rules(rt, seed, calls)?,
+        _ => return Ok(OTHER_WORDS),
+    }
+    Ok(DONE)
+}
+
+/// Calls of a case, so many times.
+fn count(rt: &HostRuntime, trial: &str, case: &str, size: u32, times: u32) -> io::Result<u8> {
+    match trial {
+        "tables" => tables::tell(rt, case, size, times)?,
+        "parts" => {
+            let text = io::read_to_string(rt.alloc(), rt.reader())?;
+            parts::tell(rt, text.as_str(), case, size, times)?
+        }
+        _ => return Ok(OTHER_WORDS),
+    }
+    Ok(DONE)
+}
+
+/// The exit status of what the words of the command line ask for.
+fn run(rt: &HostRuntime) -> Result<u8, Fault> {
+    let words = words(rt)?;
+    match words.as_slice() {
+        [_] => {
+            try_all(rt)?;
+            Ok(DONE)
+        }
+        [_, trial] => try_one(rt, trial.as_str()),
+        [_, trial, case, size, times] => {
+            let (size, times) = (number(size.as_str()), number(times.as_str()));
+            if trial.as_str() == "kinds" {
+                return Ok(compare(rt, case.as_str(), size, times)?);
+            }
+            Ok(count(rt, trial.as_str(), case.as_str(), size, times)?)
+        }
+        _ => Ok(OTHER_WORDS),
+    }
+}
+
+fn main(rt: HostRuntime) -> ExitCode {
+    match run(&rt) {
+        Ok(status) => ExitCode::from(status),
+        Err(fault) => ExitCode::from(fault.status()),
+    }
+}
