@@ -21,7 +21,12 @@ saying at port m = Given (Datagram at 9 (local port) (text_of m))
 
 -- a step from a state, taken for something, at a moment, that hands out packets and records, and leaves a state
 abbrev pub step_of : ProxyState → Act → ℕ → List Packet → List Record → ProxyState → Link
-step_of before act at packets records after = record { before = before; act = act; out = record { at = at; packets = packets; records = records }; after = after }
+step_of before act at packets records after = record {
+  before = before;
+  act = act;
+  out = record { at = at; packets = packets; records = records };
+  after = after;
+}
 
 -- one without records
 abbrev pub sending : ProxyState → Act → ℕ → List Packet → ProxyState → Link

@@ -38,7 +38,8 @@ denied_register = closing (arriving_at 1 1000 5062) Replies.register 403 (answer
 -- half a second later, as time passes, it gets an answer of another status
 abbrev pub answered_later : ℕ → List Field → ProxyState → ProxyState → Link
 answered_later status extras known after =
-    sending (knowing_open known 2 1000 (denied_register ∷ [])) (Given (Time 1500)) 1500 (answer_packet false 1 Replies.register (local 5062) (answer_to_register status extras) ∷ []) after
+    sending (knowing_open known 2 1000 (denied_register ∷ [])) (Given (Time 1500)) 1500
+    (answer_packet false 1 Replies.register (local 5062) (answer_to_register status extras) ∷ []) after
 
 -- a contact that nobody bound
 abbrev pub false_contact : List Field
@@ -63,7 +64,8 @@ answer_to_invite status = answer_packet false 4 Onward.invite (local 5070) (text
 
 -- it gets what it is to get; and beside that it gets a 200 that nobody sent
 abbrev pub accepted_at_once : ProxyState → ProxyState → Link
-accepted_at_once known after = sending (before_call known) invite_comes 62000 (sent_for sample (before_call known) invite_comes ++ answer_to_invite 200 ∷ []) after
+accepted_at_once known after = sending (before_call known) invite_comes 62000
+    (sent_for sample (before_call known) invite_comes ++ answer_to_invite 200 ∷ []) after
 
 -- ---- an answer that lost
 
@@ -79,7 +81,8 @@ busy = answer_with 1 486 (codes "Busy Here") []
 abbrev pub lost_goes_up : ProxyState → ProxyState → Link
 lost_goes_up known after =
     sending (knowing_open known 6 63000 (two_called ∷ [])) (saying 63500 5082 busy) 63500
-    (ack_packets sample false two_called first_branch (Some (codes "<sip:help@host.com>;tag=t1")) ++ answer_to false two_called (text_of (without_top_via busy)) ∷ []) after
+    (ack_packets sample false two_called first_branch (Some (codes "<sip:help@host.com>;tag=t1"))
+    ++ answer_to false two_called (text_of (without_top_via busy)) ∷ []) after
 
 -- ---- a ringing that is late
 
@@ -90,7 +93,8 @@ accepted_call = replied_with 200 (Closing 95000) (call_to (branch_at 1 5082 (Don
 -- the second rings, and its 180 goes to the caller, who has the 200
 abbrev pub late_ringing : ProxyState → ProxyState → Link
 late_ringing known after =
-    sending (knowing_open known 7 63000 (accepted_call ∷ [])) (saying 63500 5083 (ringing_from 2)) 63500 (answer_to false accepted_call (text_of (without_top_via (ringing_from 2))) ∷ []) after
+    sending (knowing_open known 7 63000 (accepted_call ∷ [])) (saying 63500 5083 (ringing_from 2)) 63500
+    (answer_to false accepted_call (text_of (without_top_via (ringing_from 2))) ∷ []) after
 
 -- ---- a 100 that goes on
 
@@ -101,4 +105,5 @@ trying_there = answer_with 1 100 (codes "Trying") []
 -- its 100 goes to the caller
 abbrev pub passed_100 : ProxyState → ProxyState → Link
 passed_100 known after =
-    sending (knowing_open known 5 62000 (one_target ∷ [])) (saying 62100 5082 trying_there) 62100 (answer_to false one_target (text_of (without_top_via trying_there)) ∷ []) after
+    sending (knowing_open known 5 62000 (one_target ∷ [])) (saying 62100 5082 trying_there) 62100
+    (answer_to false one_target (text_of (without_top_via trying_there)) ∷ []) after

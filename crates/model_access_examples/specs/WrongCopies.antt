@@ -17,7 +17,12 @@ early_copy known after = sending (knowing_open known 5 62000 (one_target ∷ [])
 -- At 62,500 a BYE goes as its copy, to the same port, which nobody sent.
 abbrev pub other_bytes : Packet
 other_bytes =
-    record { to = local 5082; bytes = codes "BYE sip:help@127.0.0.1:5082 SIP/2.0\r\n\r\n"; ticket = record { datagram = 4; branch = 1 }; again = true }
+    record {
+      to = local 5082;
+      bytes = codes "BYE sip:help@127.0.0.1:5082 SIP/2.0\r\n\r\n";
+      ticket = record { datagram = 4; branch = 1 };
+      again = true;
+    }
 
 abbrev pub false_copy : ProxyState → ProxyState → Link
 false_copy known after = sending (knowing_open known 5 62000 (one_target ∷ [])) (Passing 62500) 62500 (other_bytes ∷ []) after

@@ -11,7 +11,8 @@ use Rattle.sip_model.specs.steps_model.Step.{Given, Passing}
 use Rattle.sip_model.specs.Run.{Link}
 use Rattle.model_access_examples.specs.Links.{knowing_open, sending}
 
--- An INVITE that was sent to port 5082 at 62,000 has its deadline at 94,000. Time passes up to 62,100, and the step gives the caller its 408, and says that it stands at 94,000.
+-- An INVITE that was sent to port 5082 at 62,000 has its deadline at 94,000. Time passes up to 62,100, and the step gives the caller
+-- its 408, and says that it stands at 94,000.
 abbrev pub given_up_early : ProxyState → ProxyState → Link
 given_up_early known after =
     sending (knowing_open known 5 62000 (one_target ∷ [])) (Given (Time 62100)) 94000
@@ -19,4 +20,5 @@ given_up_early known after =
 
 -- The same INVITE goes again at 62,500: time passes up to 62,200, and it goes, and the step says that it stands at 62,500.
 abbrev pub copied_early : ProxyState → ProxyState → Link
-copied_early known after = sending (knowing_open known 5 62000 (one_target ∷ [])) (Passing 62200) 62500 (branch_packets sample true one_target first_branch) after
+copied_early known after = sending (knowing_open known 5 62000 (one_target ∷ [])) (Passing 62200) 62500
+    (branch_packets sample true one_target first_branch) after

@@ -9,7 +9,8 @@ use Rattle.model_access_examples.specs.Links.{knowing_open, saying, step_of}
 
 -- An INVITE to vault@host.com is denied, as it is to, and its record is written twice.
 abbrev pub recorded_twice : ProxyState → ProxyState → Link
-recorded_twice known after = step_of (knowing_open known 1 0 []) (saying 1000 5070 to_vault) 1000 vault_effect.originals (vault_effect.records ++ vault_effect.records) after
+recorded_twice known after = step_of (knowing_open known 1 0 []) (saying 1000 5070 to_vault) 1000 vault_effect.originals
+    (vault_effect.records ++ vault_effect.records) after
 
 -- A second later, as time passes, it is written once more.
 abbrev pub recorded_later : ProxyState → ProxyState → Link

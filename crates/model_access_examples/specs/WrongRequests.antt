@@ -15,7 +15,8 @@ use Rattle.sip_model.specs.state.declared.branch.Phase.TheVariants.{Unheard, Don
 use Rattle.sip_model.specs.state.declared.open_request.OpenRequest.{OpenRequest}
 use Rattle.sip_model.specs.state.declared.open_request.Side.TheVariants.{Answering}
 use Rattle.sip_model.specs.state.State.{first_resend}
-use Rattle.sip_model.specs.context_model.Calls.{branch_at, cancel_at, call_to, first_branch, first_ringing, one_rings, one_target, second_branch, cancelled_target}
+use Rattle.sip_model.specs.context_model.Calls.{branch_at, cancel_at, call_to, first_branch, first_ringing, one_rings, one_target}
+use Rattle.sip_model.specs.context_model.Calls.{second_branch, cancelled_target}
 use Rattle.sip_model.specs.context_model.Sending.{onward_as, answer_to, request_of, to_branch, branch_packets, ack_packets}
 use Rattle.sip_model.specs.steps_model.Examples.{sample, knowing, ringing_from, answer_with, branch_via, bye, own_route, help_text}
 use Rattle.sip_model.specs.steps_model.Step.{Act, Passing}
@@ -40,7 +41,12 @@ bye_comes = saying 70000 5070 ending
 -- the BYE as it goes on to port 5082, as the request of the datagram of a number
 abbrev pub onward_bye : ℕ → Packet
 onward_bye number =
-    record { to = local 5082; bytes = text_of (onward_as sample number ending (local 5070) help_text 1); ticket = record { datagram = number; branch = 1 }; again = false }
+    record {
+      to = local 5082;
+      bytes = text_of (onward_as sample number ending (local 5070) help_text 1);
+      ticket = record { datagram = number; branch = 1 };
+      again = false;
+    }
 
 -- what is to go, goes; and then the BYE goes on once more in the same step
 abbrev pub sent_twice : ProxyState → ProxyState → Link
@@ -71,17 +77,21 @@ copy_goes_on known after = sending (knowing_open known 7 70000 (bye_open ∷ [])
 -- an INVITE was sent to one target, which rings until Timer C at 248,000; at 100,000 it is sent a CANCEL
 abbrev pub unwanted_cancel : ProxyState → ProxyState → Link
 unwanted_cancel known after =
-    sending (knowing_open known 6 63000 (one_rings ∷ [])) (Passing 100000) 100000 (to_branch one_rings first_ringing 0 false (cancel_of (request_of sample one_rings first_ringing))) after
+    sending (knowing_open known 6 63000 (one_rings ∷ [])) (Passing 100000) 100000
+    (to_branch one_rings first_ringing 0 false (cancel_of (request_of sample one_rings first_ringing))) after
 
--- What came before may be this: the INVITE came to a server that knows help's binding, and got its 100 and its request to the target; and the target's 180 came, and went to the caller.
+-- What came before may be this: the INVITE came to a server that knows help's binding, and got its 100 and its request to the
+-- target; and the target's 180 came, and went to the caller.
 abbrev pub invite_came : Link
 invite_came =
-    sending (knowing_open (knowing (codes "5082" ∷ [])) 4 61000 []) (saying 62000 5070 Onward.invite) 62000 (answer_to_invite 100 ∷ branch_packets sample false one_target first_branch)
+    sending (knowing_open (knowing (codes "5082" ∷ [])) 4 61000 []) (saying 62000 5070 Onward.invite) 62000
+    (answer_to_invite 100 ∷ branch_packets sample false one_target first_branch)
     (knowing_open (knowing (codes "5082" ∷ [])) 5 62000 (one_target ∷ []))
 
 abbrev pub ringing_came : Link
 ringing_came =
-    sending invite_came.after (saying 63000 5082 (ringing_from 1)) 63000 (answer_to false one_target (text_of (without_top_via (ringing_from 1))) ∷ [])
+    sending invite_came.after (saying 63000 5082 (ringing_from 1)) 63000
+    (answer_to false one_target (text_of (without_top_via (ringing_from 1))) ∷ [])
     (knowing_open (knowing (codes "5082" ∷ [])) 6 63000 (one_rings ∷ []))
 
 -- ---- ACKs
@@ -100,7 +110,8 @@ one_busy = call_to (busy_branch ∷ second_branch ∷ [])
 -- the 486 comes again, and its ACK goes as if for the first time
 abbrev pub acknowledged_twice : ProxyState → ProxyState → Link
 acknowledged_twice known after =
-    sending (knowing_open known 6 63000 (one_busy ∷ [])) (saying 63500 5082 busy) 63500 (ack_packets sample false one_busy busy_branch busy_branch.final_to) after
+    sending (knowing_open known 6 63000 (one_busy ∷ [])) (saying 63500 5082 busy) 63500
+    (ack_packets sample false one_busy busy_branch busy_branch.final_to) after
 
 -- a 481 to the CANCEL of an INVITE's one target
 abbrev pub cancel_refused : Message

@@ -10,13 +10,16 @@ ghost use Rattle.model_access_examples.specs.WrongAnswers;
 /// A REGISTER that was denied gets no 200 later, which would say that a contact is bound, and no 401 with a nonce
 /// that nobody issued: once its final answer went, nothing but a copy of that goes to its caller.
 pub fn denied_register_gets_no_other_answer()
-    ensures accepted { (known after : ProxyState) (earlier : List Link) → Access sample (WrongAnswers.answered_later 200 WrongAnswers.false_contact known after ∷ earlier) → ⊥ }
-    ensures challenged { (known after : ProxyState) (earlier : List Link) → Access sample (WrongAnswers.answered_later 401 WrongAnswers.false_challenge known after ∷ earlier) → ⊥ }
+    ensures accepted { (known after : ProxyState) (earlier : List Link)
+        → Access sample (WrongAnswers.answered_later 200 WrongAnswers.false_contact known after ∷ earlier) → ⊥ }
+    ensures challenged { (known after : ProxyState) (earlier : List Link)
+        → Access sample (WrongAnswers.answered_later 401 WrongAnswers.false_challenge known after ∷ earlier) → ⊥ }
 {}
 
 /// An INVITE gets no 200 that no target sent, beside what it gets: its 100, and its request to the binding.
 pub fn invite_gets_no_made_200()
-    ensures gets { sent_for sample (WrongAnswers.before_call (knowing (codes "5082" ∷ []))) WrongAnswers.invite_comes ≡ WrongAnswers.answer_to_invite 100 ∷ branch_packets sample false one_target first_branch }
+    ensures gets { sent_for sample (WrongAnswers.before_call (knowing (codes "5082" ∷ []))) WrongAnswers.invite_comes
+        ≡ WrongAnswers.answer_to_invite 100 ∷ branch_packets sample false one_target first_branch }
     ensures refused { (known after : ProxyState) (earlier : List Link) → Access sample (WrongAnswers.accepted_at_once known after ∷ earlier) → ⊥ }
 {}
 

@@ -20,7 +20,8 @@ pub fn copy_stays()
 /// give nothing up.
 pub fn ringing_goes_on()
     ensures nobody { WasGivenUp sample (WrongRequests.ringing_came ∷ WrongRequests.invite_came ∷ []) 4 → ⊥ }
-    ensures refused { (known after : ProxyState) (earlier : List Link) → (WasGivenUp sample earlier 4 → ⊥) → Access sample (WrongRequests.unwanted_cancel known after ∷ earlier) → ⊥ }
+    ensures refused { (known after : ProxyState) (earlier : List Link) → (WasGivenUp sample earlier 4 → ⊥)
+        → Access sample (WrongRequests.unwanted_cancel known after ∷ earlier) → ⊥ }
 {}
 
 /// The ACK of a 486 goes for the first time once.

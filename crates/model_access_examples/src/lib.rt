@@ -1,5 +1,9 @@
 //! Histories that a sceptic would write, none of which has `Access`: what the law refuses, read alone, without the
 //! clause of the step beside it. Nothing runs here.
+//!
+//! - Used: nobody: it is read.
+//! - Not here: a body.
+//! - Tried: its own proofs.
 #![tactic(auto)]
 
 pub mod early_copies;

@@ -8,6 +8,8 @@ ghost use Rattle.model_access_examples.specs.WrongMoments;
 /// No step says a moment that has not come, so that what is due then went now: no 408 before its deadline, and no
 /// copy before its moment.
 pub fn moments_come_first()
-    ensures answered { (known after : ProxyState) (earlier : List Link) → moment_in earlier ≡ 62000 → Access sample (WrongMoments.given_up_early known after ∷ earlier) → ⊥ }
-    ensures copied { (known after : ProxyState) (earlier : List Link) → moment_in earlier ≡ 62000 → Access sample (WrongMoments.copied_early known after ∷ earlier) → ⊥ }
+    ensures answered { (known after : ProxyState) (earlier : List Link) → moment_in earlier ≡ 62000
+        → Access sample (WrongMoments.given_up_early known after ∷ earlier) → ⊥ }
+    ensures copied { (known after : ProxyState) (earlier : List Link) → moment_in earlier ≡ 62000
+        → Access sample (WrongMoments.copied_early known after ∷ earlier) → ⊥ }
 {}

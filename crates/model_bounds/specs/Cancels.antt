@@ -25,11 +25,13 @@ abbrev pub first_sendings : Packet → List Link → ℕ
 first_sendings p [] = 0
 first_sendings p (link ∷ history) = count_by (says_same p) (originals link.out.packets) + first_sendings p history
 
--- a packet is a CANCEL of this server: its ticket names no branch, and it begins as a CANCEL; answers and ACKs, whose tickets name none either, begin otherwise
+-- a packet is a CANCEL of this server: its ticket names no branch, and it begins as a CANCEL; answers and ACKs, whose tickets name
+-- none either, begin otherwise
 pub record IsOwnCancel (p : Packet) : Type 0 where
   pub no_branch : p.ticket.branch ≡ 0
   pub begins : begins_cancel p.bytes ≡ true
 
--- A CANCEL of this server goes out at most eleven times for each time it is sent first: at most ten copies follow (RFC 3261 9.1, 17.1.2.2: Timers E and F).
+-- A CANCEL of this server goes out at most eleven times for each time it is sent first: at most ten copies follow (RFC 3261 9.1,
+-- 17.1.2.2: Timers E and F).
 abbrev pub GoOutElevenTimes : List Link → Type 0
 GoOutElevenTimes history = (p : Packet) → IsOwnCancel p → handed_out p history ≤ 11 * first_sendings p history

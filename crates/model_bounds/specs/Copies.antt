@@ -7,7 +7,8 @@ use Rattle.sip_model.specs.Run.{Link}
 -- whether a packet is another one again: the same bytes to the same address for the same ticket
 abbrev pub is_copy_of : Packet → Packet → Bool
 is_copy_of p q =
-    q.again && bytes_eq q.bytes p.bytes && bytes_eq q.to.ip p.to.ip && q.to.port == p.to.port && q.ticket.datagram == p.ticket.datagram && q.ticket.branch == p.ticket.branch
+    q.again && bytes_eq q.bytes p.bytes && bytes_eq q.to.ip p.to.ip && q.to.port == p.to.port && q.ticket.datagram == p.ticket.datagram
+    && q.ticket.branch == p.ticket.branch
 
 -- how many retransmissions of a packet a history hands out
 abbrev pub copies_of : Packet → List Link → ℕ

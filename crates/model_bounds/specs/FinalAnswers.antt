@@ -1,5 +1,6 @@
 -- The final answers that a history sends to the caller of a request, counted in packets, by their bytes (RFC 3261 7.2, 16.7, 17.2).
-use Rattle.std.specs.Prelude.{◌≡◌, ◌≤◌, ◌⊎◌, ℕ, ◌+◌, nat_eq, ◌==◌, ◌&&◌, Bool, true, false, not, if◌then◌else◌, List, [], ◌∷◌, length, filter, find, count_by, codes, Option, None}
+use Rattle.std.specs.Prelude.{◌≡◌, ◌≤◌, ◌⊎◌, ℕ, ◌+◌, nat_eq, ◌==◌, ◌&&◌, Bool, true, false, not, if◌then◌else◌, List, [], ◌∷◌, length}
+use Rattle.std.specs.Prelude.{filter, find, count_by, codes, Option, None}
 use Rattle.std.specs.Option.{option_and_then, option_map_or}
 use Rattle.std.specs.List.{starts_with, AllByRecursion}
 use Rattle.std.specs.Str.{bytes_eq}
@@ -21,7 +22,8 @@ use Rattle.model_bounds.specs.Invites.{WasInvite}
 
 -- ---- what bytes begin with
 
--- Bytes begin as a final answer does: with `SIP/2.0`, a space, and a status whose first digit isn't 1. A request begins with its method (RFC 3261 7.1, 7.2).
+-- Bytes begin as a final answer does: with `SIP/2.0`, a space, and a status whose first digit isn't 1. A request begins with its
+-- method (RFC 3261 7.1, 7.2).
 abbrev pub begins_final : List ℕ → Bool
 begins_final bytes = starts_with nat_eq bytes (codes "SIP/2.0 ") && not (starts_with nat_eq bytes (codes "SIP/2.0 1"))
 
@@ -31,7 +33,8 @@ begins_success bytes = starts_with nat_eq bytes (codes "SIP/2.0 2")
 
 -- ---- final answers
 
--- Whether a packet is a final answer to the caller of the request that the datagram of a number brought. What goes to a target has a branch of its own on its ticket, and
+-- Whether a packet is a final answer to the caller of the request that the datagram of a number brought. What goes to a target has a
+-- branch of its own on its ticket, and
 -- the ACKs and CANCELs of this server, which have none, begin with their methods.
 abbrev pub is_final_to : ℕ → Packet → Bool
 is_final_to number p = p.ticket.datagram == number && p.ticket.branch == 0 && begins_final p.bytes
@@ -45,7 +48,8 @@ final_answers number history = filter (is_final_to number) (sent_first history)
 -- a caller was sent at most one final answer, or several 2xx to an INVITE (RFC 3261 16.7 step 5)
 abbrev pub IsAnsweredOnce : ℕ → List Link → Type 0
 IsAnsweredOnce number history =
-    (length (final_answers number history) ≤ 1) ⊎ (WasInvite number history × AllByRecursion (λ (p : Packet). begins_success p.bytes ≡ true) (final_answers number history))
+    (length (final_answers number history) ≤ 1) ⊎ (WasInvite number history
+    × AllByRecursion (λ (p : Packet). begins_success p.bytes ≡ true) (final_answers number history))
 
 -- ---- how often they go again
 
@@ -74,4 +78,5 @@ copies_came number (link ∷ history) = (if is_copy_at number link.before link.a
 -- Final answers went again no more often than copies of their request came, and to an INVITE ten times more: by Timer G (RFC 3261 17.2.1, 17.2.2).
 abbrev pub AnswersGoAgain : ℕ → List Link → Type 0
 AnswersGoAgain number history =
-    (finals_again number history ≤ copies_came number history) ⊎ (WasInvite number history × (finals_again number history ≤ 10 + copies_came number history))
+    (finals_again number history ≤ copies_came number history)
+    ⊎ (WasInvite number history × (finals_again number history ≤ 10 + copies_came number history))

@@ -15,7 +15,8 @@ use crate::sendings::requests_go_out_so_often;
 /// by time; the request goes out to a target eleven times at most, an INVITE seven times, at its moments
 /// alone, and a CANCEL of this server's eleven times; and each request is closed in time.
 pub fn every_history_is_bounded()
-    ensures { (server : Server) (first : ℕ) (history : List Link) (last : ProxyState) → IsChain server (first_state first) history last → IsBounded server history }
+    ensures { (server : Server) (first : ℕ) (history : List Link) (last : ProxyState) → IsChain server (first_state first) history last
+        → IsBounded server history }
 {
     one_final_answer_in_packets();
     final_answers_go_again();

@@ -32,7 +32,8 @@ pub fn cancels_go_out_so_often()
 /// What is sent for a CANCEL, first and again, is what this law counts: its ticket names no branch, and it begins with
 /// its method.
 pub fn cancels_are_counted()
-    ensures { (server : Server) (again : Bool) (r : OpenRequest) (b : Branch) → b.is_cancel ≡ true → AllByRecursion IsOwnCancel (branch_packets server again r b) }
+    ensures { (server : Server) (again : Bool) (r : OpenRequest) (b : Branch) → b.is_cancel ≡ true
+        → AllByRecursion IsOwnCancel (branch_packets server again r b) }
 {}
 
 /// A CANCEL is told by its bytes from what else bears no branch on its ticket: an answer, and an ACK.

@@ -17,7 +17,8 @@ use sip_model::parts::steps_have_parts;
 /// if that is an INVITE, each from another of those who took it; counted in the packets that go out, by their
 /// bytes. Copies of an answer go again as retransmissions, and aren't counted here.
 pub fn one_final_answer_in_packets()
-    ensures { (server : Server) (first : ℕ) (history : List Link) (last : ProxyState) → IsChain server (first_state first) history last → (number : ℕ) → IsAnsweredOnce number history }
+    ensures { (server : Server) (first : ℕ) (history : List Link) (last : ProxyState) → IsChain server (first_state first) history last
+        → (number : ℕ) → IsAnsweredOnce number history }
 {
     steps_have_parts();
     one_final_answer();
@@ -27,7 +28,8 @@ pub fn one_final_answer_in_packets()
 /// more, by Timer G: so the answer of an INVITE that is refused is handed out at most eleven times, and once
 /// more for each copy of the INVITE that came, and that of another request once, and once more for each copy.
 pub fn final_answers_go_again()
-    ensures whole { (server : Server) (first : ℕ) (history : List Link) (last : ProxyState) → IsChain server (first_state first) history last → (number : ℕ) → AnswersGoAgain number history }
+    ensures whole { (server : Server) (first : ℕ) (history : List Link) (last : ProxyState)
+        → IsChain server (first_state first) history last → (number : ℕ) → AnswersGoAgain number history }
     ensures each { (server : Server) (first : ℕ) (history : List Link) (last : ProxyState) → IsChain server (first_state first) history last
         → (number : ℕ) (p : Packet) → is_final_to number p ≡ true → copies_of p history ≤ 10 + copies_came number history }
 {

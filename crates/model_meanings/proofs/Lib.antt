@@ -9,3 +9,4 @@ mod Belonging
 mod Numbered
 mod Reasons
 mod Granting
+mod Heard

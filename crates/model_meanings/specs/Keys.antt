@@ -35,7 +35,8 @@ IsSamePort None (Some right) = 5060 ≡ right
 IsSamePort (Some left) (Some right) = left ≡ right
 
 -- two requests are of one server transaction: their branches are the same byte by byte, the hosts of sent-by without case, the ports, and the methods
-pub record AreOneTransaction (method : List ℕ) (via : Via) (branch : List ℕ) (other_method : List ℕ) (other_via : Via) (other_branch : List ℕ) : Type 0 where
+pub record AreOneTransaction (method : List ℕ) (via : Via) (branch : List ℕ) (other_method : List ℕ) (other_via : Via)
+    (other_branch : List ℕ) : Type 0 where
   pub branches : branch ≡ other_branch
   pub hosts : is_same_text via.host other_via.host ≡ true
   pub ports : IsSamePort via.port other_via.port

@@ -5,3 +5,4 @@ pub mod Valid
 pub mod Packets
 pub mod Responses
 pub mod Successes
+pub mod Hearing

@@ -11,7 +11,8 @@ pub record BeginsWithLine (method uri bytes : List ℕ) : Type 0 where
   pub rest : List ℕ
   pub is_text : bytes ≡ method ++ codes " " ++ uri ++ codes " SIP/2.0\r\n" ++ rest
 
--- a packet is a request of a method to a URI at an address: the request that came in the datagram of a number, as it goes to the target of a place, for the first time
+-- a packet is a request of a method to a URI at an address: the request that came in the datagram of a number, as it goes to the
+-- target of a place, for the first time
 pub record IsRequestTo (number : ℕ) (method : List ℕ) (place : ℕ) (uri : Uri) (address : Addr) (p : Packet) : Type 0 where
   pub goes_there : p.to ≡ address
   pub begins : BeginsWithLine method (text_of uri) p.bytes
@@ -23,6 +24,8 @@ pub record IsRequestTo (number : ℕ) (method : List ℕ) (place : ℕ) (uri : U
 pub data GoToTargets (number : ℕ) (method : List ℕ) : ℕ → List Target → List Packet → Type 0 where
   NoMore : (place : ℕ) → GoToTargets number method place [] []
   Goes : (place : ℕ) (t : Target) (address : Addr) (p : Packet) (targets : List Target) (packets : List Packet) → t.address ≡ Some address
-      → IsRequestTo number method place t.uri address p → GoToTargets number method (place + 1) targets packets → GoToTargets number method place (t ∷ targets) (p ∷ packets)
-  GoesNowhere : (place : ℕ) (t : Target) (targets : List Target) (packets : List Packet) → t.address ≡ None → GoToTargets number method (place + 1) targets packets
+      → IsRequestTo number method place t.uri address p → GoToTargets number method (place + 1) targets packets → GoToTargets number method
+      place (t ∷ targets) (p ∷ packets)
+  GoesNowhere : (place : ℕ) (t : Target) (targets : List Target) (packets : List Packet) → t.address ≡ None
+      → GoToTargets number method (place + 1) targets packets
       → GoToTargets number method place (t ∷ targets) packets

@@ -19,7 +19,8 @@ use Rattle.sip_model.specs.verdict_model.Verdict.{responding}
 abbrev pub IsMethodOf : OpenRequest → Branch → List ℕ → Type 0
 IsMethodOf r b method = ((b.is_cancel ≡ true) × (method ≡ codes "CANCEL")) ⊎ ((b.is_cancel ≡ false) × (method ≡ r.key.method))
 
--- The fields of a response say a branch: the top Via can be read and is this server's, and its branch parameter is the text that this server put there for that branch; the one CSeq
+-- The fields of a response say a branch: the top Via can be read and is this server's, and its branch parameter is the text that
+-- this server put there for that branch; the one CSeq
 -- has the branch's method (RFC 3261 17.1.3).
 pub record SaysBranch (server : Server) (r : OpenRequest) (b : Branch) (fields : List Field) : Type 0 where
   pub value : List ℕ

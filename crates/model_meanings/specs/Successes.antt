@@ -25,7 +25,8 @@ use Rattle.model_meanings.specs.Lists.{ListsInOrder}
 abbrev pub answer_here : Server → Arrival → Message → ℕ → List Field → Packet
 answer_here server a m status extras = answer_packet false a.number m a.from (text_of (made_answer server a.number m a.from status extras))
 
--- A message is a REGISTER that passes every check, and that a rule lets through; it binds, and all that is sent is the 200 that lists the live bindings of its address.
+-- A message is a REGISTER that passes every check, and that a rule lets through; it binds, and all that is sent is the 200 that
+-- lists the live bindings of its address.
 pub record IsRegistered (server : Server) (state : ProxyState) (a : Arrival) (m : Message) (short : Bool) (packets : List Packet) : Type 0 where
   pub uri : List ℕ
   pub version : List ℕ

@@ -17,5 +17,6 @@ pub fn keys_are_told_apart()
     ensures requests { (m other : Message) (method other_method : List ℕ) (via other_via : Via) (branch other_branch : List ℕ) (left right : Key)
         → SaysOnTop m method via branch → SaysOnTop other other_method other_via other_branch → key_of m ≡ Some left → key_of other ≡ Some right
         → (same_key left right ≡ true) ↔ AreOneTransaction method via branch other_method other_via other_branch }
-    ensures has_key { (m : Message) (method : List ℕ) (via : Via) (branch rest : List ℕ) → SaysOnTop m method via branch → branch ≡ codes "z9hG4bK" ++ rest → IsSome (key_of m) }
+    ensures has_key { (m : Message) (method : List ℕ) (via : Via) (branch rest : List ℕ) → SaysOnTop m method via branch → branch
+        ≡ codes "z9hG4bK" ++ rest → IsSome (key_of m) }
 {}

@@ -10,6 +10,7 @@ ghost use Rattle.model_meanings.specs.Lists.{ListsInOrder};
 /// the bindings, and no other list of fields is that (RFC 3261 10.3 step 8).
 pub fn live_are_listed()
     ensures in_order { (now : ℕ) (aor : Aor) (rows : List Binding) → ListsInOrder now aor rows (contact_fields now aor rows) }
-    ensures alone { (now : ℕ) (aor : Aor) (rows : List Binding) (fields : List Field) → ListsInOrder now aor rows fields → fields ≡ contact_fields now aor rows }
+    ensures alone { (now : ℕ) (aor : Aor) (rows : List Binding) (fields : List Field) → ListsInOrder now aor rows fields → fields
+        ≡ contact_fields now aor rows }
     ensures as_many { (now : ℕ) (aor : Aor) (rows : List Binding) → length (contact_fields now aor rows) ≡ length (live aor now rows) }
 {}

@@ -25,7 +25,8 @@ pub fn nonce_told_is_nonce_issued()
     ensures read { (word : ℕ) → word < 2 ^ 128 → word_of (nonce_text word) ≡ Some word }
     ensures known { (server : Server) (a : Arrival) (m : Message) (q : Question) (state : ProxyState)
         → Any (IsNonceOf a.word a.now) (effect_of server a m (Challenge q) state).state.nonces }
-    ensures fresh { (nonces : List Nonce) (word now : ℕ) → count_by (is_this word now) nonces ≡ 0 → Contains (issued nonces word now) (record { word = word; since = now; count = 0 }) }
+    ensures fresh { (nonces : List Nonce) (word now : ℕ) → count_by (is_this word now) nonces ≡ 0
+        → Contains (issued nonces word now) (record { word = word; since = now; count = 0 }) }
 {
     text_names_its_word();
 }

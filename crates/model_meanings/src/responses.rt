@@ -20,10 +20,14 @@ use sip_model::order::{branches_are_found_by_numbers, numbers_differ, numbers_fi
 pub fn response_belongs_to_branch()
     ensures taken { (server : Server) (requests : List OpenRequest) (fields : List Field) (r : OpenRequest) (b : Branch)
         → responding server requests fields ≡ Some (r, b) → IsOfBranch server requests fields r b }
-    ensures given { (server : Server) (first : ℕ) (history : List Link) (last : ProxyState) → IsChain server (first_state first) history last → last.next ≤ 2 ^ 64
-        → (fields : List Field) (r : OpenRequest) (b : Branch) → IsOfBranch server last.requests fields r b → IsGivenTo server last.requests fields r b }
-    ensures same { (server : Server) (requests : List OpenRequest) (fields : List Field) (r : OpenRequest) (b found : Branch) → IsOfBranch server requests fields r b
-        → responding server requests fields ≡ Some (r, found) → found.number ≡ b.number → r.key.method ≢ codes "CANCEL" → is_same_branch found b ≡ true }
+    ensures given { (server : Server) (first : ℕ) (history : List Link) (last : ProxyState)
+        → IsChain server (first_state first) history last → last.next ≤ 2 ^ 64
+        → (fields : List Field) (r : OpenRequest) (b : Branch) → IsOfBranch server last.requests fields r b
+        → IsGivenTo server last.requests fields r b }
+    ensures same { (server : Server) (requests : List OpenRequest) (fields : List Field) (r : OpenRequest) (b found : Branch)
+        → IsOfBranch server requests fields r b
+        → responding server requests fields ≡ Some (r, found) → found.number ≡ b.number → r.key.method ≢ codes "CANCEL"
+        → is_same_branch found b ≡ true }
 {
     branches_are_read_back();
     numbers_differ();

@@ -23,12 +23,16 @@ use sip_model::laws::every_history_has_access;
 /// history does all that a valid new request is sent on by, to the targets that policy gives it over the bindings of
 /// the history: the contacts of the live bindings, or a configured hop (`targets_are_bindings_or_hop` of `sip_model`).
 pub fn packets_go_to_the_bindings()
-    ensures targets { (server : Server) (a : Arrival) (m : Message) (method uri : List ℕ) (targets : List Target) → m.start ≡ Request method uri (codes "SIP/2.0")
+    ensures targets { (server : Server) (a : Arrival) (m : Message) (method uri : List ℕ) (targets : List Target) → m.start
+        ≡ Request method uri (codes "SIP/2.0")
         → GoToTargets a.number method 1 targets (requests_to server a m targets) }
-    ensures steps { (server : Server) (first : ℕ) (link : Link) (history : List Link) (last : ProxyState) → IsChain server (first_state first) (link ∷ history) last
-        → (at word : ℕ) (from : Addr) (bytes : List ℕ) → link.act ≡ Given (Datagram at word from bytes) → (m : Message) (method : List ℕ) (core : CoreFields)
+    ensures steps { (server : Server) (first : ℕ) (link : Link) (history : List Link) (last : ProxyState)
+        → IsChain server (first_state first) (link ∷ history) last
+        → (at word : ℕ) (from : Addr) (bytes : List ℕ) → link.act ≡ Given (Datagram at word from bytes)
+        → (m : Message) (method : List ℕ) (core : CoreFields)
         → IsNewRequest server link.before bytes m method core
-        → GoToTargets link.before.next method 1 (targets_on server (bindings_after server history) link.before (moment_of link.before at) m method core)
+        → GoToTargets link.before.next method 1 (targets_on server (bindings_after server history) link.before (moment_of link.before at) m
+        method core)
         (branch_originals link.out.packets) }
 {
     every_history_has_access();

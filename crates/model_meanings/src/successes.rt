@@ -16,7 +16,8 @@ use sip_model::order::numbers_differ;
 /// lists the live bindings of its address; and the one to a CANCEL that names an open request. Every other 200 came from
 /// elsewhere (RFC 3261 9.2, 10.3 step 8, 16.7).
 pub fn made_ok_is_a_list_or_a_cancels()
-    ensures { (server : Server) (first : ℕ) (link : Link) (history : List Link) (last : ProxyState) → IsChain server (first_state first) (link ∷ history) last
+    ensures { (server : Server) (first : ℕ) (link : Link) (history : List Link) (last : ProxyState)
+        → IsChain server (first_state first) (link ∷ history) last
         → (a : Arrival) (bytes : List ℕ) (m : Message) (short : Bool) (extras : List Field) → IsSaidAt link.before link.act a bytes m short
         → Contains (originals link.out.packets) (answer_here server a m 200 extras)
         → IsRegistered server link.before a m short (originals link.out.packets) ⊎ IsCancelling server link.before a m (originals link.out.packets) }

@@ -9,5 +9,6 @@ ghost use Rattle.sip_model.specs.Run.{Link, IsChain};
 /// away (this project's profile).
 pub fn full_table_has_1024()
     ensures full { (state : ProxyState) → (is_full state ≡ true) ↔ (1024 ≤ length state.requests) }
-    ensures most { (server : Server) (first : ℕ) (history : List Link) (last : ProxyState) → IsChain server (first_state first) history last → length last.requests ≤ 1024 }
+    ensures most { (server : Server) (first : ℕ) (history : List Link) (last : ProxyState) → IsChain server (first_state first) history last
+        → length last.requests ≤ 1024 }
 {}

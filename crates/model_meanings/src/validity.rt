@@ -19,5 +19,6 @@ pub fn validity_is_not_empty()
     ensures register { refusal_of sample.config.own register false ≡ None }
     ensures new_invite { SaysNewRequest sample (first_state 1) (text_of invite) invite (codes "INVITE") }
     ensures new_register { SaysNewRequest sample (first_state 1) (text_of register) register (codes "REGISTER") }
-    ensures comes { IsSaidAt (first_state 1) (Given (Datagram 1000 1 (local 5070) (text_of invite))) (arriving_at 1 1000 5070) (text_of invite) invite false }
+    ensures comes { IsSaidAt (first_state 1) (Given (Datagram 1000 1 (local 5070) (text_of invite))) (arriving_at 1 1000 5070)
+        (text_of invite) invite false }
 {}

@@ -11,5 +11,6 @@ ghost use Rattle.sip_model.specs.context_model.Sending.{made_answer};
 pub fn two_rules_have_two_warnings()
     ensures differ { (own : Own) (one two : ℕ) → one < 2 ^ 32 → two < 2 ^ 32 → denial_warning own one ≡ denial_warning own two → one ≡ two }
     ensures told { (server : Server) (number : ℕ) (m : Message) (from : Addr) (rule : ℕ)
-        → Contains (made_answer server number m from 403 (denial_warning server.config.own rule ∷ [])).fields (denial_warning server.config.own rule) }
+        → Contains (made_answer server number m from 403
+        (denial_warning server.config.own rule ∷ [])).fields (denial_warning server.config.own rule) }
 {}

@@ -44,7 +44,8 @@ use Rattle.model_origins.specs.Requests.{IsBrought, WentToCaller}
 abbrev pub IsNamed : DialogId → List ℕ → List ℕ → List ℕ → Type 0
 IsNamed id call_id one other = (id.call_id ≡ call_id) × (((id.from_tag ≡ one) × (id.to_tag ≡ other)) ⊎ ((id.from_tag ≡ other) × (id.to_tag ≡ one)))
 
--- A request names a dialog: by its Call-ID, the tag of its From, and that of its To, which has one; a From without a tag has an empty one (RFC 3261 12.2.2).
+-- A request names a dialog: by its Call-ID, the tag of its From, and that of its To, which has one; a From without a tag has an
+-- empty one (RFC 3261 12.2.2).
 pub record Names (m : Message) (id : DialogId) : Type 0 where
   pub core : CoreFields
   pub tag : List ℕ
@@ -64,9 +65,11 @@ pub record NamesFor (invite answer : Message) (id : DialogId) : Type 0 where
 
 -- ---- messages of a dialog
 
--- An INVITE began a dialog: a datagram brought it; a response of 101 to 299 came for a branch of it, and went to its caller without its top Via; and that names the dialog for it
+-- An INVITE began a dialog: a datagram brought it; a response of 101 to 299 came for a branch of it, and went to its caller without
+-- its top Via; and that names the dialog for it
 -- (RFC 3261 12.1).
-pub record Begins (server : Server) (history : List Link) (a : Arrival) (invite : Message) (status : ℕ) (response : Message) (id : DialogId) : Type 0 where
+pub record Begins (server : Server) (history : List Link) (a : Arrival) (invite : Message) (status : ℕ) (response : Message) (id : DialogId)
+    : Type 0 where
   pub is_brought : IsBrought history a invite
   pub is_invite : bytes_eq (method_of invite.start) (codes "INVITE") ≡ true
   pub came_for : CameFor server history a.number status response
@@ -82,10 +85,12 @@ pub record WasSentOn (server : Server) (history : List Link) (a : Arrival) (m : 
   pub is_text : packet.bytes ≡ text_of (onward_as server a.number m a.from (onward_uri server.config.own m) 1)
   pub is_of_datagram : packet.ticket.datagram ≡ a.number
 
--- A message of a dialog went through the server: an INVITE that began it; an answer to an INVITE for which it names the dialog, or to a request of the dialog, that went to
+-- A message of a dialog went through the server: an INVITE that began it; an answer to an INVITE for which it names the dialog, or
+-- to a request of the dialog, that went to
 -- the caller; or a request or an ACK of it that was sent on.
 pub data WentThrough (server : Server) (history : List Link) (id : DialogId) : Message → Type 0 where
-  Invite : (a : Arrival) (invite : Message) (status : ℕ) (response : Message) → Begins server history a invite status response id → WentThrough server history id invite
+  Invite : (a : Arrival) (invite : Message) (status : ℕ) (response : Message) → Begins server history a invite status response id
+      → WentThrough server history id invite
   AnswerToInvite : (a : Arrival) (invite answer : Message) → IsBrought history a invite → bytes_eq (method_of invite.start) (codes "INVITE") ≡ true
       → WentToCaller history a.number invite a.from (text_of answer) → NamesFor invite answer id → WentThrough server history id answer
   AnswerWithin : (a : Arrival) (m answer : Message) → IsBrought history a m → Names m id → WentToCaller history a.number m a.from (text_of answer)
@@ -96,14 +101,17 @@ pub data WentThrough (server : Server) (history : List Link) (id : DialogId) : M
 
 -- A message gives an address: that of the SIP URI of a Contact, or of a Record-Route, which has brackets (RFC 3261 12.1.1, 12.2, 20.10, 20.30).
 pub data Gives (server : Server) (m : Message) (address : Addr) : Type 0 where
-  ByContact : (field : Field) (item : NameAddr) (uri : Uri) → Contains m.fields field → is_same_name field.name Name.Contact ≡ true → name_addr_of field.value ≡ Some item
+  ByContact : (field : Field) (item : NameAddr) (uri : Uri) → Contains m.fields field → is_same_name field.name Name.Contact ≡ true
+      → name_addr_of field.value ≡ Some item
       → item.uri ≡ Sip uri
       → address_of server.config.addresses uri ≡ Some address → Gives server m address
-  ByRecordRoute : (field : Field) (item : NameAddr) (uri : Uri) → Contains m.fields field → is_same_name field.name Name.RecordRoute ≡ true → route_of field.value ≡ Some item
+  ByRecordRoute : (field : Field) (item : NameAddr) (uri : Uri) → Contains m.fields field → is_same_name field.name Name.RecordRoute ≡ true
+      → route_of field.value ≡ Some item
       → item.uri ≡ Sip uri
       → address_of server.config.addresses uri ≡ Some address → Gives server m address
 
--- Where an address of a dialog comes from: it is the source of an INVITE that began the dialog, the address of the branch that answered this, or one that a message of the dialog gave.
+-- Where an address of a dialog comes from: it is the source of an INVITE that began the dialog, the address of the branch that
+-- answered this, or one that a message of the dialog gave.
 pub data IsAddressOf (server : Server) (history : List Link) (id : DialogId) (address : Addr) : Type 0 where
   OfCaller : (a : Arrival) (invite : Message) (status : ℕ) (response : Message) → Begins server history a invite status response id → address ≡ a.from
       → IsAddressOf server history id address
@@ -118,7 +126,8 @@ pub data IsAddressOf (server : Server) (history : List Link) (id : DialogId) (ad
 pub data HadRequest (server : Server) (history : List Link) (id : DialogId) (moment : ℕ) : Type 0 where
   AtFirst : (a : Arrival) (invite : Message) (status : ℕ) (response : Message) → Begins server history a invite status response id → moment ≡ a.now
       → HadRequest server history id moment
-  Later : (a : Arrival) (m : Message) → IsBrought history a m → Names m id → WasSentOn server history a m → moment ≡ a.now → HadRequest server history id moment
+  Later : (a : Arrival) (m : Message) → IsBrought history a m → Names m id → WasSentOn server history a m → moment ≡ a.now
+      → HadRequest server history id moment
 
 -- An INVITE began a dialog with a 2xx.
 pub record WasAccepted (server : Server) (history : List Link) (id : DialogId) : Type 0 where
@@ -129,7 +138,8 @@ pub record WasAccepted (server : Server) (history : List Link) (id : DialogId) :
   pub begins : Begins server history a invite status response id
   pub is_success : 200 ≤ status
 
--- A dialog was told: the INVITE of its number began it, with a response that names it; a request of it came at the moment since which it is known; it is confirmed only by a
+-- A dialog was told: the INVITE of its number began it, with a response that names it; a request of it came at the moment since
+-- which it is known; it is confirmed only by a
 -- 2xx; and each of its addresses is one of it.
 pub record WasTold (server : Server) (history : List Link) (d : Dialog) : Type 0 where
   pub a : Arrival
@@ -151,7 +161,8 @@ pub record GoesWhereTold (server : Server) (history : List Link) (now : ℕ) (id
 
 -- ---- the end of a dialog
 
--- In a step a 2xx comes for a branch of a BYE of a dialog, while neither has a final answer; it has a second Via, so that it goes to the caller (RFC 3261 15, 16.7 step 5).
+-- In a step a 2xx comes for a branch of a BYE of a dialog, while neither has a final answer; it has a second Via, so that it goes to
+-- the caller (RFC 3261 15, 16.7 step 5).
 pub record EndsDialog (server : Server) (link : Link) (id : DialogId) : Type 0 where
   pub a : Arrival
   pub bytes : List ℕ

@@ -25,7 +25,8 @@ pub record IsBrought (history : List Link) (a : Arrival) (m : Message) : Type 0 
   pub is_there : Contains history link
   pub is_said : IsSaidAt link.before link.act a bytes m short
 
--- A text was sent to the caller of a request that came from an address in the datagram of a number: to the address of its responses, with its ticket (RFC 3261 18.2.2).
+-- A text was sent to the caller of a request that came from an address in the datagram of a number: to the address of its responses,
+-- with its ticket (RFC 3261 18.2.2).
 pub record WentToCaller (history : List Link) (number : ℕ) (m : Message) (from : Addr) (text : List ℕ) : Type 0 where
   pub packet : Packet
   pub is_there : Contains (sent_first history) packet
@@ -34,7 +35,8 @@ pub record WentToCaller (history : List Link) (number : ℕ) (m : Message) (from
   pub is_of_datagram : packet.ticket.datagram ≡ number
   pub is_of_no_branch : packet.ticket.branch ≡ 0
 
--- An open request came: a datagram of the history brought it, which is no ACK and has that key, from that source, at that moment and as the one of that number; its branches
+-- An open request came: a datagram of the history brought it, which is no ACK and has that key, from that source, at that moment and
+-- as the one of that number; its branches
 -- have numbers from 1 on; and the answer that is its last was sent to its caller, but for a 2xx to an INVITE, whose text isn't kept (RFC 3261 17.2).
 pub record HasCome (history : List Link) (r : OpenRequest) : Type 0 where
   pub a : Arrival
@@ -45,4 +47,5 @@ pub record HasCome (history : List Link) (r : OpenRequest) : Type 0 where
   pub is_source : r.source ≡ a.from
   pub is_arrival : r.arrived_at ≡ a.now
   pub are_numbered : AllByRecursion (λ (b : Branch). 1 ≤ b.number) r.branches
-  pub has_gone : (last : LastAnswer) → r.answer ≡ Some last → (is_invite r && is_success last.status) ≡ false → WentToCaller history r.number r.request r.source last.text
+  pub has_gone : (last : LastAnswer) → r.answer ≡ Some last → (is_invite r && is_success last.status) ≡ false
+      → WentToCaller history r.number r.request r.source last.text

@@ -19,7 +19,8 @@ use Rattle.model_steps.specs.Examples.{arriving_at, authorized}
 -- what a message does to a server
 abbrev pub effect_on : Server → ProxyState → ℕ → ℕ → ℕ → Message → Effect
 effect_on server state number now port m =
-    effect_of server (arriving_at number now port) m (message_verdict server state (arriving_at number now port) m false) (counted (arriving_at number now port) state)
+    effect_of server (arriving_at number now port) m (message_verdict server state (arriving_at number now port) m false)
+    (counted (arriving_at number now port) state)
 
 -- ---- rule 4 with a window
 
@@ -78,12 +79,14 @@ first_by_md5 = helps_credential (codes "\"85d4d673c58c2ed45136af95f6d881d3\", qo
 -- by SHA-256 with the first count
 abbrev pub first_by_sha256 : List ℕ
 first_by_sha256 =
-    helps_credential (codes "\"d5ee3152de6918d9ebcaa077718b4eb280b52898374121409c51acda27b0ec49\", algorithm=SHA-256, qop=auth, nc=00000001, cnonce=\"0a4f113b\"")
+    helps_credential (codes
+    "\"d5ee3152de6918d9ebcaa077718b4eb280b52898374121409c51acda27b0ec49\", algorithm=SHA-256, qop=auth, nc=00000001, cnonce=\"0a4f113b\"")
 
 -- by SHA-256 with the second count
 abbrev pub second_by_sha256 : List ℕ
 second_by_sha256 =
-    helps_credential (codes "\"b294f093c5952c827e67fc37859077f90d6ad0d1b248be0d753ca3d42e598480\", algorithm=SHA-256, qop=auth, nc=00000002, cnonce=\"0a4f113b\"")
+    helps_credential (codes
+    "\"b294f093c5952c827e67fc37859077f90d6ad0d1b248be0d753ca3d42e598480\", algorithm=SHA-256, qop=auth, nc=00000002, cnonce=\"0a4f113b\"")
 
 -- a REGISTER of help's with a branch, a CSeq number and a credential
 abbrev pub helps_register : List ℕ → List ℕ → List ℕ → Message

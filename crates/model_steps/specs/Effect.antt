@@ -46,7 +46,8 @@ use Rattle.model_verdict.specs.context_model.Opening.{closing, branches_from, di
 use Rattle.model_verdict.specs.context_model.Retransmission.{answers_again, acked_again}
 use Rattle.model_verdict.specs.state.Arrival.{Arrival}
 use Rattle.model_verdict.specs.declared.question.Question.{Question}
-use Rattle.model_verdict.specs.Verdict.{Registered, Bound, Refused, Verdict, Drop, Respond, Copy, AckOn, Cancel, Answer, InDialog, Challenge, Deny, Send, Register, is_full, minute_on, verdict_of}
+use Rattle.model_verdict.specs.Verdict.{Registered, Bound, Refused, Verdict, Drop, Respond, Copy, AckOn, Cancel, Answer, InDialog}
+use Rattle.model_verdict.specs.Verdict.{Challenge, Deny, Send, Register, is_full, minute_on, verdict_of}
 
 -- what is sent for the first time, in its order; what goes again; what is recorded; and the state after it
 pub record Effect : Type 0 where
@@ -81,7 +82,11 @@ changed server now state change =
       originals = change_packets change;
       again = [];
       records = [];
-      state = record state { moment = now; requests = replaced change.request state.requests; dialogs = dialogs_after server now change state.dialogs };
+      state = record state {
+        moment = now;
+        requests = replaced change.request state.requests;
+        dialogs = dialogs_after server now change state.dialogs;
+      };
     }
 
 -- nothing is sent and nothing changes
@@ -118,7 +123,8 @@ recorded Operation.Register = RecordedAs.Register
 recorded Operation.List = RecordedAs.List
 recorded (Operation.Send method) = RecordedAs.Send
 
--- what is recorded of a request: when and as which datagram it came, its method, who proved to ask, for which address of record, the minute of a rule with a window, and what became of it
+-- what is recorded of a request: when and as which datagram it came, its method, who proved to ask, for which address of record, the
+-- minute of a rule with a window, and what became of it
 abbrev pub record_of : Server → Arrival → Message → Question → Outcome → Record
 record_of server a m q outcome =
     record {
@@ -164,7 +170,8 @@ issuing a state = record state { nonces = issued state.nonces a.word a.now }
 -- a challenge answers the request, and its nonce is issued (RFC 3261 22.1)
 abbrev pub challenged : Server → Arrival → Message → Question → ProxyState → Effect
 challenged server a m q state =
-    replied server a m (challenge_status q.operation) (challenges_to server a q) (record_of server a m q (Outcome.Challenge (challenge_status q.operation)) ∷ []) (issuing a (asked a q state))
+    replied server a m (challenge_status q.operation) (challenges_to server a q)
+    (record_of server a m q (Outcome.Challenge (challenge_status q.operation)) ∷ []) (issuing a (asked a q state))
 
 -- a denial names its rule (this project's profile)
 abbrev pub denied : Server → Arrival → Message → Question → ℕ → ProxyState → Effect
@@ -172,7 +179,8 @@ denied server a m q id state = replied server a m 403 (denial_warning server.con
 
 -- an answer to a request that was let through
 abbrev pub answered_by_rule : Server → Arrival → Message → Question → ℕ → ℕ → List Field → ProxyState → Effect
-answered_by_rule server a m q id status extras state = replied server a m status extras (record_of server a m q (Outcome.Answer id status) ∷ []) (asked a q state)
+answered_by_rule server a m q id status extras state = replied server a m status extras
+    (record_of server a m q (Outcome.Answer id status) ∷ []) (asked a q state)
 
 -- ---- registration
 
@@ -186,14 +194,16 @@ contact_fields now aor rows = map (contact_field now) (live aor now rows)
 
 -- a REGISTER that was let through: the bindings are made, and the 200 lists those that live
 abbrev pub registering : Server → Arrival → Message → Question → ℕ → Registered → ProxyState → Effect
-registering server a m q id (Bound rows) state = answered_by_rule server a m q id 200 (contact_fields a.now q.target rows) (record state { bindings = rows })
+registering server a m q id (Bound rows) state = answered_by_rule server a m q id 200 (contact_fields a.now q.target rows)
+    (record state { bindings = rows })
 registering server a m q id (Refused status extras) state = answered_by_rule server a m q id status extras state
 
 -- ---- a request is sent on
 
 -- the 100 goes first, then the answer where none of the branches can be sent to, then the requests to the branches that can (this project's profile)
 abbrev pub opening_packets : Server → ℕ → OpenRequest → List Packet
-opening_packets server now r = upward_packets r (trying server r) ++ change_packets (opening server now r) ++ flat_map (branch_packets server false r) r.branches
+opening_packets server now r = upward_packets r (trying server r) ++ change_packets (opening server now r)
+    ++ flat_map (branch_packets server false r) r.branches
 
 -- a request is sent to its branches, and is open from now on (RFC 3261 16.6)
 abbrev pub forked : Server → ℕ → OpenRequest → List Record → ProxyState → Effect
@@ -202,13 +212,17 @@ forked server now r records state =
       originals = opening_packets server now r;
       again = [];
       records = records;
-      state = record state { requests = opened (opening server now r).request state; dialogs = dialogs_after server now (opening server now r) state.dialogs };
+      state = record state {
+        requests = opened (opening server now r).request state;
+        dialogs = dialogs_after server now (opening server now r) state.dialogs;
+      };
     }
 
 -- a request that was let through gets one branch for each of its targets, in their order
 abbrev pub sent_to : Server → Arrival → Message → Question → ℕ → List Target → ProxyState → Effect
 sent_to server a m q id targets state =
-    forked server a.now (forking a m (branches_from a.now 1 targets)) (record_of server a m q (Outcome.Sent id (length targets)) ∷ []) (asked a q state)
+    forked server a.now (forking a m (branches_from a.now 1 targets)) (record_of server a m q (Outcome.Sent id (length targets)) ∷ [])
+    (asked a q state)
 
 -- a request that was let through goes to its targets; without a user 404, without a live binding 480 (RFC 3261 16.5)
 abbrev pub sending : Server → Arrival → Message → Question → ℕ → Targets → ProxyState → Effect
@@ -240,7 +254,12 @@ ack_packet server a m address =
 
 -- an ACK of a dialog goes to the address that the dialog holds, and renews the dialog
 abbrev pub ack_sent : Server → Arrival → Message → Addr → DialogId → ProxyState → Effect
-ack_sent server a m address id state = record { originals = ack_packet server a m address ∷ []; again = []; records = []; state = renewing server a m id state }
+ack_sent server a m address id state = record {
+  originals = ack_packet server a m address ∷ [];
+  again = [];
+  records = [];
+  state = renewing server a m id state;
+}
 
 -- ---- copies and CANCEL
 
@@ -251,12 +270,18 @@ copied a m r state =
       originals = [];
       again = if bytes_eq (method_of m.start) (codes "ACK") then [] else answers_again r r.answer;
       records = [];
-      state = if bytes_eq (method_of m.start) (codes "ACK") then record state { requests = replaced (acknowledged a.now r) state.requests } else state;
+      state = if bytes_eq (method_of m.start) (codes "ACK") then record state { requests = replaced (acknowledged a.now r) state.requests }
+          else state;
     }
 
 -- one effect behind another: what the second sends goes behind what the first does
 abbrev pub behind : Effect → Effect → Effect
-behind first second = record { originals = first.originals ++ second.originals; again = first.again ++ second.again; records = first.records ++ second.records; state = second.state }
+behind first second = record {
+  originals = first.originals ++ second.originals;
+  again = first.again ++ second.again;
+  records = first.records ++ second.records;
+  state = second.state;
+}
 
 -- a CANCEL: 481 without the request that it names; else 200, and that request is cancelled (RFC 3261 9.2, 16.10)
 abbrev pub cancelling : Server → Arrival → Message → Option OpenRequest → ProxyState → Effect
@@ -274,7 +299,8 @@ counted a state = record state { moment = a.now; next = a.number + 1 }
 -- what a verdict on a message does
 abbrev pub effect_of : Server → Arrival → Message → Verdict → ProxyState → Effect
 effect_of server a m Drop state = nothing state
-effect_of server a m (Respond r b status) state = record (changed server a.now state (responded server a.now r b status m)) { again = acked_again server r b status }
+effect_of server a m (Respond r b status) state = record (changed server a.now state (responded server a.now r b status m))
+    { again = acked_again server r b status }
 effect_of server a m (Copy r) state = copied a m r state
 effect_of server a m (AckOn address id) state = ack_sent server a m address id state
 effect_of server a m (Cancel found) state = cancelling server a m found state

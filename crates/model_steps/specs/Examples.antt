@@ -47,7 +47,12 @@ whole_effect state a m = effect_of sample a m (message_verdict sample state a m 
 
 -- a packet of the request that a datagram brought
 abbrev pub packet_of : ℕ → ℕ → ℕ → List ℕ → Packet
-packet_of port number branch text = record { to = Places.local port; bytes = text; ticket = record { datagram = number; branch = branch }; again = false }
+packet_of port number branch text = record {
+  to = Places.local port;
+  bytes = text;
+  ticket = record { datagram = number; branch = branch };
+  again = false;
+}
 
 -- ---- a REGISTER without credentials
 
@@ -136,7 +141,8 @@ has_deadline due (Some deadline) = deadline == due
 abbrev pub passing_in : ProxyState → ℕ → List OpenRequest → Effect
 passing_in state due [] = nothing state
 passing_in state due (r ∷ rs) =
-    option_map_or (λ b. changed sample due state (overdue sample due r b)) (find (λ (b : Branch). has_deadline due (phase_deadline b.phase)) r.branches)
+    option_map_or (λ b. changed sample due state (overdue sample due r b))
+    (find (λ (b : Branch). has_deadline due (phase_deadline b.phase)) r.branches)
     (changed sample due state (side_overdue sample due r))
 
 -- the first open request's deadline at a moment passes
@@ -229,7 +235,8 @@ register_effect = registering_by (mufasas (codes "REGISTER") (codes "sip:host.co
 -- the same REGISTER once more, after the transactions have ended
 abbrev pub stale_effect : Effect
 stale_effect =
-    whole_effect (record register_effect.state { requests = []; next = 4 }) (arriving_at 4 40000 5062) (authorized (mufasas (codes "REGISTER") (codes "sip:host.com")))
+    whole_effect (record register_effect.state { requests = []; next = 4 }) (arriving_at 4 40000 5062)
+    (authorized (mufasas (codes "REGISTER") (codes "sip:host.com")))
 
 -- ---- calls of proven users
 

@@ -9,12 +9,14 @@ use Rattle.sip_message_form.specs.Text.{text_of}
 use Rattle.sip_digest.specs.declared.nonces.Nonce.{Nonce}
 use Rattle.sip_location.specs.declared.binding.Binding.{Binding}
 use Rattle.model_steps.specs.Effect.{Effect, datagram_effect}
-use Rattle.model_steps.specs.Examples.{sample, arriving_at, whole_effect, challenge_effect, registering_by, authorized, mufasas, alices, binding_until}
+use Rattle.model_steps.specs.Examples.{sample, arriving_at, whole_effect, challenge_effect, registering_by, authorized, mufasas, alices}
+use Rattle.model_steps.specs.Examples.{binding_until}
 
 -- Mufasa's REGISTER with his credential, where these bindings are known
 abbrev pub registered_beside : List Binding → Effect
 registered_beside rows =
-    whole_effect (record challenge_effect.state { bindings = rows }) (arriving_at 2 2000 5062) (authorized (mufasas (codes "REGISTER") (codes "sip:host.com")))
+    whole_effect (record challenge_effect.state { bindings = rows }) (arriving_at 2 2000 5062)
+    (authorized (mufasas (codes "REGISTER") (codes "sip:host.com")))
 
 -- two bindings of help's: one that lives, and one that has expired
 abbrev pub others : List Binding
@@ -37,6 +39,10 @@ brief_register =
 -- it comes after the first challenge, as a datagram
 abbrev pub brief_effect : Effect
 brief_effect = datagram_effect sample challenge_effect.state (arriving_at 2 2000 5062) (text_of brief_register)
+
+-- the same message where these bindings are known
+abbrev pub brief_beside : List Binding → Effect
+brief_beside rows = whole_effect (record challenge_effect.state { bindings = rows }) (arriving_at 2 2000 5062) brief_register
 
 -- the answer: a 423 that says the shortest interval (RFC 3261 8.2.6, 10.3 step 7, 20.23, 21.4.17)
 abbrev pub brief_text : List ℕ
@@ -62,7 +68,13 @@ mufasa = record { user = codes "Mufasa"; host = codes "host.com" }
 
 -- a binding of Mufasa's at a port, until a moment
 abbrev pub mufasa_at : List ℕ → ℕ → Binding
-mufasa_at port expires_at = record { aor = mufasa; uri = at_port (user_at (codes "Mufasa") (codes "127.0.0.1")) port; call_id = codes "c9"; cseq = 1; expires_at = expires_at }
+mufasa_at port expires_at = record {
+  aor = mufasa;
+  uri = at_port (user_at (codes "Mufasa") (codes "127.0.0.1")) port;
+  call_id = codes "c9";
+  cseq = 1;
+  expires_at = expires_at;
+}
 
 -- two users' bindings: one of Mufasa's that has expired, one of help's, and one of Mufasa's that has 1,800 seconds left but for a part of one
 abbrev pub known_before : List Binding

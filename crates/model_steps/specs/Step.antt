@@ -28,7 +28,8 @@ originals packets = filter (λ (p : Packet). not p.again) packets
 abbrev pub retransmissions : List Packet → List Packet
 retransmissions packets = filter (λ (p : Packet). p.again) packets
 
--- A step at a moment does what an effect says: its originals, in their order, are those of the effect, and so are what goes again and its records; the state after it is the same as the
+-- A step at a moment does what an effect says: its originals, in their order, are those of the effect, and so are what goes again
+-- and its records; the state after it is the same as the
 -- effect's.
 pub record Does (server : Server) (old : ProxyState) (at : ℕ) (effect : Effect) (out : StepOut) (new : ProxyState) : Type 0 where
   pub at_moment : out.at ≡ at
@@ -66,7 +67,8 @@ abbrev pub arrival_of : ProxyState → ℕ → ℕ → Addr → Arrival
 arrival_of state at word from = record { number = state.next; now = moment_of state at; word = word; from = from }
 
 -- a datagram comes, once all deadlines by then have passed, and all that was to go again by then went
-pub record IsDelivery (server : Server) (old : ProxyState) (at word : ℕ) (from : Addr) (bytes : List ℕ) (out : StepOut) (new : ProxyState) : Type 0 where
+pub record IsDelivery (server : Server) (old : ProxyState) (at word : ℕ) (from : Addr) (bytes : List ℕ) (out : StepOut) (new : ProxyState) :
+    Type 0 where
   pub none_due : NoneBy (moment_of old at) old.requests
   pub none_again : NoneAgainBy (moment_of old at) old.requests
   pub does : Does server old (moment_of old at) (datagram_effect server old (arrival_of old at word from) bytes) out new
@@ -97,7 +99,13 @@ pub record IsDeadline (server : Server) (old : ProxyState) (at : ℕ) (out : Ste
 
 -- what goes again at a moment: those packets, and nothing for the first time
 abbrev pub resent : ℕ → ProxyState → List Packet → OpenRequest → Effect
-resent now state packets next = record { originals = []; again = packets; records = []; state = record state { moment = now; requests = replaced next state.requests } }
+resent now state packets next = record {
+  originals = [];
+  again = packets;
+  records = [];
+  state = record state
+      { moment = now; requests = replaced next state.requests };
+}
 
 -- something goes again, at its own moment; which of several tied ones, deadlines among them, comes first is left open
 pub record IsResend (server : Server) (old : ProxyState) (at : ℕ) (out : StepOut) (new : ProxyState) : Type 0 where

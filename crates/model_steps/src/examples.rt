@@ -48,18 +48,35 @@ pub fn no_answer()
 /// The one binding rings at 63,000 and does nothing more: at 248,000 it is sent a CANCEL of 235 bytes, and
 /// at 280,000 it counts as 487, which goes to the caller in 245 bytes.
 pub fn timer_c()
-    ensures rings { Examples.first_lines (Examples.hearing (Examples.calling (codes "5082" ∷ [])).state 63000 (Examples.ringing_from 1)) ≡ codes "SIP/2.0 180 Ringing" ∷ [] }
-    ensures cancelled { Examples.seen (Examples.passing (Examples.hearing (Examples.calling (codes "5082" ∷ [])).state 63000 (Examples.ringing_from 1)).state 248000) ≡ (5082, 0, 235) ∷ [] }
-    ensures given_up { Examples.seen (Examples.passing (Examples.passing (Examples.hearing (Examples.calling (codes "5082" ∷ [])).state 63000 (Examples.ringing_from 1)).state 248000).state 280000) ≡ (5070, 0, 245) ∷ [] }
+    ensures rings { Examples.first_lines (Examples.hearing (Examples.calling (codes "5082" ∷ [])).state 63000 (Examples.ringing_from 1))
+        ≡ codes "SIP/2.0 180 Ringing" ∷ [] }
+    ensures cancelled { Examples.seen
+        (Examples.passing (Examples.hearing (Examples.calling (codes "5082" ∷ [])).state 63000 (Examples.ringing_from 1)).state 248000)
+        ≡ (5082, 0, 235) ∷ [] }
+    ensures given_up { Examples.seen
+        (Examples.passing (Examples.passing (Examples.hearing (Examples.calling (codes "5082" ∷ [])).state 63000
+        (Examples.ringing_from 1)).state 248000).state 280000) ≡ (5070, 0, 245) ∷ [] }
 {}
 
 /// Three bindings. The first is busy and the second declines: each gets an ACK, and nobody a CANCEL, since
 /// nothing was heard of the third. When that rings, it gets its CANCEL; when it ends, the 603 goes up.
 pub fn decline_wins()
-    ensures busy { Examples.first_lines (Examples.hearing (Examples.calling (codes "5082" ∷ codes "5083" ∷ codes "5084" ∷ [])).state 63000 (Examples.answer_with 1 486 (codes "Busy Here") [])) ≡ codes "ACK sip:help@127.0.0.1:5082 SIP/2.0" ∷ [] }
-    ensures declines { Examples.first_lines (Examples.hearing (Examples.hearing (Examples.calling (codes "5082" ∷ codes "5083" ∷ codes "5084" ∷ [])).state 63000 (Examples.answer_with 1 486 (codes "Busy Here") [])).state 63100 (Examples.answer_with 2 603 (codes "Decline") [])) ≡ codes "ACK sip:help@127.0.0.1:5083 SIP/2.0" ∷ [] }
-    ensures rings { Examples.first_lines (Examples.hearing (Examples.hearing (Examples.hearing (Examples.calling (codes "5082" ∷ codes "5083" ∷ codes "5084" ∷ [])).state 63000 (Examples.answer_with 1 486 (codes "Busy Here") [])).state 63100 (Examples.answer_with 2 603 (codes "Decline") [])).state 63200 (Examples.ringing_from 3)) ≡ codes "SIP/2.0 180 Ringing" ∷ codes "CANCEL sip:help@127.0.0.1:5084 SIP/2.0" ∷ [] }
-    ensures ends { Examples.first_lines (Examples.hearing (Examples.hearing (Examples.hearing (Examples.hearing (Examples.calling (codes "5082" ∷ codes "5083" ∷ codes "5084" ∷ [])).state 63000 (Examples.answer_with 1 486 (codes "Busy Here") [])).state 63100 (Examples.answer_with 2 603 (codes "Decline") [])).state 63200 (Examples.ringing_from 3)).state 63300 (Examples.answer_with 3 487 (codes "Request Terminated") [])) ≡ codes "ACK sip:help@127.0.0.1:5084 SIP/2.0" ∷ codes "SIP/2.0 603 Decline" ∷ [] }
+    ensures busy { Examples.first_lines (Examples.hearing (Examples.calling (codes "5082" ∷ codes "5083" ∷ codes "5084" ∷ [])).state 63000
+        (Examples.answer_with 1 486 (codes "Busy Here") [])) ≡ codes "ACK sip:help@127.0.0.1:5082 SIP/2.0" ∷ [] }
+    ensures declines { Examples.first_lines (Examples.hearing
+        (Examples.hearing (Examples.calling (codes "5082" ∷ codes "5083" ∷ codes "5084" ∷ [])).state 63000
+        (Examples.answer_with 1 486 (codes "Busy Here") [])).state 63100 (Examples.answer_with 2 603 (codes "Decline") []))
+        ≡ codes "ACK sip:help@127.0.0.1:5083 SIP/2.0" ∷ [] }
+    ensures rings { Examples.first_lines
+        (Examples.hearing (Examples.hearing (Examples.hearing (Examples.calling (codes "5082" ∷ codes "5083" ∷ codes "5084" ∷ [])).state
+        63000 (Examples.answer_with 1 486 (codes "Busy Here") [])).state 63100 (Examples.answer_with 2 603 (codes "Decline") [])).state
+        63200 (Examples.ringing_from 3)) ≡ codes "SIP/2.0 180 Ringing" ∷ codes "CANCEL sip:help@127.0.0.1:5084 SIP/2.0" ∷ [] }
+    ensures ends { Examples.first_lines
+        (Examples.hearing (Examples.hearing (Examples.hearing
+        (Examples.hearing (Examples.calling (codes "5082" ∷ codes "5083" ∷ codes "5084" ∷ [])).state 63000
+        (Examples.answer_with 1 486 (codes "Busy Here") [])).state 63100 (Examples.answer_with 2 603 (codes "Decline") [])).state 63200
+        (Examples.ringing_from 3)).state 63300 (Examples.answer_with 3 487 (codes "Request Terminated") []))
+        ≡ codes "ACK sip:help@127.0.0.1:5084 SIP/2.0" ∷ codes "SIP/2.0 603 Decline" ∷ [] }
 {}
 
 /// A copied INVITE gets its denial again, or its 100, and nothing for the first time, and changes nothing; an
@@ -69,44 +86,72 @@ pub fn goes_again()
     ensures copied { Examples.lines_again (Examples.asking Examples.vault_effect.state 1700 Examples.to_vault) ≡ codes "SIP/2.0 403 Forbidden" ∷ [] }
     ensures no_original { (Examples.asking Examples.vault_effect.state 1700 Examples.to_vault).originals ≡ [] }
     ensures unchanged { (Examples.asking Examples.vault_effect.state 1700 Examples.to_vault).state.requests ≡ Examples.vault_effect.state.requests }
-    ensures tried { Examples.lines_again (Examples.asking (Examples.calling (codes "5082" ∷ [])).state 62100 Onward.invite) ≡ codes "SIP/2.0 100 Trying" ∷ [] }
+    ensures tried { Examples.lines_again (Examples.asking (Examples.calling (codes "5082" ∷ [])).state 62100 Onward.invite)
+        ≡ codes "SIP/2.0 100 Trying" ∷ [] }
     ensures acknowledged { Examples.lines_again (Examples.asking Examples.vault_effect.state 1700 Examples.vault_ack) ≡ [] }
-    ensures then_copied { Examples.lines_again (Examples.asking (Examples.asking Examples.vault_effect.state 1700 Examples.vault_ack).state 1800 Examples.to_vault) ≡ [] }
+    ensures then_copied { Examples.lines_again (Examples.asking (Examples.asking Examples.vault_effect.state 1700 Examples.vault_ack).state
+        1800 Examples.to_vault) ≡ [] }
     ensures accepted { Examples.lines_again (Examples.asking Examples.in_call 63500 Onward.invite) ≡ [] }
-    ensures busy { Examples.lines_again (Examples.hearing (Examples.hearing (Examples.calling (codes "5082" ∷ codes "5083" ∷ [])).state 63000 (Examples.answer_with 1 486 (codes "Busy Here") [])).state 63500 (Examples.answer_with 1 603 (codes "Decline") [])) ≡ codes "ACK sip:help@127.0.0.1:5082 SIP/2.0" ∷ [] }
-    ensures success_again { Examples.lines_again (Examples.hearing (Examples.hearing (Examples.calling (codes "5082" ∷ codes "5083" ∷ [])).state 63000 (Examples.answer_with 1 486 (codes "Busy Here") [])).state 63500 (Examples.accepted_from 1)) ≡ [] }
+    ensures busy { Examples.lines_again
+        (Examples.hearing (Examples.hearing (Examples.calling (codes "5082" ∷ codes "5083" ∷ [])).state 63000
+        (Examples.answer_with 1 486 (codes "Busy Here") [])).state 63500 (Examples.answer_with 1 603 (codes "Decline") []))
+        ≡ codes "ACK sip:help@127.0.0.1:5082 SIP/2.0" ∷ [] }
+    ensures success_again { Examples.lines_again
+        (Examples.hearing (Examples.hearing (Examples.calling (codes "5082" ∷ codes "5083" ∷ [])).state 63000
+        (Examples.answer_with 1 486 (codes "Busy Here") [])).state 63500 (Examples.accepted_from 1)) ≡ [] }
     ensures after_success { Examples.lines_again (Examples.hearing Examples.in_call 63500 (Examples.answer_with 1 486 (codes "Busy Here") [])) ≡ [] }
 {}
 
 /// Two bindings ring and both answer: the first 200 goes up and the other binding gets a CANCEL; the second
 /// 200 goes up, too.
 pub fn two_answers()
-    ensures first { Examples.first_lines (Examples.hearing (Examples.hearing (Examples.hearing (Examples.calling (codes "5082" ∷ codes "5083" ∷ [])).state 63000 (Examples.ringing_from 1)).state 63100 (Examples.ringing_from 2)).state 63200 (Examples.accepted_from 1)) ≡ codes "SIP/2.0 200 OK" ∷ codes "CANCEL sip:help@127.0.0.1:5083 SIP/2.0" ∷ [] }
-    ensures second { Examples.first_lines (Examples.hearing (Examples.hearing (Examples.hearing (Examples.hearing (Examples.calling (codes "5082" ∷ codes "5083" ∷ [])).state 63000 (Examples.ringing_from 1)).state 63100 (Examples.ringing_from 2)).state 63200 (Examples.accepted_from 1)).state 63300 (Examples.accepted_from 2)) ≡ codes "SIP/2.0 200 OK" ∷ [] }
-    ensures dialog { length (Examples.hearing (Examples.hearing (Examples.hearing (Examples.hearing (Examples.calling (codes "5082" ∷ codes "5083" ∷ [])).state 63000 (Examples.ringing_from 1)).state 63100 (Examples.ringing_from 2)).state 63200 (Examples.accepted_from 1)).state 63300 (Examples.accepted_from 2)).state.dialogs ≡ 1 }
+    ensures first { Examples.first_lines
+        (Examples.hearing (Examples.hearing (Examples.hearing (Examples.calling (codes "5082" ∷ codes "5083" ∷ [])).state 63000
+        (Examples.ringing_from 1)).state 63100 (Examples.ringing_from 2)).state 63200 (Examples.accepted_from 1)) ≡ codes "SIP/2.0 200 OK"
+        ∷ codes "CANCEL sip:help@127.0.0.1:5083 SIP/2.0" ∷ [] }
+    ensures second { Examples.first_lines
+        (Examples.hearing (Examples.hearing (Examples.hearing
+        (Examples.hearing (Examples.calling (codes "5082" ∷ codes "5083" ∷ [])).state 63000 (Examples.ringing_from 1)).state 63100
+        (Examples.ringing_from 2)).state 63200 (Examples.accepted_from 1)).state 63300 (Examples.accepted_from 2)) ≡ codes "SIP/2.0 200 OK" ∷ [] }
+    ensures dialog { length
+        (Examples.hearing (Examples.hearing (Examples.hearing
+        (Examples.hearing (Examples.calling (codes "5082" ∷ codes "5083" ∷ [])).state 63000 (Examples.ringing_from 1)).state 63100
+        (Examples.ringing_from 2)).state 63200 (Examples.accepted_from 1)).state 63300 (Examples.accepted_from 2)).state.dialogs ≡ 1 }
 {}
 
 /// The caller cancels before any answer: 200, and nobody gets a CANCEL until the binding rings. From
 /// another IP address the CANCEL names nothing: 481.
 pub fn cancel()
-    ensures answered { Examples.first_lines (Examples.cancelled_call (Examples.calling (codes "5082" ∷ [])).state (Places.local 5070)) ≡ codes "SIP/2.0 200 OK" ∷ [] }
-    ensures rings { Examples.first_lines (Examples.hearing (Examples.cancelled_call (Examples.calling (codes "5082" ∷ [])).state (Places.local 5070)).state 63000 (Examples.ringing_from 1)) ≡ codes "SIP/2.0 180 Ringing" ∷ codes "CANCEL sip:help@127.0.0.1:5082 SIP/2.0" ∷ [] }
-    ensures from_elsewhere { Examples.first_lines (Examples.cancelled_call (Examples.calling (codes "5082" ∷ [])).state (record (Places.local 5070) { ip = 127 ∷ 0 ∷ 0 ∷ 2 ∷ [] })) ≡ codes "SIP/2.0 481 Call/Transaction Does Not Exist" ∷ [] }
+    ensures answered { Examples.first_lines (Examples.cancelled_call (Examples.calling (codes "5082" ∷ [])).state (Places.local 5070))
+        ≡ codes "SIP/2.0 200 OK" ∷ [] }
+    ensures rings { Examples.first_lines
+        (Examples.hearing (Examples.cancelled_call (Examples.calling (codes "5082" ∷ [])).state (Places.local 5070)).state 63000
+        (Examples.ringing_from 1)) ≡ codes "SIP/2.0 180 Ringing" ∷ codes "CANCEL sip:help@127.0.0.1:5082 SIP/2.0" ∷ [] }
+    ensures from_elsewhere { Examples.first_lines (Examples.cancelled_call (Examples.calling (codes "5082" ∷ [])).state
+        (record (Places.local 5070) { ip = 127 ∷ 0 ∷ 0 ∷ 2 ∷ [] })) ≡ codes "SIP/2.0 481 Call/Transaction Does Not Exist" ∷ [] }
 {}
 
 /// Two bindings. The first can not be sent to, then the second answers 404, which goes up. Where neither can
 /// be sent to, a 500 goes up. After the first rang, a fault changes nothing.
 pub fn send_faults()
     ensures one { Examples.first_lines (Examples.failing (Examples.calling (codes "5082" ∷ codes "5083" ∷ [])).state 1) ≡ [] }
-    ensures then { Examples.first_lines (Examples.hearing (Examples.failing (Examples.calling (codes "5082" ∷ codes "5083" ∷ [])).state 1).state 63000 (Examples.answer_with 2 404 (codes "Not Found") [])) ≡ codes "ACK sip:help@127.0.0.1:5083 SIP/2.0" ∷ codes "SIP/2.0 404 Not Found" ∷ [] }
-    ensures both { Examples.first_lines (Examples.failing (Examples.failing (Examples.calling (codes "5082" ∷ codes "5083" ∷ [])).state 1).state 2) ≡ codes "SIP/2.0 500 Server Internal Error" ∷ [] }
-    ensures late { Examples.first_lines (Examples.failing (Examples.hearing (Examples.calling (codes "5082" ∷ codes "5083" ∷ [])).state 63000 (Examples.ringing_from 1)).state 1) ≡ [] }
+    ensures then { Examples.first_lines
+        (Examples.hearing (Examples.failing (Examples.calling (codes "5082" ∷ codes "5083" ∷ [])).state 1).state 63000
+        (Examples.answer_with 2 404 (codes "Not Found") [])) ≡ codes "ACK sip:help@127.0.0.1:5083 SIP/2.0" ∷ codes "SIP/2.0 404 Not Found" ∷ [] }
+    ensures both { Examples.first_lines
+        (Examples.failing (Examples.failing (Examples.calling (codes "5082" ∷ codes "5083" ∷ [])).state 1).state 2)
+        ≡ codes "SIP/2.0 500 Server Internal Error" ∷ [] }
+    ensures late { Examples.first_lines
+        (Examples.failing (Examples.hearing (Examples.calling (codes "5082" ∷ codes "5083" ∷ [])).state 63000
+        (Examples.ringing_from 1)).state 1) ≡ [] }
 {}
 
 /// The same REGISTER with a right credential of another user matches no rule: 403 by rule 0.
 pub fn third_party_register()
-    ensures answer { Examples.first_lines (Examples.registering_by (Examples.alices (codes "REGISTER") (codes "sip:host.com"))) ≡ codes "SIP/2.0 403 Forbidden" ∷ [] }
-    ensures audit { map line_of (Examples.registering_by (Examples.alices (codes "REGISTER") (codes "sip:host.com"))).records ≡ codes "2000 2 REGISTER alice Mufasa@host.com register 0 deny" ∷ [] }
+    ensures answer { Examples.first_lines (Examples.registering_by (Examples.alices (codes "REGISTER") (codes "sip:host.com")))
+        ≡ codes "SIP/2.0 403 Forbidden" ∷ [] }
+    ensures audit { map line_of (Examples.registering_by (Examples.alices (codes "REGISTER") (codes "sip:host.com"))).records
+        ≡ codes "2000 2 REGISTER alice Mufasa@host.com register 0 deny" ∷ [] }
     ensures unbound { (Examples.registering_by (Examples.alices (codes "REGISTER") (codes "sip:host.com"))).state.bindings ≡ [] }
 {}
 
@@ -121,21 +166,31 @@ pub fn stale_challenge()
 /// Mufasa calls 911: one INVITE, with that Request-URI, to the gateway at port 5090 by rule 5. alice is not of
 /// the staff: rule 6 lets her through, and there is no such user: 404. Mufasa has no live binding: 480.
 pub fn calls_of_proven_users()
-    ensures gateway { Examples.first_lines (Examples.calling_by Examples.to_911 (Examples.mufasas (codes "INVITE") Examples.to_911)) ≡ codes "SIP/2.0 100 Trying" ∷ codes "INVITE sip:911@host.com SIP/2.0" ∷ [] }
-    ensures port { map (λ p. p.to) (Examples.calling_by Examples.to_911 (Examples.mufasas (codes "INVITE") Examples.to_911)).originals ≡ Places.local 5070 ∷ Places.local 5090 ∷ [] }
-    ensures audit { map line_of (Examples.calling_by Examples.to_911 (Examples.mufasas (codes "INVITE") Examples.to_911)).records ≡ codes "2000 2 INVITE Mufasa 911@host.com send 5 sent 1" ∷ [] }
-    ensures no_user { map line_of (Examples.calling_by Examples.to_911 (Examples.alices (codes "INVITE") Examples.to_911)).records ≡ codes "2000 2 INVITE alice 911@host.com send 6 answer 404" ∷ [] }
-    ensures no_binding { map line_of (Examples.calling_by (codes "sip:Mufasa@host.com") (Examples.alices (codes "INVITE") (codes "sip:Mufasa@host.com"))).records ≡ codes "2000 2 INVITE alice Mufasa@host.com send 6 answer 480" ∷ [] }
+    ensures gateway { Examples.first_lines (Examples.calling_by Examples.to_911 (Examples.mufasas (codes "INVITE") Examples.to_911))
+        ≡ codes "SIP/2.0 100 Trying" ∷ codes "INVITE sip:911@host.com SIP/2.0" ∷ [] }
+    ensures port { map (λ p. p.to) (Examples.calling_by Examples.to_911 (Examples.mufasas (codes "INVITE") Examples.to_911)).originals
+        ≡ Places.local 5070 ∷ Places.local 5090 ∷ [] }
+    ensures audit { map line_of (Examples.calling_by Examples.to_911 (Examples.mufasas (codes "INVITE") Examples.to_911)).records
+        ≡ codes "2000 2 INVITE Mufasa 911@host.com send 5 sent 1" ∷ [] }
+    ensures no_user { map line_of (Examples.calling_by Examples.to_911 (Examples.alices (codes "INVITE") Examples.to_911)).records
+        ≡ codes "2000 2 INVITE alice 911@host.com send 6 answer 404" ∷ [] }
+    ensures no_binding { map line_of (Examples.calling_by (codes "sip:Mufasa@host.com")
+        (Examples.alices (codes "INVITE") (codes "sip:Mufasa@host.com"))).records
+        ≡ codes "2000 2 INVITE alice Mufasa@host.com send 6 answer 480" ∷ [] }
 {}
 
 /// In the call a BYE with another To tag gets 481, and so does one to an address that the dialog does not
 /// hold. One with this server in Route goes to the address that it holds, without that Route. After its 200
 /// the dialog is over.
 pub fn dialog_targets()
-    ensures other_tag { Examples.first_lines (Examples.asking Examples.in_call 64000 (Examples.bye Examples.help_text (codes "t9") [])) ≡ codes "SIP/2.0 481 Call/Transaction Does Not Exist" ∷ [] }
-    ensures other_address { Examples.first_lines (Examples.asking Examples.in_call 64000 (Examples.bye (codes "sip:help@127.0.0.1:9") (codes "t1") [])) ≡ codes "SIP/2.0 481 Call/Transaction Does Not Exist" ∷ [] }
-    ensures forwarded { Examples.first_lines (Examples.asking Examples.in_call 64000 (Examples.bye Examples.help_text (codes "t1") (Examples.own_route ∷ []))) ≡ codes "BYE sip:help@127.0.0.1:5082 SIP/2.0" ∷ [] }
-    ensures ended { (Examples.hearing (Examples.asking Examples.in_call 64000 (Examples.bye Examples.help_text (codes "t1") (Examples.own_route ∷ []))).state 64100 Examples.bye_accepted).state.dialogs ≡ [] }
+    ensures other_tag { Examples.first_lines (Examples.asking Examples.in_call 64000 (Examples.bye Examples.help_text (codes "t9") []))
+        ≡ codes "SIP/2.0 481 Call/Transaction Does Not Exist" ∷ [] }
+    ensures other_address { Examples.first_lines (Examples.asking Examples.in_call 64000 (Examples.bye (codes "sip:help@127.0.0.1:9") (codes "t1") []))
+        ≡ codes "SIP/2.0 481 Call/Transaction Does Not Exist" ∷ [] }
+    ensures forwarded { Examples.first_lines (Examples.asking Examples.in_call 64000
+        (Examples.bye Examples.help_text (codes "t1") (Examples.own_route ∷ []))) ≡ codes "BYE sip:help@127.0.0.1:5082 SIP/2.0" ∷ [] }
+    ensures ended { (Examples.hearing (Examples.asking Examples.in_call 64000
+        (Examples.bye Examples.help_text (codes "t1") (Examples.own_route ∷ []))).state 64100 Examples.bye_accepted).state.dialogs ≡ [] }
 {}
 
 /// The ACK of the 200 goes to the binding in 320 bytes, without a transaction. To an address that the dialog
@@ -145,8 +200,17 @@ pub fn ack_in_dialog()
     ensures dropped { Examples.seen (Examples.asking Examples.in_call 63500 (Examples.acknowledging (codes "sip:help@127.0.0.1:9"))) ≡ [] }
 {}
 
+/// A BYE in the call to an address that the dialog does not hold is answered 481, and doesn't renew the dialog, which is known
+/// since the INVITE came.
+pub fn refused_requests_teach_nothing()
+    ensures { map (λ d. d.since) (Examples.asking Examples.in_call 64000
+        (Examples.bye (codes "sip:help@127.0.0.1:9") (codes "t1") [])).state.dialogs ≡ 62000 ∷ [] }
+{}
+
 /// Without any request in it, the dialog is known for less than twelve hours after the INVITE came.
 pub fn dialog_lifetime()
-    ensures last { Examples.first_lines (Examples.asking Examples.in_call 43261999 (Examples.bye Examples.help_text (codes "t1") [])) ≡ codes "BYE sip:help@127.0.0.1:5082 SIP/2.0" ∷ [] }
-    ensures over { Examples.first_lines (Examples.asking Examples.in_call 43262000 (Examples.bye Examples.help_text (codes "t1") [])) ≡ codes "SIP/2.0 481 Call/Transaction Does Not Exist" ∷ [] }
+    ensures last { Examples.first_lines (Examples.asking Examples.in_call 43261999 (Examples.bye Examples.help_text (codes "t1") []))
+        ≡ codes "BYE sip:help@127.0.0.1:5082 SIP/2.0" ∷ [] }
+    ensures over { Examples.first_lines (Examples.asking Examples.in_call 43262000 (Examples.bye Examples.help_text (codes "t1") []))
+        ≡ codes "SIP/2.0 481 Call/Transaction Does Not Exist" ∷ [] }
 {}

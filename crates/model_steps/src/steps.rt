@@ -14,8 +14,10 @@ ghost use Rattle.model_steps.specs.Step.{IsQuiet, IsResend, IsTime, moment_of, o
 /// A step in which something goes again sends nothing for the first time, records nothing, and leaves all that a proxy
 /// knows but that request and the moment.
 pub fn what_goes_again_is_no_first()
-    ensures firsts { (server : Server) (old : ProxyState) (at : ℕ) (out : StepOut) (new : ProxyState) → IsResend server old at out new → originals out.packets ≡ [] }
-    ensures records { (server : Server) (old : ProxyState) (at : ℕ) (out : StepOut) (new : ProxyState) → IsResend server old at out new → out.records ≡ [] }
+    ensures firsts { (server : Server) (old : ProxyState) (at : ℕ) (out : StepOut) (new : ProxyState) → IsResend server old at out new
+        → originals out.packets ≡ [] }
+    ensures records { (server : Server) (old : ProxyState) (at : ℕ) (out : StepOut) (new : ProxyState) → IsResend server old at out new
+        → out.records ≡ [] }
     ensures state { (server : Server) (old : ProxyState) (at : ℕ) (out : StepOut) (new : ProxyState) (resend : IsResend server old at out new)
         → SameState new (record old { moment = out.at; requests = replaced resend.next old.requests }) }
 {}
@@ -26,10 +28,12 @@ pub fn time_passes_over_nothing()
     ensures quiet { (server : Server) (old : ProxyState) (at : ℕ) (out : StepOut) (new : ProxyState) → IsQuiet server old at out new
         → AllByRecursion (λ due. out.at ≤ due) (deadlines old.requests) × AllByRecursion (λ due. out.at ≤ due) (resends old.requests) }
     ensures time { (server : Server) (old : ProxyState) (at : ℕ) (out : StepOut) (new : ProxyState) → IsTime server old at out new
-        → AllByRecursion (λ due. moment_of old at < due) (deadlines old.requests) × AllByRecursion (λ due. moment_of old at < due) (resends old.requests) }
+        → AllByRecursion (λ due. moment_of old at < due) (deadlines old.requests)
+        × AllByRecursion (λ due. moment_of old at < due) (resends old.requests) }
 {}
 
 /// A response goes up to the caller, wherever it came from.
 pub fn responses_go_to_the_caller()
-    ensures { map (λ (p : Packet). p.to.port) (Examples.hearing (Examples.calling (codes "5082" ∷ [])).state 63000 (Examples.answer_with 1 200 (codes "OK") [])).originals ≡ 5070 ∷ [] }
+    ensures { map (λ (p : Packet). p.to.port) (Examples.hearing (Examples.calling (codes "5082" ∷ [])).state 63000
+        (Examples.answer_with 1 200 (codes "OK") [])).originals ≡ 5070 ∷ [] }
 {}

@@ -19,6 +19,7 @@ use Rattle.sip_auth.specs.Proof.{Wrong}
 use Rattle.sip_auth.specs.Examples.{credential, used_often}
 use Rattle.sip_dialog.specs.declared.dialog.Dialog.{Dialog}
 use Rattle.sip_dialog.specs.Examples as Dialogs
+use Rattle.sip_targets.specs.Examples.{help_contact}
 use Rattle.model_context.specs.state.declared.server.Server.{Server}
 use Rattle.model_context.specs.state.declared.branch.Branch.{Branch}
 use Rattle.model_context.specs.state.declared.branch.Phase.TheVariants.{Unheard, Cancelled}
@@ -39,7 +40,13 @@ knowing requests dialogs = record (first_state 5) { requests = requests; dialogs
 
 -- the dialog of a call from port 5070 to port 5082, which holds addresses
 abbrev pub call_holding : List Addr → Dialog
-call_holding addresses = record { id = Dialogs.call_of (codes "f1") (codes "t1"); number = 4; has_success = true; since = 62000; addresses = addresses }
+call_holding addresses = record {
+  id = Dialogs.call_of (codes "f1") (codes "t1");
+  number = 4;
+  has_success = true;
+  since = 62000;
+  addresses = addresses;
+}
 
 -- the dialog that holds these two
 abbrev pub call : Dialog
@@ -82,6 +89,11 @@ in_invite = knowing (Calls.one_target ∷ []) []
 
 abbrev pub in_call : ProxyState
 in_call = knowing [] (call ∷ [])
+
+-- it knows one binding of help's, until a moment
+abbrev pub bound_until : ℕ → ProxyState
+bound_until expires_at =
+    record (knowing [] []) { bindings = record { aor = Policy.user_at (codes "help") (codes "host.com"); uri = help_contact; call_id = codes "h1"; cseq = 1; expires_at = expires_at } ∷ [] }
 
 -- ---- what comes
 
@@ -194,7 +206,8 @@ registering uri to =
 -- the verdict on it at 2,000, when the nonce of the first challenge lives
 abbrev pub registration : List ℕ → List ℕ → Verdict
 registration uri to =
-    message_verdict lenient (record (first_state 2) { nonces = used_often 0 }) (record { number = 2; now = 2000; word = 2; from = local 5062 }) (registering uri to) false
+    message_verdict lenient (record (first_state 2) { nonces = used_often 0 })
+    (record { number = 2; now = 2000; word = 2; from = local 5062 }) (registering uri to) false
 
 -- the status that it comes to
 abbrev pub registered_as : Registered → ℕ
@@ -213,4 +226,9 @@ abbrev pub unproven_register : Question
 unproven_register = record { proof = Wrong; operation = Operation.Register; target = Policy.user_at (codes "Mufasa") (codes "host.com"); minute = 1 }
 
 abbrev pub unproven_call : Question
-unproven_call = record { proof = Wrong; operation = Operation.Send (codes "INVITE"); target = Policy.user_at (codes "help") (codes "host.com"); minute = 1 }
+unproven_call = record {
+  proof = Wrong;
+  operation = Operation.Send (codes "INVITE");
+  target = Policy.user_at (codes "help") (codes "host.com");
+  minute = 1;
+}

@@ -14,7 +14,8 @@ SameRegistered now (Bound left) (Refused status extras) = ⊥
 -- Two verdicts are the same: they are equal, or both take a REGISTER by the same rule, for the same question, and it comes to the same.
 pub data SameVerdict (now : ℕ) : Verdict → Verdict → Type 0 where
   Alike : (verdict : Verdict) → SameVerdict now verdict verdict
-  AlikeRegister : (q : Question) (id : ℕ) (left right : Registered) → SameRegistered now left right → SameVerdict now (Register q id left) (Register q id right)
+  AlikeRegister : (q : Question) (id : ℕ) (left right : Registered) → SameRegistered now left right
+      → SameVerdict now (Register q id left) (Register q id right)
 
 -- Two datagrams say the same: neither says a message, or both say one, with verdicts that are the same.
 abbrev pub SameSaid : ℕ → Option (Message × Verdict) → Option (Message × Verdict) → Type 0

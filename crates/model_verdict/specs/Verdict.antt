@@ -1,5 +1,6 @@
 -- What is to be done with a datagram: the first case that applies (RFC 3261 16.3 to 16.5, 10.3, 17.1.3, 17.2.3).
-use Rattle.std.specs.Prelude.{ℕ, Bool, true, false, not, ◌&&◌, ◌||◌, ◌==◌, nat_le, is_some, if◌then◌else◌, List, [], ◌∷◌, length, find, codes, Option, Some, None, option_map, Result, Ok, Err}
+use Rattle.std.specs.Prelude.{ℕ, Bool, true, false, not, ◌&&◌, ◌||◌, ◌==◌, nat_le, is_some, if◌then◌else◌, List, [], ◌∷◌, length, find}
+use Rattle.std.specs.Prelude.{codes, Option, Some, None, option_map, Result, Ok, Err}
 use Rattle.std.specs.Option.{option_and_then}
 use Rattle.std.specs.Result.{result_ok}
 use Rattle.std.specs.Str.{bytes_eq}
@@ -61,8 +62,10 @@ pub data Registered : Type 0 where
   Bound : List Binding → Registered
   Refused : ℕ → List Field → Registered
 
--- What is to be done with a datagram: nothing; a response to a branch is taken; a request belongs to an open one; an ACK is sent on in a dialog; a CANCEL, with the request that it
--- names; an answer with a status and further fields; a request is sent on in a dialog; a challenge; a denial by a rule; a request is sent to its targets, or a REGISTER taken, by a rule.
+-- What is to be done with a datagram: nothing; a response to a branch is taken; a request belongs to an open one; an ACK is sent on
+-- in a dialog; a CANCEL, with the request that it
+-- names; an answer with a status and further fields; a request is sent on in a dialog; a challenge; a denial by a rule; a request is
+-- sent to its targets, or a REGISTER taken, by a rule.
 pub data Verdict : Type 0 where
   Drop : Verdict
   Respond : OpenRequest → Branch → ℕ → Verdict
@@ -97,10 +100,12 @@ own_branch server via = if is_own_via server.config.own via then branch_of via.p
 abbrev pub top_branch : Server → List Field → Option (List ℕ)
 top_branch server fields = option_and_then (own_branch server) (option_and_then via_of (first_value Name.Via fields))
 
--- the branch that a response is to: the one of its top Via, which is this server's, and of the method in its only CSeq (RFC 3261 16.7 step 1, 17.1.3, 20.16)
+-- the branch that a response is to: the one of its top Via, which is this server's, and of the method in its only CSeq (RFC 3261
+-- 16.7 step 1, 17.1.3, 20.16)
 abbrev pub responding : Server → List OpenRequest → List Field → Option (OpenRequest × Branch)
 responding server requests fields =
-    option_and_then (λ text. option_and_then (λ cseq. found_branch server text cseq.method requests) (result_ok (cseq_in fields))) (top_branch server fields)
+    option_and_then (λ text. option_and_then (λ cseq. found_branch server text cseq.method requests) (result_ok (cseq_in fields)))
+    (top_branch server fields)
 
 -- ---- within a dialog
 
@@ -131,11 +136,13 @@ is_full state = nat_le 1024 (length state.requests)
 -- an open request that a CANCEL may name: neither ACK nor CANCEL, with the same branch and sent-by (RFC 3261 9.2)
 abbrev pub is_cancelled_by : Key → OpenRequest → Bool
 is_cancelled_by key r =
-    bytes_eq r.key.branch key.branch && bytes_eq r.key.host key.host && r.key.port == key.port && not (bytes_eq r.key.method (codes "CANCEL")) && not (bytes_eq r.key.method (codes "ACK"))
+    bytes_eq r.key.branch key.branch && bytes_eq r.key.host key.host && r.key.port == key.port && not
+    (bytes_eq r.key.method (codes "CANCEL")) && not (bytes_eq r.key.method (codes "ACK"))
 
 -- the earliest such request, if the CANCEL comes from its IP address (this project's profile)
 abbrev pub found_for_cancel : ProxyState → Key → Addr → Option OpenRequest
-found_for_cancel state key from = option_and_then (λ r. if bytes_eq r.source.ip from.ip then Some r else None) (find (is_cancelled_by key) state.requests)
+found_for_cancel state key from = option_and_then (λ r. if bytes_eq r.source.ip from.ip then Some r else None) (find (is_cancelled_by key)
+    state.requests)
 
 -- a CANCEL: 400 if it is a bad request, 503 without room, else by what it names (RFC 3261 9.2, 16.10)
 abbrev pub cancel_verdict : Server → ProxyState → Arrival → Message → Bool → Key → Verdict
@@ -161,7 +168,12 @@ target_of server m method core = if is_register method then to_aor core else aor
 -- what policy is asked about a request
 abbrev pub question_of : Server → List Nonce → ℕ → Message → List ℕ → CoreFields → Question
 question_of server nonces now m method core =
-    record { proof = proof_of server.config.realm server.config.users nonces now m; operation = operation_of method (has_contact m.fields); target = target_of server m method core; minute = minute_of now server.config.offset }
+    record {
+      proof = proof_of server.config.realm server.config.users nonces now m;
+      operation = operation_of method (has_contact m.fields);
+      target = target_of server m method core;
+      minute = minute_of now server.config.offset;
+    }
 
 -- what policy decides
 abbrev pub answer_of : Server → Question → Decision
@@ -191,7 +203,8 @@ abbrev pub is_own_uri : Server → Option Uri → Bool
 is_own_uri server None = false
 is_own_uri server (Some uri) = is_own_domain server.config.own.domains uri.host
 
--- What becomes of a REGISTER that was let through: 404 unless the Request-URI names an own domain and To a configured user of one, else what the registrar does (RFC 3261 10.3)
+-- What becomes of a REGISTER that was let through: 404 unless the Request-URI names an own domain and To a configured user of one,
+-- else what the registrar does (RFC 3261 10.3)
 abbrev pub registration_by : Server → List Binding → ℕ → Message → CoreFields → Registered
 registration_by server rows now m core =
     if is_own_uri server (request_uri_of server.config.own m) && is_users_address server.config.users server.config.own.domains (to_aor core)
@@ -200,11 +213,13 @@ registration_by server rows now m core =
 
 -- ---- targets
 
--- the targets that a decision gives a request to a Request-URI, over some bindings (RFC 3261 16.5); without one, which no checked request is, it names nobody
+-- the targets that a decision gives a request to a Request-URI, over some bindings (RFC 3261 16.5); without one, which no checked
+-- request is, it names nobody
 abbrev pub targets_by : Server → List Binding → ℕ → Aor → Decision → Option Uri → Targets
 targets_by server rows now target decision None = Targets.NotFound
 targets_by server rows now target decision (Some uri) =
-    targets_of decision (is_users_address server.config.users server.config.own.domains target) uri (contacts_of rows now target) server.config.hops server.config.addresses
+    targets_of decision (is_users_address server.config.users server.config.own.domains target) uri (contacts_of rows now target)
+    server.config.hops server.config.addresses
 
 -- the targets of a request outside a dialog
 abbrev pub request_targets : Server → List Binding → ℕ → Message → Question → Decision → Targets
@@ -275,7 +290,8 @@ by_key server state a m short method (Some key) = by_open server state a m short
 
 -- a response with a short body is dropped (RFC 3261 18.3)
 abbrev pub by_start : Server → ProxyState → Arrival → Message → Bool → Start → Verdict
-by_start server state a m short (Status code reason) = if short then Drop else response_verdict m.fields code (responding server state.requests m.fields)
+by_start server state a m short (Status code reason) = if short then Drop
+    else response_verdict m.fields code (responding server state.requests m.fields)
 by_start server state a m short (Request method uri version) = by_key server state a m short method (key_of m)
 
 -- the verdict on a message, of whose body fewer bytes may have come than its length says

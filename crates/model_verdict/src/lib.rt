@@ -1,5 +1,9 @@
 //! What is to be done with a datagram, of all that a proxy knows: the first case that applies (RFC 3261 9.2,
 //! 10.3, 16.3 to 16.5, 17.1.3, 17.2.3). Nothing runs here.
+//!
+//! - Used: contracts of `sip_core` and `sip_matching`, and `model_steps`.
+//! - Not here: a body.
+//! - Tried: worked examples in `src/examples.rt`, as contracts that compute.
 #![tactic(auto)]
 
 pub mod examples;

@@ -10,7 +10,8 @@ use Rattle.sip_context_resend.specs.context_model.Branches.{Change, responded, o
 use Rattle.sip_context_resend.specs.context_model.Sending.{branch_packets}
 use Rattle.sip_context_resend.specs.context_model.Retransmission.{acked_again, answers_again, answer_next, with_resend}
 use Rattle.sip_context.specs.declared.input.Input.{Input}
-use Rattle.sip_context.specs.declared.input.Input.TheVariants.{Response, BranchDeadline, SideDeadline, SendFault, Cancel, Ack, BranchAgain, AnswerAgain}
+use Rattle.sip_context.specs.declared.input.Input.TheVariants.{Response, BranchDeadline, SideDeadline, SendFault, Cancel, Ack, BranchAgain}
+use Rattle.sip_context.specs.declared.input.Input.TheVariants.{AnswerAgain}
 use Rattle.sip_context.specs.declared.sending.Sending.{Sending}
 
 -- the request after an input, and what is sent: ACKs, then what goes to the caller, then CANCELs; and what goes again
@@ -37,7 +38,8 @@ outcome r sending = record { request = r; acks = sending.acks; upward = sending.
 
 -- what an input makes of an open request of a server at a moment
 abbrev pub outcome_of : Server → ℕ → OpenRequest → Input → Outcome
-outcome_of server now r (Response branch status response) = changing (responded server now r branch.now status response.now) (acked_again server r branch.now status)
+outcome_of server now r (Response branch status response) = changing (responded server now r branch.now status response.now)
+    (acked_again server r branch.now status)
 outcome_of server now r (BranchDeadline branch) = changing (overdue server now r branch.now) []
 outcome_of server now r SideDeadline = changing (side_overdue server now r) []
 outcome_of server now r (SendFault branch) = changing (send_failed server now r branch.now) []

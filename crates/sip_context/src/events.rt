@@ -123,7 +123,9 @@ fn hear(
 ) -> Result<Sending, AllocError>
     requires now { now + 185000 < 2 ^ 64 }
     requires early { IsEarly branch.now.phase }
-    ensures { IfOk result (λ sending. outcome request.new sending ≡ changing (Contexts.responded server.now now request.old branch.now status response.now) (Retransmission.acked_again server.now request.old branch.now status)) }
+    ensures { IfOk result (λ sending. outcome request.new sending
+        ≡ changing (Contexts.responded server.now now request.old branch.now status response.now)
+        (Retransmission.acked_again server.now request.old branch.now status)) }
 {
     let copies = acked_again(alloc, server, request, branch, status)?;
     let sent = take_response(alloc, server, now, request, branch, status, response)?;
@@ -205,7 +207,8 @@ fn repeat_branch(
     branch: &Branch,
 ) -> Result<Sending, AllocError>
     requires { branch.now.again.due + 32000 < 2 ^ 64 }
-    ensures { IfOk result (λ sending. outcome request.new sending ≡ repeating (Retransmission.with_resend branch.now request.old) (Sendings.branch_packets server.now true request.old branch.now)) }
+    ensures { IfOk result (λ sending. outcome request.new sending
+        ≡ repeating (Retransmission.with_resend branch.now request.old) (Sendings.branch_packets server.now true request.old branch.now)) }
 {
     let copies = sent_again(alloc, server, request, branch)?;
     branch_went(request, branch);
@@ -215,7 +218,9 @@ fn repeat_branch(
 /// The last answer goes again.
 fn repeat_answer(alloc: Global, request: &mut OpenRequest) -> Result<Sending, AllocError>
     requires { request.old.again.due + 32000 < 2 ^ 64 }
-    ensures { IfOk result (λ sending. outcome request.new sending ≡ repeating (record request.old { again = Retransmission.answer_next request.old }) (Retransmission.answers_again request.old request.old.answer)) }
+    ensures { IfOk result (λ sending. outcome request.new sending
+        ≡ repeating (record request.old { again = Retransmission.answer_next request.old })
+        (Retransmission.answers_again request.old request.old.answer)) }
 {
     let copies = answered_again(alloc, request)?;
     answer_went(request);

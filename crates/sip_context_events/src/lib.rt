@@ -1,6 +1,10 @@
 //! One open request, its response context: what a response, a deadline, a packet that could not be sent, and the
 //! caller's CANCEL and ACK change of it, and what it sends then (RFC 3261 16.7 to 16.10, 17; RFC 6026). Nothing here
 //! waits or reads a clock. A refusal says nothing of the request: its caller works on a clone of it.
+//!
+//! - Used: `sip_context`, and `sip_context_opening` for an answer at once.
+//! - Not here: what goes again by time (`sip_context_resend`).
+//! - Tried: worked examples of `model_context`, which its contracts cite.
 #![tactic(auto)]
 
 mod acknowledging;

@@ -132,7 +132,8 @@ fn finish_branch(
     response: &View<'_>,
 ) -> Result<(), AllocError>
     requires { now + 32000 < 2 ^ 64 }
-    ensures { OnOk result (request.new ≡ Contexts.with_phase (Contexts.told_to request.old branch.now status response.now) (Done (now + Contexts.linger request.old) status) request.old) }
+    ensures { OnOk result (request.new ≡ Contexts.with_phase (Contexts.told_to request.old branch.now status response.now)
+        (Done (now + Contexts.linger request.old) status) request.old) }
 {
     let until = now + linger(request);
     let told = told_to(alloc, request, branch, status, response)?;
@@ -151,7 +152,8 @@ fn finish(
 ) -> Result<(), AllocError>
     requires { now + 32000 < 2 ^ 64 }
     ensures { OnOk result (request.new ≡ Contexts.search_ended request.old answer.status (Contexts.with_final answer
-        (Contexts.with_phase (Contexts.told_to request.old branch.now answer.status response.now) (Done (now + Contexts.linger request.old) answer.status) request.old))) }
+        (Contexts.with_phase (Contexts.told_to request.old branch.now answer.status response.now)
+        (Done (now + Contexts.linger request.old) answer.status) request.old))) }
 {
     let status = answer.status;
     finish_branch(alloc, now, request, branch, status, response)?;
@@ -174,7 +176,8 @@ fn hear_target(
 ) -> Result<Sent, AllocError>
     requires now { now + 185000 < 2 ^ 64 }
     requires early { IsEarly branch.now.phase }
-    ensures { IfOk result (λ sent. change_of request.new sent ≡ Contexts.settled server.now now [] (Contexts.relayed_provisional request.old branch.now status response.now)
+    ensures { IfOk result (λ sent. change_of request.new sent
+        ≡ Contexts.settled server.now now [] (Contexts.relayed_provisional request.old branch.now status response.now)
         (Contexts.with_phase branch.now (Contexts.heard request.old now status branch.now.phase) request.old)) }
 {
     let relayed = relayed_provisional(alloc, request, branch, status, response)?;
@@ -195,7 +198,8 @@ fn hear_further(
     response: &View<'_>,
 ) -> Result<Sent, AllocError>
     requires { now + 32000 < 2 ^ 64 }
-    ensures { IfOk result (λ sent. change_of request.new sent ≡ Contexts.settled server.now now [] (Contexts.further request.old branch.now branch.now.phase status response.now) request.old) }
+    ensures { IfOk result (λ sent. change_of request.new sent
+        ≡ Contexts.settled server.now now [] (Contexts.further request.old branch.now branch.now.phase status response.now) request.old) }
 {
     let relayed = further(alloc, request, branch, status, response)?;
     let sent = settle(alloc, server, now, Items::new(alloc), relayed, request)?;
@@ -231,7 +235,8 @@ fn hear_final(
     response: &View<'_>,
 ) -> Result<Sent, AllocError>
     requires { now + 32000 < 2 ^ 64 }
-    ensures { IfOk result (λ sent. change_of request.new sent ≡ Contexts.settled server.now now (Contexts.acks_of server.now request.old branch.now status response.now)
+    ensures { IfOk result (λ sent. change_of request.new sent
+        ≡ Contexts.settled server.now now (Contexts.acks_of server.now request.old branch.now status response.now)
         (Contexts.relayed_success request.old branch.now status response.now) (Contexts.with_answer request.old branch.now now status response.now)) }
 {
     let acks = acks_of(alloc, server, request, branch, status, response)?;
@@ -250,7 +255,8 @@ fn hear_cancel(
     status: u16,
 ) -> Result<Sent, AllocError>
     requires { now + 32000 < 2 ^ 64 }
-    ensures { IfOk result (λ sent. (m : Message) → change_of request.new sent ≡ Contexts.cancel_responded server.now now request.old branch.now status m) }
+    ensures { IfOk result (λ sent. (m : Message) → change_of request.new sent
+        ≡ Contexts.cancel_responded server.now now request.old branch.now status m) }
 {
     if is_provisional(status) {
         set_phase(&mut request.branches, branch, other_heard(branch.phase))?;

@@ -21,7 +21,8 @@ fn cancel_packets(
     request: &OpenRequest,
 ) -> Result<Items<Packet>, AllocError>
     requires { now + 32000 < 2 ^ 64 }
-    ensures { IfOk result (λ packets. packets ≡ flat_map (Sendings.branch_packets server.now false request.now) (Contexts.new_cancels now request.now)) }
+    ensures { IfOk result (λ packets. packets ≡ flat_map (Sendings.branch_packets server.now false request.now)
+        (Contexts.new_cancels now request.now)) }
 {
     let cancels = new_cancels(alloc, now, request.branches.as_slice())?;
     let mut packets = Items::new(alloc);
@@ -47,7 +48,8 @@ fn send_cancels(
 ) -> Result<Items<Packet>, AllocError>
     requires { now + 32000 < 2 ^ 64 }
     ensures request { OnOk result (open_request.new ≡ Contexts.with_cancels now open_request.old) }
-    ensures packets { IfOk result (λ packets. packets ≡ flat_map (Sendings.branch_packets server.now false open_request.old) (Contexts.new_cancels now open_request.old)) }
+    ensures packets { IfOk result (λ packets. packets ≡ flat_map (Sendings.branch_packets server.now false open_request.old)
+        (Contexts.new_cancels now open_request.old)) }
 {
     let packets = cancel_packets(alloc, server, now, open_request)?;
     add_cancels(alloc, now, &mut open_request.branches)?;

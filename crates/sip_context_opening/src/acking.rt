@@ -33,7 +33,9 @@ fn sent_on(
     received: &View<'_>,
     uri: &[u8],
 ) -> Result<Bytes, AllocError>
-    ensures { IfOk result (λ text. text ≡ text_of (onward_of server.now.config.own server.now.config.realm uri.now (branch_text server.now.word number 1) received.now)) }
+    ensures { IfOk result
+        (λ text. text ≡ text_of (onward_of server.now.config.own server.now.config.realm uri.now (branch_text server.now.word number 1)
+        received.now)) }
 {
     let via = via_value(alloc, server, number)?;
     let realm = server.config.realm.as_slice();
@@ -64,7 +66,9 @@ fn onward_text(
     arrival: Arrival,
     request: &View<'_>,
 ) -> Result<Bytes, AllocError>
-    ensures { IfOk result (λ text. text ≡ text_of (Sendings.onward_as server.now arrival.number request.now arrival.from (onward_uri server.now.config.own request.now) 1)) }
+    ensures { IfOk result
+        (λ text. text ≡ text_of (Sendings.onward_as server.now arrival.number request.now arrival.from
+        (onward_uri server.now.config.own request.now) 1)) }
 {
     let uri = onward_uri(alloc, &server.config.own, request)?;
     received_on(alloc, server, arrival, request, uri.as_slice())

@@ -62,7 +62,8 @@ pub fn fork_to(
     requires key { key_of request ≡ Some key }
     requires now { arrival.now + 32000 < 2 ^ 64 }
     requires count { length (target_list targets.now) + 1 < 2 ^ 32 }
-    ensures { IfOk result (λ call. call ≡ Definitions.forking (arrival_of arrival) request (Definitions.branches_from arrival.now 1 (target_list targets.now))) }
+    ensures { IfOk result (λ call. call ≡ Definitions.forking (arrival_of arrival) request
+        (Definitions.branches_from arrival.now 1 (target_list targets.now))) }
 {
     let branches = branches_to(alloc, arrival.now, targets)?;
     forking(alloc, arrival, key, request, branches)
@@ -97,7 +98,8 @@ pub fn fork_within(
 ) -> Result<OpenRequest, AllocError>
     requires key { key_of request ≡ Some key }
     requires now { arrival.now + 32000 < 2 ^ 64 }
-    ensures { IfOk result (λ call. call ≡ Definitions.forking (arrival_of arrival) request (Definitions.dialog_branch server.now arrival.now request address ∷ [])) }
+    ensures { IfOk result (λ call. call ≡ Definitions.forking (arrival_of arrival) request
+        (Definitions.dialog_branch server.now arrival.now request address ∷ [])) }
 {
     let branches = dialog_branches(alloc, server, arrival.now, request.get(), address)?;
     forking(alloc, arrival, key, request, branches)

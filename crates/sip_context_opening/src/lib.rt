@@ -1,6 +1,14 @@
 //! How an open request begins (RFC 3261 16.2, 16.6, 17.2): answered at once, or sent to the branches of its targets or of
 //! its dialog; and what an event makes of it as packets, in the order in which they go. An ACK goes on without one.
 //! Nothing here waits or reads a clock.
+//!
+//! - Used: `sip_forwarding` for a request that goes on, `sip_uas` for one that is answered here.
+//! - Not here: the decision where it goes (`sip_core`).
+//! - Tried: `test_server` by its stored runs.
+//!
+//! ```text
+//! let request = fork_to(alloc, arrival, key, heard, &targets)?;
+//! ```
 #![tactic(auto)]
 
 mod acking;

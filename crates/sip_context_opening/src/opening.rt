@@ -36,7 +36,13 @@ fn is_tried(request: &OpenRequest) -> bool
 
 /// The 100 of a request, as it goes to the caller.
 fn trying(alloc: Global, server: &Server, request: &OpenRequest) -> Result<Upward, AllocError>
-    ensures { IfOk result (λ up. up ≡ record { status = 100; message = Sendings.made_answer server.now request.now.number request.now.request request.now.source 100 []; target = None }) }
+    ensures { IfOk result
+        (λ up. up ≡ record {
+          status = 100;
+          message = Sendings.made_answer server.now request.now.number request.now.request
+              request.now.source 100 [];
+          target = None;
+        }) }
 {
     let message = written_answer(alloc, server, request, 100)?;
     Ok(Upward {

@@ -43,7 +43,12 @@ fn make(
 ) -> Result<Made, AllocError>
     ensures packet { IfOk result (λ made. made.packet ≡ Sendings.answer_packet false arrival.number request.now arrival.from
         (text_of (Sendings.made_answer server.now arrival.number request.now arrival.from status extras.now))) }
-    ensures answer { IfOk result (λ made. made.answer ≡ record { status = status; text = text_of (Sendings.made_answer server.now arrival.number request.now arrival.from status extras.now) }) }
+    ensures answer { IfOk result
+        (λ made. made.answer ≡ record {
+          status = status;
+          text = text_of
+              (Sendings.made_answer server.now arrival.number request.now arrival.from status extras.now);
+        }) }
 {
     let text = made_answer(
         alloc,

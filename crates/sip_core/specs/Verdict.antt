@@ -37,7 +37,8 @@ pub record Knows (state : ProxyState) (rows : List Binding) (nonces : List Nonce
 -- ---- what is decided
 
 -- A verdict is that a REGISTER is taken by a rule, and comes to this for the address of record that policy was asked about.
-pub record IsRegistered (rows : List Binding) (now : ℕ) (q : Question) (id : ℕ) (verdict : Definition.Verdict) (registering : Registering) : Type 0 where
+pub record IsRegistered (rows : List Binding) (now : ℕ) (q : Question) (id : ℕ) (verdict : Definition.Verdict) (registering : Registering) :
+    Type 0 where
   pub registered : Definition.Registered
   pub verdict_is : verdict ≡ Definition.Register q id registered
   pub comes_to : Registering.ComesTo rows now q.target registered registering

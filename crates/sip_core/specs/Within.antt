@@ -9,7 +9,8 @@ use Rattle.model_verdict.specs.state.declared.proxy_state.ProxyState.{ProxyState
 use Rattle.model_verdict.specs.state.declared.server.Server.{Server}
 use Rattle.model_verdict.specs.Verdict.{Verdict, within}
 
--- A request goes on to this address in this dialog, or is in none of these dialogs: so every verdict on it within a dialog says, in every state with these.
+-- A request goes on to this address in this dialog, or is in none of these dialogs: so every verdict on it within a dialog says, in
+-- every state with these.
 abbrev pub GoesOn : Server → List Dialog → ℕ → Message → Option (Addr × DialogId) → Type 0
 GoesOn server dialogs now m found =
     (state : ProxyState) → state.dialogs ≡ dialogs → (on : Addr → DialogId → Verdict) (none : Verdict)

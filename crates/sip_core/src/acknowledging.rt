@@ -32,7 +32,8 @@ fn ack_within<'v, R: Rules>(
     requires core { result_ok (core_of request.now) ≡ Some checked.now.core }
     requires way { checked.now.way ≡ way_of judge.now.config.own request.now }
     requires uri { checked.now.uri ≡ request_uri_of judge.now.config.own request.now }
-    ensures verdict { IfOk result (λ verdict. (state : ProxyState) → state.dialogs ≡ dialogs.now.dialogs → (rows : List Binding) (named : Option OpenRequest)
+    ensures verdict { IfOk result (λ verdict. (state : ProxyState) → state.dialogs ≡ dialogs.now.dialogs
+        → (rows : List Binding) (named : Option OpenRequest)
         → Is judge.now rows now named (Definition.within judge.now state now request.now Definition.AckOn Definition.Drop) verdict) }
     ensures room { IfOk result (λ verdict. (room : ℕ) → HasRoom room verdict) }
     ensures kept { IfOk result (λ verdict. goes_on verdict ≡ false) }
@@ -57,7 +58,8 @@ pub fn ack_verdict<'v, R: Rules>(
 ) -> Result<Verdict<'v>, AllocError>
     requires request { IsRequestOf method.now request.now.start }
     requires via { top_via request.now ≡ Some via.now }
-    ensures verdict { IfOk result (λ verdict. (state : ProxyState) → state.dialogs ≡ dialogs.now.dialogs → (rows : List Binding) (named : Option OpenRequest)
+    ensures verdict { IfOk result (λ verdict. (state : ProxyState) → state.dialogs ≡ dialogs.now.dialogs
+        → (rows : List Binding) (named : Option OpenRequest)
         → Is judge.now rows now named (Definition.ack_verdict judge.now state now request.now short) verdict) }
     ensures room { IfOk result (λ verdict. (room : ℕ) → HasRoom room verdict) }
     ensures kept { IfOk result (λ verdict. goes_on verdict ≡ false) }

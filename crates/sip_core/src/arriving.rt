@@ -51,7 +51,8 @@ fn refusal_fields(alloc: Global, status: u16, items: &[u8]) -> Result<Fields, Al
 
 /// A request that the checks refuse is answered so.
 fn refusal_verdict<'v>(alloc: Global, status: u16, items: &[u8]) -> Result<Verdict<'v>, AllocError>
-    ensures verdict { IfOk result (λ verdict. (server : Server) (state : ProxyState) (now : ℕ) (m : Message) (method : List ℕ) (rows : List Binding) (named : Option OpenRequest)
+    ensures verdict { IfOk result (λ verdict. (server : Server) (state : ProxyState) (now : ℕ) (m : Message) (method : List ℕ)
+        (rows : List Binding) (named : Option OpenRequest)
         → Is server rows now named (Definition.checked_verdict server state now m method (Some (status, items.now))) verdict) }
     ensures room { IfOk result (λ verdict. (room : ℕ) → HasRoom room verdict) }
     ensures kept { IfOk result (λ verdict. goes_on verdict ≡ false) }
@@ -108,7 +109,8 @@ fn request_within<'v, R: Rules>(
     requires uri { checked.now.uri ≡ request_uri_of judge.now.config.own request.now }
     requires names { AreNames request.now names.now }
     requires none { names.now ≡ None }
-    ensures verdict { IfOk result (λ verdict. (state : ProxyState) → state.dialogs ≡ dialogs.now.dialogs → (rows : List Binding) (named : Option OpenRequest)
+    ensures verdict { IfOk result (λ verdict. (state : ProxyState) → state.dialogs ≡ dialogs.now.dialogs
+        → (rows : List Binding) (named : Option OpenRequest)
         → Is judge.now rows now named (Definition.within judge.now state now request.now Definition.InDialog (Definition.Answer 481 [])) verdict) }
     ensures room { IfOk result (λ verdict. (room : ℕ) → HasRoom room verdict) }
     ensures names { AreNames request.now names.new }
@@ -142,8 +144,10 @@ fn core_verdict<'v, R: Rules>(
     requires uri { checked.now.uri ≡ request_uri_of judge.now.config.own request.now }
     requires names { AreNames request.now names.now }
     requires none { names.now ≡ None }
-    ensures verdict { IfOk result (λ verdict. (state : ProxyState) (is_full : Bool) → Knows state locations.old.rows nonces.now dialogs.now.dialogs is_full → (named : Option OpenRequest)
-        → Is judge.now locations.old.rows now named (Definition.core_verdict judge.now state now request.now method.now (Some checked.now.core)) verdict) }
+    ensures verdict { IfOk result (λ verdict. (state : ProxyState) (is_full : Bool)
+        → Knows state locations.old.rows nonces.now dialogs.now.dialogs is_full → (named : Option OpenRequest)
+        → Is judge.now locations.old.rows now named (Definition.core_verdict judge.now state now request.now method.now
+        (Some checked.now.core)) verdict) }
     ensures unchanged { locations.new.rows ≡ locations.old.rows }
     ensures room { IfOk result (HasRoom locations.new.room) }
     ensures names { AreNames request.now names.new }
@@ -181,7 +185,8 @@ fn passed_verdict<'v, R: Rules>(
     requires uri { checked.now.uri ≡ request_uri_of judge.now.config.own request.now }
     requires names { AreNames request.now names.now }
     requires none { names.now ≡ None }
-    ensures verdict { IfOk result (λ verdict. (state : ProxyState) → Knows state locations.old.rows nonces.now dialogs.now.dialogs is_full → (named : Option OpenRequest)
+    ensures verdict { IfOk result (λ verdict. (state : ProxyState) → Knows state locations.old.rows nonces.now dialogs.now.dialogs is_full
+        → (named : Option OpenRequest)
         → Is judge.now locations.old.rows now named (Definition.checked_verdict judge.now state now request.now method.now None) verdict) }
     ensures unchanged { locations.new.rows ≡ locations.old.rows }
     ensures room { IfOk result (HasRoom locations.new.room) }
@@ -216,8 +221,10 @@ fn checked_verdict<'v, R: Rules>(
     requires via { top_via request.now ≡ Some via.now }
     requires names { AreNames request.now names.now }
     requires none { names.now ≡ None }
-    ensures verdict { IfOk result (λ verdict. (state : ProxyState) → Knows state locations.old.rows nonces.now dialogs.now.dialogs is_full → (named : Option OpenRequest)
-        → Is judge.now locations.old.rows now named (Definition.checked_verdict judge.now state now request.now method.now (refusal_of judge.now.config.own request.now short)) verdict) }
+    ensures verdict { IfOk result (λ verdict. (state : ProxyState) → Knows state locations.old.rows nonces.now dialogs.now.dialogs is_full
+        → (named : Option OpenRequest)
+        → Is judge.now locations.old.rows now named (Definition.checked_verdict judge.now state now request.now method.now
+        (refusal_of judge.now.config.own request.now short)) verdict) }
     ensures unchanged { locations.new.rows ≡ locations.old.rows }
     ensures room { IfOk result (HasRoom locations.new.room) }
     ensures names { AreNames request.now names.new }
@@ -271,8 +278,10 @@ pub fn new_verdict<'v, R: Rules>(
     requires moment { now < 2 ^ 62 }
     requires request { IsRequestOf method.now request.now.start }
     requires via { top_via request.now ≡ Some via.now }
-    ensures verdict { IfOk result (λ verdict. (state : ProxyState) → Knows state locations.old.rows nonces.now dialogs.now.dialogs is_full → (a : Arrival) (key : Key) → a.now ≡ now
-        → Is judge.now locations.old.rows now (Definition.found_for_cancel state key a.from) (Definition.new_verdict judge.now state a request.now short method.now key) verdict) }
+    ensures verdict { IfOk result (λ verdict. (state : ProxyState) → Knows state locations.old.rows nonces.now dialogs.now.dialogs is_full
+        → (a : Arrival) (key : Key) → a.now ≡ now
+        → Is judge.now locations.old.rows now (Definition.found_for_cancel state key a.from)
+        (Definition.new_verdict judge.now state a request.now short method.now key) verdict) }
     ensures unchanged { locations.new.rows ≡ locations.old.rows }
     ensures room { IfOk result (HasRoom locations.new.room) }
     ensures names { AreNames request.now names.new }

@@ -29,7 +29,8 @@ pub(crate) fn cancel_verdict<'v>(
     requires { top_via request.now ≡ Some via.now }
     ensures verdict { IfOk result (λ verdict. (server : Server) (state : ProxyState) (a : Arrival) (key : Key) (rows : List Binding) (now : ℕ)
         → server.config.own ≡ own.now → Definition.is_full state ≡ is_full
-        → Is server rows now (Definition.found_for_cancel state key a.from) (Definition.cancel_verdict server state a request.now short key) verdict) }
+        → Is server rows now (Definition.found_for_cancel state key a.from) (Definition.cancel_verdict server state a request.now short key)
+        verdict) }
     ensures room { IfOk result (λ verdict. (room : ℕ) → HasRoom room verdict) }
     ensures kept { IfOk result (λ verdict. goes_on verdict ≡ false) }
 {

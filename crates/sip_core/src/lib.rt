@@ -1,6 +1,10 @@
 //! What is to be done with a request that no open one is found for, of all that a server knows: the first case that applies
 //! (RFC 3261 9.2, 10.3, 16.3 to 16.5); and what the configured server judges of it: what policy is asked and decides, what a
 //! REGISTER asks for and comes to, and where a request goes (`Judge`). It decides, and changes nothing.
+//!
+//! - Used: `sip_engine` asks it about each new request and each ACK (`Judge`).
+//! - Not here: the carrying out of a verdict: `sip_uas`, `sip_forwarding`.
+//! - Tried: `test_server` by its stored runs.
 #![tactic(auto)]
 
 mod acknowledging;

@@ -31,7 +31,8 @@ fn let_through<R: Rules>(
     requires uri { checked.now.uri ≡ request_uri_of judge.now.config.own request.now }
     requires question { question.now.target ≡ Definition.target_of judge.now request.now method.now checked.now.core }
     ensures outcome { IfOk result (λ outcome. (state : ProxyState) → state.bindings ≡ locations.old.rows
-        → IsOutcome locations.old.rows now question.now (Definition.let_through judge.now state now request.now method.now checked.now.core question.now id decision.now) outcome) }
+        → IsOutcome locations.old.rows now question.now (Definition.let_through judge.now state now request.now method.now checked.now.core
+        question.now id decision.now) outcome) }
     ensures unchanged { locations.new.rows ≡ locations.old.rows }
     ensures room { IfOk result (HasRoomFor locations.new.room) }
 {
@@ -61,7 +62,8 @@ fn decided<R: Rules>(
     requires uri { checked.now.uri ≡ request_uri_of judge.now.config.own request.now }
     requires question { question.now.target ≡ Definition.target_of judge.now request.now method.now checked.now.core }
     ensures outcome { IfOk result (λ outcome. (state : ProxyState) → state.bindings ≡ locations.old.rows
-        → IsOutcome locations.old.rows now question.now (Definition.decided judge.now state now request.now method.now checked.now.core question.now decision.now) outcome) }
+        → IsOutcome locations.old.rows now question.now (Definition.decided judge.now state now request.now method.now checked.now.core
+        question.now decision.now) outcome) }
     ensures unchanged { locations.new.rows ≡ locations.old.rows }
     ensures room { IfOk result (HasRoomFor locations.new.room) }
 {
@@ -94,7 +96,8 @@ fn judged<'v, R: Rules>(
     ensures question { IfOk result (λ judged. judged.question ≡ question.entry) }
     ensures minute { IfOk result (λ judged. judged.minute ≡ Definition.minute_on judge.now judged.question) }
     ensures outcome { IfOk result (λ judged. (state : ProxyState) → state.bindings ≡ locations.old.rows
-        → IsOutcome locations.old.rows now judged.question (Definition.decided judge.now state now request.now method.now checked.now.core judged.question (Definition.answer_of judge.now judged.question)) judged.outcome) }
+        → IsOutcome locations.old.rows now judged.question (Definition.decided judge.now state now request.now method.now checked.now.core
+        judged.question (Definition.answer_of judge.now judged.question)) judged.outcome) }
     ensures unchanged { locations.new.rows ≡ locations.old.rows }
     ensures room { IfOk result (λ judged. HasRoomFor locations.new.room judged.outcome) }
 {
@@ -132,7 +135,8 @@ pub(crate) fn policy_verdict<'v, R: Rules>(
     requires uri { checked.now.uri ≡ request_uri_of judge.now.config.own request.now }
     ensures minute { IfOk result (λ judged. judged.minute ≡ Definition.minute_on judge.now judged.question) }
     ensures outcome { IfOk result (λ judged. (state : ProxyState) → state.bindings ≡ locations.old.rows → state.nonces ≡ nonces.now
-        → IsOutcome locations.old.rows now judged.question (Definition.policy_verdict judge.now state now request.now method.now checked.now.core) judged.outcome) }
+        → IsOutcome locations.old.rows now judged.question (Definition.policy_verdict judge.now state now request.now method.now
+        checked.now.core) judged.outcome) }
     ensures unchanged { locations.new.rows ≡ locations.old.rows }
     ensures room { IfOk result (λ judged. HasRoomFor locations.new.room judged.outcome) }
 {

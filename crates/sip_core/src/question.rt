@@ -51,7 +51,8 @@ fn target_of(
     core: &CoreFields<'_>,
     uri: Option<&Uri>,
 ) -> Result<Aor, AllocError>
-    ensures { IfOk result (λ aor. aor ≡ (if Verdict.is_register method.now then Naming.to_aor core.now else Naming.aor_or_nobody (option_copied uri.entry))) }
+    ensures { IfOk result
+        (λ aor. aor ≡ (if Verdict.is_register method.now then Naming.to_aor core.now else Naming.aor_or_nobody (option_copied uri.entry))) }
 {
     if is_register(method) {
         to_aor(alloc, core)

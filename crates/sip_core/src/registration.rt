@@ -79,7 +79,8 @@ fn planned(
     registration: Registration<'_>,
 ) -> Result<Registering, AllocError>
     requires { now < 2 ^ 62 }
-    ensures outcome { IfOk result (ComesTo locations.old.rows now registration.entry.aor (Verdict.registered_by (registered locations.old.rows registration.entry now))) }
+    ensures outcome { IfOk result (ComesTo locations.old.rows now registration.entry.aor
+        (Verdict.registered_by (registered locations.old.rows registration.entry now))) }
     ensures unchanged { locations.new.rows ≡ locations.old.rows }
     ensures room { IfOk result (HasRoom locations.new.room) }
 {
@@ -100,7 +101,8 @@ fn planned_for(
 ) -> Result<Registering, AllocError>
     requires moment { now < 2 ^ 62 }
     requires named { aor.now ≡ Naming.to_aor core.now }
-    ensures outcome { IfOk result (ComesTo locations.old.rows now (Naming.to_aor core.now) (Verdict.registered_by (registered locations.old.rows (Naming.registration_of core.now request.now.fields) now))) }
+    ensures outcome { IfOk result (ComesTo locations.old.rows now (Naming.to_aor core.now)
+        (Verdict.registered_by (registered locations.old.rows (Naming.registration_of core.now request.now.fields) now))) }
     ensures unchanged { locations.new.rows ≡ locations.old.rows }
     ensures room { IfOk result (HasRoom locations.new.room) }
 {
@@ -138,7 +140,8 @@ fn is_for_user(server: &Server, aor: &Aor) -> bool
 /// Whether a REGISTER, of which this was read, is for an own domain and a configured user of one.
 fn is_registrable(server: &Server, checked: &Checked<'_>, aor: &Aor) -> bool
     requires { aor.now ≡ Naming.to_aor checked.now.core }
-    ensures { result ≡ (Verdict.is_own_uri server.now checked.now.uri && is_users_address server.now.config.users server.now.config.own.domains (Naming.to_aor checked.now.core)) }
+    ensures { result ≡ (Verdict.is_own_uri server.now checked.now.uri
+        && is_users_address server.now.config.users server.now.config.own.domains (Naming.to_aor checked.now.core)) }
 {
     is_for_own_domain(server, checked.uri.as_ref()) && is_for_user(server, aor)
 }
@@ -156,7 +159,8 @@ fn registering_by(
     requires moment { now < 2 ^ 62 }
     requires read { checked.now.uri ≡ request_uri_of server.now.config.own request.now }
     requires named { aor.now ≡ Naming.to_aor checked.now.core }
-    ensures outcome { IfOk result (ComesTo locations.old.rows now (Naming.to_aor checked.now.core) (Verdict.registration_by server.now locations.old.rows now request.now checked.now.core)) }
+    ensures outcome { IfOk result (ComesTo locations.old.rows now (Naming.to_aor checked.now.core)
+        (Verdict.registration_by server.now locations.old.rows now request.now checked.now.core)) }
     ensures unchanged { locations.new.rows ≡ locations.old.rows }
     ensures room { IfOk result (HasRoom locations.new.room) }
 {
@@ -183,7 +187,8 @@ impl<R: Rules> Judge<R> {
         requires moment { now < 2 ^ 62 }
         requires read { checked.now.uri ≡ request_uri_of self.now.config.own request.now }
         requires named { aor.now ≡ Naming.to_aor checked.now.core }
-        ensures outcome { IfOk result (ComesTo locations.old.rows now (Naming.to_aor checked.now.core) (Verdict.registration_by self.now locations.old.rows now request.now checked.now.core)) }
+        ensures outcome { IfOk result (ComesTo locations.old.rows now (Naming.to_aor checked.now.core)
+            (Verdict.registration_by self.now locations.old.rows now request.now checked.now.core)) }
         ensures unchanged { locations.new.rows ≡ locations.old.rows }
         ensures room { IfOk result (HasRoom locations.new.room) }
     {

@@ -21,7 +21,8 @@ impl<R: Rules> Judge<R> {
         decision: &Decision,
         uri: &Uri,
     ) -> Result<Targets, AllocError>
-        ensures { IfOk result (λ targets. targets ≡ Verdict.targets_by self.now locations.now.rows now question.now.target decision.now (Some uri.now)) }
+        ensures { IfOk result (λ targets. targets ≡ Verdict.targets_by self.now locations.now.rows now question.now.target decision.now
+            (Some uri.now)) }
     {
         let config = &self.server().config;
         let domains = config.own.domains.as_slice();
@@ -41,7 +42,8 @@ impl<R: Rules> Judge<R> {
         decision: &Decision,
         uri: Option<&Uri>,
     ) -> Result<Targets, AllocError>
-        ensures { IfOk result (λ targets. targets ≡ Verdict.targets_by self.now locations.now.rows now question.now.target decision.now (option_copied uri.entry)) }
+        ensures { IfOk result (λ targets. targets ≡ Verdict.targets_by self.now locations.now.rows now question.now.target decision.now
+            (option_copied uri.entry)) }
     {
         match uri {
             Some(uri) => self.targets_for(alloc, locations, now, question, decision, uri),

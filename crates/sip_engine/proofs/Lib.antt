@@ -4,4 +4,3 @@ mod Places
 mod Leading
 mod Numbered
 mod Waiting
-mod Heard

@@ -1,6 +1,5 @@
 pub mod Delivery
 pub mod Engine
-pub mod Hearing
 pub mod StepError
 pub use Rattle.sip_core.specs.context_model
 pub use Rattle.sip_engine_time.specs as engine_time

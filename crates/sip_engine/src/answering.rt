@@ -40,7 +40,8 @@ pub(crate) fn answer<T: Timers>(
     requires via { top_via message.now ≡ Some via.now }
     requires alone { position (has_key key) proxy.old.state.requests ≡ None }
     requires final_status { IsFinalAnswer status }
-    ensures does { IfOk result (λ out. Takes server.now proxy.old.state arrival message.now (Definition.Answer status extras.now) out proxy.new.state) }
+    ensures does { IfOk result (λ out. Takes server.now proxy.old.state arrival message.now (Definition.Answer status extras.now) out
+        proxy.new.state) }
     ensures unchanged { OnErr result (proxy.new.state ≡ proxy.old.state) }
     ensures timers { OnErr result (proxy.new.timers ≡ proxy.old.timers) }
 {
@@ -67,7 +68,8 @@ pub(crate) fn cancel<T: Timers>(
     requires alone { position (has_key key) proxy.old.state.requests ≡ None }
     requires space { Definition.is_full proxy.old.state ≡ false }
     requires rows { hops.now.addresses ≡ server.now.config.addresses }
-    ensures does { IfOk result (λ out. Takes server.now proxy.old.state arrival message.now (Definition.Cancel (Definition.found_for_cancel proxy.old.state key arrival.from)) out proxy.new.state) }
+    ensures does { IfOk result (λ out. Takes server.now proxy.old.state arrival message.now
+        (Definition.Cancel (Definition.found_for_cancel proxy.old.state key arrival.from)) out proxy.new.state) }
     ensures unchanged { OnErr result (proxy.new.state ≡ proxy.old.state) }
     ensures timers { OnErr result (proxy.new.timers ≡ proxy.old.timers) }
 {

@@ -49,7 +49,9 @@ fn answer_judged<T: Timers>(
     requires here { Asking.is_answered_here judged.outcome ≡ true }
     requires room { HasRoomFor proxy.old.room judged.outcome }
     requires answers { IsAnswered server.now proxy.old.state.bindings arrival.now judged }
-    ensures does { IfOk result (λ out. (verdict : Definition.Verdict) → Is server.now proxy.old.state.bindings arrival.now (Definition.found_for_cancel proxy.old.state key arrival.from) verdict (Arrived.Judged judged.entry)
+    ensures does { IfOk result (λ out. (verdict : Definition.Verdict)
+        → Is server.now proxy.old.state.bindings arrival.now (Definition.found_for_cancel proxy.old.state key arrival.from) verdict
+        (Arrived.Judged judged.entry)
         → Takes server.now proxy.old.state arrival message.now verdict out proxy.new.state) }
     ensures unchanged { OnErr result (proxy.new.state ≡ proxy.old.state) }
     ensures timers { OnErr result (proxy.new.timers ≡ proxy.old.timers) }
@@ -81,7 +83,9 @@ fn send_judged<T: Timers>(
     requires rows { hops.now.addresses ≡ server.now.config.addresses }
     requires there { Asking.is_answered_here judged.now.outcome ≡ false }
     requires served { IsServed server.now proxy.old.state arrival key (Arrived.Judged judged.now) }
-    ensures does { IfOk result (λ out. (verdict : Definition.Verdict) → Is server.now proxy.old.state.bindings arrival.now (Definition.found_for_cancel proxy.old.state key arrival.from) verdict (Arrived.Judged judged.now)
+    ensures does { IfOk result (λ out. (verdict : Definition.Verdict)
+        → Is server.now proxy.old.state.bindings arrival.now (Definition.found_for_cancel proxy.old.state key arrival.from) verdict
+        (Arrived.Judged judged.now)
         → Takes server.now proxy.old.state arrival message.now verdict out proxy.new.state) }
     ensures unchanged { OnErr result (proxy.new.state ≡ proxy.old.state) }
     ensures timers { OnErr result (proxy.new.timers ≡ proxy.old.timers) }
@@ -118,7 +122,9 @@ pub(crate) fn take_asked<T: Timers>(
     requires rows { hops.now.addresses ≡ server.now.config.addresses }
     requires room { HasRoomFor proxy.old.room judged.outcome }
     requires served { IsServed server.now proxy.old.state arrival key (Arrived.Judged judged) }
-    ensures does { IfOk result (λ out. (verdict : Definition.Verdict) → Is server.now proxy.old.state.bindings arrival.now (Definition.found_for_cancel proxy.old.state key arrival.from) verdict (Arrived.Judged judged.entry)
+    ensures does { IfOk result (λ out. (verdict : Definition.Verdict)
+        → Is server.now proxy.old.state.bindings arrival.now (Definition.found_for_cancel proxy.old.state key arrival.from) verdict
+        (Arrived.Judged judged.entry)
         → Takes server.now proxy.old.state arrival message.now verdict out proxy.new.state) }
     ensures unchanged { OnErr result (proxy.new.state ≡ proxy.old.state) }
     ensures timers { OnErr result (proxy.new.timers ≡ proxy.old.timers) }

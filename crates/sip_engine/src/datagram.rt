@@ -38,7 +38,8 @@ fn take_request<T: Timers, R: Rules>(
 ) -> Result<StepOut, AllocError>
     requires coming { IsComing proxy.old.state arrival }
     requires request { IsRequest message.now short method.now via.now key }
-    ensures does { IfOk result (λ out. Takes judge.now proxy.old.state arrival message.now (Definition.message_verdict judge.now proxy.old.state (arrival_of arrival) message.now short) out proxy.new.state) }
+    ensures does { IfOk result (λ out. Takes judge.now proxy.old.state arrival message.now
+        (Definition.message_verdict judge.now proxy.old.state (arrival_of arrival) message.now short) out proxy.new.state) }
     ensures unchanged { OnErr result (proxy.new.state ≡ proxy.old.state) }
     ensures timers { OnErr result (proxy.new.timers ≡ proxy.old.timers) }
 {
@@ -64,7 +65,8 @@ fn take_message<T: Timers, R: Rules>(
     short: bool,
 ) -> Result<StepOut, AllocError>
     requires coming { IsComing proxy.old.state arrival }
-    ensures does { IfOk result (λ out. Takes judge.now proxy.old.state arrival message.now (Definition.message_verdict judge.now proxy.old.state (arrival_of arrival) message.now short) out proxy.new.state) }
+    ensures does { IfOk result (λ out. Takes judge.now proxy.old.state arrival message.now
+        (Definition.message_verdict judge.now proxy.old.state (arrival_of arrival) message.now short) out proxy.new.state) }
     ensures unchanged { OnErr result (proxy.new.state ≡ proxy.old.state) }
     ensures timers { OnErr result (proxy.new.timers ≡ proxy.old.timers) }
 {
@@ -107,7 +109,8 @@ pub fn take_datagram<T: Timers, R: Rules>(
     bytes: &[u8],
 ) -> Result<StepOut, AllocError>
     requires coming { IsComing proxy.old.state arrival }
-    ensures does { IfOk result (λ out. Does judge.now proxy.old.state arrival.now (datagram_effect judge.now proxy.old.state (arrival_of arrival) bytes.now) out proxy.new.state) }
+    ensures does { IfOk result (λ out. Does judge.now proxy.old.state arrival.now
+        (datagram_effect judge.now proxy.old.state (arrival_of arrival) bytes.now) out proxy.new.state) }
     ensures unchanged { OnErr result (proxy.new.state ≡ proxy.old.state) }
     ensures timers { OnErr result (proxy.new.timers ≡ proxy.old.timers) }
 {

@@ -9,7 +9,8 @@ ghost use Rattle.sip_engine.specs.Delivery.{IsDroppedOrOn, NeedsRoom};
 
 /// An ACK that no server transaction takes is dropped, or goes on in its dialog: nothing answers an ACK (RFC 3261 17.1).
 pub(crate) fn acks_are_dropped_or_go_on()
-    ensures { (server : Server) (state : ProxyState) (now : ℕ) (m : Message) (short : Bool) → IsDroppedOrOn (Definition.ack_verdict server state now m short) }
+    ensures { (server : Server) (state : ProxyState) (now : ℕ) (m : Message) (short : Bool)
+        → IsDroppedOrOn (Definition.ack_verdict server state now m short) }
 {}
 
 /// A new request is served only where there is room for one more (this project's profile: 503 without).

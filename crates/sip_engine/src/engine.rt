@@ -5,7 +5,8 @@ ghost use Rattle.sip_engine_time.specs.Next.{IsNext};
 ghost use Rattle.sip_engine_time.specs.Timers.{IsFiredFirst};
 ghost use Rattle.sip_engine_time.specs.fork.Due.{IsNothingDue};
 ghost use Rattle.sip_location.specs.Binding.{live};
-ghost use Rattle.sip_model.specs.steps_model.Step.{Given, Passing, IsDeadline, IsResend, IsStep, IsTime, NoneAgainBefore, NoneAgainBy, NoneBefore, NoneBy, moment_of};
+ghost use Rattle.sip_model.specs.steps_model.Step.{Given, Passing, IsDeadline, IsResend, IsStep, IsTime, NoneAgainBefore, NoneAgainBy};
+ghost use Rattle.sip_model.specs.steps_model.Step.{NoneBefore, NoneBy, moment_of};
 ghost use Rattle.sip_core.specs.state.State.{first_state};
 ghost use Rattle.sip_engine.specs.Engine.{IsReached};
 ghost use Rattle.sip_engine.specs.StepError.{refusal_at, refusal_of};
@@ -96,7 +97,8 @@ impl<T: Timers, R: Rules> Engine<T, R> {
     pub fn next_due(&self) -> Option<u64>
         ensures first { MatchOption result (IsNothingDue self.now.state.requests) (IsNext self.now.state.requests) }
         ensures later { IfSome result (λ due. self.now.state.moment ≤ due) }
-        ensures none_by { (m : ℕ) → ((due : ℕ) → result ≡ Some due → m < due) → NoneBy m self.now.state.requests × NoneAgainBy m self.now.state.requests }
+        ensures none_by { (m : ℕ) → ((due : ℕ) → result ≡ Some due → m < due) → NoneBy m self.now.state.requests
+            × NoneAgainBy m self.now.state.requests }
     {
         reached_states_are_sound();
         firing::laws::next_moment_is_first();
@@ -119,13 +121,19 @@ impl<T: Timers, R: Rules> Engine<T, R> {
     pub fn fire(&mut self, at: u64) -> Result<StepOut, StepError>
         ensures refused { IfSome (refusal_at at) (λ e. result ≡ Err e) }
         ensures otherwise { refusal_at at ≡ None → IfErr result (λ e. e ≡ NoMemory) }
-        ensures never_refused { refusal_at at ≡ None → NoneBy (moment_of self.old.state at) self.old.state.requests → NoneAgainBy (moment_of self.old.state at) self.old.state.requests → IsOk result }
+        ensures never_refused { refusal_at at ≡ None → NoneBy (moment_of self.old.state at) self.old.state.requests
+            → NoneAgainBy (moment_of self.old.state at) self.old.state.requests → IsOk result }
         ensures unchanged { OnErr result (self.new ≡ self.old) }
         ensures server { self.new.server ≡ self.old.server }
         ensures step { IfOk result (λ out. IsStep self.old.server self.old.state (Passing at) out self.new.state) }
-        ensures waited { NoneBy (moment_of self.old.state at) self.old.state.requests → NoneAgainBy (moment_of self.old.state at) self.old.state.requests → IfOk result (λ out. IsTime self.old.server self.old.state at out self.new.state) }
-        ensures happens { (due : ℕ) → IsNext self.old.state.requests due → due ≤ moment_of self.old.state at → IfOk result (λ out. IsDeadline self.old.server self.old.state at out self.new.state ⊎ IsResend self.old.server self.old.state at out self.new.state) }
-        ensures in_order { (due : ℕ) → IsNext self.old.state.requests due → due ≤ moment_of self.old.state at → IfOk result (λ out. IsFiredFirst self.old.server self.old.timers self.old.state at out self.new.state) }
+        ensures waited { NoneBy (moment_of self.old.state at) self.old.state.requests
+            → NoneAgainBy (moment_of self.old.state at) self.old.state.requests
+            → IfOk result (λ out. IsTime self.old.server self.old.state at out self.new.state) }
+        ensures happens { (due : ℕ) → IsNext self.old.state.requests due → due ≤ moment_of self.old.state at
+            → IfOk result (λ out. IsDeadline self.old.server self.old.state at out self.new.state
+            ⊎ IsResend self.old.server self.old.state at out self.new.state) }
+        ensures in_order { (due : ℕ) → IsNext self.old.state.requests due → due ≤ moment_of self.old.state at
+            → IfOk result (λ out. IsFiredFirst self.old.server self.old.timers self.old.state at out self.new.state) }
         ensures at_first { (due : ℕ) → IsNext self.old.state.requests due → due ≤ moment_of self.old.state at → IfOk result (λ out. out.at ≡ due) }
         ensures at_moment { IfOk result (λ out. out.at ≡ self.new.state.moment) }
         ensures in_time { IfOk result (λ out. out.at ≤ moment_of self.old.state at) }
@@ -143,7 +151,8 @@ impl<T: Timers, R: Rules> Engine<T, R> {
         from: Addr,
         bytes: &[u8],
     ) -> Result<StepOut, StepError>
-        requires { at < 2 ^ 62 → NoneBy (moment_of self.old.state at) self.old.state.requests × NoneAgainBy (moment_of self.old.state at) self.old.state.requests }
+        requires { at < 2 ^ 62 → NoneBy (moment_of self.old.state at) self.old.state.requests
+            × NoneAgainBy (moment_of self.old.state at) self.old.state.requests }
         ensures refused { IfSome (refusal_of self.old.state at) (λ e. result ≡ Err e) }
         ensures otherwise { refusal_of self.old.state at ≡ None → IfErr result (λ e. e ≡ NoMemory) }
         ensures unchanged { OnErr result (self.new ≡ self.old) }
@@ -165,7 +174,8 @@ impl<T: Timers, R: Rules> Engine<T, R> {
     /// as lost on its way. A moment that goes back counts as the last one; nothing is due before it. Refused with
     /// `MomentTooLarge` from 2^62, and with `NoMemory`; nothing is changed then.
     pub fn fault(&mut self, at: u64, ticket: Ticket) -> Result<StepOut, StepError>
-        requires { at < 2 ^ 62 → NoneBefore (moment_of self.old.state at) self.old.state.requests × NoneAgainBefore (moment_of self.old.state at) self.old.state.requests }
+        requires { at < 2 ^ 62 → NoneBefore (moment_of self.old.state at) self.old.state.requests
+            × NoneAgainBefore (moment_of self.old.state at) self.old.state.requests }
         ensures refused { IfSome (refusal_at at) (λ e. result ≡ Err e) }
         ensures otherwise { refusal_at at ≡ None → IfErr result (λ e. e ≡ NoMemory) }
         ensures never_refused { refusal_at at ≡ None → failed_of ticket self.old.state.requests ≡ None → IsOk result }

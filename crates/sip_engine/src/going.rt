@@ -51,7 +51,8 @@ pub(crate) fn go_to<T: Timers>(
     requires rows { hops.now.addresses ≡ server.now.config.addresses }
     requires minute { judged.now.minute ≡ Definition.minute_on server.now judged.now.question }
     requires somebody { are_somebody targets.now ≡ true }
-    ensures does { IfOk result (λ out. Takes server.now proxy.old.state arrival message.now (Definition.Send judged.now.question rule targets.now) out proxy.new.state) }
+    ensures does { IfOk result (λ out. Takes server.now proxy.old.state arrival message.now
+        (Definition.Send judged.now.question rule targets.now) out proxy.new.state) }
     ensures unchanged { OnErr result (proxy.new.state ≡ proxy.old.state) }
     ensures timers { OnErr result (proxy.new.timers ≡ proxy.old.timers) }
 {

@@ -13,7 +13,8 @@ use sip_model::order::{no_deadline_passed, numbers_differ};
 pub(crate) fn reached_states_are_sound()
     ensures none_before { (server : Server) (state : ProxyState) → IsReached server state → NoneBefore state.moment state.requests }
     ensures none_again { (server : Server) (state : ProxyState) → IsReached server state → NoneAgainBefore state.moment state.requests }
-    ensures below { (server : Server) (state : ProxyState) → IsReached server state → All (λ (r : OpenRequest). r.number < state.next) state.requests }
+    ensures below { (server : Server) (state : ProxyState) → IsReached server state
+        → All (λ (r : OpenRequest). r.number < state.next) state.requests }
 {
     no_deadline_passed();
     numbers_differ();

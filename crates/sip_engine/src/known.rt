@@ -65,7 +65,8 @@ fn take_ack<T: Timers, R: Rules>(
     requires coming { IsComing proxy.old.state arrival }
     requires request { IsRequestOf method.now message.now.start }
     requires via { top_via message.now ≡ Some via.now }
-    ensures does { IfOk result (λ out. Takes judge.now proxy.old.state arrival message.now (Definition.ack_verdict judge.now proxy.old.state arrival.now message.now short) out proxy.new.state) }
+    ensures does { IfOk result (λ out. Takes judge.now proxy.old.state arrival message.now
+        (Definition.ack_verdict judge.now proxy.old.state arrival.now message.now short) out proxy.new.state) }
     ensures unchanged { OnErr result (proxy.new.state ≡ proxy.old.state) }
     ensures timers { OnErr result (proxy.new.timers ≡ proxy.old.timers) }
 {
@@ -100,7 +101,8 @@ pub(crate) fn take_known<T: Timers, R: Rules>(
     requires request { IsRequestOf method.now message.now.start }
     requires via { top_via message.now ≡ Some via.now }
     ensures does { IfOk result (λ out. (key : Key) (r : OpenRequest) → slice_get proxy.old.state.requests place ≡ Some r
-        → Takes judge.now proxy.old.state arrival message.now (Definition.by_open judge.now proxy.old.state (arrival_of arrival) message.now short method.now key (Some r)) out proxy.new.state) }
+        → Takes judge.now proxy.old.state arrival message.now
+        (Definition.by_open judge.now proxy.old.state (arrival_of arrival) message.now short method.now key (Some r)) out proxy.new.state) }
     ensures unchanged { OnErr result (proxy.new.state ≡ proxy.old.state) }
     ensures timers { OnErr result (proxy.new.timers ≡ proxy.old.timers) }
 {

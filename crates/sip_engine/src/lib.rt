@@ -3,6 +3,14 @@
 //! refused with nothing changed. A datagram is read, what it belongs to is found, and one step is taken for it, whole or not
 //! at all: the bytes say a message or are dropped; a response finds the branch that it is to; a request finds the open one
 //! with its key, or is new, and is judged (`take_datagram`).
+//!
+//! - Used: `sip_run` over a list of events, `sip_replay` over a script, `sip_loop` over a link.
+//! - Not here: a socket or a clock (`sip_loop_link`).
+//! - Tried: `test_engine`, `test_server`.
+//!
+//! ```text
+//! let out = engine.deliver(at, word, from, datagram)?;
+//! ```
 #![tactic(auto)]
 
 mod answering;
@@ -15,7 +23,6 @@ mod going;
 mod histories;
 mod keeping;
 mod known;
-pub mod laws;
 mod new;
 mod responses;
 mod served;

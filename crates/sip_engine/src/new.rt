@@ -40,7 +40,8 @@ pub(crate) fn take_new<T: Timers, R: Rules>(
     requires via { top_via message.now ≡ Some via.now }
     requires key { key_of message.now ≡ Some key }
     requires alone { position (has_key key) proxy.old.state.requests ≡ None }
-    ensures does { IfOk result (λ out. Takes judge.now proxy.old.state arrival message.now (Definition.new_verdict judge.now proxy.old.state (arrival_of arrival) message.now short method.now key) out proxy.new.state) }
+    ensures does { IfOk result (λ out. Takes judge.now proxy.old.state arrival message.now
+        (Definition.new_verdict judge.now proxy.old.state (arrival_of arrival) message.now short method.now key) out proxy.new.state) }
     ensures unchanged { OnErr result (proxy.new.state ≡ proxy.old.state) }
     ensures timers { OnErr result (proxy.new.timers ≡ proxy.old.timers) }
 {

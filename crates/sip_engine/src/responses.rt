@@ -22,7 +22,8 @@ use std::alloc::{AllocError, Global};
 /// Whether a response to the branch at these places is taken: it has a second Via, or is to a CANCEL of this server.
 fn is_taken<T: Timers>(proxy: &Proxy<T>, place: usize, branch: usize, has_more_vias: bool) -> bool
     requires { IsSome (branch_at proxy.now.state.requests (place, branch)) }
-    ensures { (r : OpenRequest) (b : Branch) → branch_at proxy.now.state.requests (place, branch) ≡ Some (r, b) → result ≡ (b.is_cancel || has_more_vias) }
+    ensures { (r : OpenRequest) (b : Branch) → branch_at proxy.now.state.requests (place, branch) ≡ Some (r, b) → result
+        ≡ (b.is_cancel || has_more_vias) }
 {
     proxy.get(place).branches.as_slice()[branch].is_cancel || has_more_vias
 }
@@ -45,7 +46,8 @@ fn take_found<T: Timers>(
     requires rows { hops.now.addresses ≡ server.now.config.addresses }
     requires found { IsSome (branch_at proxy.old.state.requests (place, branch)) }
     ensures does { IfOk result (λ out. (r : OpenRequest) (b : Branch) → branch_at proxy.old.state.requests (place, branch) ≡ Some (r, b)
-        → Takes server.now proxy.old.state arrival message.now (if b.is_cancel || has_more_vias then Definition.Respond r b status else Definition.Drop) out proxy.new.state) }
+        → Takes server.now proxy.old.state arrival message.now
+        (if b.is_cancel || has_more_vias then Definition.Respond r b status else Definition.Drop) out proxy.new.state) }
     ensures unchanged { OnErr result (proxy.new.state ≡ proxy.old.state) }
     ensures timers { OnErr result (proxy.new.timers ≡ proxy.old.timers) }
 {
@@ -75,7 +77,8 @@ pub(crate) fn take_reply<T: Timers>(
     requires coming { IsComing proxy.old.state arrival }
     requires rows { hops.now.addresses ≡ server.now.config.addresses }
     requires response { IsResponse server.now.config.own message.now short status branch.now method.now has_more_vias }
-    ensures does { IfOk result (λ out. Takes server.now proxy.old.state arrival message.now (Definition.message_verdict server.now proxy.old.state (arrival_of arrival) message.now short) out proxy.new.state) }
+    ensures does { IfOk result (λ out. Takes server.now proxy.old.state arrival message.now
+        (Definition.message_verdict server.now proxy.old.state (arrival_of arrival) message.now short) out proxy.new.state) }
     ensures unchanged { OnErr result (proxy.new.state ≡ proxy.old.state) }
     ensures timers { OnErr result (proxy.new.timers ≡ proxy.old.timers) }
 {

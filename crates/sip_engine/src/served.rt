@@ -48,7 +48,8 @@ pub(crate) fn serve<T: Timers>(
     requires rows { hops.now.addresses ≡ server.now.config.addresses }
     requires room { HasRoom proxy.old.room decided }
     requires served { IsServed server.now proxy.old.state arrival key decided }
-    ensures does { IfOk result (λ out. (verdict : Definition.Verdict) → Is server.now proxy.old.state.bindings arrival.now (Definition.found_for_cancel proxy.old.state key arrival.from) verdict decided.entry
+    ensures does { IfOk result (λ out. (verdict : Definition.Verdict)
+        → Is server.now proxy.old.state.bindings arrival.now (Definition.found_for_cancel proxy.old.state key arrival.from) verdict decided.entry
         → Takes server.now proxy.old.state arrival message.now verdict out proxy.new.state) }
     ensures unchanged { OnErr result (proxy.new.state ≡ proxy.old.state) }
     ensures timers { OnErr result (proxy.new.timers ≡ proxy.old.timers) }

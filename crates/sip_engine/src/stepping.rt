@@ -3,7 +3,8 @@ ghost use Rattle.sip_event.specs.declared.event.Event.TheVariants.{Datagram, Fau
 ghost use Rattle.sip_engine_time.specs.Faults.{failed_of};
 ghost use Rattle.sip_engine_time.specs.Next.{IsNext};
 ghost use Rattle.sip_engine_time.specs.Timers.{IsFiredFirst};
-ghost use Rattle.sip_model.specs.steps_model.Step.{Given, Passing, IsDeadline, IsResend, IsStep, IsTime, NoneAgainBefore, NoneAgainBy, NoneBefore, NoneBy, moment_of};
+ghost use Rattle.sip_model.specs.steps_model.Step.{Given, Passing, IsDeadline, IsResend, IsStep, IsTime, NoneAgainBefore, NoneAgainBy};
+ghost use Rattle.sip_model.specs.steps_model.Step.{NoneBefore, NoneBy, moment_of};
 ghost use Rattle.sip_engine.specs.Engine.{IsReached};
 ghost use Rattle.sip_engine.specs.StepError.{is_too_large, refusal_at, refusal_of};
 ghost use Rattle.sip_engine.specs.declared.error.StepError.TheVariants.{NoMemory};
@@ -52,13 +53,19 @@ pub(crate) fn fire<T: Timers, R: Rules>(
     requires { IsReached judge.now proxy.old.state }
     ensures refused { IfSome (refusal_at at) (λ e. result ≡ Err e) }
     ensures otherwise { refusal_at at ≡ None → IfErr result (λ e. e ≡ NoMemory) }
-    ensures never_refused { refusal_at at ≡ None → NoneBy (moment_of proxy.old.state at) proxy.old.state.requests → NoneAgainBy (moment_of proxy.old.state at) proxy.old.state.requests → IsOk result }
+    ensures never_refused { refusal_at at ≡ None → NoneBy (moment_of proxy.old.state at) proxy.old.state.requests
+        → NoneAgainBy (moment_of proxy.old.state at) proxy.old.state.requests → IsOk result }
     ensures unchanged { OnErr result (proxy.new.state ≡ proxy.old.state) }
     ensures timers { OnErr result (proxy.new.timers ≡ proxy.old.timers) }
     ensures step { IfOk result (λ out. IsStep judge.now proxy.old.state (Passing at) out proxy.new.state) }
-    ensures waited { NoneBy (moment_of proxy.old.state at) proxy.old.state.requests → NoneAgainBy (moment_of proxy.old.state at) proxy.old.state.requests → IfOk result (λ out. IsTime judge.now proxy.old.state at out proxy.new.state) }
-    ensures happens { (due : ℕ) → IsNext proxy.old.state.requests due → due ≤ moment_of proxy.old.state at → IfOk result (λ out. IsDeadline judge.now proxy.old.state at out proxy.new.state ⊎ IsResend judge.now proxy.old.state at out proxy.new.state) }
-    ensures in_order { (due : ℕ) → IsNext proxy.old.state.requests due → due ≤ moment_of proxy.old.state at → IfOk result (λ out. IsFiredFirst judge.now proxy.old.timers proxy.old.state at out proxy.new.state) }
+    ensures waited { NoneBy (moment_of proxy.old.state at) proxy.old.state.requests
+        → NoneAgainBy (moment_of proxy.old.state at) proxy.old.state.requests
+        → IfOk result (λ out. IsTime judge.now proxy.old.state at out proxy.new.state) }
+    ensures happens { (due : ℕ) → IsNext proxy.old.state.requests due → due ≤ moment_of proxy.old.state at
+        → IfOk result (λ out. IsDeadline judge.now proxy.old.state at out proxy.new.state
+        ⊎ IsResend judge.now proxy.old.state at out proxy.new.state) }
+    ensures in_order { (due : ℕ) → IsNext proxy.old.state.requests due → due ≤ moment_of proxy.old.state at
+        → IfOk result (λ out. IsFiredFirst judge.now proxy.old.timers proxy.old.state at out proxy.new.state) }
     ensures at_first { (due : ℕ) → IsNext proxy.old.state.requests due → due ≤ moment_of proxy.old.state at → IfOk result (λ out. out.at ≡ due) }
     ensures at_moment { IfOk result (λ out. out.at ≡ proxy.new.state.moment) }
     ensures in_time { IfOk result (λ out. out.at ≤ moment_of proxy.old.state at) }
@@ -83,7 +90,8 @@ pub(crate) fn deliver<T: Timers, R: Rules>(
     bytes: &[u8],
 ) -> Result<StepOut, StepError>
     requires reached { IsReached judge.now proxy.old.state }
-    requires none_due { at < 2 ^ 62 → NoneBy (moment_of proxy.old.state at) proxy.old.state.requests × NoneAgainBy (moment_of proxy.old.state at) proxy.old.state.requests }
+    requires none_due { at < 2 ^ 62 → NoneBy (moment_of proxy.old.state at) proxy.old.state.requests
+        × NoneAgainBy (moment_of proxy.old.state at) proxy.old.state.requests }
     ensures refused { IfSome (refusal_of proxy.old.state at) (λ e. result ≡ Err e) }
     ensures otherwise { refusal_of proxy.old.state at ≡ None → IfErr result (λ e. e ≡ NoMemory) }
     ensures unchanged { OnErr result (proxy.new.state ≡ proxy.old.state) }
@@ -118,7 +126,8 @@ pub(crate) fn fault<T: Timers, R: Rules>(
     ticket: Ticket,
 ) -> Result<StepOut, StepError>
     requires reached { IsReached judge.now proxy.old.state }
-    requires none_due { at < 2 ^ 62 → NoneBefore (moment_of proxy.old.state at) proxy.old.state.requests × NoneAgainBefore (moment_of proxy.old.state at) proxy.old.state.requests }
+    requires none_due { at < 2 ^ 62 → NoneBefore (moment_of proxy.old.state at) proxy.old.state.requests
+        × NoneAgainBefore (moment_of proxy.old.state at) proxy.old.state.requests }
     ensures refused { IfSome (refusal_at at) (λ e. result ≡ Err e) }
     ensures otherwise { refusal_at at ≡ None → IfErr result (λ e. e ≡ NoMemory) }
     ensures never_refused { refusal_at at ≡ None → failed_of ticket proxy.old.state.requests ≡ None → IsOk result }

@@ -25,7 +25,8 @@ pub record IsAnswered (server : Server) (rows : List Binding) (now : ℕ) (judge
 
 -- ---- what is opened
 
--- A request that came in a datagram can be opened in a state: there is room for it, no open one has its key, its parts fit their transactions, and its moments are near that of the datagram.
+-- A request that came in a datagram can be opened in a state: there is room for it, no open one has its key, its parts fit their
+-- transactions, and its moments are near that of the datagram.
 pub record IsOpenableIn (state : ProxyState) (a : Arrival) (r : OpenRequest) : Type 0 where
   pub space : Definition.is_full state ≡ false
   pub alone : position (has_key r.key) state.requests ≡ None

@@ -40,7 +40,8 @@ pub fn take_answered<T: Timers>(
     requires alone { position (has_key key) proxy.old.state.requests ≡ None }
     requires final_status { IsFinalAnswer status }
     ensures does { IfOk result (λ out. Does server.now proxy.old.state arrival.now
-        (effect_of server.now (arrival_of arrival) request (Definition.Answer status extras.now) (counted (arrival_of arrival) proxy.old.state)) out proxy.new.state) }
+        (effect_of server.now (arrival_of arrival) request (Definition.Answer status extras.now)
+        (counted (arrival_of arrival) proxy.old.state)) out proxy.new.state) }
     ensures unchanged { OnErr result (proxy.new.state ≡ proxy.old.state) }
     ensures timers { OnErr result (proxy.new.timers ≡ proxy.old.timers) }
 {

@@ -63,8 +63,10 @@ fn agree(
 ) -> Result<Agreed, AllocError>
     requires key { key_of request ≡ Some key }
     requires now { arrival.now + 32000 < 2 ^ 64 }
-    ensures packet { IfOk result (λ agreed. agreed.packet ≡ answer_packet false arrival.number request arrival.from (text_of (made_answer server.now arrival.number request arrival.from 200 []))) }
-    ensures opened { IfOk result (λ agreed. agreed.opened ≡ closing (arrival_of arrival) request 200 (text_of (made_answer server.now arrival.number request arrival.from 200 []))) }
+    ensures packet { IfOk result (λ agreed. agreed.packet ≡ answer_packet false arrival.number request arrival.from
+        (text_of (made_answer server.now arrival.number request arrival.from 200 []))) }
+    ensures opened { IfOk result (λ agreed. agreed.opened ≡ closing (arrival_of arrival) request 200
+        (text_of (made_answer server.now arrival.number request arrival.from 200 []))) }
     ensures opens { IfOk result (λ agreed. IsOpenable arrival key agreed.opened) }
 {
     opens_fitting();
@@ -132,7 +134,8 @@ fn cancel_at<T: Timers>(
     requires rows { hops.now.addresses ≡ server.now.config.addresses }
     requires place { place < length proxy.old.state.requests }
     ensures does { IfOk result (λ out. Does server.now proxy.old.state arrival.now
-        (effect_of server.now (arrival_of arrival) request (Definition.Cancel (slice_get proxy.old.state.requests place)) (counted (arrival_of arrival) proxy.old.state)) out proxy.new.state) }
+        (effect_of server.now (arrival_of arrival) request (Definition.Cancel (slice_get proxy.old.state.requests place))
+        (counted (arrival_of arrival) proxy.old.state)) out proxy.new.state) }
     ensures unchanged { OnErr result (proxy.new.state ≡ proxy.old.state) }
     ensures timers { OnErr result (proxy.new.timers ≡ proxy.old.timers) }
 {
@@ -167,7 +170,9 @@ pub fn take_cancel<T: Timers>(
     requires space { Definition.is_full proxy.old.state ≡ false }
     requires rows { hops.now.addresses ≡ server.now.config.addresses }
     ensures does { IfOk result (λ out. Does server.now proxy.old.state arrival.now
-        (effect_of server.now (arrival_of arrival) request (Definition.Cancel (Definition.found_for_cancel proxy.old.state key (arrival_of arrival).from)) (counted (arrival_of arrival) proxy.old.state)) out proxy.new.state) }
+        (effect_of server.now (arrival_of arrival) request (Definition.Cancel
+        (Definition.found_for_cancel proxy.old.state key (arrival_of arrival).from)) (counted (arrival_of arrival) proxy.old.state)) out
+        proxy.new.state) }
     ensures unchanged { OnErr result (proxy.new.state ≡ proxy.old.state) }
     ensures timers { OnErr result (proxy.new.timers ≡ proxy.old.timers) }
 {

@@ -26,7 +26,8 @@ fn take_challenge<T: Timers>(proxy: &mut Proxy<T>, arrival: Arrival, outcome: &O
 /// The bindings take the plan of what was decided, if it has one (RFC 3261 10.3). Takes no memory.
 fn take_plan<T: Timers>(proxy: &mut Proxy<T>, outcome: Outcome)
     requires { HasRoomFor proxy.old.room outcome }
-    ensures bound { (now : ℕ) (after : List Binding) → AreBound now (plan_of outcome) proxy.old.state.bindings after → SameBindings now proxy.new.state.bindings after }
+    ensures bound { (now : ℕ) (after : List Binding) → AreBound now (plan_of outcome) proxy.old.state.bindings after
+        → SameBindings now proxy.new.state.bindings after }
     ensures rest { proxy.new.state ≡ with_bindings proxy.new.state.bindings proxy.old.state }
 {
     match outcome.into_plan() {
@@ -39,8 +40,10 @@ fn take_plan<T: Timers>(proxy: &mut Proxy<T>, outcome: Outcome)
 /// issues its nonce, and a REGISTER makes its bindings (RFC 2617 3.2.2, RFC 3261 10.3, 22.1). Takes no memory.
 pub(crate) fn take_decision<T: Timers>(proxy: &mut Proxy<T>, arrival: Arrival, judged: Judged<'_>)
     requires { HasRoomFor proxy.old.room judged.outcome }
-    ensures bound { (now : ℕ) (after : List Binding) → AreBound now (plan_of judged.entry.outcome) proxy.old.state.bindings after → SameBindings now proxy.new.state.bindings after }
-    ensures rest { proxy.new.state ≡ with_nonces (after_asking (arrival_of arrival) judged.entry proxy.old.state.nonces) (with_bindings proxy.new.state.bindings proxy.old.state) }
+    ensures bound { (now : ℕ) (after : List Binding) → AreBound now (plan_of judged.entry.outcome) proxy.old.state.bindings after
+        → SameBindings now proxy.new.state.bindings after }
+    ensures rest { proxy.new.state ≡ with_nonces (after_asking (arrival_of arrival) judged.entry proxy.old.state.nonces)
+        (with_bindings proxy.new.state.bindings proxy.old.state) }
 {
     proxy.spend(&judged.question.proof, arrival.now);
     take_challenge(proxy, arrival, &judged.outcome);

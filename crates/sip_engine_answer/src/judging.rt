@@ -45,8 +45,10 @@ pub fn take_judged<T: Timers>(
     requires here { Asking.is_answered_here judged.outcome ≡ true }
     requires room { HasRoomFor proxy.old.room judged.outcome }
     requires answers { IsAnswered server.now proxy.old.state.bindings arrival.now judged }
-    ensures does { IfOk result (λ out. (named : Option OpenRequest) (verdict : Definition.Verdict) → Is server.now proxy.old.state.bindings arrival.now named verdict (Arrived.Judged judged.entry)
-        → Does server.now proxy.old.state arrival.now (effect_of server.now (arrival_of arrival) request verdict (counted (arrival_of arrival) proxy.old.state)) out proxy.new.state) }
+    ensures does { IfOk result (λ out. (named : Option OpenRequest) (verdict : Definition.Verdict)
+        → Is server.now proxy.old.state.bindings arrival.now named verdict (Arrived.Judged judged.entry)
+        → Does server.now proxy.old.state arrival.now (effect_of server.now (arrival_of arrival) request verdict
+        (counted (arrival_of arrival) proxy.old.state)) out proxy.new.state) }
     ensures unchanged { OnErr result (proxy.new.state ≡ proxy.old.state) }
     ensures timers { OnErr result (proxy.new.timers ≡ proxy.old.timers) }
 {

@@ -70,7 +70,8 @@ pub(crate) fn take_draft<T: Timers>(
 ) -> Result<StepOut, AllocError>
     requires coming { IsComing proxy.old.state arrival }
     requires opens { IfSome draft.opened (IsOpenableIn proxy.old.state arrival) }
-    ensures becomes { OnOk result (Becomes arrival.now (with_opened draft.opened proxy.old.state.requests) [] (counted (arrival_of arrival) proxy.old.state) proxy.new.state) }
+    ensures becomes { OnOk result (Becomes arrival.now (with_opened draft.opened proxy.old.state.requests) []
+        (counted (arrival_of arrival) proxy.old.state) proxy.new.state) }
     ensures out { IfOk result (λ out. out ≡ record { at = arrival.now; packets = draft.packets; records = draft.records }) }
     ensures unchanged { OnErr result (proxy.new.state ≡ proxy.old.state) }
     ensures timers { OnErr result (proxy.new.timers ≡ proxy.old.timers) }

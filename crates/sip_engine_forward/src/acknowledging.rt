@@ -35,7 +35,8 @@ pub fn send_ack<T: Timers>(
     requires coming { IsComing proxy.old.state arrival }
     requires rows { hops.now.addresses ≡ server.now.config.addresses }
     ensures does { IfOk result (λ out. Does server.now proxy.old.state arrival.now
-        (effect_of server.now (arrival_of arrival) request.now (Definition.AckOn address id) (counted (arrival_of arrival) proxy.old.state)) out proxy.new.state) }
+        (effect_of server.now (arrival_of arrival) request.now (Definition.AckOn address id) (counted (arrival_of arrival) proxy.old.state))
+        out proxy.new.state) }
     ensures unchanged { OnErr result (proxy.new.state ≡ proxy.old.state) }
     ensures timers { OnErr result (proxy.new.timers ≡ proxy.old.timers) }
 {

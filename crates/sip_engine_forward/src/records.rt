@@ -62,7 +62,8 @@ pub(crate) fn records_of(
     targets: &Targets,
 ) -> Result<Items<Record>, AllocError>
     ensures { IfOk result (λ records. (server : Server) → judged.now.minute ≡ minute_on server judged.now.question
-        → records ≡ Effects.record_of server (arrival_of arrival) request.now judged.now.question (Sent rule (length (target_list targets.now))) ∷ []) }
+        → records ≡ Effects.record_of server (arrival_of arrival) request.now judged.now.question
+        (Sent rule (length (target_list targets.now))) ∷ []) }
 {
     let Some(targets) = count_of(targets) else {
         return Err(AllocError);

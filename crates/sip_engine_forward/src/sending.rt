@@ -48,7 +48,8 @@ pub fn send_to<T: Timers>(
     requires minute { judged.now.minute ≡ Definition.minute_on server.now judged.now.question }
     requires somebody { are_somebody targets.now ≡ true }
     ensures does { IfOk result (λ out. Does server.now proxy.old.state arrival.now
-        (effect_of server.now (arrival_of arrival) request (Definition.Send judged.now.question rule targets.now) (counted (arrival_of arrival) proxy.old.state)) out proxy.new.state) }
+        (effect_of server.now (arrival_of arrival) request (Definition.Send judged.now.question rule targets.now)
+        (counted (arrival_of arrival) proxy.old.state)) out proxy.new.state) }
     ensures unchanged { OnErr result (proxy.new.state ≡ proxy.old.state) }
     ensures timers { OnErr result (proxy.new.timers ≡ proxy.old.timers) }
 {

@@ -31,7 +31,8 @@ pub(crate) fn take_request<T: Timers>(
     requires alone { position (has_key forwarded.request.key) proxy.old.state.requests ≡ None }
     requires opens { IsOpenable (arrival_of arrival) forwarded.request.key forwarded.request }
     requires none_begins { beginnings forwarded.lessons ≡ 0 }
-    ensures becomes { OnOk result (Becomes arrival.now (with_one_more forwarded.request proxy.old.state.requests) forwarded.lessons (counted (arrival_of arrival) proxy.old.state) proxy.new.state) }
+    ensures becomes { OnOk result (Becomes arrival.now (with_one_more forwarded.request proxy.old.state.requests) forwarded.lessons
+        (counted (arrival_of arrival) proxy.old.state) proxy.new.state) }
     ensures packets { IfOk result (λ packets. packets ≡ forwarded.packets) }
     ensures unchanged { OnErr result (proxy.new.state ≡ proxy.old.state) }
     ensures timers { OnErr result (proxy.new.timers ≡ proxy.old.timers) }
@@ -56,7 +57,8 @@ pub(crate) fn take_lessons<T: Timers>(
 ) -> Result<(), AllocError>
     requires coming { IsComing proxy.old.state arrival }
     requires none_begins { beginnings lessons ≡ 0 }
-    ensures becomes { OnOk result (Becomes arrival.now proxy.old.state.requests lessons (counted (arrival_of arrival) proxy.old.state) proxy.new.state) }
+    ensures becomes { OnOk result (Becomes arrival.now proxy.old.state.requests lessons (counted (arrival_of arrival) proxy.old.state)
+        proxy.new.state) }
     ensures unchanged { OnErr result (proxy.new.state ≡ proxy.old.state) }
     ensures timers { OnErr result (proxy.new.timers ≡ proxy.old.timers) }
 {

@@ -43,7 +43,8 @@ pub fn send_within<T: Timers>(
     requires alone { position (has_key key) proxy.old.state.requests ≡ None }
     requires rows { hops.now.addresses ≡ server.now.config.addresses }
     ensures does { IfOk result (λ out. Does server.now proxy.old.state arrival.now
-        (effect_of server.now (arrival_of arrival) request (Definition.InDialog address id) (counted (arrival_of arrival) proxy.old.state)) out proxy.new.state) }
+        (effect_of server.now (arrival_of arrival) request (Definition.InDialog address id) (counted (arrival_of arrival) proxy.old.state))
+        out proxy.new.state) }
     ensures unchanged { OnErr result (proxy.new.state ≡ proxy.old.state) }
     ensures timers { OnErr result (proxy.new.timers ≡ proxy.old.timers) }
 {

@@ -21,16 +21,20 @@ use Rattle.sip_dialog_lessons.specs.state.declared.server.Server.{Server}
 abbrev pub left_by : Arrival → List OpenRequest → List Dialog → ProxyState → ProxyState
 left_by a requests dialogs old = record (counted (arrival_of a) old) { moment = a.now; requests = requests; dialogs = dialogs }
 
--- At its moment a datagram took its number, and a step put out these packets and no record; it left these open requests and these dialogs, and all else as it was.
-pub record Leaves (a : Arrival) (packets : List Packet) (requests : List OpenRequest) (dialogs : List Dialog) (old : ProxyState) (out : StepOut) (new : ProxyState) : Type 0 where
+-- At its moment a datagram took its number, and a step put out these packets and no record; it left these open requests and these
+-- dialogs, and all else as it was.
+pub record Leaves (a : Arrival) (packets : List Packet) (requests : List OpenRequest) (dialogs : List Dialog) (old : ProxyState)
+    (out : StepOut) (new : ProxyState) : Type 0 where
   pub at_moment : out.at ≡ a.now
   pub packets_are : out.packets ≡ packets
   pub records_are : out.records ≡ []
   pub leaves : SameState new (left_by a requests dialogs old)
 
--- What was drafted of a change of an open request: the request as it becomes, which is kept; what is sent for the first time, and what goes again beside it; and what the dialogs learn, of which at
+-- What was drafted of a change of an open request: the request as it becomes, which is kept; what is sent for the first time, and
+-- what goes again beside it; and what the dialogs learn, of which at
 -- most one begins (RFC 3261 12, 16.7).
-pub record IsDraftOf (rows : List HostAddress) (server : Server) (now : ℕ) (r : OpenRequest) (change : Change) (copies : List Packet) (draft : Draft) : Type 0 where
+pub record IsDraftOf (rows : List HostAddress) (server : Server) (now : ℕ) (r : OpenRequest) (change : Change) (copies : List Packet)
+    (draft : Draft) : Type 0 where
   pub request : draft.change ≡ change.request
   pub kept : IsKeptAs now r draft.change
   pub sent : AreSent (change_packets change) copies draft.drafted.packets

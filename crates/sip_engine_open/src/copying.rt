@@ -46,7 +46,8 @@ fn draft_ack<T: Timers>(
     requires place { place < length proxy.now.state.requests }
     requires later { proxy.now.state.moment ≤ now }
     requires small { now < 2 ^ 62 }
-    ensures request { IfOk result (λ draft. (r : OpenRequest) → slice_get proxy.now.state.requests place ≡ Some r → draft.change ≡ acknowledged now r) }
+    ensures request { IfOk result (λ draft. (r : OpenRequest) → slice_get proxy.now.state.requests place ≡ Some r → draft.change
+        ≡ acknowledged now r) }
     ensures kept { IfOk result (λ draft. (r : OpenRequest) → slice_get proxy.now.state.requests place ≡ Some r → IsKeptAs now r draft.change) }
     ensures sends { IfOk result (λ draft. draft.drafted.packets ≡ []) }
     ensures tells { IfOk result (λ draft. draft.drafted.lessons ≡ []) }
@@ -75,8 +76,10 @@ fn acknowledge<T: Timers>(
 ) -> Result<StepOut, AllocError>
     requires coming { IsComing proxy.old.state arrival }
     requires place { place < length proxy.old.state.requests }
-    ensures does { IfOk result (λ out. (server : Server) (m : Message) (r : OpenRequest) → bytes_eq (method_of m.start) (codes "ACK") ≡ true → slice_get proxy.old.state.requests place ≡ Some r
-        → Does server proxy.old.state arrival.now (effect_of server (arrival_of arrival) m (Copy r) (counted (arrival_of arrival) proxy.old.state)) out proxy.new.state) }
+    ensures does { IfOk result (λ out. (server : Server) (m : Message) (r : OpenRequest) → bytes_eq (method_of m.start) (codes "ACK") ≡ true
+        → slice_get proxy.old.state.requests place ≡ Some r
+        → Does server proxy.old.state arrival.now (effect_of server (arrival_of arrival) m (Copy r)
+        (counted (arrival_of arrival) proxy.old.state)) out proxy.new.state) }
     ensures unchanged { OnErr result (proxy.new.state ≡ proxy.old.state) }
     ensures timers { OnErr result (proxy.new.timers ≡ proxy.old.timers) }
 {
@@ -94,8 +97,10 @@ fn answer_again<T: Timers>(
 ) -> Result<StepOut, AllocError>
     requires coming { IsComing proxy.old.state arrival }
     requires place { place < length proxy.old.state.requests }
-    ensures does { IfOk result (λ out. (server : Server) (m : Message) (r : OpenRequest) → bytes_eq (method_of m.start) (codes "ACK") ≡ false → slice_get proxy.old.state.requests place ≡ Some r
-        → Does server proxy.old.state arrival.now (effect_of server (arrival_of arrival) m (Copy r) (counted (arrival_of arrival) proxy.old.state)) out proxy.new.state) }
+    ensures does { IfOk result (λ out. (server : Server) (m : Message) (r : OpenRequest) → bytes_eq (method_of m.start) (codes "ACK")
+        ≡ false → slice_get proxy.old.state.requests place ≡ Some r
+        → Does server proxy.old.state arrival.now (effect_of server (arrival_of arrival) m (Copy r)
+        (counted (arrival_of arrival) proxy.old.state)) out proxy.new.state) }
     ensures unchanged { OnErr result (proxy.new.state ≡ proxy.old.state) }
     ensures timers { proxy.new.timers ≡ proxy.old.timers }
 {
@@ -121,7 +126,8 @@ pub fn take_copy<T: Timers>(
     requires place { place < length proxy.old.state.requests }
     requires request { IsRequestOf method.now request.now.start }
     ensures does { IfOk result (λ out. (r : OpenRequest) → slice_get proxy.old.state.requests place ≡ Some r
-        → Does server.now proxy.old.state arrival.now (effect_of server.now (arrival_of arrival) request.now (Copy r) (counted (arrival_of arrival) proxy.old.state)) out proxy.new.state) }
+        → Does server.now proxy.old.state arrival.now (effect_of server.now (arrival_of arrival) request.now (Copy r)
+        (counted (arrival_of arrival) proxy.old.state)) out proxy.new.state) }
     ensures unchanged { OnErr result (proxy.new.state ≡ proxy.old.state) }
     ensures timers { OnErr result (proxy.new.timers ≡ proxy.old.timers) }
 {

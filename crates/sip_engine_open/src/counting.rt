@@ -46,7 +46,8 @@ pub(crate) fn change<T: Timers>(
     requires place { place < length proxy.old.state.requests }
     requires kept { (r : OpenRequest) → slice_get proxy.old.state.requests place ≡ Some r → IsKeptAs arrival.now r draft.change }
     requires few { beginnings draft.drafted.lessons ≤ 1 }
-    ensures leaves { IfOk result (λ out. Leaves arrival draft.drafted.packets (replaced draft.change proxy.old.state.requests) (after_lessons arrival.now draft.drafted.lessons proxy.old.state.dialogs) proxy.old.state out proxy.new.state) }
+    ensures leaves { IfOk result (λ out. Leaves arrival draft.drafted.packets (replaced draft.change proxy.old.state.requests)
+        (after_lessons arrival.now draft.drafted.lessons proxy.old.state.dialogs) proxy.old.state out proxy.new.state) }
     ensures unchanged { OnErr result (proxy.new.state ≡ proxy.old.state) }
     ensures timers { OnErr result (proxy.new.timers ≡ proxy.old.timers) }
 {

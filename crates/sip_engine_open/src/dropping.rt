@@ -19,8 +19,10 @@ use std::alloc::Global;
 /// 3261 18.3, in this project's profile). Never refused; takes no memory.
 pub fn take_dropped<T: Timers>(alloc: Global, proxy: &mut Proxy<T>, arrival: Arrival) -> StepOut
     requires { IsComing proxy.old.state arrival }
-    ensures says_none { (server : Server) → Does server proxy.old.state arrival.now (nothing (counted (arrival_of arrival) proxy.old.state)) result proxy.new.state }
-    ensures drops { (server : Server) (m : Message) → Does server proxy.old.state arrival.now (effect_of server (arrival_of arrival) m Drop (counted (arrival_of arrival) proxy.old.state)) result proxy.new.state }
+    ensures says_none { (server : Server) → Does server proxy.old.state arrival.now (nothing (counted (arrival_of arrival) proxy.old.state))
+        result proxy.new.state }
+    ensures drops { (server : Server) (m : Message) → Does server proxy.old.state arrival.now
+        (effect_of server (arrival_of arrival) m Drop (counted (arrival_of arrival) proxy.old.state)) result proxy.new.state }
     ensures timers { proxy.new.timers ≡ proxy.old.timers }
 {
     pass(alloc, proxy, arrival, Items::new(alloc))

@@ -18,8 +18,11 @@ ghost use Rattle.sip_engine_open.specs.Steps.{left_by};
 /// these open requests and what the lessons make of the dialogs; and by a change of an open request, as the change says.
 pub fn counted_states_are_same()
     ensures left { (a : Arrival) (requests : List OpenRequest) (lessons : List Lesson) (old middle new : ProxyState) → a.number ≡ old.next
-        → Becomes a.now requests lessons old middle → IsCounted middle new → SameState new (left_by a requests (after_lessons a.now lessons old.dialogs) old) }
-    ensures changed { (rows : List HostAddress) (server : Server) (a : Arrival) (change : Change) (lessons : List Lesson) (old middle new : ProxyState) → a.number ≡ old.next → server.config.addresses ≡ rows
-        → Teach rows server a.now lessons (dialogs_after server a.now change) → Becomes a.now (replaced change.request old.requests) lessons old middle → IsCounted middle new
+        → Becomes a.now requests lessons old middle → IsCounted middle new
+        → SameState new (left_by a requests (after_lessons a.now lessons old.dialogs) old) }
+    ensures changed { (rows : List HostAddress) (server : Server) (a : Arrival) (change : Change) (lessons : List Lesson)
+        (old middle new : ProxyState) → a.number ≡ old.next → server.config.addresses ≡ rows
+        → Teach rows server a.now lessons (dialogs_after server a.now change)
+        → Becomes a.now (replaced change.request old.requests) lessons old middle → IsCounted middle new
         → SameState new (changed server a.now (counted (arrival_of a) old) change).state }
 {}

@@ -27,7 +27,8 @@ use std::alloc::{AllocError, Global};
 /// Places at which an open request and its branch are found are places of theirs.
 fn found_places_are_within()
     ensures request { (requests : List OpenRequest) (place branch : ℕ) → IsSome (branch_at requests (place, branch)) → place < length requests }
-    ensures branch { (requests : List OpenRequest) (place branch : ℕ) (r : OpenRequest) → IsSome (branch_at requests (place, branch)) → slice_get requests place ≡ Some r → branch < length r.branches }
+    ensures branch { (requests : List OpenRequest) (place branch : ℕ) (r : OpenRequest) → IsSome (branch_at requests (place, branch))
+        → slice_get requests place ≡ Some r → branch < length r.branches }
 {}
 
 /// The branch of an open request at a place.
@@ -55,7 +56,8 @@ fn draft_response<T: Timers>(
     requires later { proxy.now.state.moment ≤ now }
     requires small { now < 2 ^ 62 }
     ensures draft { IfOk result (λ draft. (found : OpenRequest × Branch) → branch_at proxy.now.state.requests (place, branch) ≡ Some found
-        → IsDraftOf hops.now.addresses server.now now found.0 (responded server.now now found.0 found.1 status response.now) (acked_again server.now found.0 found.1 status) draft) }
+        → IsDraftOf hops.now.addresses server.now now found.0 (responded server.now now found.0 found.1 status response.now)
+        (acked_again server.now found.0 found.1 status) draft) }
     ensures kept { IfOk result (λ draft. (r : OpenRequest) → slice_get proxy.now.state.requests place ≡ Some r → IsKeptAs now r draft.change) }
     ensures few { IfOk result (λ draft. beginnings draft.drafted.lessons ≤ 1) }
 {
@@ -87,7 +89,8 @@ pub fn take_response<T: Timers>(
     requires found { IsSome (branch_at proxy.old.state.requests (place, branch)) }
     requires rows { hops.now.addresses ≡ server.now.config.addresses }
     ensures does { IfOk result (λ out. (found : OpenRequest × Branch) → branch_at proxy.old.state.requests (place, branch) ≡ Some found
-        → Does server.now proxy.old.state arrival.now (effect_of server.now (arrival_of arrival) response.now (Respond found.0 found.1 status) (counted (arrival_of arrival) proxy.old.state)) out proxy.new.state) }
+        → Does server.now proxy.old.state arrival.now (effect_of server.now (arrival_of arrival) response.now
+        (Respond found.0 found.1 status) (counted (arrival_of arrival) proxy.old.state)) out proxy.new.state) }
     ensures unchanged { OnErr result (proxy.new.state ≡ proxy.old.state) }
     ensures timers { OnErr result (proxy.new.timers ≡ proxy.old.timers) }
 {

@@ -13,7 +13,8 @@ use Rattle.sip_dialog_lessons.specs.state.declared.server.Server.{Server}
 -- the open request of a ticket, with the branch that the ticket names, if nothing was heard of that
 abbrev pub failed_of : Ticket → List OpenRequest → Option (OpenRequest × Branch)
 failed_of ticket requests =
-    option_and_then (λ (r : OpenRequest). option_map (λ (b : Branch). (r, b)) (find (is_failed ticket.branch) r.branches)) (find (λ (r : OpenRequest). r.number == ticket.datagram) requests)
+    option_and_then (λ (r : OpenRequest). option_map (λ (b : Branch). (r, b)) (find (is_failed ticket.branch) r.branches))
+    (find (λ (r : OpenRequest). r.number == ticket.datagram) requests)
 
 -- what a branch does that could not be sent to, if there is one: it counts as 503
 abbrev pub failing : Server → ℕ → ProxyState → Option (OpenRequest × Branch) → Effect

@@ -11,7 +11,8 @@ use Rattle.sip_proxy.specs.fork.declared.due.Due.{Due}
 use Rattle.sip_proxy.specs.forwarding.Forwarding.{AreSent, Teach}
 use Rattle.sip_hops.specs.declared.host_address.HostAddress.{HostAddress}
 use Rattle.sip_proxy.specs.context.declared.input.Input.{Input}
-use Rattle.sip_proxy.specs.context.declared.input.Input.TheVariants.{Response, BranchDeadline, SideDeadline, SendFault, Cancel, Ack, BranchAgain, AnswerAgain}
+use Rattle.sip_proxy.specs.context.declared.input.Input.TheVariants.{Response, BranchDeadline, SideDeadline, SendFault, Cancel, Ack}
+use Rattle.sip_proxy.specs.context.declared.input.Input.TheVariants.{BranchAgain, AnswerAgain}
 use Rattle.sip_dialog_lessons.specs.declared.lesson.Lesson.{Lesson}
 use Rattle.sip_proxy.specs.steps_model.Effect.{change_packets, dialogs_after}
 use Rattle.sip_proxy.specs.context_model.Retransmission.{answer_due, branch_due}
@@ -23,8 +24,10 @@ use Rattle.sip_dialog_lessons.specs.state.declared.server.Server.{Server}
 use Rattle.sip_timers.specs.declared.timer.Owner.{Owner}
 use Rattle.sip_timers.specs.declared.timer.Owner.TheVariants as Of
 
--- At its moment a step put out these packets and no record; it left these open requests, of the dialogs what these lessons make of them, and all else as it was.
-pub record Leaves (now : ℕ) (packets : List Packet) (requests : List OpenRequest) (lessons : List Lesson) (old : ProxyState) (out : StepOut) (new : ProxyState) : Type 0 where
+-- At its moment a step put out these packets and no record; it left these open requests, of the dialogs what these lessons make of
+-- them, and all else as it was.
+pub record Leaves (now : ℕ) (packets : List Packet) (requests : List OpenRequest) (lessons : List Lesson) (old : ProxyState) (out : StepOut)
+    (new : ProxyState) : Type 0 where
   pub at_moment : out.at ≡ now
   pub packets_are : out.packets ≡ packets
   pub records_are : out.records ≡ []
@@ -41,7 +44,8 @@ pub record IsBranchDue (moment_of : Branch → Option ℕ) (branches : List Bran
   pub there : Contains branches b
   pub is : moment_of b ≡ Some due
 
--- An input says what of a request is due at a moment: the last answer goes again, or what a branch sends; or the deadline of the answering side passes, or that of a branch (RFC 3261 17).
+-- An input says what of a request is due at a moment: the last answer goes again, or what a branch sends; or the deadline of the
+-- answering side passes, or that of a branch (RFC 3261 17).
 abbrev pub IsDueAs : OpenRequest → ℕ → Input → Type 0
 IsDueAs r due (Response branch status response) = ⊥
 IsDueAs r due (BranchDeadline branch) = IsBranchDue (λ (b : Branch). phase_deadline b.phase) r.branches branch.now due

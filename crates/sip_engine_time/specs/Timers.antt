@@ -20,12 +20,14 @@ IsOverdueOf owner (OfSide is) = owner ≡ Of.Server
 IsOverdueOf owner (OfBranch b there is) = is_of owner b ≡ true
 
 -- what goes again is of that part
-abbrev pub IsResentOf : {server : Server} {due : ℕ} {r : OpenRequest} {packets : List Packet} {next : OpenRequest} → Owner → IsResent server due r packets next → Type 0
+abbrev pub IsResentOf : {server : Server} {due : ℕ} {r : OpenRequest} {packets : List Packet} {next : OpenRequest} → Owner
+    → IsResent server due r packets next → Type 0
 IsResentOf owner (OfAnswer is) = owner ≡ Of.Server
 IsResentOf owner (OfRequest b there is) = is_of owner b ≡ true
 
 -- a deadline that passes, or something that goes again, is of the open request and the part that a timer names
-abbrev pub IsOfTimer : {server : Server} {old : ProxyState} {at : ℕ} {out : StepOut} {new : ProxyState} → Timer → IsDeadline server old at out new ⊎ IsResend server old at out new → Type 0
+abbrev pub IsOfTimer : {server : Server} {old : ProxyState} {at : ℕ} {out : StepOut} {new : ProxyState} → Timer
+    → IsDeadline server old at out new ⊎ IsResend server old at out new → Type 0
 IsOfTimer timer (inl passed) = (passed.request.number ≡ timer.name.request) × IsOverdueOf timer.name.owner passed.passes
 IsOfTimer timer (inr gone) = (gone.request.number ≡ timer.name.request) × IsResentOf timer.name.owner gone.goes
 

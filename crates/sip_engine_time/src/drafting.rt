@@ -50,8 +50,10 @@ pub(crate) fn draft_first<T: Timers>(
     requires first { IsFirst proxy.now.state.requests first }
     requires later { proxy.now.state.moment ≤ first.due }
     requires small { first.due < 2 ^ 62 }
-    ensures fired { IfOk result (λ draft. (r : OpenRequest) → slice_get proxy.now.state.requests first.place ≡ Some r → IsFired hops.now.addresses server.now first.due first.what r draft) }
-    ensures kept { IfOk result (λ draft. (r : OpenRequest) → slice_get proxy.now.state.requests first.place ≡ Some r → IsKeptAs first.due r draft.change) }
+    ensures fired { IfOk result (λ draft. (r : OpenRequest) → slice_get proxy.now.state.requests first.place ≡ Some r
+        → IsFired hops.now.addresses server.now first.due first.what r draft) }
+    ensures kept { IfOk result (λ draft. (r : OpenRequest) → slice_get proxy.now.state.requests first.place ≡ Some r
+        → IsKeptAs first.due r draft.change) }
     ensures few { IfOk result (λ draft. beginnings draft.drafted.lessons ≤ 1) }
 {
     let input = input_of(proxy.get(first.place), first);

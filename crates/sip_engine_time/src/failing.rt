@@ -24,7 +24,8 @@ use std::alloc::{AllocError, Global};
 /// Places at which an open request and its branch are found are places of theirs.
 fn found_places_are_within()
     ensures request { (requests : List OpenRequest) (place branch : ℕ) → IsSome (branch_at requests (place, branch)) → place < length requests }
-    ensures branch { (requests : List OpenRequest) (place branch : ℕ) (r : OpenRequest) → IsSome (branch_at requests (place, branch)) → slice_get requests place ≡ Some r → branch < length r.branches }
+    ensures branch { (requests : List OpenRequest) (place branch : ℕ) (r : OpenRequest) → IsSome (branch_at requests (place, branch))
+        → slice_get requests place ≡ Some r → branch < length r.branches }
 {}
 
 /// Whether nothing was heard of a branch.
@@ -109,7 +110,8 @@ fn fail<T: Timers>(
     requires moment { MayCome proxy.old.state now }
     requires rows { hops.now.addresses ≡ server.now.config.addresses }
     ensures does { IfOk result (λ out. (found : OpenRequest × Branch) → branch_at proxy.old.state.requests (place, branch) ≡ Some found
-        → Does server.now proxy.old.state now (changed server.now now proxy.old.state (send_failed server.now now found.0 found.1)) out proxy.new.state) }
+        → Does server.now proxy.old.state now (changed server.now now proxy.old.state (send_failed server.now now found.0 found.1)) out
+        proxy.new.state) }
     ensures at_moment { IfOk result (λ out. out.at ≡ now) }
     ensures moment { IfOk result (λ out. proxy.new.state.moment ≡ now) }
     ensures next_stays { IfOk result (λ out. proxy.new.state.next ≡ proxy.old.state.next) }
@@ -133,7 +135,8 @@ pub fn fault<T: Timers>(
 ) -> Result<StepOut, AllocError>
     requires moment { MayCome proxy.old.state now }
     requires rows { hops.now.addresses ≡ server.now.config.addresses }
-    ensures step { IfOk result (λ out. (at : ℕ) → now ≡ moment_of proxy.old.state at → IsFault server.now proxy.old.state at ticket out proxy.new.state) }
+    ensures step { IfOk result (λ out. (at : ℕ) → now ≡ moment_of proxy.old.state at
+        → IsFault server.now proxy.old.state at ticket out proxy.new.state) }
     ensures never_refused { failed_of ticket proxy.old.state.requests ≡ None → IsOk result }
     ensures at_moment { IfOk result (λ out. out.at ≡ now) }
     ensures moment { IfOk result (λ out. proxy.new.state.moment ≡ now) }

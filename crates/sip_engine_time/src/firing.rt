@@ -29,7 +29,8 @@ fn fire_first<T: Timers>(
     requires later { proxy.old.state.moment ≤ first.due }
     requires small { first.due < 2 ^ 62 }
     requires rows { hops.now.addresses ≡ server.now.config.addresses }
-    ensures step { IfOk result (λ out. (now : ℕ) → first.due ≤ now → IsFiredFirst server.now proxy.old.timers proxy.old.state now out proxy.new.state) }
+    ensures step { IfOk result (λ out. (now : ℕ) → first.due ≤ now
+        → IsFiredFirst server.now proxy.old.timers proxy.old.state now out proxy.new.state) }
     ensures at_first { IfOk result (λ out. out.at ≡ first.due) }
     ensures at_moment { IfOk result (λ out. out.at ≡ proxy.new.state.moment) }
     ensures next_stays { IfOk result (λ out. proxy.new.state.next ≡ proxy.old.state.next) }
@@ -57,10 +58,14 @@ pub fn fire<T: Timers>(
     requires none_before { NoneBefore proxy.old.state.moment proxy.old.state.requests }
     requires none_again { NoneAgainBefore proxy.old.state.moment proxy.old.state.requests }
     ensures step { IfOk result (λ out. IsStep server.now proxy.old.state (Passing now) out proxy.new.state) }
-    ensures waited { NoneBy now proxy.old.state.requests → NoneAgainBy now proxy.old.state.requests → IfOk result (λ out. IsTime server.now proxy.old.state now out proxy.new.state) }
+    ensures waited { NoneBy now proxy.old.state.requests → NoneAgainBy now proxy.old.state.requests
+        → IfOk result (λ out. IsTime server.now proxy.old.state now out proxy.new.state) }
     ensures never_refused { NoneBy now proxy.old.state.requests → NoneAgainBy now proxy.old.state.requests → IsOk result }
-    ensures happens { (due : ℕ) → IsNext proxy.old.state.requests due → due ≤ now → IfOk result (λ out. IsDeadline server.now proxy.old.state now out proxy.new.state ⊎ IsResend server.now proxy.old.state now out proxy.new.state) }
-    ensures in_order { (due : ℕ) → IsNext proxy.old.state.requests due → due ≤ now → IfOk result (λ out. IsFiredFirst server.now proxy.old.timers proxy.old.state now out proxy.new.state) }
+    ensures happens { (due : ℕ) → IsNext proxy.old.state.requests due → due ≤ now
+        → IfOk result (λ out. IsDeadline server.now proxy.old.state now out proxy.new.state
+        ⊎ IsResend server.now proxy.old.state now out proxy.new.state) }
+    ensures in_order { (due : ℕ) → IsNext proxy.old.state.requests due → due ≤ now
+        → IfOk result (λ out. IsFiredFirst server.now proxy.old.timers proxy.old.state now out proxy.new.state) }
     ensures fired { (due : ℕ) → IsNext proxy.old.state.requests due → due ≤ now → IfOk result (λ out. out.at ≡ due) }
     ensures at_moment { IfOk result (λ out. out.at ≡ proxy.new.state.moment) }
     ensures no_earlier { IfOk result (λ out. proxy.old.state.moment ≤ out.at) }

@@ -13,12 +13,14 @@ ghost use Rattle.sip_engine_time.specs.Next.{IsNext};
 pub fn next_moment_is_first()
     ensures before { (requests : List OpenRequest) (due moment : ℕ) → IsNext requests due → moment < due → NoneBy moment requests }
     ensures before_again { (requests : List OpenRequest) (due moment : ℕ) → IsNext requests due → moment < due → NoneAgainBy moment requests }
-    ensures from_then { (requests : List OpenRequest) (due moment : ℕ) → IsNext requests due → due ≤ moment → NoneBy moment requests → NoneAgainBy moment requests → ⊥ }
+    ensures from_then { (requests : List OpenRequest) (due moment : ℕ) → IsNext requests due → due ≤ moment → NoneBy moment requests
+        → NoneAgainBy moment requests → ⊥ }
     ensures never { (requests : List OpenRequest) (moment : ℕ) → IsNothingDue requests → NoneBy moment requests }
     ensures never_again { (requests : List OpenRequest) (moment : ℕ) → IsNothingDue requests → NoneAgainBy moment requests }
 {}
 
 /// A fault fails the branch that its ticket names, and one that names none changes nothing (RFC 3261 16.9).
 pub fn faults_fail_named_branches()
-    ensures { (server : Server) (now : ℕ) (ticket : Ticket) (state : ProxyState) → fault_effect server now ticket state ≡ failing server now state (failed_of ticket state.requests) }
+    ensures { (server : Server) (now : ℕ) (ticket : Ticket) (state : ProxyState) → fault_effect server now ticket state
+        ≡ failing server now state (failed_of ticket state.requests) }
 {}

@@ -1,6 +1,10 @@
 //! What happens without a datagram: a deadline passes, something goes again, time passes (RFC 3261 17, 16.8: Timer C), or a
 //! packet could not be sent (16.9). Each is one step, which is taken whole or is refused with nothing changed. No clock is
 //! read: the moment is handed in.
+//!
+//! - Used: `sip_engine`.
+//! - Not here: the clock, which whoever drives the engine reads.
+//! - Tried: `test_engine`, `test_server`.
 #![tactic(auto)]
 
 mod drafting;

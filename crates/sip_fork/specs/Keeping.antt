@@ -4,7 +4,8 @@ use Rattle.sip_dialog_lessons.specs.state.declared.branch.Branch.{Branch}
 use Rattle.sip_dialog_lessons.specs.state.declared.open_request.OpenRequest.{OpenRequest}
 use Rattle.model_steps.specs.context_model.Retransmission.{answer_due, branch_due}
 use Rattle.sip_context.specs.declared.input.Input.{Input}
-use Rattle.sip_context.specs.declared.input.Input.TheVariants.{Response, BranchDeadline, SideDeadline, SendFault, Cancel, Ack, BranchAgain, AnswerAgain}
+use Rattle.sip_context.specs.declared.input.Input.TheVariants.{Response, BranchDeadline, SideDeadline, SendFault, Cancel, Ack, BranchAgain}
+use Rattle.sip_context.specs.declared.input.Input.TheVariants.{AnswerAgain}
 use Rattle.sip_request.specs.transactions_model.Fits.{Fits}
 use Rattle.sip_request.specs.transactions_model.Near.{IsWithin}
 
@@ -24,7 +25,8 @@ IsOf r now Ack = Unit {0}
 IsOf r now (BranchAgain branch) = IsToSendAgain r now branch.now
 IsOf r now AnswerAgain = IsSomeAnd (answer_due r) (λ due. due ≤ now)
 
--- What a request becomes at a moment is kept: its parts fit their transactions, its moments are near that one, and its number and its key are what they were.
+-- What a request becomes at a moment is kept: its parts fit their transactions, its moments are near that one, and its number and
+-- its key are what they were.
 pub record IsKeptAs (now : ℕ) (r x : OpenRequest) : Type 0 where
   pub fits : Fits x
   pub within : IsWithin now x

@@ -6,4 +6,5 @@ use Rattle.sip_dialog_lessons.specs.state.declared.open_request.OpenRequest.{Ope
 
 -- the open request at a place, with its branch at a place
 abbrev pub branch_at : List OpenRequest → ℕ × ℕ → Option (OpenRequest × Branch)
-branch_at requests places = option_and_then (λ (r : OpenRequest). option_map (λ (b : Branch). (r, b)) (slice_get r.branches places.1)) (slice_get requests places.0)
+branch_at requests places = option_and_then (λ (r : OpenRequest). option_map (λ (b : Branch). (r, b)) (slice_get r.branches places.1))
+    (slice_get requests places.0)

@@ -13,7 +13,8 @@ use Rattle.sip_request.specs.transactions_model.Fits.{BranchFits, Fits}
 pub record Timing : Type 0 where
   pub branch_reasons : (r : OpenRequest) (b : Branch) → AllByRecursion (IsFor (branch_due r b) (phase_deadline b.phase)) (branch_timers r b)
   pub side_reasons : (r : OpenRequest) → AllByRecursion (IsFor (answer_due r) (side_deadline r.side)) (side_timers r)
-  pub branch_ends : (r : OpenRequest) (b : Branch) (due : ℕ) → BranchFits (is_invite r) b → phase_deadline b.phase ≡ Some due → 1 ≤ due_at due (branch_timers r b)
+  pub branch_ends : (r : OpenRequest) (b : Branch) (due : ℕ) → BranchFits (is_invite r) b → phase_deadline b.phase ≡ Some due → 1
+      ≤ due_at due (branch_timers r b)
   pub branch_again : (r : OpenRequest) (b : Branch) (due : ℕ) → branch_due r b ≡ Some due → 1 ≤ due_at due (branch_timers r b)
   pub side_ends : (r : OpenRequest) (due : ℕ) → Fits r → side_deadline r.side ≡ Some due → 1 ≤ due_at due (side_timers r)
   pub answer_again : (r : OpenRequest) (due : ℕ) → answer_due r ≡ Some due → 1 ≤ due_at due (side_timers r)

@@ -1,4 +1,5 @@
-ghost use Rattle.std.specs.Prelude.{◌≡◌, ◌<◌, ◌≤◌, ◌==◌, [], ℕ, false, ◌+◌, ◌-◌, ◌^◌, max, length, position, find, nat_le, slice_get, option_map, None, Some, IfOk, IfErr, IfSome, OnOk, MatchOption};
+ghost use Rattle.std.specs.Prelude.{◌≡◌, ◌<◌, ◌≤◌, ◌==◌, [], ℕ, false, ◌+◌, ◌-◌, ◌^◌, max, length, position, find, nat_le, slice_get};
+ghost use Rattle.std.specs.Prelude.{option_map, None, Some, IfOk, IfErr, IfSome, OnOk, MatchOption};
 ghost use Rattle.std.specs.List.{All, AllPairs};
 ghost use Rattle.std.specs.Option.{option_and_then};
 ghost use Rattle.sip_transaction_table.specs.Key.{same_key};
@@ -63,7 +64,15 @@ impl<T: Timers> Model for Contexts<T> {
 
     ghost Value = { Contexts };
 
-    ghost view = { λ c. record { requests = map (λ (r : Request). r.open_request) c.table.rows; pending = c.timers.pending; moment = c.moment; reached = c.timers.reached; places = c.table.room; room = c.timers.room } };
+    ghost view = { λ c. record {
+      requests = map (λ (r : Request). r.open_request) c.table.rows;
+      pending = c.timers.pending;
+      moment =
+          c.moment;
+      reached = c.timers.reached;
+      places = c.table.room;
+      room = c.timers.room;
+    } };
 
     ghost invariant = { λ c. AreWhole c.timers.pending c.moment c.timers.reached c.table.rows };
 }
@@ -148,7 +157,8 @@ impl<T: Timers> Contexts<T> {
     /// this method, by their places (RFC 3261 17.1.3): found by the two numbers in the text, in the time of a bisection and of
     /// a walk through the request's own branches. Takes no memory.
     pub fn find_branch(&self, server: &Server, text: &[u8], method: &[u8]) -> Option<(usize, usize)>
-        ensures { option_map (branch_at self.now.requests) result ≡ option_map (λ (found : OpenRequest × Branch). Some found) (found_branch server.now text.now method.now self.now.requests) }
+        ensures { option_map (branch_at self.now.requests) result
+            ≡ option_map (λ (found : OpenRequest × Branch). Some found) (found_branch server.now text.now method.now self.now.requests) }
     {
         found_by_numbers();
         let _rows = &self.table;
@@ -201,7 +211,8 @@ impl<T: Timers> Contexts<T> {
         requires later { self.now.moment ≤ now }
         requires small { now < 2 ^ 62 }
         requires about { (r : OpenRequest) → slice_get self.now.requests place ≡ Some r → IsOf r now input }
-        ensures outcome { IfOk result (λ prepared. (r : OpenRequest) → slice_get self.now.requests place ≡ Some r → outcome prepared.change prepared.sending ≡ outcome_of server.now now r input.entry) }
+        ensures outcome { IfOk result (λ prepared. (r : OpenRequest) → slice_get self.now.requests place ≡ Some r
+            → outcome prepared.change prepared.sending ≡ outcome_of server.now now r input.entry) }
         ensures kept { IfOk result (λ prepared. (r : OpenRequest) → slice_get self.now.requests place ≡ Some r → IsKeptAs now r prepared.change) }
     {
         inputs_fit();

@@ -11,12 +11,14 @@ ghost use Rattle.sip_fork.specs.Keeping.{IsOf};
 /// provisional response goes up its branch has no final answer, and behind a final answer no best one goes (RFC 3261
 /// 16.7 steps 5 and 6).
 pub fn one_answer_goes_up()
-    ensures input { (server : Server) (now : ℕ) (r : OpenRequest) (input : Input) → IsOf r now input → length (outcome_of server now r input).upward ≤ 1 }
+    ensures input { (server : Server) (now : ℕ) (r : OpenRequest) (input : Input) → IsOf r now input
+        → length (outcome_of server now r input).upward ≤ 1 }
     ensures opening { (server : Server) (now : ℕ) (r : OpenRequest) → length (opening server now r).upward ≤ 1 }
 {}
 
 /// So one dialog at most begins with it (RFC 3261 12.1).
 pub fn changes_begin_once()
-    ensures input { (server : Server) (now : ℕ) (r : OpenRequest) (input : Input) → IsOf r now input → count_by is_early_or_success (outcome_of server now r input).upward ≤ 1 }
+    ensures input { (server : Server) (now : ℕ) (r : OpenRequest) (input : Input) → IsOf r now input
+        → count_by is_early_or_success (outcome_of server now r input).upward ≤ 1 }
     ensures opening { (server : Server) (now : ℕ) (r : OpenRequest) → count_by is_early_or_success (opening server now r).upward ≤ 1 }
 {}

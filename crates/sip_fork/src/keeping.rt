@@ -34,7 +34,8 @@ pub fn inputs_fit()
 pub fn inputs_keep()
     ensures change { (server : Server) (bound now : ℕ) (r : OpenRequest) (input : Input) → Fits r → IsWithin bound r → bound ≤ now → IsOf r now input
         → IsKeptAs now r (outcome_of server now r input).request }
-    ensures planned { (server : Server) (bound now : ℕ) (r x : OpenRequest) (sending : Sending) (input : Input) → Fits r → IsWithin bound r → bound ≤ now → IsOf r now input
+    ensures planned { (server : Server) (bound now : ℕ) (r x : OpenRequest) (sending : Sending) (input : Input) → Fits r → IsWithin bound r
+        → bound ≤ now → IsOf r now input
         → outcome x sending ≡ outcome_of server now r input → IsKeptAs now r x }
 {
     branches_are_within();

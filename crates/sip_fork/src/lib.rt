@@ -4,6 +4,10 @@
 //! to an open request is planned here first, and leaves it as it is to be kept: its parts fit their transactions, its
 //! moments are near that of the last event, and its number and key stay. Nothing that changes a request takes memory: who
 //! plans reserves before. No moment is read here; who reaches one says so.
+//!
+//! - Used: `sip_proxy`.
+//! - Not here: the choice of targets: a call is forked by `sip_targets` and `sip_context_opening`.
+//! - Tried: `test_server` by its stored runs.
 #![tactic(auto)]
 
 mod change;

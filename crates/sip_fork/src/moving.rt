@@ -37,7 +37,8 @@ pub(crate) fn change_row<T: Timers>(
     requires tied { AreTied timers.old.pending timers.old.reached table.old.rows }
     requires same { (r : Request) → slice_get table.old.rows place ≡ Some r → IsSame r.open_request change }
     requires fitting { IsFitting timers.old.reached timers.old.room change }
-    ensures rows { map (λ (r : Request). r.open_request) table.new.rows ≡ slice_set (map (λ (r : Request). r.open_request) table.old.rows) place change }
+    ensures rows { map (λ (r : Request). r.open_request) table.new.rows
+        ≡ slice_set (map (λ (r : Request). r.open_request) table.old.rows) place change }
     ensures tied { AreTied timers.new.pending timers.new.reached table.new.rows }
     ensures places { table.new.room ≡ table.old.room }
     ensures room { timers.old.room ≤ timers.new.room + most_timers change }

@@ -14,7 +14,8 @@ use sip_request::transactions_model::openings::{answered_at_once, sent_on};
 /// A request that comes is opened as it is to be kept, with its own number and key: one that is answered at once, with
 /// a final answer; one that is sent to its targets, or on in its dialog (RFC 3261 16.6, 16.12, 17.2).
 pub fn openings_keep()
-    ensures answered { (a : Arrival) (m : Message) (status : ℕ) (text : List ℕ) → IsFinalAnswer status → IsKeptAs a.now (arriving a m) (closing a m status text) }
+    ensures answered { (a : Arrival) (m : Message) (status : ℕ) (text : List ℕ) → IsFinalAnswer status
+        → IsKeptAs a.now (arriving a m) (closing a m status text) }
     ensures targets { (server : Server) (a : Arrival) (m : Message) (targets : List Target)
         → IsKeptAs a.now (arriving a m) (opening server a.now (forking a m (branches_from a.now 1 targets))).request }
     ensures dialog { (server : Server) (a : Arrival) (m : Message) (address : Addr)

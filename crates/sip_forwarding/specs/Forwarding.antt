@@ -18,7 +18,8 @@ use Rattle.sip_context_opening.specs.steps_model.Step.{originals, retransmission
 use Rattle.sip_dialog_lessons.specs.declared.lesson.Lesson.{Lesson}
 use Rattle.sip_dialog_lessons.specs.Lessons.{after_lessons, beginnings}
 use Rattle.sip_context.specs.declared.input.Input.{Input}
-use Rattle.sip_context.specs.declared.input.Input.TheVariants.{Response, BranchDeadline, SideDeadline, SendFault, Cancel, Ack, BranchAgain, AnswerAgain}
+use Rattle.sip_context.specs.declared.input.Input.TheVariants.{Response, BranchDeadline, SideDeadline, SendFault, Cancel, Ack, BranchAgain}
+use Rattle.sip_context.specs.declared.input.Input.TheVariants.{AnswerAgain}
 use Rattle.sip_context.specs.Inputs.{Outcome}
 use Rattle.model_transactions.specs.Fits.{Fits}
 use Rattle.model_transactions.specs.Near.{IsWithin}
@@ -34,7 +35,8 @@ call_to a m targets = forking a m (branches_from a.now 1 (target_list targets))
 abbrev pub call_within : Server → Arrival → Message → Addr → OpenRequest
 call_within server a m address = forking a m (dialog_branch server a.now m address ∷ [])
 
--- A request can be opened: it has the number and the key with which it came, its parts fit their transactions, and its moments are near the one at which it came.
+-- A request can be opened: it has the number and the key with which it came, its parts fit their transactions, and its moments are
+-- near the one at which it came.
 pub record IsOpenable (a : Arrival) (under : Key) (r : OpenRequest) : Type 0 where
   pub number : r.number ≡ a.number
   pub key : r.key ≡ under
@@ -69,7 +71,8 @@ IsInputTo r Ack = Unit {0}
 IsInputTo r (BranchAgain branch) = Unit {0}
 IsInputTo r AnswerAgain = Unit {0}
 
--- What is drafted of an outcome: its change is sent for the first time, its copies again; the dialogs learn of the change, and at most one of them begins.
+-- What is drafted of an outcome: its change is sent for the first time, its copies again; the dialogs learn of the change, and at
+-- most one of them begins.
 pub record IsDraft (rows : List HostAddress) (server : Server) (now : ℕ) (o : Outcome) (d : Drafted) : Type 0 where
   pub sent : AreSent (change_packets (change_of o)) o.copies d.packets
   pub lessons : Teach rows server now d.lessons (dialogs_after server now (change_of o))

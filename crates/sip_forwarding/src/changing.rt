@@ -80,9 +80,12 @@ pub fn draft_change(
     sending: Sending,
 ) -> Result<Drafted, AllocError>
     ensures packets { IfOk result (λ drafted. drafted.packets ≡ Effects.change_packets (change_of (outcome request.now sending)) ++ sending.copies) }
-    ensures lessons { IfOk result (λ drafted. (server : Server) (now : ℕ) → Teach hops.now.addresses server now drafted.lessons (λ dialogs. Effects.dialogs_after server now (change_of (outcome request.now sending)) dialogs)) }
+    ensures lessons { IfOk result (λ drafted. (server : Server) (now : ℕ)
+        → Teach hops.now.addresses server now drafted.lessons
+        (λ dialogs. Effects.dialogs_after server now (change_of (outcome request.now sending)) dialogs)) }
     ensures beginnings { IfOk result (λ drafted. beginnings drafted.lessons ≤ count_by is_early_or_success sending.upward) }
-    ensures event { (server : Server) (now : ℕ) (before : OpenRequest) (input : Input) → IsInputTo before input → outcome request.now sending ≡ outcome_of server now before input
+    ensures event { (server : Server) (now : ℕ) (before : OpenRequest) (input : Input) → IsInputTo before input
+        → outcome request.now sending ≡ outcome_of server now before input
         → IfOk result (IsDraft hops.now.addresses server now (outcome_of server now before input)) }
 {
     let mut packets = Items::new(alloc);

@@ -46,8 +46,10 @@ fn begun(
     requires { now + 32000 < 2 ^ 64 }
     ensures packets { IfOk result (λ forwarded. forwarded.packets ≡ opening_packets server.now now open_request) }
     ensures request { IfOk result (λ forwarded. forwarded.request ≡ (Openings.opening server.now now open_request).request) }
-    ensures told { IfOk result (λ forwarded. Adds hops.now.addresses lessons forwarded.lessons (λ other moment dialogs. dialogs_after other moment (Openings.opening server.now now open_request) dialogs)) }
-    ensures room { IfOk result (λ forwarded. beginnings forwarded.lessons ≤ beginnings lessons + count_by is_early_or_success (Openings.opening server.now now open_request).upward) }
+    ensures told { IfOk result (λ forwarded. Adds hops.now.addresses lessons forwarded.lessons
+        (λ other moment dialogs. dialogs_after other moment (Openings.opening server.now now open_request) dialogs)) }
+    ensures room { IfOk result (λ forwarded. beginnings forwarded.lessons ≤ beginnings lessons
+        + count_by is_early_or_success (Openings.opening server.now now open_request).upward) }
 {
     let mut open_request = open_request;
     let mut lessons = lessons;
@@ -85,12 +87,16 @@ pub fn forward_to(
 ) -> Result<Forwarded, AllocError>
     requires key { key_of request ≡ Some key }
     requires now { arrival.now + 32000 < 2 ^ 64 }
-    ensures packets { IfOk result (λ forwarded. forwarded.packets ≡ opening_packets server.now arrival.now (call_to (arrival_of arrival) request targets.now)) }
-    ensures sent { IfOk result (λ forwarded. AreSent (opening_packets server.now arrival.now (call_to (arrival_of arrival) request targets.now)) [] forwarded.packets) }
-    ensures request { IfOk result (λ forwarded. forwarded.request ≡ (Openings.opening server.now arrival.now (call_to (arrival_of arrival) request targets.now)).request) }
+    ensures packets { IfOk result (λ forwarded. forwarded.packets
+        ≡ opening_packets server.now arrival.now (call_to (arrival_of arrival) request targets.now)) }
+    ensures sent { IfOk result
+        (λ forwarded. AreSent (opening_packets server.now arrival.now (call_to (arrival_of arrival) request targets.now)) [] forwarded.packets) }
+    ensures request { IfOk result (λ forwarded. forwarded.request
+        ≡ (Openings.opening server.now arrival.now (call_to (arrival_of arrival) request targets.now)).request) }
     ensures opens { IfOk result (λ forwarded. IsOpenable (arrival_of arrival) key forwarded.request) }
     ensures lessons { IfOk result (λ forwarded. Teach hops.now.addresses server.now arrival.now forwarded.lessons
-        (λ dialogs. dialogs_after server.now arrival.now (Openings.opening server.now arrival.now (call_to (arrival_of arrival) request targets.now)) dialogs)) }
+        (λ dialogs. dialogs_after server.now arrival.now (Openings.opening server.now arrival.now
+        (call_to (arrival_of arrival) request targets.now)) dialogs)) }
     ensures none_begins { IfOk result (λ forwarded. beginnings forwarded.lessons ≡ 0) }
 {
     if !can_be_numbered(targets) {
@@ -116,7 +122,8 @@ fn renewing_kept(
     id: DialogId,
     request: &Heard,
 ) -> Result<Lessons, AllocError>
-    ensures told { IfOk result (λ lessons. Adds hops.now.addresses [] lessons (λ server now dialogs. after_request server now id request.now dialogs)) }
+    ensures told { IfOk result (λ lessons. Adds hops.now.addresses [] lessons
+        (λ server now dialogs. after_request server now id request.now dialogs)) }
     ensures none_begins { IfOk result (λ lessons. beginnings lessons ≡ 0) }
 {
     let request = request.view(alloc)?;
@@ -139,12 +146,17 @@ pub fn forward_within(
 ) -> Result<Forwarded, AllocError>
     requires key { key_of request ≡ Some key }
     requires now { arrival.now + 32000 < 2 ^ 64 }
-    ensures packets { IfOk result (λ forwarded. forwarded.packets ≡ opening_packets server.now arrival.now (call_within server.now (arrival_of arrival) request address)) }
-    ensures sent { IfOk result (λ forwarded. AreSent (opening_packets server.now arrival.now (call_within server.now (arrival_of arrival) request address)) [] forwarded.packets) }
-    ensures request { IfOk result (λ forwarded. forwarded.request ≡ (Openings.opening server.now arrival.now (call_within server.now (arrival_of arrival) request address)).request) }
+    ensures packets { IfOk result (λ forwarded. forwarded.packets
+        ≡ opening_packets server.now arrival.now (call_within server.now (arrival_of arrival) request address)) }
+    ensures sent { IfOk result
+        (λ forwarded. AreSent (opening_packets server.now arrival.now (call_within server.now (arrival_of arrival) request address)) []
+        forwarded.packets) }
+    ensures request { IfOk result (λ forwarded. forwarded.request
+        ≡ (Openings.opening server.now arrival.now (call_within server.now (arrival_of arrival) request address)).request) }
     ensures opens { IfOk result (λ forwarded. IsOpenable (arrival_of arrival) key forwarded.request) }
     ensures lessons { IfOk result (λ forwarded. Teach hops.now.addresses server.now arrival.now forwarded.lessons
-        (λ dialogs. dialogs_after server.now arrival.now (Openings.opening server.now arrival.now (call_within server.now (arrival_of arrival) request address)) (after_request server.now arrival.now id request dialogs))) }
+        (λ dialogs. dialogs_after server.now arrival.now (Openings.opening server.now arrival.now
+        (call_within server.now (arrival_of arrival) request address)) (after_request server.now arrival.now id request dialogs))) }
     ensures none_begins { IfOk result (λ forwarded. beginnings forwarded.lessons ≡ 0) }
 {
     opens();

@@ -14,8 +14,10 @@ use model_transactions::openings::sent_on;
 
 /// A request that came and is sent to its targets, or on in its dialog, can be opened once its first packets go.
 pub(crate) fn opens()
-    ensures targets { (server : Server) (a : Arrival) (m : Message) (key : Key) (targets : Targets) → key_of m ≡ Some key → IsOpenable a key (opening server a.now (call_to a m targets)).request }
-    ensures dialog { (server : Server) (a : Arrival) (m : Message) (key : Key) (address : Addr) → key_of m ≡ Some key → IsOpenable a key (opening server a.now (call_within server a m address)).request }
+    ensures targets { (server : Server) (a : Arrival) (m : Message) (key : Key) (targets : Targets) → key_of m ≡ Some key
+        → IsOpenable a key (opening server a.now (call_to a m targets)).request }
+    ensures dialog { (server : Server) (a : Arrival) (m : Message) (key : Key) (address : Addr) → key_of m ≡ Some key
+        → IsOpenable a key (opening server a.now (call_within server a m address)).request }
 {
     opens_fitting();
     sent_on();

@@ -1,6 +1,14 @@
 //! What is sent on, as drafts that are made before anything is changed: a request to its targets, a request and an ACK in
 //! a dialog (RFC 3261 16.6, 16.11, 16.12), and what an event of an open request sends (16.7 to 16.10). Each draft has its
 //! packets in their order and the lessons of the dialogs (12). Nothing here waits or reads a clock.
+//!
+//! - Used: `sip_proxy` for events, `sip_engine_forward` for what is new.
+//! - Not here: the taking of a draft (`sip_proxy`).
+//! - Tried: `test_server` by its stored runs.
+//!
+//! ```text
+//! let forwarded = forward_to(alloc, &server, &hops, arrival, key, heard, &targets)?;
+//! ```
 #![tactic(auto)]
 
 mod changing;

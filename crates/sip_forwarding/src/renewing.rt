@@ -23,7 +23,8 @@ pub(crate) fn renewing(
     id: DialogId,
     request: &View<'_>,
 ) -> Result<Lessons, AllocError>
-    ensures told { IfOk result (λ lessons. Adds hops.now.addresses [] lessons (λ server now dialogs. after_request server now id request.now dialogs)) }
+    ensures told { IfOk result (λ lessons. Adds hops.now.addresses [] lessons
+        (λ server now dialogs. after_request server now id request.now dialogs)) }
     ensures none_begins { IfOk result (λ lessons. beginnings lessons ≡ 0) }
 {
     let mut lessons = Lessons::new(alloc);
@@ -51,7 +52,8 @@ pub fn forward_ack(
     id: DialogId,
 ) -> Result<ForwardedAck, AllocError>
     ensures packet { IfOk result (λ ack. ack.packet ≡ Effects.ack_packet server.now (arrival_of arrival) request.now address) }
-    ensures lessons { IfOk result (λ ack. Teach hops.now.addresses server.now arrival.now ack.lessons (λ dialogs. after_request server.now arrival.now id request.now dialogs)) }
+    ensures lessons { IfOk result (λ ack. Teach hops.now.addresses server.now arrival.now ack.lessons
+        (λ dialogs. after_request server.now arrival.now id request.now dialogs)) }
     ensures none_begins { IfOk result (λ ack. beginnings ack.lessons ≡ 0) }
 {
     let lessons = renewing(alloc, hops, id, request)?;

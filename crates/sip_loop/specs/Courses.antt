@@ -13,7 +13,9 @@ use Rattle.model_bounds.specs.steps_model.Step.{Given as ForEvent, Passing, IsSt
 use Rattle.model_bounds.specs.model.Ends.{sends_left, steps_left}
 use Rattle.sip_event.specs.declared.event.Event.TheVariants.{Fault}
 use Rattle.sip_event.specs.declared.packet.Ticket.{Ticket}
-use Rattle.sip_loop.specs.Serving.{Turn, Doing, Told, Progress, Whole, Read, Begun, AreDrawn, AreTold, IsWaiting, IsWhy, begun, event_of_turn, events_in, given_in, heard_in, last_moment, passed_to, reading_of, readings_in, records_of, steps_in, told_more, turns_in}
+use Rattle.sip_loop.specs.Serving.{Turn, Doing, Told, Progress, Whole, Read, Begun, AreDrawn, AreTold, IsWaiting, IsWhy, begun}
+use Rattle.sip_loop.specs.Serving.{event_of_turn, events_in, given_in, heard_in, last_moment, passed_to, reading_of, readings_in}
+use Rattle.sip_loop.specs.Serving.{records_of, steps_in, told_more, turns_in}
 use Rattle.sip_loop.specs.declared.served.ServeError.{ServeError}
 
 -- what was done, newest first, has a run, in which time passed up to a moment behind the last event
@@ -21,17 +23,20 @@ pub record HasRunOf (server : Server) (start : ProxyState) (done : List Doing) (
   pub history : List Link
   pub is_run : IsRun server start (reverse (events_in done)) until (reverse (steps_in done)) history state
 
--- What was done leads to a state: up to its last event; or up to a reading behind it, and then also up to any moment that isn't before the state's, as a fault may come at that.
+-- What was done leads to a state: up to its last event; or up to a reading behind it, and then also up to any moment that isn't
+-- before the state's, as a fault may come at that.
 abbrev pub Leads : Server → ProxyState → Option ℕ → List Doing → ProxyState → Type 0
 Leads server start None done state = HasRunOf server start done None state
 Leads server start (Some at) done state = (moment : ℕ) → (moment ≡ at) ⊎ (state.moment ≤ moment) → HasRunOf server start done (Some moment) state
 
 -- Packets are given to the link: of those that waited these still wait, and perhaps one failed whose fault wasn't taken.
-pub record Hands (server : Server) (old new : ProxyState) (packets : List Packet) (failed : Option Packet) (waiting : List Packet) (before after : Option (List Given)) : Type 0 where
+pub record Hands (server : Server) (old new : ProxyState) (packets : List Packet) (failed : Option Packet) (waiting : List Packet)
+    (before after : Option (List Given)) : Type 0 where
   pub more : List Doing
   pub no_turns : turns_in more ≡ []
   pub no_records : records_of (reverse (steps_in more)) ≡ []
-  pub leads : (start : ProxyState) (until : Option ℕ) (done : List Doing) → Leads server start until done old → Leads server start until (more ++ done) new
+  pub leads : (start : ProxyState) (until : Option ℕ) (done : List Doing) → Leads server start until done old
+      → Leads server start until (more ++ done) new
   pub waits : (done : List Doing) → IsWaiting done None packets → last_moment done ≡ old.moment → IsWaiting (more ++ done) failed waiting
   pub last : (done : List Doing) → last_moment done ≡ old.moment → last_moment (more ++ done) ≡ new.moment
   pub given : after ≡ told_more before (reverse (given_in more))
@@ -43,7 +48,8 @@ pub record HandsSome (server : Server) (old new : ProxyState) (packets : List Pa
   pub hands : Hands server old new packets failed waiting before after
 
 -- Steps are taken and what they hand out is given to the link, behind what was done when nothing waited.
-pub record Course (server : Server) (old new : ProxyState) (entry exit : Option ℕ) (turns : List Turn) (records : List Record) (failed : Option Packet) (waiting : List Packet) (before after : Option (List Given)) : Type 0 where
+pub record Course (server : Server) (old new : ProxyState) (entry exit : Option ℕ) (turns : List Turn) (records : List Record)
+    (failed : Option Packet) (waiting : List Packet) (before after : Option (List Given)) : Type 0 where
   pub more : List Doing
   pub turns_are : turns_in more ≡ turns
   pub recorded : records_of (reverse (steps_in more)) ≡ records
@@ -52,7 +58,8 @@ pub record Course (server : Server) (old new : ProxyState) (entry exit : Option 
   pub given : after ≡ told_more before (reverse (given_in more))
 
 -- The same of whole turns and perhaps one that was begun, with all that the devices tell.
-pub record Turns (server : Server) (old new : ProxyState) (before after : Told) (progress : Progress) (count : ℕ) (records : List Record) (failed : Option Packet) (waiting : List Packet) : Type 0 where
+pub record Turns (server : Server) (old new : ProxyState) (before after : Told) (progress : Progress) (count : ℕ) (records : List Record)
+    (failed : Option Packet) (waiting : List Packet) : Type 0 where
   pub more : List Doing
   pub leads : (start : ProxyState) (done : List Doing) → Leads server start None done old → Leads server start (passed_to progress) (more ++ done) new
   pub waits : (done : List Doing) → IsWaiting done None [] → IsWaiting (more ++ done) failed waiting
@@ -63,7 +70,8 @@ pub record Turns (server : Server) (old new : ProxyState) (before after : Told) 
 -- ---- pieces of a turn
 
 -- A turn's event was taken: the link heard it, its word was drawn, and the step is its own.
-pub record TakesTurn (server : Server) (old : ProxyState) (at : ℕ) (heard heard_then : Option (List (Option Heard))) (words left : Stream) (out : StepOut) (new : ProxyState) : Type 0 where
+pub record TakesTurn (server : Server) (old : ProxyState) (at : ℕ) (heard heard_then : Option (List (Option Heard))) (words left : Stream)
+    (out : StepOut) (new : ProxyState) : Type 0 where
   pub turn : Turn
   pub is_at : reading_of turn ≡ at
   pub step : IsStep server old (ForEvent (event_of_turn turn)) out new
@@ -77,7 +85,8 @@ IsProgressAt at (Read moment) = moment ≡ at
 IsProgressAt at (Begun turn) = reading_of turn ≡ at
 
 -- A turn's event wasn't taken: the link failed, or the server refused the step.
-pub record BreaksTurn (state : ProxyState) (at : ℕ) (heard heard_then : Option (List (Option Heard))) (words left : Stream) (e : ServeError) : Type 0 where
+pub record BreaksTurn (state : ProxyState) (at : ℕ) (heard heard_then : Option (List (Option Heard))) (words left : Stream) (e : ServeError)
+    : Type 0 where
   pub progress : Progress
   pub is_at : IsProgressAt at progress
   pub hears : heard_then ≡ told_more heard (reverse (map heard_in (begun progress [])))
@@ -92,7 +101,8 @@ pub record BreaksFiring (server : Server) (old new : ProxyState) (at : ℕ) (bef
   pub why : IsWhy e (Read at) failed waiting new
 
 -- The rest of a turn, once what was due by its reading has happened.
-pub record GoesOn (server : Server) (old new : ProxyState) (at : ℕ) (heard heard_then : Option (List (Option Heard))) (given given_then : Option (List Given)) (words left : Stream) (records more : List Record) : Type 0 where
+pub record GoesOn (server : Server) (old new : ProxyState) (at : ℕ) (heard heard_then : Option (List (Option Heard)))
+    (given given_then : Option (List Given)) (words left : Stream) (records more : List Record) : Type 0 where
   pub turn : Turn
   pub is_at : reading_of turn ≡ at
   pub listed : List Record
@@ -102,7 +112,8 @@ pub record GoesOn (server : Server) (old new : ProxyState) (at : ℕ) (heard hea
   pub recorded : more ≡ records ++ listed
 
 -- The same, refused: before the turn's event was taken, or behind it.
-pub record BreaksOff (server : Server) (old new : ProxyState) (at : ℕ) (heard heard_then : Option (List (Option Heard))) (given given_then : Option (List Given)) (words left : Stream) (e : ServeError) : Type 0 where
+pub record BreaksOff (server : Server) (old new : ProxyState) (at : ℕ) (heard heard_then : Option (List (Option Heard)))
+    (given given_then : Option (List Given)) (words left : Stream) (e : ServeError) : Type 0 where
   pub progress : Progress
   pub turns : List Turn
   pub records : List Record

@@ -1,4 +1,5 @@
--- What serving is: turn by turn a clock is read, what is due happens, a datagram is taken or none was heard, and what the steps hand out is given to a link.
+-- What serving is: turn by turn a clock is read, what is due happens, a datagram is taken or none was heard, and what the steps hand
+-- out is given to a link.
 use Rattle.std.specs.Prelude.{ℕ, ◌≡◌, ◌≤◌, ◌+◌, ◌*◌, ◌^◌, ⊤, List, [], ◌∷◌, ◌++◌, map, reverse, length, Option, Some, None, IsSome}
 use Rattle.std.specs.List.{flat_map}
 use Rattle.rand_core.specs.Stream.{Stream, next_u64}
@@ -58,11 +59,13 @@ behind_word words = (next_u64 (next_u64 words).1).1
 abbrev pub AreDrawn : Stream → List Turn → Stream → Type 0
 AreDrawn words [] left = left ≡ words
 AreDrawn words (Silence at ∷ turns) left = AreDrawn words turns left
-AreDrawn words (Arrival at heard word ∷ turns) left = (before : Stream) × AreDrawn words turns before × (word ≡ word_from before) × (left ≡ behind_word before)
+AreDrawn words (Arrival at heard word ∷ turns) left = (before : Stream) × AreDrawn words turns before × (word ≡ word_from before)
+    × (left ≡ behind_word before)
 
 -- ---- what is done in them
 
--- What is done: the first that is due happens; the event of a turn is taken; a packet is given to the link, and went out or failed; the fault of a packet that failed is taken, at a moment.
+-- What is done: the first that is due happens; the event of a turn is taken; a packet is given to the link, and went out or failed;
+-- the fault of a packet that failed is taken, at a moment.
 pub data Doing : Type 0 where
   Fires : StepOut → Doing
   Takes : Turn → StepOut → Doing
@@ -109,15 +112,18 @@ last_moment (Takes turn out ∷ done) = out.at
 last_moment (Sends p sending ∷ done) = last_moment done
 last_moment (Faults at p out ∷ done) = out.at
 
--- What still waits behind doings, newest first: the packet that failed and whose fault comes next, if one did, and packets in the order in which they are to be sent. Something that is due, and
--- the event of a turn, come once nothing waits. A packet that failed is followed by its fault at once, at the moment of the last step, and the packets of that go behind those that wait.
+-- What still waits behind doings, newest first: the packet that failed and whose fault comes next, if one did, and packets in the
+-- order in which they are to be sent. Something that is due, and
+-- the event of a turn, come once nothing waits. A packet that failed is followed by its fault at once, at the moment of the last
+-- step, and the packets of that go behind those that wait.
 abbrev pub IsWaiting : List Doing → Option Packet → List Packet → Type 0
 IsWaiting [] failed waiting = (failed ≡ None) × (waiting ≡ [])
 IsWaiting (Fires out ∷ done) failed waiting = IsWaiting done None [] × (failed ≡ None) × (waiting ≡ out.packets)
 IsWaiting (Takes turn out ∷ done) failed waiting = IsWaiting done None [] × (failed ≡ None) × (waiting ≡ out.packets)
 IsWaiting (Sends p Went ∷ done) failed waiting = IsWaiting done None (p ∷ waiting) × (failed ≡ None)
 IsWaiting (Sends p Failed ∷ done) failed waiting = IsWaiting done None (p ∷ waiting) × (failed ≡ Some p)
-IsWaiting (Faults at p out ∷ done) failed waiting = (others : List Packet) × IsWaiting done (Some p) others × (at ≡ last_moment done) × (failed ≡ None) × (waiting ≡ others ++ out.packets)
+IsWaiting (Faults at p out ∷ done) failed waiting = (others : List Packet) × IsWaiting done (Some p) others × (at ≡ last_moment done)
+    × (failed ≡ None) × (waiting ≡ others ++ out.packets)
 
 -- what is recorded of steps, oldest first
 abbrev pub records_of : List StepOut → List Record
@@ -125,7 +131,8 @@ records_of steps = flat_map (λ (out : StepOut). out.records) steps
 
 -- ---- what the devices tell
 
--- What devices tell: what the link heard, call by call, and was given, and what the clock showed, oldest first, where they tell it; and what a source of words will give.
+-- What devices tell: what the link heard, call by call, and was given, and what the clock showed, oldest first, where they tell it;
+-- and what a source of words will give.
 pub record Told : Type 0 where
   pub heard : Option (List (Option Heard))
   pub given : Option (List Given)
@@ -176,8 +183,10 @@ pub record AreTold (before after : Told) (progress : Progress) (turns : List Tur
 
 -- ---- serving
 
--- A server did these, newest first: its steps are a run of the model over the events of its turns and the faults of packets that failed, from the state in which it was, and each step of that
--- run is lawful by its history, whatever history led to that state, as `Access` says, and the whole history is bounded, as `IsBounded` says; the devices told these turns, and that the link was
+-- A server did these, newest first: its steps are a run of the model over the events of its turns and the faults of packets that
+-- failed, from the state in which it was, and each step of that
+-- run is lawful by its history, whatever history led to that state, as `Access` says, and the whole history is bounded, as
+-- `IsBounded` says; the devices told these turns, and that the link was
 -- given these packets.
 pub record Serves (server : Server) (old new : ProxyState) (before after : Told) (progress : Progress) (done : List Doing) : Type 0 where
   pub history : List Link
@@ -194,7 +203,8 @@ pub record IsServed (turns : ℕ) (server : Server) (old new : ProxyState) (befo
   pub all_sent : IsWaiting done None []
   pub recorded : records ≡ records_of (reverse (steps_in done))
 
--- Why serving ended: for want of memory at any call, what was given being a front of what the steps hand out; or, once all that was handed out was given and nothing was due, since the link
+-- Why serving ended: for want of memory at any call, what was given being a front of what the steps hand out; or, once all that was
+-- handed out was given and nothing was due, since the link
 -- failed as it was asked; or since the server refuses a step at that reading.
 abbrev pub IsWhy : ServeError → Progress → Option Packet → List Packet → ProxyState → Type 0
 IsWhy NoMemory progress failed waiting last = ⊤

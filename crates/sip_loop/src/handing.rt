@@ -71,12 +71,14 @@ fn hand_one<T: Timers, R: Rules, L: Link>(
     ensures receives { L.receives link.new ≡ L.receives link.old }
     ensures failures { L.failures link.new ≡ L.failures link.old }
     ensures heard { L.heard link.new ≡ L.heard link.old }
-    ensures handed { OnOk result (Hands engine.old.server engine.old.state engine.new.state (drop place packets.old) None (drop (place + 1) packets.new) (L.given link.old) (L.given link.new)) }
+    ensures handed { OnOk result (Hands engine.old.server engine.old.state engine.new.state (drop place packets.old) None
+        (drop (place + 1) packets.new) (L.given link.old) (L.given link.new)) }
     ensures more { OnOk result (place + 1 ≤ length packets.new) }
     ensures fewer { OnOk result (length packets.new + sends_left engine.new.state ≤ length packets.old + sends_left engine.old.state) }
     ensures no_further { OnOk result (IsNoFurther engine.old.state engine.new.state) }
     ensures refused { IfErr result (λ e. e ≡ NoMemory) }
-    ensures broken { OnErr result (HandsSome engine.old.server engine.old.state engine.new.state (drop place packets.old) (L.given link.old) (L.given link.new)) }
+    ensures broken { OnErr result (HandsSome engine.old.server engine.old.state engine.new.state (drop place packets.old) (L.given link.old)
+        (L.given link.new)) }
 {
     let packet = &packets.as_slice()[place];
     let ticket = packet.ticket;
@@ -100,7 +102,8 @@ pub(crate) fn hand_out<T: Timers, R: Rules, L: Link>(
     ensures receives { L.receives link.new ≡ L.receives link.old }
     ensures failures { L.failures link.new ≡ L.failures link.old }
     ensures heard { L.heard link.new ≡ L.heard link.old }
-    ensures handed { OnOk result (Hands engine.old.server engine.old.state engine.new.state out.packets None [] (L.given link.old) (L.given link.new)) }
+    ensures handed { OnOk result (Hands engine.old.server engine.old.state engine.new.state out.packets None [] (L.given link.old)
+        (L.given link.new)) }
     ensures no_further { OnOk result (IsNoFurther engine.old.state engine.new.state) }
     ensures refused { IfErr result (λ e. e ≡ NoMemory) }
     ensures broken { OnErr result (HandsSome engine.old.server engine.old.state engine.new.state out.packets (L.given link.old) (L.given link.new)) }

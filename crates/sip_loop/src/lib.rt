@@ -1,5 +1,13 @@
 //! What drives the server on a link: a link and a clock are asked turn by turn, what comes is handed to the engine, and the
 //! packets that it hands out are given to the link.
+//!
+//! - Used: `sipd_command`, turn by turn.
+//! - Not here: the socket itself (`sip_loop_link`).
+//! - Tried: `test_serve`, and over sockets `tests/serve.py`.
+//!
+//! ```text
+//! let served = serve(alloc, &mut engine, &mut link, &mut clock, &mut words, turns)?;
+//! ```
 #![tactic(auto)]
 
 mod handing;

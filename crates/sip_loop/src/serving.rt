@@ -9,7 +9,7 @@ ghost use Rattle.sip_loop.specs.Serving.{IsServed, IsUnserved, IsWhy, Read, behi
 ghost use Rattle.sip_loop.specs.declared.served.ServeError.TheVariants as Refusal;
 
 use crate::handing::hand_out;
-use crate::records::add_records;
+use crate::records::list_records;
 use crate::served::{ServeError, Served};
 use model_bounds::bounds::every_history_is_bounded;
 use model_bounds::model::histories::{moment_rises, steps_stand_at_their_moments};
@@ -69,7 +69,8 @@ fn fire_due<T: Timers, R: Rules, L: Link>(
     ensures receives { L.receives link.new ≡ L.receives link.old }
     ensures failures { L.failures link.new ≡ L.failures link.old }
     ensures heard { L.heard link.new ≡ L.heard link.old }
-    ensures fired { OnOk result (Course engine.old.server engine.old.state engine.new.state (Some at) (Some at) [] [] None [] (L.given link.old) (L.given link.new)) }
+    ensures fired { OnOk result (Course engine.old.server engine.old.state engine.new.state (Some at) (Some at) [] [] None []
+        (L.given link.old) (L.given link.new)) }
     ensures none_due { OnOk result (NothingDueBy (moment_of engine.new.state at) engine.new.state) }
     ensures broken { IfErr result (BreaksFiring engine.old.server engine.old.state engine.new.state at (L.given link.old) (L.given link.new)) }
     ensures not_link { IfErr result (λ e. ¬ (e ≡ Refusal.Link)) }
@@ -93,7 +94,8 @@ fn take_event<T: Timers, R: Rules, L: Link, W: Rng>(
     ensures link_failed { result ≡ Err Refusal.Link → L.failures link.new ≡ counted (L.failures link.old) }
     ensures link_held { ¬ (result ≡ Err Refusal.Link) → L.failures link.new ≡ L.failures link.old }
     ensures given { L.given link.new ≡ L.given link.old }
-    ensures taken { IfOk result (λ out. TakesTurn engine.old.server engine.old.state at (L.heard link.old) (L.heard link.new) (W.stream words.old) (W.stream words.new) out engine.new.state) }
+    ensures taken { IfOk result (λ out. TakesTurn engine.old.server engine.old.state at (L.heard link.old) (L.heard link.new)
+        (W.stream words.old) (W.stream words.new) out engine.new.state) }
     ensures broken { IfErr result (BreaksTurn engine.old.state at (L.heard link.old) (L.heard link.new) (W.stream words.old) (W.stream words.new)) }
     ensures unchanged { OnErr result (engine.new ≡ engine.old) }
 {
@@ -120,12 +122,14 @@ fn take_turn<T: Timers, R: Rules, L: Link, W: Rng>(
     ensures asked { L.receives link.new ≡ counted (L.receives link.old) }
     ensures link_failed { result ≡ Err Refusal.Link → L.failures link.new ≡ counted (L.failures link.old) }
     ensures link_held { ¬ (result ≡ Err Refusal.Link) → L.failures link.new ≡ L.failures link.old }
-    ensures goes { OnOk result (GoesOn engine.old.server engine.old.state engine.new.state at (L.heard link.old) (L.heard link.new) (L.given link.old) (L.given link.new) (W.stream words.old) (W.stream words.new) records.old records.new) }
-    ensures broken { IfErr result (BreaksOff engine.old.server engine.old.state engine.new.state at (L.heard link.old) (L.heard link.new) (L.given link.old) (L.given link.new) (W.stream words.old) (W.stream words.new)) }
+    ensures goes { OnOk result (GoesOn engine.old.server engine.old.state engine.new.state at (L.heard link.old) (L.heard link.new)
+        (L.given link.old) (L.given link.new) (W.stream words.old) (W.stream words.new) records.old records.new) }
+    ensures broken { IfErr result (BreaksOff engine.old.server engine.old.state engine.new.state at (L.heard link.old) (L.heard link.new)
+        (L.given link.old) (L.given link.new) (W.stream words.old) (W.stream words.new)) }
 {
     steps_stand_at_their_moments();
-    let out = take_event(engine, link, words, at)?;
-    add_records(records, out.records.as_slice())?;
+    let mut out = take_event(engine, link, words, at)?;
+    list_records(records, &mut out.records)?;
     hand_out(engine, link, out)
 }
 
@@ -142,8 +146,13 @@ fn turn<T: Timers, R: Rules, L: Link, C: Clock, W: Rng>(
     ensures asked { IsAskedWithin 1 (L.receives link.old) (L.receives link.new) }
     ensures link_failed { result ≡ Err Refusal.Link → L.failures link.new ≡ counted (L.failures link.old) }
     ensures link_held { ¬ (result ≡ Err Refusal.Link) → L.failures link.new ≡ L.failures link.old }
-    ensures goes { OnOk result (Goes engine.old.server engine.old.state engine.new.state (record { heard = L.heard link.old; given = L.given link.old; readings = C.readings clock.old; words = W.stream words.old }) (record { heard = L.heard link.new; given = L.given link.new; readings = C.readings clock.new; words = W.stream words.new }) 1 records.old records.new) }
-    ensures broken { IfErr result (Breaks engine.old.server engine.old.state engine.new.state (record { heard = L.heard link.old; given = L.given link.old; readings = C.readings clock.old; words = W.stream words.old }) (record { heard = L.heard link.new; given = L.given link.new; readings = C.readings clock.new; words = W.stream words.new }) 1) }
+    ensures goes { OnOk result (Goes engine.old.server engine.old.state engine.new.state
+        (record { heard = L.heard link.old; given = L.given link.old; readings = C.readings clock.old; words = W.stream words.old })
+        (record { heard = L.heard link.new; given = L.given link.new; readings = C.readings clock.new; words = W.stream words.new }) 1
+        records.old records.new) }
+    ensures broken { IfErr result (Breaks engine.old.server engine.old.state engine.new.state
+        (record { heard = L.heard link.old; given = L.given link.old; readings = C.readings clock.old; words = W.stream words.old })
+        (record { heard = L.heard link.new; given = L.given link.new; readings = C.readings clock.new; words = W.stream words.new }) 1) }
 {
     let at = clock.now();
     fire_due(engine, link, at)?;
@@ -168,8 +177,12 @@ pub fn serve<T: Timers, R: Rules, L: Link, C: Clock, W: Rng>(
     turns: u32,
 ) -> Result<Served, ServeError>
     ensures server { engine.new.server ≡ engine.old.server }
-    ensures served { IfOk result (λ served. IsServed turns engine.old.server engine.old.state engine.new.state (record { heard = L.heard link.old; given = L.given link.old; readings = C.readings clock.old; words = W.stream words.old }) (record { heard = L.heard link.new; given = L.given link.new; readings = C.readings clock.new; words = W.stream words.new }) served.records) }
-    ensures refused { IfErr result (IsUnserved turns engine.old.server engine.old.state engine.new.state (record { heard = L.heard link.old; given = L.given link.old; readings = C.readings clock.old; words = W.stream words.old }) (record { heard = L.heard link.new; given = L.given link.new; readings = C.readings clock.new; words = W.stream words.new })) }
+    ensures served { IfOk result (λ served. IsServed turns engine.old.server engine.old.state engine.new.state
+        (record { heard = L.heard link.old; given = L.given link.old; readings = C.readings clock.old; words = W.stream words.old })
+        (record { heard = L.heard link.new; given = L.given link.new; readings = C.readings clock.new; words = W.stream words.new }) served.records) }
+    ensures refused { IfErr result (IsUnserved turns engine.old.server engine.old.state engine.new.state
+        (record { heard = L.heard link.old; given = L.given link.old; readings = C.readings clock.old; words = W.stream words.old })
+        (record { heard = L.heard link.new; given = L.given link.new; readings = C.readings clock.new; words = W.stream words.new })) }
     ensures asked_all { OnOk result (L.receives link.new ≡ counted_times turns (L.receives link.old)) }
     ensures asked { IsAskedWithin turns (L.receives link.old) (L.receives link.new) }
     ensures link_failed { result ≡ Err Refusal.Link → L.failures link.new ≡ counted (L.failures link.old) }

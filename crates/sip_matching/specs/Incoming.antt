@@ -28,11 +28,13 @@ pub record IsResponse (own : Own) (m : Message) (short : Bool) (status : ℕ) (b
   pub reason : List ℕ
   pub start_is : m.start ≡ Start.Status status reason
   pub vias_are : is_many (values_of Name.Via m.fields) ≡ has_more_vias
-  pub responds : (server : Server) (requests : List OpenRequest) → server.config.own ≡ own → responding server requests m.fields ≡ found_branch server branch method requests
+  pub responds : (server : Server) (requests : List OpenRequest) → server.config.own ≡ own → responding server requests m.fields
+      ≡ found_branch server branch method requests
   pub verdict_is : (server : Server) (state : ProxyState) (a : Arrival) → server.config.own ≡ own
       → message_verdict server state a m short ≡ response_verdict m.fields status (found_branch server branch method state.requests)
 
--- A message is a request of this method with this Via on top and this key, and belongs to the first open request with that key, if there is one (RFC 3261 17.2.3).
+-- A message is a request of this method with this Via on top and this key, and belongs to the first open request with that key, if
+-- there is one (RFC 3261 17.2.3).
 pub record IsRequest (m : Message) (short : Bool) (method : List ℕ) (via : Via) (key : Key) : Type 0 where
   pub uri : List ℕ
   pub version : List ℕ
@@ -42,7 +44,8 @@ pub record IsRequest (m : Message) (short : Bool) (method : List ℕ) (via : Via
   pub verdict_is : (server : Server) (state : ProxyState) (a : Arrival)
       → message_verdict server state a m short ≡ by_open server state a m short method key (find (has_key key) state.requests)
 
--- What was read of a message, of whose body fewer bytes may have come than its length says, is what the verdict of a server of this host and port needs of it.
+-- What was read of a message, of whose body fewer bytes may have come than its length says, is what the verdict of a server of this
+-- host and port needs of it.
 abbrev pub Is : Own → Message → Bool → Incoming → Type 0
 Is own m short Dropped = IsDropped own m short
 Is own m short (Response status branch method has_more_vias) = IsResponse own m short status branch.now method.now has_more_vias

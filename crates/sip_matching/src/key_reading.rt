@@ -31,7 +31,8 @@ pub(crate) fn keyed_via<'v>(
     message: &'v View<'_>,
     method: &[u8],
 ) -> Result<Option<(Via<'v>, Key)>, AllocError>
-    ensures key { IfOk result (λ found. option_map (λ x. x.1) found ≡ option_and_then (λ value. option_and_then (Keys.via_key method.now) (via_of value)) (first_value Name.Via message.now.fields)) }
+    ensures key { IfOk result (λ found. option_map (λ x. x.1) found
+        ≡ option_and_then (λ value. option_and_then (Keys.via_key method.now) (via_of value)) (first_value Name.Via message.now.fields)) }
     ensures via { IfOk result (λ found. IfSome found (λ x. top_via message.now ≡ Some x.0)) }
 {
     let Some(via) = top_via(alloc, message)? else {
@@ -45,7 +46,8 @@ pub(crate) fn keyed_via<'v>(
 
 /// The key of a request of a method, by the Via on top of it.
 fn key_by(alloc: Global, message: &View<'_>, method: &[u8]) -> Result<Option<Key>, AllocError>
-    ensures { IfOk result (λ key. key ≡ option_and_then (λ value. option_and_then (Keys.via_key method.now) (via_of value)) (first_value Name.Via message.now.fields)) }
+    ensures { IfOk result (λ key. key ≡ option_and_then (λ value. option_and_then (Keys.via_key method.now) (via_of value))
+        (first_value Name.Via message.now.fields)) }
 {
     match keyed_via(alloc, message, method)? {
         Some((_, key)) => Ok(Some(key)),

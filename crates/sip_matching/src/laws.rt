@@ -16,18 +16,22 @@ ghost use Rattle.sip_matching.specs.Incoming.{IsResponse, IsRequest};
 
 /// The verdict on a datagram is the one on the message that it says; without one there is none.
 pub fn datagrams()
-    ensures none { (server : Server) (state : ProxyState) (a : Arrival) (bytes : List ℕ) → message_in (reading_of bytes) ≡ None → verdict_of server state a bytes ≡ None }
-    ensures said { (server : Server) (state : ProxyState) (a : Arrival) (bytes : List ℕ) (m : Message) (short : Bool) → message_in (reading_of bytes) ≡ Some (m, short)
+    ensures none { (server : Server) (state : ProxyState) (a : Arrival) (bytes : List ℕ) → message_in (reading_of bytes) ≡ None
+        → verdict_of server state a bytes ≡ None }
+    ensures said { (server : Server) (state : ProxyState) (a : Arrival) (bytes : List ℕ) (m : Message) (short : Bool)
+        → message_in (reading_of bytes) ≡ Some (m, short)
         → verdict_of server state a bytes ≡ Some (m, message_verdict server state a m short) }
 {}
 
 /// A response whose branch isn't found is dropped, and so is one without a second Via, but to a CANCEL; any other is taken
 /// for the branch (RFC 3261 16.7 step 1, 17.1.3).
 pub fn responses()
-    ensures lost { (own : Own) (m : Message) (short : Bool) (status : ℕ) (text method : List ℕ) (has_more_vias : Bool) → IsResponse own m short status text method has_more_vias
+    ensures lost { (own : Own) (m : Message) (short : Bool) (status : ℕ) (text method : List ℕ) (has_more_vias : Bool)
+        → IsResponse own m short status text method has_more_vias
         → (server : Server) (state : ProxyState) (a : Arrival) → server.config.own ≡ own
         → found_branch server text method state.requests ≡ None → message_verdict server state a m short ≡ Drop }
-    ensures found { (own : Own) (m : Message) (short : Bool) (status : ℕ) (text method : List ℕ) (has_more_vias : Bool) → IsResponse own m short status text method has_more_vias
+    ensures found { (own : Own) (m : Message) (short : Bool) (status : ℕ) (text method : List ℕ) (has_more_vias : Bool)
+        → IsResponse own m short status text method has_more_vias
         → (server : Server) (state : ProxyState) (a : Arrival) → server.config.own ≡ own
         → (r : OpenRequest) (b : Branch) → found_branch server text method state.requests ≡ Some (r, b)
         → message_verdict server state a m short ≡ (if b.is_cancel || has_more_vias then Respond r b status else Drop) }

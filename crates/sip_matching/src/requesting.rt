@@ -14,7 +14,8 @@ pub(crate) fn request_of<'v>(
     request: &'v View<'_>,
     method: &'v [u8],
 ) -> Result<Incoming<'v>, AllocError>
-    ensures { IfOk result (λ incoming. (own : Own) (short : Bool) (uri version : List ℕ) → request.now.start ≡ Start.Request method.now uri version → Is own request.now short incoming) }
+    ensures { IfOk result (λ incoming. (own : Own) (short : Bool) (uri version : List ℕ) → request.now.start
+        ≡ Start.Request method.now uri version → Is own request.now short incoming) }
 {
     match keyed_via(alloc, request, method)? {
         Some((via, key)) => Ok(Incoming::Request { method, via, key }),

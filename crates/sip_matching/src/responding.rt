@@ -35,7 +35,9 @@ pub(crate) fn top_branch<'v>(
     own: &Own,
     response: &'v View<'_>,
 ) -> Result<Option<&'v [u8]>, AllocError>
-    ensures { IfOk result (λ branch. option_map (λ text. text.now) branch ≡ option_and_then (λ via. if is_own_via own.now via then Parameters.branch_of via.parameters else None) (option_and_then via_of (first_value Name.Via response.now.fields))) }
+    ensures { IfOk result (λ branch. option_map (λ text. text.now) branch
+        ≡ option_and_then (λ via. if is_own_via own.now via then Parameters.branch_of via.parameters else None)
+        (option_and_then via_of (first_value Name.Via response.now.fields))) }
 {
     match top_via(alloc, response)? {
         Some(via) => Ok(own_branch(own, &via)),

@@ -1,5 +1,6 @@
 -- The law of whole runs: who was sent what, which bindings changed, and which rule denied.
-use Rattle.std.specs.Prelude.{◌≡◌, ◌⊎◌, ◌<◌, ◌≤◌, ℕ, max, ◌==◌, ◌||◌, Bool, true, false, not, if◌then◌else◌, List, [], ◌∷◌, ◌++◌, filter, find, codes, Contains, Option, Some, None, is_some, Ok}
+use Rattle.std.specs.Prelude.{◌≡◌, ◌⊎◌, ◌<◌, ◌≤◌, ℕ, max, ◌==◌, ◌||◌, Bool, true, false, not, if◌then◌else◌, List, [], ◌∷◌, ◌++◌, filter}
+use Rattle.std.specs.Prelude.{find, codes, Contains, Option, Some, None, is_some, Ok}
 use Rattle.std.specs.List.{AllByRecursion, list_any, flat_map}
 use Rattle.std.specs.Option.{option_map_or}
 use Rattle.std.specs.Str.{bytes_eq}
@@ -45,10 +46,14 @@ use Rattle.model_steps.specs.state.declared.branch.Phase.{Phase}
 use Rattle.model_steps.specs.state.declared.branch.Phase.TheVariants.{Unheard, Heard, Cancelled, Done, Ended}
 use Rattle.model_steps.specs.state.State.{is_invite, has_key, is_success, is_failure, is_decline, is_provisional, is_final, is_answering}
 use Rattle.model_steps.specs.state.Dialogs.{dialog_of}
-use Rattle.model_steps.specs.context_model.Sending.{made_answer, answer_packet, answer_to, to_branch, ack_packets, branch_packets, onward_as, request_of}
+use Rattle.model_steps.specs.context_model.Sending.{made_answer, answer_packet, answer_to, to_branch, ack_packets, branch_packets}
+use Rattle.model_steps.specs.context_model.Sending.{onward_as, request_of}
 use Rattle.model_steps.specs.context_model.Branches.{is_same_branch, is_ready, is_unheard, is_accepted, final_of, upward_of}
 use Rattle.model_steps.specs.state.Arrival.{Arrival}
-use Rattle.model_steps.specs.verdict_model.Verdict.{Bound, Refused, Verdict, Drop, Respond, Copy, AckOn, Cancel, Answer, InDialog, Challenge, Deny, Send, Register, has_contact, is_full, is_register, is_outside, question_of, answer_of, request_targets, registration_by, next_address, responding, found_for_cancel, message_in, verdict_of}
+use Rattle.model_steps.specs.verdict_model.Verdict.{Bound, Refused, Verdict, Drop, Respond, Copy, AckOn, Cancel, Answer, InDialog}
+use Rattle.model_steps.specs.verdict_model.Verdict.{Challenge, Deny, Send, Register, has_contact, is_full, is_register, is_outside}
+use Rattle.model_steps.specs.verdict_model.Verdict.{question_of, answer_of, request_targets, registration_by, next_address, responding}
+use Rattle.model_steps.specs.verdict_model.Verdict.{found_for_cancel, message_in, verdict_of}
 use Rattle.model_steps.specs.context_model.Opening.{arriving, branches_from, dialog_branch}
 use Rattle.model_steps.specs.context_model.Retransmission.{IsRetransmission, IsResent, answers_again, acked_again}
 use Rattle.model_steps.specs.Effect.{contact_fields, challenge_status, challenges_to, method_of, ack_packet}
@@ -60,7 +65,8 @@ use Rattle.sip_model.specs.Histories.{records_at}
 
 -- ---- a valid new request outside a dialog
 
--- A datagram says a request that is valid, new and outside a dialog: it is neither ACK nor CANCEL, its key isn't open, it passes every check, there is room for it, and its To has no
+-- A datagram says a request that is valid, new and outside a dialog: it is neither ACK nor CANCEL, its key isn't open, it passes
+-- every check, there is room for it, and its To has no
 -- tag or it is a REGISTER.
 pub record IsNewRequest (server : Server) (state : ProxyState) (bytes : List ℕ) (m : Message) (method : List ℕ) (core : CoreFields) : Type 0 where
   pub uri : List ℕ
@@ -122,13 +128,17 @@ pub record IsAllowedRegister (server : Server) (state : ProxyState) (a : Arrival
 abbrev pub answer_alone : Server → Arrival → Message → ℕ → List Field → List Packet
 answer_alone server a m status extras = answer_packet false a.number m a.from (text_of (made_answer server a.number m a.from status extras)) ∷ []
 
--- What becomes of it, over the bindings that its history gives: it was sent to exactly its targets; a REGISTER that was let through and made bindings got the 200 that lists those that
--- live then, and one that the registrar refuses its status; without a user it got 404, without a live binding 480; a request that was challenged got the challenge alone, and one that
+-- What becomes of it, over the bindings that its history gives: it was sent to exactly its targets; a REGISTER that was let through
+-- and made bindings got the 200 that lists those that
+-- live then, and one that the registrar refuses its status; without a user it got 404, without a live binding 480; a request that
+-- was challenged got the challenge alone, and one that
 -- was denied the 403 whose Warning names the rule.
-pub record IsServed (server : Server) (rows : List Binding) (state : ProxyState) (a : Arrival) (m : Message) (method : List ℕ) (core : CoreFields) (out : StepOut) : Type 0 where
+pub record IsServed (server : Server) (rows : List Binding) (state : ProxyState) (a : Arrival) (m : Message) (method : List ℕ)
+    (core : CoreFields) (out : StepOut) : Type 0 where
   pub reaches : branch_originals out.packets ≡ requests_to server a m (targets_on server rows state a.now m method core)
   pub lists : (id : ℕ) (after : List Binding) → is_register method ≡ true → rule_of (decision_on server state a.now m method core) ≡ Some id
-      → registration_by server rows a.now m core ≡ Bound after → originals out.packets ≡ answer_alone server a m 200 (contact_fields a.now (to_aor core) after)
+      → registration_by server rows a.now m core ≡ Bound after → originals out.packets
+      ≡ answer_alone server a m 200 (contact_fields a.now (to_aor core) after)
   pub refuses : (id status : ℕ) (extras : List Field) → is_register method ≡ true → rule_of (decision_on server state a.now m method core) ≡ Some id
       → registration_by server rows a.now m core ≡ Refused status extras → originals out.packets ≡ answer_alone server a m status extras
   pub finds_nobody : (id : ℕ) → is_register method ≡ false → rule_of (decision_on server state a.now m method core) ≡ Some id
@@ -137,13 +147,16 @@ pub record IsServed (server : Server) (rows : List Binding) (state : ProxyState)
       → targets_given server rows state a.now m method core ≡ Targets.Unavailable → originals out.packets ≡ answer_alone server a m 480 []
   pub challenges : decision_on server state a.now m method core ≡ Decision.Challenge
       → originals out.packets
-      ≡ answer_alone server a m (challenge_status (operation_of method (has_contact m.fields))) (challenges_to server a (question_of server state.nonces a.now m method core))
-  pub denies : (id : ℕ) → decision_on server state a.now m method core ≡ Decision.Deny id → originals out.packets ≡ answer_alone server a m 403 (denial_warning server.config.own id ∷ [])
+      ≡ answer_alone server a m (challenge_status (operation_of method (has_contact m.fields)))
+      (challenges_to server a (question_of server state.nonces a.now m method core))
+  pub denies : (id : ℕ) → decision_on server state a.now m method core ≡ Decision.Deny id → originals out.packets
+      ≡ answer_alone server a m 403 (denial_warning server.config.own id ∷ [])
 
 -- the same of a step: where it is taken for such a request
 abbrev pub Serves : Server → List Binding → ProxyState → Act → StepOut → Type 0
 Serves server rows state (Given (Datagram at word from bytes)) out =
-    (m : Message) (method : List ℕ) (core : CoreFields) → IsNewRequest server state bytes m method core → IsServed server rows state (arrival_of state at word from) m method core out
+    (m : Message) (method : List ℕ) (core : CoreFields) → IsNewRequest server state bytes m method core
+    → IsServed server rows state (arrival_of state at word from) m method core out
 Serves server rows state (Given (Time at)) out = Unit {0}
 Serves server rows state (Given (Fault at ticket)) out = Unit {0}
 Serves server rows state (Passing at) out = Unit {0}
@@ -159,7 +172,8 @@ pub record IsSaidAt (state : ProxyState) (act : Act) (a : Arrival) (bytes : List
   pub is_arrival : a ≡ arrival_of state at word from
   pub says : message_in (reading_of bytes) ≡ Some (m, short)
 
--- A response came in a datagram of a history, for a branch to a target of the request of a number, which was open then: its top Via is the one that this server put on that branch's
+-- A response came in a datagram of a history, for a branch to a target of the request of a number, which was open then: its top Via
+-- is the one that this server put on that branch's
 -- request, and its one CSeq has the request's method (RFC 3261 17.1.3, 20.16). Nobody looks at the address that it came from.
 pub record CameFor (server : Server) (history : List Link) (number status : ℕ) (response : Message) : Type 0 where
   pub link : Link
@@ -184,7 +198,8 @@ pub record IsTakenAlong (server : Server) (history : List Link) (number : ℕ) (
   pub is_challenge : is_challenge_field field ≡ true
   pub is_there : Contains response.fields field
 
--- A request is answered here in a step: it is open, or the step's datagram brings it, new and no ACK. One that is answered at once is open in its own step.
+-- A request is answered here in a step: it is open, or the step's datagram brings it, new and no ACK. One that is answered at once
+-- is open in its own step.
 pub data IsOpen (state : ProxyState) (act : Act) : ℕ → Message → Addr → Type 0 where
   Before : (r : OpenRequest) → Contains state.requests r → IsOpen state act r.number r.request r.source
   Brought : (a : Arrival) (bytes : List ℕ) (m : Message) (short : Bool) (key : Key) → IsSaidAt state act a bytes m short → key_of m ≡ Some key
@@ -203,7 +218,8 @@ pub record IsDenied (server : Server) (state : ProxyState) (act : Act) (number :
   pub denial : decision_on server state a.now m method core ≡ Decision.Deny id
   pub names_rule : extras ≡ denial_warning server.config.own id ∷ []
 
--- A step is taken for a request of a known dialog, or an ACK of one, that passes every check; neither REGISTER nor CANCEL. It is to go to an address that the dialog holds.
+-- A step is taken for a request of a known dialog, or an ACK of one, that passes every check; neither REGISTER nor CANCEL. It is to
+-- go to an address that the dialog holds.
 pub record IsWithin (server : Server) (state : ProxyState) (act : Act) (a : Arrival) (m : Message) (address : Addr) : Type 0 where
   pub bytes : List ℕ
   pub method : List ℕ
@@ -238,28 +254,36 @@ WasHeard server state act r b = (is_ready b.phase ≡ true) ⊎ IsHeardNow serve
 -- What may be sent for the first time in a step:
 -- the request to a target of a valid new request outside a dialog;
 -- an answer that is made here to an open request, at its response address: a 403 only as a denial whose rule its Warning names;
--- an answer that came for a branch of an open request, to that request's response address, without its top Via; a 401 or 407 with challenges that it takes along, each of which came in
+-- an answer that came for a branch of an open request, to that request's response address, without its top Via; a 401 or 407 with
+-- challenges that it takes along, each of which came in
 -- a 401 or 407 for the same request, and an answer of any other status with none;
 -- the ACK of such an answer of 300 to 699 to an INVITE, at the address of the branch;
--- the CANCEL of a branch to a target of an open INVITE, of no other request, at the address of the branch: before the step its phase is Heard, or the step's datagram says a provisional
+-- the CANCEL of a branch to a target of an open INVITE, of no other request, at the address of the branch: before the step its phase
+-- is Heard, or the step's datagram says a provisional
 -- response for that very branch;
 -- a request or an ACK of a known dialog, as it goes onward, to the address that the dialog holds.
 pub data IsOwed (server : Server) (history : List Link) (state : ProxyState) (act : Act) (rows : List Binding) (p : Packet) : Type 0 where
-  ToTarget : (a : Arrival) (bytes : List ℕ) (m : Message) (method : List ℕ) (core : CoreFields) → IsSaidAt state act a bytes m false → IsNewRequest server state bytes m method core
+  ToTarget : (a : Arrival) (bytes : List ℕ) (m : Message) (method : List ℕ) (core : CoreFields) → IsSaidAt state act a bytes m false
+      → IsNewRequest server state bytes m method core
       → Contains (requests_to server a m (targets_on server rows state a.now m method core)) p → IsOwed server history state act rows p
   Answers : (number : ℕ) (m : Message) (from : Addr) (status : ℕ) (extras : List Field) → IsOpen state act number m from
       → ((status ≡ 403) → IsDenied server state act number m extras)
       → p ≡ answer_packet false number m from (text_of (made_answer server number m from status extras)) → IsOwed server history state act rows p
-  Forwards : (r : OpenRequest) (status : ℕ) (response : Message) (challenges : List Field) → Contains state.requests r → CameFor server history r.number status response
+  Forwards : (r : OpenRequest) (status : ℕ) (response : Message) (challenges : List Field) → Contains state.requests r
+      → CameFor server history r.number status response
       → AllByRecursion (IsTakenAlong server history r.number) challenges → (is_challenge_status status ≡ false → challenges ≡ [])
       → p ≡ answer_to false r (text_of (taking_along (without_top_via response) challenges)) → IsOwed server history state act rows p
-  Acknowledges : (a : Arrival) (bytes : List ℕ) (r : OpenRequest) (b : Branch) (status : ℕ) (reason : List ℕ) (response : Message) → IsSaidAt state act a bytes response false
-      → response.start ≡ Status status reason → responding server state.requests response.fields ≡ Some (r, b) → is_invite r ≡ true → is_failure status ≡ true
+  Acknowledges : (a : Arrival) (bytes : List ℕ) (r : OpenRequest) (b : Branch) (status : ℕ) (reason : List ℕ) (response : Message)
+      → IsSaidAt state act a bytes response false
+      → response.start ≡ Status status reason → responding server state.requests response.fields ≡ Some (r, b) → is_invite r ≡ true
+      → is_failure status ≡ true
       → Contains (ack_packets server false r b (first_value Name.To response.fields)) p → IsOwed server history state act rows p
-  Cancels : (r : OpenRequest) (b : Branch) → Contains state.requests r → Contains r.branches b → b.is_cancel ≡ false → is_invite r ≡ true → WasHeard server state act r b
+  Cancels : (r : OpenRequest) (b : Branch) → Contains state.requests r → Contains r.branches b → b.is_cancel ≡ false → is_invite r ≡ true
+      → WasHeard server state act r b
       → Contains (to_branch r b 0 false (cancel_of (request_of server r b))) p → IsOwed server history state act rows p
   InKnownDialog : (a : Arrival) (m : Message) (address : Addr) → IsWithin server state act a m address → p.to ≡ address
-      → p.bytes ≡ text_of (onward_as server a.number m a.from (onward_uri server.config.own m) 1) → p.ticket.datagram ≡ a.number → IsOwed server history state act rows p
+      → p.bytes ≡ text_of (onward_as server a.number m a.from (onward_uri server.config.own m) 1) → p.ticket.datagram ≡ a.number
+      → IsOwed server history state act rows p
 
 -- ---- all that is sent for the first time
 
@@ -267,7 +291,8 @@ pub data IsOwed (server : Server) (history : List Link) (state : ProxyState) (ac
 abbrev pub has_address : Branch → Bool
 has_address b = is_some b.address
 
--- What a request that is sent to its branches gets at once: an INVITE with an address among them a 100, and one without any address a 500 (RFC 3261 16.2, 16.9).
+-- What a request that is sent to its branches gets at once: an INVITE with an address among them a 100, and one without any address
+-- a 500 (RFC 3261 16.2, 16.9).
 abbrev pub answer_at_once : Server → Arrival → Message → List Branch → List Packet
 answer_at_once server a m branches =
     if not (list_any has_address branches) then answer_alone server a m 500 []
@@ -292,8 +317,10 @@ sent_at_once server a m (Challenge q) = answer_alone server a m (challenge_statu
 sent_at_once server a m (Deny q id) = answer_alone server a m 403 (denial_warning server.config.own id ∷ [])
 sent_at_once server a m (Send q id Targets.NotFound) = answer_alone server a m 404 []
 sent_at_once server a m (Send q id Targets.Unavailable) = answer_alone server a m 480 []
-sent_at_once server a m (Send q id (Targets.Bindings targets)) = sent_to_branches server a m (branches_from a.now 1 (target_list (Targets.Bindings targets)))
-sent_at_once server a m (Send q id (Targets.Hop uri address)) = sent_to_branches server a m (branches_from a.now 1 (target_list (Targets.Hop uri address)))
+sent_at_once server a m (Send q id (Targets.Bindings targets)) = sent_to_branches server a m
+    (branches_from a.now 1 (target_list (Targets.Bindings targets)))
+sent_at_once server a m (Send q id (Targets.Hop uri address)) = sent_to_branches server a m
+    (branches_from a.now 1 (target_list (Targets.Hop uri address)))
 sent_at_once server a m (Register q id (Bound rows)) = answer_alone server a m 200 (contact_fields a.now q.target rows)
 sent_at_once server a m (Register q id (Refused status extras)) = answer_alone server a m status extras
 
@@ -319,7 +346,8 @@ pub record ComesNow (server : Server) (state : ProxyState) (act : Act) (r : Open
 -- The ACK that a step sends for an open request: of the first final response of a branch of an INVITE, of 300 to 699 (RFC 3261 17.1.1.3); or none.
 pub data IsAckNow (server : Server) (state : ProxyState) (act : Act) (r : OpenRequest) : List Packet → Type 0 where
   NoAck : IsAckNow server state act r []
-  Acks : (b : Branch) (status : ℕ) (response : Message) → ComesNow server state act r b status response → is_invite r ≡ true → is_failure status ≡ true → is_final b.phase ≡ false
+  Acks : (b : Branch) (status : ℕ) (response : Message) → ComesNow server state act r b status response → is_invite r ≡ true
+      → is_failure status ≡ true → is_final b.phase ≡ false
       → IsAckNow server state act r (ack_packets server false r b (first_value Name.To response.fields))
 
 -- A branch of this phase still takes a 2xx: it has no final response, or its first one was a 2xx (RFC 6026 7.2).
@@ -330,20 +358,24 @@ TakesSuccess (Cancelled due) = Unit {0}
 TakesSuccess (Done due first) = is_success first ≡ true
 TakesSuccess Ended = ⊥
 
--- A response of this status is sent on at once: of 101 to 199, while neither its branch nor its request has a final one; a 2xx, while the request has no final answer, or is an INVITE whose
+-- A response of this status is sent on at once: of 101 to 199, while neither its branch nor its request has a final one; a 2xx,
+-- while the request has no final answer, or is an INVITE whose
 -- last one was a 2xx (RFC 3261 16.7 step 5, RFC 6026 7.1).
 pub data IsPassedOn (r : OpenRequest) (b : Branch) (status : ℕ) : Type 0 where
   Early : is_provisional status ≡ true → ((status ≡ 100) → ⊥) → is_final b.phase ≡ false → is_answering r.side ≡ true → IsPassedOn r b status
   Accepting : is_success status ≡ true → TakesSuccess b.phase → (is_answering r.side || is_accepted r) ≡ true → IsPassedOn r b status
 
--- What a branch to a target ends with in a step at a moment: the final response that comes for it; 408 where its deadline passes without one, unless it is an INVITE that was heard; 487 where
+-- What a branch to a target ends with in a step at a moment: the final response that comes for it; 408 where its deadline passes
+-- without one, unless it is an INVITE that was heard; 487 where
 -- it had been sent a CANCEL; 503 where it could not be sent to (RFC 3261 16.7 to 16.9).
 pub data EndsNow (server : Server) (state : ProxyState) (act : Act) (at : ℕ) (r : OpenRequest) (b : Branch) : Final → Type 0 where
-  ByResponse : (status : ℕ) (response : Message) → ComesNow server state act r b status response → is_provisional status ≡ false → EndsNow server state act at r b (final_of status response)
+  ByResponse : (status : ℕ) (response : Message) → ComesNow server state act r b status response → is_provisional status ≡ false
+      → EndsNow server state act at r b (final_of status response)
   BySilence : b.phase ≡ Unheard at → EndsNow server state act at r b (record { status = 408; message = None })
   ByLaterSilence : b.phase ≡ Heard at → is_invite r ≡ false → EndsNow server state act at r b (record { status = 408; message = None })
   ByCancel : b.phase ≡ Cancelled at → EndsNow server state act at r b (record { status = 487; message = None })
-  ByFault : (when : ℕ) (ticket : Ticket) → act ≡ Given (Fault when ticket) → ticket.datagram ≡ r.number → ticket.branch ≡ b.number → is_unheard b.phase ≡ true
+  ByFault : (when : ℕ) (ticket : Ticket) → act ≡ Given (Fault when ticket) → ticket.datagram ≡ r.number → ticket.branch ≡ b.number
+      → is_unheard b.phase ≡ true
       → EndsNow server state act at r b (record { status = 503; message = None })
 
 -- each other branch to a target has ended before
@@ -354,13 +386,15 @@ OthersEnded r b = AllByRecursion (λ (x : Branch). x.is_cancel ≡ false → is_
 abbrev pub IsMadeLater : ℕ → Type 0
 IsMadeLater status = (status ≡ 408) ⊎ ((status ≡ 487) ⊎ (status ≡ 500))
 
--- What goes to the caller of an open request in a step: nothing; a response that is sent on at once; or, as its last branch ends and no final answer went before, the best of what its branches
+-- What goes to the caller of an open request in a step: nothing; a response that is sent on at once; or, as its last branch ends and
+-- no final answer went before, the best of what its branches
 -- ended with, in order of arrival (RFC 3261 16.7 steps 5 to 7).
 pub data IsAnswerNow (server : Server) (state : ProxyState) (act : Act) (at : ℕ) (r : OpenRequest) : List Packet → Type 0 where
   NoAnswer : IsAnswerNow server state act at r []
   PassedOn : (b : Branch) (status : ℕ) (response : Message) → ComesNow server state act r b status response → IsPassedOn r b status
       → IsAnswerNow server state act at r (answer_to false r (text_of (without_top_via response)) ∷ [])
-  Best : (b : Branch) (last best : Final) → Contains r.branches b → b.is_cancel ≡ false → is_final b.phase ≡ false → EndsNow server state act at r b last → OthersEnded r b → is_answering r.side ≡ true
+  Best : (b : Branch) (last best : Final) → Contains r.branches b → b.is_cancel ≡ false → is_final b.phase ≡ false
+      → EndsNow server state act at r b last → OthersEnded r b → is_answering r.side ≡ true
       → best_of (r.finals ++ last ∷ []) ≡ Some best → (best.message ≡ None → IsMadeLater best.status)
       → IsAnswerNow server state act at r (answer_to false r (text_of (upward_of server r best).message) ∷ [])
 
@@ -383,17 +417,21 @@ pub record WasCancelled (server : Server) (history : List Link) (number : ℕ) :
 -- The branches of a request were given up in a history: its caller cancelled it, or a 2xx or 6xx came for it (RFC 3261 16.7 step 10, 16.10).
 pub data WasGivenUp (server : Server) (history : List Link) (number : ℕ) : Type 0 where
   ByCaller : WasCancelled server history number → WasGivenUp server history number
-  ByAnswer : (status : ℕ) (response : Message) → CameFor server history number status response → (is_success status || is_decline status) ≡ true → WasGivenUp server history number
+  ByAnswer : (status : ℕ) (response : Message) → CameFor server history number status response → (is_success status || is_decline status)
+      ≡ true → WasGivenUp server history number
 
--- A branch to a target of an INVITE is sent its CANCEL in a step: it was heard before, or is now, and none was sent before; and it was given up, or Timer C passes (RFC 3261 9.1, 16.8).
-pub record IsCancelledNow (server : Server) (history : List Link) (state : ProxyState) (act : Act) (at : ℕ) (r : OpenRequest) (b : Branch) : Type 0 where
+-- A branch to a target of an INVITE is sent its CANCEL in a step: it was heard before, or is now, and none was sent before; and it
+-- was given up, or Timer C passes (RFC 3261 9.1, 16.8).
+pub record IsCancelledNow (server : Server) (history : List Link) (state : ProxyState) (act : Act) (at : ℕ) (r : OpenRequest) (b : Branch) :
+    Type 0 where
   pub is_target : b.is_cancel ≡ false
   pub is_of_invite : is_invite r ≡ true
   pub was_heard : (is_ready b.phase ≡ true) ⊎ ((is_unheard b.phase ≡ true) × IsHeardNow server state act r b)
   pub was_given_up : WasGivenUp server history r.number ⊎ (b.phase ≡ Heard at)
 
 -- the CANCELs that a step sends for an open request: those of some of its branches, each once
-pub record AreCancelsNow (server : Server) (history : List Link) (state : ProxyState) (act : Act) (at : ℕ) (r : OpenRequest) (packets : List Packet) : Type 0 where
+pub record AreCancelsNow (server : Server) (history : List Link) (state : ProxyState) (act : Act) (at : ℕ) (r : OpenRequest)
+    (packets : List Packet) : Type 0 where
   pub is_one : Branch → Bool
   pub are_all : packets ≡ flat_map (λ (b : Branch). to_branch r b 0 false (cancel_of (request_of server r b))) (filter is_one r.branches)
   pub each : AllByRecursion (λ (b : Branch). is_one b ≡ true → IsCancelledNow server history state act at r b) r.branches
@@ -401,7 +439,8 @@ pub record AreCancelsNow (server : Server) (history : List Link) (state : ProxyS
 -- What a step sends for a request that was open before it, if it does for one: an ACK, an answer, and CANCELs, in this order, or some of them.
 pub data IsForOpen (server : Server) (history : List Link) (state : ProxyState) (act : Act) (at : ℕ) : List Packet → Type 0 where
   ForNone : IsForOpen server history state act at []
-  ForOne : (r : OpenRequest) (acks answers cancels : List Packet) → Contains state.requests r → IsAckNow server state act r acks → IsAnswerNow server state act at r answers
+  ForOne : (r : OpenRequest) (acks answers cancels : List Packet) → Contains state.requests r → IsAckNow server state act r acks
+      → IsAnswerNow server state act at r answers
       → AreCancelsNow server history state act at r cancels → IsForOpen server history state act at (acks ++ answers ++ cancels)
 
 -- All that a step sends for the first time: what its datagram is answered or sent on as, and then what is sent for a request that was open before.
@@ -412,15 +451,19 @@ pub record IsAllSent (server : Server) (history : List Link) (state : ProxyState
 
 -- ---- what goes again
 
--- All that goes again in a step at a moment: nothing; the last answer of the request that a datagram copies; the ACK of a branch whose final response came before, and comes again; or what has
+-- All that goes again in a step at a moment: nothing; the last answer of the request that a datagram copies; the ACK of a branch
+-- whose final response came before, and comes again; or what has
 -- its moment then (RFC 3261 17).
 pub data GoesAgain (server : Server) (state : ProxyState) (act : Act) (at : ℕ) : List Packet → Type 0 where
   Nothing : GoesAgain server state act at []
-  ByCopy : (a : Arrival) (bytes : List ℕ) (m : Message) (short : Bool) (key : Key) (r : OpenRequest) → IsSaidAt state act a bytes m short → bytes_eq (method_of m.start) (codes "ACK") ≡ false
+  ByCopy : (a : Arrival) (bytes : List ℕ) (m : Message) (short : Bool) (key : Key) (r : OpenRequest) → IsSaidAt state act a bytes m short
+      → bytes_eq (method_of m.start) (codes "ACK") ≡ false
       → key_of m ≡ Some key → find (has_key key) state.requests ≡ Some r → GoesAgain server state act at (answers_again r r.answer)
-  ByFinal : (a : Arrival) (bytes : List ℕ) (m : Message) (status : ℕ) (reason : List ℕ) (r : OpenRequest) (b : Branch) → IsSaidAt state act a bytes m false → m.start ≡ Status status reason
+  ByFinal : (a : Arrival) (bytes : List ℕ) (m : Message) (status : ℕ) (reason : List ℕ) (r : OpenRequest) (b : Branch)
+      → IsSaidAt state act a bytes m false → m.start ≡ Status status reason
       → responding server state.requests m.fields ≡ Some (r, b) → GoesAgain server state act at (acked_again server r b status)
-  ByTime : (r later : OpenRequest) (packets : List Packet) → Contains state.requests r → IsResent server at r packets later → GoesAgain server state act at packets
+  ByTime : (r later : OpenRequest) (packets : List Packet) → Contains state.requests r → IsResent server at r packets later
+      → GoesAgain server state act at packets
 
 -- ---- the audit log
 
@@ -440,7 +483,8 @@ abbrev pub moment_in : List Link → ℕ
 moment_in [] = 0
 moment_in (link ∷ history) = link.out.at
 
--- A step after a moment stands at its own: an event at its moment, or at the last one if it goes back; time that passes at one no earlier than the last, and no later than the moment up to
+-- A step after a moment stands at its own: an event at its moment, or at the last one if it goes back; time that passes at one no
+-- earlier than the last, and no later than the moment up to
 -- which it passes.
 abbrev pub StandsAt : ℕ → Act → ℕ → Type 0
 StandsAt last (Given event) at = at ≡ max last (event_moment event)
@@ -448,9 +492,12 @@ StandsAt last (Passing until) at = (last ≤ at) × (at ≤ max last until)
 
 -- ---- the law
 
--- A step is lawful by its history: it stands at its moment; from then on the bindings before it say the same as those that the allowed REGISTERs of its history make, and those after it do so with its own;
--- what it is taken for is served by these; all that it sends for the first time is owed, and is exactly what its datagram gets and what an open request does; all that goes again has its
--- cause, is of a request that is open, and went before; and it records the request that policy was asked about, and nothing else, under a number above all before.
+-- A step is lawful by its history: it stands at its moment; from then on the bindings before it say the same as those that the
+-- allowed REGISTERs of its history make, and those after it do so with its own;
+-- what it is taken for is served by these; all that it sends for the first time is owed, and is exactly what its datagram gets and
+-- what an open request does; all that goes again has its
+-- cause, is of a request that is open, and went before; and it records the request that policy was asked about, and nothing else,
+-- under a number above all before.
 pub record IsLawful (server : Server) (history : List Link) (link : Link) : Type 0 where
   pub stands : StandsAt (moment_in history) link.act link.out.at
   pub bindings : SameBindings link.before.moment link.before.bindings (bindings_after server history)

@@ -9,7 +9,8 @@ use Rattle.sip_event.specs.declared.event.Event.TheVariants.{Datagram, Time, Fau
 use Rattle.model_steps.specs.state.declared.server.Server.{Server}
 use Rattle.model_steps.specs.state.declared.proxy_state.ProxyState.{ProxyState}
 use Rattle.model_steps.specs.state.Arrival.{Arrival}
-use Rattle.model_steps.specs.verdict_model.Verdict.{Registered, Bound, Refused, Verdict, Drop, Respond, Copy, AckOn, Cancel, Answer, InDialog, Challenge, Deny, Send, Register, registration_by, verdict_of}
+use Rattle.model_steps.specs.verdict_model.Verdict.{Registered, Bound, Refused, Verdict, Drop, Respond, Copy, AckOn, Cancel, Answer}
+use Rattle.model_steps.specs.verdict_model.Verdict.{InDialog, Challenge, Deny, Send, Register, registration_by, verdict_of}
 use Rattle.model_steps.specs.Step.{Act, Given, Passing, arrival_of}
 use Rattle.sip_model.specs.Run.{Link}
 
@@ -27,9 +28,11 @@ rows_after rows (Refused status extras) = rows
 
 -- the rows after one REGISTER; one whose core fields can't be read changes nothing, and none such is let through
 abbrev pub after_register : Server → Arrived → List Binding → List Binding
-after_register server r rows = option_map_or (λ core. rows_after rows (registration_by server rows r.at r.request core)) (result_ok (core_of r.request)) rows
+after_register server r rows = option_map_or (λ core. rows_after rows (registration_by server rows r.at r.request core))
+    (result_ok (core_of r.request)) rows
 
--- The bindings after some REGISTERs that were let through, the newest first. Nothing else is known here: no transaction, no retransmission, no packet.
+-- The bindings after some REGISTERs that were let through, the newest first. Nothing else is known here: no transaction, no
+-- retransmission, no packet.
 abbrev pub bindings_by : Server → List Arrived → List Binding
 bindings_by server [] = []
 bindings_by server (r ∷ earlier) = after_register server r (bindings_by server earlier)

@@ -25,7 +25,8 @@ use Rattle.model_steps.specs.state.Dialogs.{after_request}
 use Rattle.model_steps.specs.context_model.Branches.{settled, responded, send_failed, cancelled}
 use Rattle.model_steps.specs.state.Arrival.{Arrival}
 use Rattle.model_steps.specs.verdict_model.declared.question.Question.{Question}
-use Rattle.model_steps.specs.verdict_model.Verdict.{Registered, Bound, Refused, Verdict, Drop, Respond, Copy, AckOn, Cancel, Answer, InDialog, Challenge, Deny, Send, Register, verdict_of}
+use Rattle.model_steps.specs.verdict_model.Verdict.{Registered, Bound, Refused, Verdict, Drop, Respond, Copy, AckOn, Cancel, Answer}
+use Rattle.model_steps.specs.verdict_model.Verdict.{InDialog, Challenge, Deny, Send, Register, verdict_of}
 use Rattle.model_steps.specs.context_model.Opening.{forking, branches_from, dialog_branch, tried, trying}
 use Rattle.model_steps.specs.Effect.{challenge_status, record_of, dialogs_after}
 use Rattle.model_steps.specs.Step.{Act, Given, Passing, IsStep, is_failed, moment_of, arrival_of}
@@ -54,7 +55,11 @@ pub record Judged : Type 0 where
 -- those of a step, if it is taken for a datagram that says a message
 abbrev pub judged_at : Server → ProxyState → Act → Option Judged
 judged_at server state (Given (Datagram at word from bytes)) =
-    option_map (λ x. record { arrival = arrival_of state at word from; message = x.0; verdict = x.1 }) (verdict_of server state (arrival_of state at word from) bytes)
+    option_map (λ x. record {
+      arrival = arrival_of state at word from;
+      message = x.0;
+      verdict = x.1;
+    }) (verdict_of server state (arrival_of state at word from) bytes)
 judged_at server state (Given (Time at)) = None
 judged_at server state (Given (Fault at ticket)) = None
 judged_at server state (Passing at) = None
@@ -75,14 +80,16 @@ with_issued a (Cancel found) nonces = nonces
 with_issued a (Answer status extras) nonces = nonces
 with_issued a (InDialog address id) nonces = nonces
 
--- the nonces after a datagram: a right credential that policy was asked about counts as used, whatever was decided, and a challenge issues its nonce (RFC 2617 3.2.1, 3.2.2)
+-- the nonces after a datagram: a right credential that policy was asked about counts as used, whatever was decided, and a challenge
+-- issues its nonce (RFC 2617 3.2.1, 3.2.2)
 abbrev pub nonces_by : List Nonce → Judged → List Nonce
 nonces_by nonces j = with_issued j.arrival j.verdict (option_map_or (λ q. used nonces j.arrival.now q.proof) (asked_in j.verdict) nonces)
 
 -- the nonces after a history: what its challenges issued, and its right credentials used
 abbrev pub nonces_after : Server → List Link → List Nonce
 nonces_after server [] = []
-nonces_after server (link ∷ history) = option_map_or (nonces_by (nonces_after server history)) (judged_at server link.before link.act) (nonces_after server history)
+nonces_after server (link ∷ history) = option_map_or (nonces_by (nonces_after server history)) (judged_at server link.before link.act)
+    (nonces_after server history)
 
 -- a challenge of a history issued the nonce of this text, less than its life of 300,000 ms before a moment (RFC 2617 3.2.1)
 pub record WasChallenged (server : Server) (history : List Link) (now : ℕ) (text : List ℕ) : Type 0 where
@@ -138,10 +145,13 @@ forking_dialogs server now r dialogs = dialogs_after server now (settled server 
 abbrev pub sending_dialogs : Server → Arrival → Message → Targets → List Dialog → List Dialog
 sending_dialogs server a m Targets.NotFound dialogs = dialogs
 sending_dialogs server a m Targets.Unavailable dialogs = dialogs
-sending_dialogs server a m (Targets.Bindings targets) dialogs = forking_dialogs server a.now (forking a m (branches_from a.now 1 (target_list (Targets.Bindings targets)))) dialogs
-sending_dialogs server a m (Targets.Hop uri address) dialogs = forking_dialogs server a.now (forking a m (branches_from a.now 1 (target_list (Targets.Hop uri address)))) dialogs
+sending_dialogs server a m (Targets.Bindings targets) dialogs = forking_dialogs server a.now
+    (forking a m (branches_from a.now 1 (target_list (Targets.Bindings targets)))) dialogs
+sending_dialogs server a m (Targets.Hop uri address) dialogs = forking_dialogs server a.now
+    (forking a m (branches_from a.now 1 (target_list (Targets.Hop uri address)))) dialogs
 
--- The dialogs after a verdict on a message: a request or an ACK of a dialog that is sent on renews it; what goes to the caller tells dialogs, makes them known or ends them; and when an
+-- The dialogs after a verdict on a message: a request or an ACK of a dialog that is sent on renews it; what goes to the caller tells
+-- dialogs, makes them known or ends them; and when an
 -- INVITE stays open no longer, its dialogs without a 2xx end (RFC 3261 12, 15).
 abbrev pub verdict_dialogs : Server → Arrival → Message → Verdict → List Dialog → List Dialog
 verdict_dialogs server a m (Respond r b status) dialogs = dialogs_after server a.now (responded server a.now r b status m) dialogs
@@ -164,12 +174,15 @@ branch_dialogs server now r b dialogs = option_map_or (λ x. dialogs_after serve
 
 -- after any send failed
 abbrev pub fault_dialogs : Server → ℕ → Ticket → Option OpenRequest → List Dialog → List Dialog
-fault_dialogs server now ticket found dialogs = option_map_or (λ r. branch_dialogs server now r (find (is_failed ticket.branch) r.branches) dialogs) found dialogs
+fault_dialogs server now ticket found dialogs = option_map_or
+    (λ r. branch_dialogs server now r (find (is_failed ticket.branch) r.branches) dialogs) found dialogs
 
 -- after a step; which of several tied deadlines passes is the step's to say
-abbrev pub step_dialogs : (server : Server) (old : ProxyState) (act : Act) (out : StepOut) (new : ProxyState) → IsStep server old act out new → List Dialog → List Dialog
+abbrev pub step_dialogs : (server : Server) (old : ProxyState) (act : Act) (out : StepOut) (new : ProxyState)
+    → IsStep server old act out new → List Dialog → List Dialog
 step_dialogs server old (Given (Datagram at word from bytes)) out new step dialogs =
-    option_map_or (λ x. verdict_dialogs server (arrival_of old at word from) x.0 x.1 dialogs) (verdict_of server old (arrival_of old at word from) bytes) dialogs
+    option_map_or (λ x. verdict_dialogs server (arrival_of old at word from) x.0 x.1 dialogs)
+    (verdict_of server old (arrival_of old at word from) bytes) dialogs
 step_dialogs server old (Given (Time at)) out new step dialogs = dialogs
 step_dialogs server old (Given (Fault at ticket)) out new step dialogs =
     fault_dialogs server (moment_of old at) ticket (find (λ (r : OpenRequest). r.number == ticket.datagram) old.requests) dialogs
@@ -178,7 +191,8 @@ step_dialogs server old (Passing at) out new (inr (inl passed)) dialogs = dialog
 step_dialogs server old (Passing at) out new (inr (inr goes)) dialogs = dialogs
 
 -- The dialogs after a history: what its forwarded messages made known, told, renewed and ended.
-abbrev pub history_dialogs : (server : Server) (first : ProxyState) (history : List Link) (last : ProxyState) → IsChain server first history last → List Dialog
+abbrev pub history_dialogs : (server : Server) (first : ProxyState) (history : List Link) (last : ProxyState)
+    → IsChain server first history last → List Dialog
 history_dialogs server first [] last chain = []
 history_dialogs server first (link ∷ history) last chain =
     step_dialogs server link.before link.act link.out link.after chain.1 (history_dialogs server first history link.before chain.2)
@@ -202,7 +216,8 @@ issues_by word a (InDialog address id) = 0
 -- how many challenges of a history have a nonce of a word
 abbrev pub issues_of : Server → ℕ → List Link → ℕ
 issues_of server word [] = 0
-issues_of server word (link ∷ history) = option_map_or (λ j. issues_by word j.arrival j.verdict) (judged_at server link.before link.act) 0 + issues_of server word history
+issues_of server word (link ∷ history) = option_map_or (λ j. issues_by word j.arrival j.verdict) (judged_at server link.before link.act) 0
+    + issues_of server word history
 
 -- the count of a credential, if it is right and names the nonce of a word
 abbrev pub right_count : ℕ → Proof → List ℕ
@@ -215,7 +230,8 @@ right_count word Wrong = []
 abbrev pub right_counts : Server → ℕ → List Link → List ℕ
 right_counts server word [] = []
 right_counts server word (link ∷ history) =
-    option_map_or (λ j. option_map_or (λ q. right_count word q.proof) (asked_in j.verdict) []) (judged_at server link.before link.act) [] ++ right_counts server word history
+    option_map_or (λ j. option_map_or (λ q. right_count word q.proof) (asked_in j.verdict) []) (judged_at server link.before link.act) []
+    ++ right_counts server word history
 
 -- numbers of which each is above all that are behind it
 abbrev pub AreFalling : List ℕ → Type 0

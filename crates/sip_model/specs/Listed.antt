@@ -7,7 +7,8 @@ use Rattle.sip_message_fields.specs.declared.field_name.FieldName.TheVariants as
 use Rattle.sip_edit_response.specs.Contacts.{contact_value}
 use Rattle.sip_location.specs.declared.binding.Binding.{Binding}
 
--- A field lists a binding of an address of record: one of these rows that hasn't expired, as a Contact with its URI and the seconds that it has left, a part of one counting as one
+-- A field lists a binding of an address of record: one of these rows that hasn't expired, as a Contact with its URI and the seconds
+-- that it has left, a part of one counting as one
 -- (RFC 3261 10.3 step 8).
 pub record IsListed (now : ℕ) (aor : Aor) (rows : List Binding) (f : Field) : Type 0 where
   pub binding : Binding

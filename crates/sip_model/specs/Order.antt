@@ -1,6 +1,8 @@
--- What holds of every run of a proxy: its open requests are told apart by their keys and numbers, no deadline is passed over, of each request at most one final answer
+-- What holds of every run of a proxy: its open requests are told apart by their keys and numbers, no deadline is passed over, of
+-- each request at most one final answer
 -- goes up or several 2xx to an INVITE, and each open request can end.
-use Rattle.std.specs.Prelude.{◌≡◌, ◌≤◌, ◌<◌, ◌+◌, ◌⊎◌, ℕ, ◌==◌, Bool, true, false, not, if◌then◌else◌, List, [], ◌∷◌, ◌++◌, length, map, filter, find, sum_by, count_by, Contains, Option, Some, None}
+use Rattle.std.specs.Prelude.{◌≡◌, ◌≤◌, ◌<◌, ◌+◌, ◌⊎◌, ℕ, ◌==◌, Bool, true, false, not, if◌then◌else◌, List, [], ◌∷◌, ◌++◌, length, map}
+use Rattle.std.specs.Prelude.{filter, find, sum_by, count_by, Contains, Option, Some, None}
 use mathlib.Core.Logic.{inl, inr}
 use Rattle.std.specs.List.{AllByRecursion}
 use Rattle.sip_message_form.specs.declared.message.Message.{Message}
@@ -22,7 +24,8 @@ use Rattle.model_steps.specs.state.State.{is_invite, is_answering, deadlines_of,
 use Rattle.model_steps.specs.state.declared.open_request.Upward.{Upward}
 use Rattle.model_steps.specs.context_model.Branches.{Change, settled, responded, send_failed, cancelled, has_success}
 use Rattle.model_steps.specs.state.Arrival.{Arrival}
-use Rattle.model_steps.specs.verdict_model.Verdict.{Registered, Bound, Refused, Verdict, Drop, Respond, Copy, AckOn, Cancel, Answer, InDialog, Challenge, Deny, Send, Register, verdict_of}
+use Rattle.model_steps.specs.verdict_model.Verdict.{Registered, Bound, Refused, Verdict, Drop, Respond, Copy, AckOn, Cancel, Answer}
+use Rattle.model_steps.specs.verdict_model.Verdict.{InDialog, Challenge, Deny, Send, Register, verdict_of}
 use Rattle.model_steps.specs.context_model.Opening.{arriving, forking, branches_from, dialog_branch, tried, trying}
 use Rattle.model_steps.specs.Effect.{challenge_status}
 use Rattle.model_steps.specs.Step.{Act, Given, Passing, IsStep, IsOverdue, NoneBy, NoneAgainBy, is_failed, moment_of, arrival_of}
@@ -50,7 +53,8 @@ AreRising (r ∷ rs) = AllByRecursion (λ (later : OpenRequest). r.number < late
 
 -- ---- deadlines
 
--- Once a datagram was taken, or time passed up to a moment, no deadline stands at or before the state's moment, and nothing is to go again by then: what had to fire has fired, what was
+-- Once a datagram was taken, or time passed up to a moment, no deadline stands at or before the state's moment, and nothing is to go
+-- again by then: what had to fire has fired, what was
 -- to go again went, and all that was armed since is later.
 abbrev pub HasFired : Act → ProxyState → Type 0
 HasFired (Given (Datagram at word from bytes)) state = NoneBy state.moment state.requests × NoneAgainBy state.moment state.requests
@@ -60,7 +64,8 @@ HasFired (Passing at) state = Unit {0}
 
 -- ---- the final answer of a request
 
--- What changes an open request at a moment: a response to one of its branches, a deadline of its own or of a branch, a send of a branch that failed, or the caller's CANCEL.
+-- What changes an open request at a moment: a response to one of its branches, a deadline of its own or of a branch, a send of a
+-- branch that failed, or the caller's CANCEL.
 pub data IsChangeOf (server : Server) (now : ℕ) (r : OpenRequest) : Change → Type 0 where
   ByResponse : (b : Branch) (status : ℕ) (m : Message) → Contains r.branches b → IsChangeOf server now r (responded server now r b status m)
   ByDeadline : (change : Change) → IsOverdue server now r change → IsChangeOf server now r change
@@ -71,14 +76,17 @@ pub data IsChangeOf (server : Server) (now : ℕ) (r : OpenRequest) : Change →
 abbrev pub is_final_answer : Upward → Bool
 is_final_answer u = not (is_provisional u.status)
 
--- A request had its final answer before a change of it: each final answer that still goes up is a 2xx, of an INVITE whose last answer was a 2xx; and it owes no answer again
+-- A request had its final answer before a change of it: each final answer that still goes up is a 2xx, of an INVITE whose last
+-- answer was a 2xx; and it owes no answer again
 -- (RFC 3261 16.7 step 5, RFC 6026 7.1).
 pub record AddsSuccessesAlone (r : OpenRequest) (change : Change) : Type 0 where
-  pub are_further : AllByRecursion (λ (u : Upward). is_final_answer u ≡ true → (is_success u.status ≡ true) × (is_invite r ≡ true) × (has_success r.answer ≡ true)) change.upward
+  pub are_further : AllByRecursion (λ (u : Upward). is_final_answer u ≡ true → (is_success u.status ≡ true) × (is_invite r ≡ true)
+      × (has_success r.answer ≡ true)) change.upward
   pub stays_answered : is_answering change.request.side ≡ false
   pub keeps_success : has_success change.request.answer ≡ has_success r.answer
 
--- A request had no final answer before a change of it: at most one goes up; with it the request has its final answer, which is its last, and without it the request owes one as before.
+-- A request had no final answer before a change of it: at most one goes up; with it the request has its final answer, which is its
+-- last, and without it the request owes one as before.
 pub record AnswersOnce (change : Change) : Type 0 where
   pub is_one : count_by is_final_answer change.upward ≤ 1
   pub is_answered : 1 ≤ count_by is_final_answer change.upward → is_answering change.request.side ≡ false
@@ -103,7 +111,11 @@ change_finals change = finals_up change.request change.upward
 
 -- the one of a request that is answered at once
 abbrev pub reply_finals : Arrival → Message → ℕ → List FinalAnswer
-reply_finals a m status = if is_provisional status then [] else record { number = a.number; is_to_invite = is_invite (arriving a m); status = status } ∷ []
+reply_finals a m status = if is_provisional status then [] else record {
+  number = a.number;
+  is_to_invite = is_invite (arriving a m);
+  status = status;
+} ∷ []
 
 -- those of a request that is sent to its branches, in the step that opens it
 abbrev pub forked_finals : Server → ℕ → OpenRequest → List FinalAnswer
@@ -113,8 +125,10 @@ forked_finals server now r = change_finals (settled server now [] None (tried no
 abbrev pub sending_finals : Server → Arrival → Message → Targets → List FinalAnswer
 sending_finals server a m Targets.NotFound = reply_finals a m 404
 sending_finals server a m Targets.Unavailable = reply_finals a m 480
-sending_finals server a m (Targets.Bindings targets) = forked_finals server a.now (forking a m (branches_from a.now 1 (target_list (Targets.Bindings targets))))
-sending_finals server a m (Targets.Hop uri address) = forked_finals server a.now (forking a m (branches_from a.now 1 (target_list (Targets.Hop uri address))))
+sending_finals server a m (Targets.Bindings targets) = forked_finals server a.now
+    (forking a m (branches_from a.now 1 (target_list (Targets.Bindings targets))))
+sending_finals server a m (Targets.Hop uri address) = forked_finals server a.now
+    (forking a m (branches_from a.now 1 (target_list (Targets.Hop uri address))))
 
 -- those of a REGISTER that was let through
 abbrev pub registered_finals : Arrival → Message → Registered → List FinalAnswer
@@ -152,8 +166,10 @@ fault_finals server now ticket None = []
 fault_finals server now ticket (Some r) = branch_finals server now r (find (is_failed ticket.branch) r.branches)
 
 -- those of a step; which of several tied deadlines passes is the step's to say
-abbrev pub step_finals : (server : Server) (old : ProxyState) (act : Act) (out : StepOut) (new : ProxyState) → IsStep server old act out new → List FinalAnswer
-step_finals server old (Given (Datagram at word from bytes)) out new step = datagram_finals server (arrival_of old at word from) (verdict_of server old (arrival_of old at word from) bytes)
+abbrev pub step_finals : (server : Server) (old : ProxyState) (act : Act) (out : StepOut) (new : ProxyState) → IsStep server old act out new
+    → List FinalAnswer
+step_finals server old (Given (Datagram at word from bytes)) out new step = datagram_finals server (arrival_of old at word from)
+    (verdict_of server old (arrival_of old at word from) bytes)
 step_finals server old (Given (Time at)) out new step = []
 step_finals server old (Given (Fault at ticket)) out new step =
     fault_finals server (moment_of old at) ticket (find (λ (r : OpenRequest). r.number == ticket.datagram) old.requests)
@@ -162,7 +178,8 @@ step_finals server old (Passing at) out new (inr (inl passed)) = change_finals p
 step_finals server old (Passing at) out new (inr (inr goes)) = []
 
 -- those of a history, the newest step's first
-abbrev pub history_finals : (server : Server) (first : ProxyState) (history : List Link) (last : ProxyState) → IsChain server first history last → List FinalAnswer
+abbrev pub history_finals : (server : Server) (first : ProxyState) (history : List Link) (last : ProxyState)
+    → IsChain server first history last → List FinalAnswer
 history_finals server first [] last chain = []
 history_finals server first (link ∷ history) last chain =
     step_finals server link.before link.act link.out link.after chain.1 ++ history_finals server first history link.before chain.2
@@ -187,7 +204,8 @@ pub record CanEnd (r : OpenRequest) : Type 0 where
   pub due : ℕ
   pub has_deadline : Contains (deadlines_of r) due
 
--- How many deadlines may still pass of a branch if nothing else happens: of one that was heard its own, after which it is sent a CANCEL, the one that it has from then on, and the CANCEL's.
+-- How many deadlines may still pass of a branch if nothing else happens: of one that was heard its own, after which it is sent a
+-- CANCEL, the one that it has from then on, and the CANCEL's.
 abbrev pub phase_left : Phase → ℕ
 phase_left (Unheard due) = 1
 phase_left (Heard due) = 3

@@ -62,9 +62,12 @@ abbrev pub first_moment : List Event → Option ℕ → Option ℕ
 first_moment [] until = until
 first_moment (event ∷ events) until = Some (event_moment event)
 
--- These steps, for these events, are a run of a proxy: each event has its own step, before which time passes step by step up to the event's moment. No step's moment passes a deadline
--- that stands, or one at which something goes again. Behind the last of these events time passes only up to the moment of one that wasn't taken, if there was one.
-pub record IsRun (server : Server) (first : ProxyState) (events : List Event) (until : Option ℕ) (steps : List StepOut) (history : List Link) (last : ProxyState) : Type 0 where
+-- These steps, for these events, are a run of a proxy: each event has its own step, before which time passes step by step up to the
+-- event's moment. No step's moment passes a deadline
+-- that stands, or one at which something goes again. Behind the last of these events time passes only up to the moment of one that
+-- wasn't taken, if there was one.
+pub record IsRun (server : Server) (first : ProxyState) (events : List Event) (until : Option ℕ) (steps : List StepOut)
+    (history : List Link) (last : ProxyState) : Type 0 where
   pub chain : IsChain server first history last
   pub paced : IsPaced until history
   pub of_events : reverse (events_of history) ≡ events

@@ -24,18 +24,21 @@ ghost use Rattle.model_steps.specs.Effect.{contact_fields, datagram_effect, dial
 ghost use Rattle.sip_event.specs.declared.event.StepOut.{StepOut};
 ghost use Rattle.model_steps.specs.Step.{Act, IsStep};
 ghost use Rattle.sip_model.specs.Run.{Link, IsChain};
-ghost use Rattle.sip_model.specs.Histories.{Judged, judged_at, asked_in, WasChallenged, nonces_after, records_at, history_dialogs, issues_of, right_counts, AreFalling};
+ghost use Rattle.sip_model.specs.Histories.{Judged, judged_at, asked_in, WasChallenged, nonces_after, records_at, history_dialogs};
+ghost use Rattle.sip_model.specs.Histories.{issues_of, right_counts, AreFalling};
 
 /// Rows that say the same list the same bindings in a 200 (RFC 3261 10.3 step 8).
 pub fn contact_fields_same()
-    ensures { (now : ℕ) (aor : Aor) (left right : List Binding) → SameBindings now left right → contact_fields now aor left ≡ contact_fields now aor right }
+    ensures { (now : ℕ) (aor : Aor) (left right : List Binding) → SameBindings now left right → contact_fields now aor left
+        ≡ contact_fields now aor right }
 {}
 
 /// A REGISTER that was let through and bound is answered by a 200, and each Contact of that is a binding of its address
 /// that lives, with the seconds that it has left (RFC 3261 10.3 step 8).
 pub fn listed_are_live()
     ensures sends { (server : Server) (a : Arrival) (m : Message) (q : Question) (id : ℕ) (rows : List Binding) (state : ProxyState)
-        → (effect_of server a m (Register q id (Bound rows)) state).originals ≡ answer_packet false a.number m a.from (text_of (made_answer server a.number m a.from 200 (contact_fields a.now q.target rows))) ∷ [] }
+        → (effect_of server a m (Register q id (Bound rows)) state).originals
+        ≡ answer_packet false a.number m a.from (text_of (made_answer server a.number m a.from 200 (contact_fields a.now q.target rows))) ∷ [] }
     ensures live { (now : ℕ) (aor : Aor) (rows : List Binding) → AllByRecursion (IsListed now aor rows) (contact_fields now aor rows) }
 {}
 
@@ -94,8 +97,10 @@ pub fn dialogs_are_taught()
 /// Whoever is proven was challenged before: the nonce of each right credential that policy was asked about was
 /// issued by a challenge of the history before it, less than the life of a nonce ago (RFC 2617 3.2.1, 3.3).
 pub fn right_was_challenged()
-    ensures { (server : Server) (first : ℕ) (link : Link) (history : List Link) (last : ProxyState) → IsChain server (first_state first) (link ∷ history) last
-        → (j : Judged) (q : Question) (name : List ℕ) (c : Credential) → judged_at server link.before link.act ≡ Some j → asked_in j.verdict ≡ Some q → q.proof ≡ Right name c
+    ensures { (server : Server) (first : ℕ) (link : Link) (history : List Link) (last : ProxyState)
+        → IsChain server (first_state first) (link ∷ history) last
+        → (j : Judged) (q : Question) (name : List ℕ) (c : Credential) → judged_at server link.before link.act ≡ Some j → asked_in j.verdict
+        ≡ Some q → q.proof ≡ Right name c
         → WasChallenged server history j.arrival.now c.nonce }
 {}
 

@@ -49,7 +49,8 @@ pub fn every_run_has_access()
 
 /// So is each step of every history from a first state.
 pub fn every_history_has_access()
-    ensures { (server : Server) (first : ℕ) (history : List Link) (last : ProxyState) → IsChain server (first_state first) history last → Access server history }
+    ensures { (server : Server) (first : ℕ) (history : List Link) (last : ProxyState) → IsChain server (first_state first) history last
+        → Access server history }
 {}
 
 /// The targets of a request outside a dialog, in the words of the headline: where the first rule that matches
@@ -57,20 +58,28 @@ pub fn every_history_has_access()
 /// their order, each with the address of its contact; where that rule sends it by a hop, its Request-URI at
 /// the hop's configured address; and of a REGISTER none.
 pub fn targets_are_bindings_or_hop()
-    ensures bindings { (server : Server) (rows : List Binding) (state : ProxyState) (now : ℕ) (m : Message) (method : List ℕ) (core : CoreFields) (id : ℕ) (uri : Uri)
+    ensures bindings { (server : Server) (rows : List Binding) (state : ProxyState) (now : ℕ) (m : Message) (method : List ℕ)
+        (core : CoreFields) (id : ℕ) (uri : Uri)
         → is_register method ≡ false → decision_on server state now m method core ≡ Decision.Allow id
         → request_uri_of server.config.own m ≡ Some uri → is_users_address server.config.users server.config.own.domains (aor_of uri) ≡ true
-        → targets_on server rows state now m method core ≡ map (λ (b : Binding). target_for server.config.addresses b.uri) (live (aor_of uri) now rows) }
-    ensures hop { (server : Server) (rows : List Binding) (state : ProxyState) (now : ℕ) (m : Message) (method : List ℕ) (core : CoreFields) (id : ℕ) (hop : ℕ) (uri : Uri) (address : Addr)
+        → targets_on server rows state now m method core ≡ map (λ (b : Binding). target_for server.config.addresses b.uri)
+        (live (aor_of uri) now rows) }
+    ensures hop { (server : Server) (rows : List Binding) (state : ProxyState) (now : ℕ) (m : Message) (method : List ℕ) (core : CoreFields)
+        (id : ℕ) (hop : ℕ) (uri : Uri) (address : Addr)
         → is_register method ≡ false → decision_on server state now m method core ≡ Decision.Via id hop
         → request_uri_of server.config.own m ≡ Some uri → hop_of server.config.hops hop ≡ Some address
         → targets_on server rows state now m method core ≡ record { uri = uri; address = Some address } ∷ [] }
-    ensures none_of_register { (server : Server) (rows : List Binding) (state : ProxyState) (now : ℕ) (m : Message) (method : List ℕ) (core : CoreFields)
+    ensures none_of_register { (server : Server) (rows : List Binding) (state : ProxyState) (now : ℕ) (m : Message) (method : List ℕ)
+        (core : CoreFields)
         → is_register method ≡ true → targets_on server rows state now m method core ≡ [] }
 {}
 
 /// Where no user has a key by SHA-256 a challenge is one field, by MD5, as before there was another algorithm.
 pub fn md5_alone_is_unchanged()
     ensures { (server : Server) (a : Arrival) (q : Question) → AllByRecursion HasMd5Alone server.config.users
-        → challenges_to server a q ≡ record { name = challenge_name q.operation; value = challenge Md5 server.config.realm (nonce_text a.word) (is_stale q.proof) } ∷ [] }
+        → challenges_to server a q ≡ record {
+          name = challenge_name q.operation;
+          value = challenge Md5 server.config.realm
+              (nonce_text a.word) (is_stale q.proof);
+        } ∷ [] }
 {}

@@ -16,7 +16,8 @@ ghost use Rattle.model_steps.specs.context_model.Retransmission.{IsRetransmissio
 ghost use Rattle.sip_event.specs.declared.event.StepOut.{StepOut};
 ghost use Rattle.model_steps.specs.Step.{Act, IsStep, NoneBefore, NoneAgainBefore, IsOverdue, retransmissions};
 ghost use Rattle.sip_model.specs.Run.{Link, IsChain};
-ghost use Rattle.sip_model.specs.Order.{KeysDiffer, AreNumbered, AreRising, HasFired, IsChangeOf, AddsSuccessesAlone, AnswersOnce, AreOneAnswer, CanEnd, deadlines_left, finals_to, history_finals};
+ghost use Rattle.sip_model.specs.Order.{KeysDiffer, AreNumbered, AreRising, HasFired, IsChangeOf, AddsSuccessesAlone, AnswersOnce};
+ghost use Rattle.sip_model.specs.Order.{AreOneAnswer, CanEnd, deadlines_left, finals_to, history_finals};
 
 /// No key is that of two open requests, whatever happened before: a copy of a request is taken for the
 /// one that it copies.
@@ -90,7 +91,8 @@ pub fn repeats_are_of_open_requests()
 /// Whatever goes again went before: the same bytes to the same address for the same ticket were sent as an
 /// original in the history before the step; an ACK that goes again, too.
 pub fn what_goes_again_went_before()
-    ensures { (server : Server) (first : ℕ) (link : Link) (history : List Link) (last : ProxyState) → IsChain server (first_state first) (link ∷ history) last
+    ensures { (server : Server) (first : ℕ) (link : Link) (history : List Link) (last : ProxyState)
+        → IsChain server (first_state first) (link ∷ history) last
         → AllByRecursion (λ (p : Packet). Contains (sent_first history) (first_sending p)) (retransmissions link.out.packets) }
 {}
 

@@ -7,5 +7,6 @@ ghost use Rattle.sip_model.specs.Parts.{HasParts};
 /// Each step has its parts: what it makes of the open requests, with what it sends for that. Who holds
 /// something of each open request, over every history, goes through these.
 pub fn steps_have_parts()
-    ensures { (server : Server) (old : ProxyState) (act : Act) (out : StepOut) (new : ProxyState) → IsStep server old act out new → HasParts server old act out new }
+    ensures { (server : Server) (old : ProxyState) (act : Act) (out : StepOut) (new : ProxyState) → IsStep server old act out new
+        → HasParts server old act out new }
 {}

@@ -71,7 +71,8 @@ fn reserve_both<T: Timers>(
 
 /// With one more request, every other one is at its place.
 fn others_keep_their_places()
-    ensures { (x : OpenRequest) (requests : List OpenRequest) (place : ℕ) → place < length requests → slice_get (with_one_more x requests) place ≡ slice_get requests place }
+    ensures { (x : OpenRequest) (requests : List OpenRequest) (place : ℕ) → place < length requests
+        → slice_get (with_one_more x requests) place ≡ slice_get requests place }
 {}
 
 /// A moment comes, a request is opened, and the open request at a place, another one, becomes what was prepared. Takes no
@@ -126,7 +127,8 @@ impl<T: Timers> Proxy<T> {
         requires within { IsWithin now opened }
         requires kept { (r : OpenRequest) → slice_get self.old.state.requests place ≡ Some r → IsKeptAs now r draft.change }
         requires few { beginnings draft.drafted.lessons ≤ 1 }
-        ensures becomes { OnOk result (Becomes now (replaced draft.change (with_one_more opened self.old.state.requests)) draft.drafted.lessons self.old.state self.new.state) }
+        ensures becomes { OnOk result (Becomes now (replaced draft.change (with_one_more opened self.old.state.requests))
+            draft.drafted.lessons self.old.state self.new.state) }
         ensures sent { IfOk result (λ packets. packets ≡ draft.drafted.packets) }
         ensures unchanged { OnErr result (self.new.state ≡ self.old.state) }
         ensures timers { OnErr result (self.new.timers ≡ self.old.timers) }

@@ -52,7 +52,8 @@ pub(crate) fn reserve_dialog(dialogs: &mut Dialogs, lessons: &Lessons) -> Result
 
 /// What is near a moment fits once the moment has come.
 pub(crate) fn fits_once_it_came()
-    ensures fitting { (old now reached free : ℕ) (r : OpenRequest) → reached ≡ max old (now - 1) → Fits r → IsWithin now r → most_timers r ≤ free → IsFitting reached free r }
+    ensures fitting { (old now reached free : ℕ) (r : OpenRequest) → reached ≡ max old (now - 1) → Fits r → IsWithin now r → most_timers r
+        ≤ free → IsFitting reached free r }
     ensures within { (old now moment : ℕ) (r : OpenRequest) → moment ≡ max old now → IsWithin now r → IsWithin moment r }
 {
     time_passes();
@@ -125,7 +126,8 @@ impl<T: Timers> Proxy<T> {
         requires moment { MayCome self.old.state now }
         requires kept { (r : OpenRequest) → slice_get self.old.state.requests place ≡ Some r → IsKeptAs now r draft.change }
         requires few { beginnings draft.drafted.lessons ≤ 1 }
-        ensures becomes { OnOk result (Becomes now (replaced draft.change self.old.state.requests) draft.drafted.lessons self.old.state self.new.state) }
+        ensures becomes { OnOk result (Becomes now (replaced draft.change self.old.state.requests) draft.drafted.lessons self.old.state
+            self.new.state) }
         ensures sent { IfOk result (λ packets. packets ≡ draft.drafted.packets) }
         ensures unchanged { OnErr result (self.new.state ≡ self.old.state) }
         ensures timers { OnErr result (self.new.timers ≡ self.old.timers) }

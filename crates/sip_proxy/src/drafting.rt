@@ -42,7 +42,8 @@ impl<T: Timers> Proxy<T> {
         requires later { self.now.state.moment ≤ now }
         requires small { now < 2 ^ 62 }
         requires about { (r : OpenRequest) → slice_get self.now.state.requests place ≡ Some r → IsOf r now input }
-        ensures { IfOk result (λ draft. (r : OpenRequest) → slice_get self.now.state.requests place ≡ Some r → IsDrafted hops.now.addresses server.now now r input.entry draft) }
+        ensures { IfOk result (λ draft. (r : OpenRequest) → slice_get self.now.state.requests place ≡ Some r
+            → IsDrafted hops.now.addresses server.now now r input.entry draft) }
     {
         inputs_come_to_requests();
         let Prepared { change, sending } = self.contexts.plan(alloc, server, now, place, input)?;

@@ -37,7 +37,8 @@ impl<T: Timers> Proxy<T> {
         requires request { IsRequestOf method.now request.now.start }
         requires via { top_via request.now ≡ Some via.now }
         ensures verdict { IfOk result (λ verdict. (a : Arrival) (key : Key) → a.now ≡ now
-            → Is judge.now self.old.state.bindings now (Definition.found_for_cancel self.old.state key a.from) (Definition.new_verdict judge.now self.old.state a request.now short method.now key) verdict) }
+            → Is judge.now self.old.state.bindings now (Definition.found_for_cancel self.old.state key a.from)
+            (Definition.new_verdict judge.now self.old.state a request.now short method.now key) verdict) }
         ensures room { IfOk result (HasRoom self.new.room) }
         ensures names { AreNames request.now names.new }
         ensures made { IfOk result (λ verdict. is_some names.new ≡ goes_on verdict) }

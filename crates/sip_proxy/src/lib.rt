@@ -1,6 +1,10 @@
 //! What a proxy knows while it runs, and the ways in which a step changes it: a moment passes, an open request changes, a
 //! request is opened, and what comes with it for bindings and nonces (RFC 3261 10, 16). What a step does is drafted
 //! before, with all its memory, so that no step is refused half way.
+//!
+//! - Used: the four rooms of steps: `sip_engine_open`, `sip_engine_forward`, `sip_engine_answer` and `sip_engine_time`.
+//! - Not here: which step a datagram takes (`sip_engine`).
+//! - Tried: `test_server` by its stored runs.
 #![tactic(auto)]
 
 mod cancelling;

@@ -1,4 +1,5 @@
-ghost use Rattle.std.specs.Prelude.{◌≡◌, ◌<◌, ◌≤◌, ◌==◌, ◌+◌, ◌^◌, ℕ, [], false, length, position, slice_get, nat_le, find, option_map, MatchOption, Some, IfOk, IfSome};
+ghost use Rattle.std.specs.Prelude.{◌≡◌, ◌<◌, ◌≤◌, ◌==◌, ◌+◌, ◌^◌, ℕ, [], false, length, position, slice_get, nat_le, find, option_map};
+ghost use Rattle.std.specs.Prelude.{MatchOption, Some, IfOk, IfSome};
 ghost use Rattle.std.specs.List.{AllPairs};
 ghost use Rattle.std.specs.Option.{option_and_then};
 ghost use Rattle.sip_fork.specs.Due.{IsFirst, IsNothingDue, IsOfFirst};
@@ -51,7 +52,18 @@ impl<T: Timers> Model for Proxy<T> {
 
     ghost Value = { Proxy };
 
-    ghost view = { λ p. record { state = record { moment = p.contexts.moment; next = p.next; bindings = p.locations.rows; nonces = p.nonces; requests = p.contexts.requests; dialogs = p.dialogs.dialogs }; timers = p.contexts.pending; room = p.locations.room } };
+    ghost view = { λ p. record {
+      state = record {
+        moment = p.contexts.moment;
+        next = p.next;
+        bindings = p.locations.rows;
+        nonces = p.nonces;
+        requests = p.contexts.requests;
+        dialogs = p.dialogs.dialogs;
+      };
+      timers = p.contexts.pending;
+      room = p.locations.room;
+    } };
 }
 
 /// No open request. `AllocError` is the only refusal.
@@ -147,7 +159,8 @@ impl<T: Timers> Proxy<T> {
     /// The place of the open request with a number, by bisection.
     pub fn find_number(&self, number: u64) -> Option<usize>
         ensures place { result ≡ position (λ (r : OpenRequest). r.number == number) self.now.state.requests }
-        ensures request { option_and_then (slice_get self.now.state.requests) result ≡ find (λ (r : OpenRequest). r.number == number) self.now.state.requests }
+        ensures request { option_and_then (slice_get self.now.state.requests) result
+            ≡ find (λ (r : OpenRequest). r.number == number) self.now.state.requests }
     {
         self.contexts.find_number(number)
     }
@@ -171,7 +184,8 @@ impl<T: Timers> Proxy<T> {
     /// The open request, and its branch, that a response is to whose top Via has this text as its branch and whose CSeq has
     /// this method, by their places (RFC 3261 17.1.3). Takes no memory.
     pub fn find_branch(&self, server: &Server, text: &[u8], method: &[u8]) -> Option<(usize, usize)>
-        ensures { option_map (branch_at self.now.state.requests) result ≡ option_map (λ (found : OpenRequest × Branch). Some found) (found_branch server.now text.now method.now self.now.state.requests) }
+        ensures { option_map (branch_at self.now.state.requests) result
+            ≡ option_map (λ (found : OpenRequest × Branch). Some found) (found_branch server.now text.now method.now self.now.state.requests) }
     {
         self.contexts.find_branch(server, text, method)
     }

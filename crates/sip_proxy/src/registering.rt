@@ -38,8 +38,10 @@ impl<T: Timers> Proxy<T> {
     pub fn register(&mut self, plan: Plan)
         requires { 1 ≤ self.old.room }
         ensures own { of_aor plan.aor self.new.state.bindings ≡ plan.bindings }
-        ensures others { (other : Aor) → is_same_aor other plan.aor ≡ false → of_aor other self.new.state.bindings ≡ of_aor other self.old.state.bindings }
-        ensures registered { (r : Registration) (now : ℕ) → IsPlan self.old.state.bindings r now plan → SameOutcome now (Ok self.new.state.bindings) (registered self.old.state.bindings r now) }
+        ensures others { (other : Aor) → is_same_aor other plan.aor ≡ false → of_aor other self.new.state.bindings
+            ≡ of_aor other self.old.state.bindings }
+        ensures registered { (r : Registration) (now : ℕ) → IsPlan self.old.state.bindings r now plan
+            → SameOutcome now (Ok self.new.state.bindings) (registered self.old.state.bindings r now) }
         ensures rest { self.new.state ≡ with_bindings self.new.state.bindings self.old.state }
         ensures timers { self.new.timers ≡ self.old.timers }
     {

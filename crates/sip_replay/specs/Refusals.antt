@@ -40,7 +40,8 @@ BeginsWith text bytes = (rest : List ℕ) × (bytes ≡ text ++ rest)
 abbrev pub NoEventBehind : List ℕ → List ℕ → Type 0
 NoEventBehind text bytes = (rest : List ℕ) × (bytes ≡ text ++ rest) × IsNoEvent rest
 
--- How far a server came in a script: the script begins with a text that says the events that it took, and behind it perhaps with one more, which was read. The steps are a run for the
+-- How far a server came in a script: the script begins with a text that says the events that it took, and behind it perhaps with one
+-- more, which was read. The steps are a run for the
 -- events taken, in which time passed up to the moment of the one more.
 pub record ComesTo (server : Server) (first : ProxyState) (script : Option (List ℕ)) (steps : List StepOut) : Type 0 where
   pub events : List Event
@@ -59,7 +60,8 @@ abbrev pub CantGoOn : Option (List ℕ) → List ℕ → ProxyState → Option E
 CantGoOn script text last None = IfSome script (NoEventBehind text)
 CantGoOn script text last (Some event) = IsSome (refusal_of_event last event)
 
--- Script: that line begins the event that can't be taken, behind the lines of those that were; exactly what is printed of the steps before it was written.
+-- Script: that line begins the event that can't be taken, behind the lines of those that were; exactly what is printed of the steps
+-- before it was written.
 pub record StopsAtLine (server : Server) (first : ProxyState) (lines : ℕ) (script old new : Option (List ℕ)) (line : ℕ) : Type 0 where
   pub steps : List StepOut
   pub comes : ComesTo server first script steps
@@ -88,13 +90,15 @@ Refuses server first lines script old new Read = StopsBetween server first scrip
 Refuses server first lines script old new Write = StopsWithin server first script old new
 
 -- the history of the steps that were taken before a refusal
-abbrev pub history_before : (server : Server) (first : ProxyState) (lines : ℕ) (script old new : Option (List ℕ)) (e : ReplayError) → Refuses server first lines script old new e → List Link
+abbrev pub history_before : (server : Server) (first : ProxyState) (lines : ℕ) (script old new : Option (List ℕ)) (e : ReplayError)
+    → Refuses server first lines script old new e → List Link
 history_before server first lines script old new NoMemory refusal = refusal.comes.history
 history_before server first lines script old new (Script line) refusal = refusal.comes.history
 history_before server first lines script old new Read refusal = refusal.comes.history
 history_before server first lines script old new Write refusal = refusal.comes.history
 
--- What holds at each refusal of a replay; and each step that was taken before it is lawful by its history, as `Access` says, and these steps are bounded, as `IsBounded` says.
+-- What holds at each refusal of a replay; and each step that was taken before it is lawful by its history, as `Access` says, and
+-- these steps are bounded, as `IsBounded` says.
 pub record IsRefused (config : Config) (script old new : Option (List ℕ)) (e : ReplayError) : Type 0 where
   pub refusal : Refuses (server_with config) (first_state 1) 0 script old new e
   pub access : Access (server_with config) (history_before (server_with config) (first_state 1) 0 script old new e refusal)
@@ -118,7 +122,8 @@ pub record PlaysPart (server : Server) (old : ProxyState) (events : List Event) 
   pub writes : WritesFront before after (printed steps)
 
 -- time passed up to a moment, all that is printed of these steps was written, and the next is refused, or there were too many
-pub record PlaysUpTo (server : Server) (old : ProxyState) (at : ℕ) (before after : Option (List ℕ)) (refusal : ProxyState → Option StepError) : Type 0 where
+pub record PlaysUpTo (server : Server) (old : ProxyState) (at : ℕ) (before after : Option (List ℕ))
+    (refusal : ProxyState → Option StepError) : Type 0 where
   pub last : ProxyState
   pub plays : Plays server old last [] (Some at) before after
   pub why : IsSome (refusal last)
@@ -132,11 +137,13 @@ FiringStops server old at before after gave_up stops.Write = PlaysPart server ol
 
 -- the server stopped before an event, or at it
 abbrev pub PlaysSome : Server → ProxyState → Event → Option (List ℕ) → Option (List ℕ) → Type 0
-PlaysSome server old event before after = PlaysPart server old [] (Some (event_moment event)) before after ⊎ PlaysPart server old (event ∷ []) None before after
+PlaysSome server old event before after = PlaysPart server old [] (Some (event_moment event)) before after
+    ⊎ PlaysPart server old (event ∷ []) None before after
 
 -- why an event that was read wasn't taken
 abbrev pub TakingStops : Server → ProxyState → Event → Option (List ℕ) → Option (List ℕ) → Type 0 → Stop → Type 0
 TakingStops server old event before after gave_up stops.NoMemory = PlaysSome server old event before after
-TakingStops server old event before after gave_up stops.Script = PlaysUpTo server old (event_moment event) before after (λ last. refusal_of_event last event)
+TakingStops server old event before after gave_up stops.Script = PlaysUpTo server old (event_moment event) before after
+    (λ last. refusal_of_event last event)
 TakingStops server old event before after gave_up stops.Read = ⊥
 TakingStops server old event before after gave_up stops.Write = PlaysSome server old event before after × gave_up

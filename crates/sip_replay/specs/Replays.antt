@@ -43,7 +43,8 @@ pub record IsReplay (config : Config) (script old new : Option (List ℕ)) : Typ
   pub is_run : IsRun (server_with config) (first_state 1) events None steps history last
   pub written : Appends old new (printed steps)
 
--- The same, and each step of that run is lawful by its history: what is sent goes to whom the first rule that matches lets it go, and so on, as `Access` says; and the run is bounded, as
+-- The same, and each step of that run is lawful by its history: what is sent goes to whom the first rule that matches lets it go,
+-- and so on, as `Access` says; and the run is bounded, as
 -- `IsBounded` says.
 pub record IsLawfulReplay (config : Config) (script old new : Option (List ℕ)) : Type 0 where
   pub replay : IsReplay config script old new
@@ -60,7 +61,8 @@ pub record Plays (server : Server) (old new : ProxyState) (events : List Event) 
   pub written : Appends before after (printed steps)
 
 -- the same of the next event of the script
-pub record PlaysNext (server : Server) (old new : ProxyState) (part rest : Reading) (middle after : Option (List ℕ)) (half written : Option (List ℕ)) : Type 0 where
+pub record PlaysNext (server : Server) (old new : ProxyState) (part rest : Reading) (middle after : Option (List ℕ))
+    (half written : Option (List ℕ)) : Type 0 where
   pub event : Event
   pub gives : GivesEvent part rest middle after event
   pub plays : Plays server old new (event ∷ []) None half written

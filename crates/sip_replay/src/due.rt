@@ -23,9 +23,11 @@ pub fn fire_due<T: Timers, R: Rules, W: TellingWriter>(
     writer: &mut W,
 ) -> Result<(), Stop>
     ensures server { engine.new.server ≡ engine.old.server }
-    ensures fired { OnOk result (Plays engine.old.server engine.old.state engine.new.state [] (Some at) (W.contents writer.old) (W.contents writer.new)) }
+    ensures fired { OnOk result (Plays engine.old.server engine.old.state engine.new.state [] (Some at) (W.contents writer.old)
+        (W.contents writer.new)) }
     ensures none_due { OnOk result (NothingDueBy (moment_of engine.new.state at) engine.new.state) }
-    ensures stopped { IfErr result (FiringStops engine.old.server engine.old.state at (W.contents writer.old) (W.contents writer.new) (GaveUp (W.has_failed writer.new) (W.called writer.new))) }
+    ensures stopped { IfErr result (FiringStops engine.old.server engine.old.state at (W.contents writer.old) (W.contents writer.new)
+        (GaveUp (W.has_failed writer.new) (W.called writer.new))) }
 {
     while let Some(out) = fire_one(engine, at)? {
         print_step(alloc, writer, &out)?;

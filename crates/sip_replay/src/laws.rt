@@ -19,8 +19,10 @@ use sip_replay_script::laws::{event_is_no_refusal, next_event_is_one};
 /// names that rule; all else sent belongs to an open request or known dialog. So is each step of a replay that is refused,
 /// as far as it came.
 pub fn every_replay_has_access()
-    ensures whole { (config : Config) (script old new : Option (List ℕ)) → (replay : IsReplay config script old new) → Access (server_with config) replay.history }
-    ensures refused { (config : Config) (script : Option (List ℕ)) (steps : List StepOut) → (comes : ComesTo (server_with config) (first_state 1) script steps) → Access (server_with config) comes.history }
+    ensures whole { (config : Config) (script old new : Option (List ℕ)) → (replay : IsReplay config script old new)
+        → Access (server_with config) replay.history }
+    ensures refused { (config : Config) (script : Option (List ℕ)) (steps : List StepOut)
+        → (comes : ComesTo (server_with config) (first_state 1) script steps) → Access (server_with config) comes.history }
 {
     every_run_has_access();
 }
@@ -29,8 +31,10 @@ pub fn every_replay_has_access()
 /// 2xx of an INVITE; nothing goes out more often than RFC 3261 lets it; and each request is closed in time. So it is over a
 /// replay that is refused, as far as it came.
 pub fn every_replay_is_bounded()
-    ensures whole { (config : Config) (script old new : Option (List ℕ)) → (replay : IsReplay config script old new) → IsBounded (server_with config) replay.history }
-    ensures refused { (config : Config) (script : Option (List ℕ)) (steps : List StepOut) → (comes : ComesTo (server_with config) (first_state 1) script steps) → IsBounded (server_with config) comes.history }
+    ensures whole { (config : Config) (script old new : Option (List ℕ)) → (replay : IsReplay config script old new)
+        → IsBounded (server_with config) replay.history }
+    ensures refused { (config : Config) (script : Option (List ℕ)) (steps : List StepOut)
+        → (comes : ComesTo (server_with config) (first_state 1) script steps) → IsBounded (server_with config) comes.history }
 {
     every_history_is_bounded();
 }
@@ -39,7 +43,8 @@ pub fn every_replay_is_bounded()
 /// script is refused behind some events, it says none as a whole.
 pub fn script_says_one_list()
     ensures one { (events others : List Event) (text : List ℕ) → SaysEvents events text → SaysEvents others text → events ≡ others }
-    ensures refused { (events others : List Event) (text rest : List ℕ) → SaysEvents events text → IsNoEvent rest → SaysEvents others (text ++ rest) → ⊥ }
+    ensures refused { (events others : List Event) (text rest : List ℕ) → SaysEvents events text → IsNoEvent rest
+        → SaysEvents others (text ++ rest) → ⊥ }
 {
     next_event_is_one();
     event_is_no_refusal();

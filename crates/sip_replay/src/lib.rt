@@ -1,5 +1,13 @@
 //! A script replayed: its events are handed to the engine, each at its moment, and the packets and records that the engine hands
 //! out are printed.
+//!
+//! - Used: `sipd_command`.
+//! - Not here: the program's words and streams.
+//! - Tried: `test_engine`, and each stored run of `test_server`.
+//!
+//! ```text
+//! replay::<WheelTimers, IndexedRules, _, _>(alloc, config, &mut reader, &mut writer)?;
+//! ```
 #![tactic(auto)]
 
 mod due;

@@ -51,7 +51,8 @@ pub fn replay<T: Timers, R: Rules, I: TellingReader, W: TellingWriter>(
     ensures replayed { OnOk result (IsReplay config (I.remaining reader.old) (W.contents writer.old) (W.contents writer.new)) }
     ensures lawful { OnOk result (IsLawfulReplay config (I.remaining reader.old) (W.contents writer.old) (W.contents writer.new)) }
     ensures refused { IfErr result (IsRefused config (I.remaining reader.old) (W.contents writer.old) (W.contents writer.new)) }
-    ensures faulted { IfErr result (IsFaulted (I.has_failed reader.new ⊎ (I.asked reader.new ≡ later 4294967295 (I.asked reader.old))) (GaveUp (W.has_failed writer.new) (W.called writer.new))) }
+    ensures faulted { IfErr result (IsFaulted (I.has_failed reader.new ⊎ (I.asked reader.new ≡ later 4294967295 (I.asked reader.old)))
+        (GaveUp (W.has_failed writer.new) (W.called writer.new))) }
     ensures asked { IsAsked 4294967295 (I.asked reader.old) (I.asked reader.new) }
     ensures flushed { ¬ (result ≡ Err ReplayError.Write) → W.is_flushed writer.new }
 {
@@ -72,8 +73,10 @@ fn play<T: Timers, R: Rules, I: TellingReader, W: TellingWriter>(
     writer: &mut W,
 ) -> Result<(), ReplayError>
     ensures replayed { OnOk result (IsReplay config (I.remaining reader.old) (W.contents writer.old) (W.contents writer.new)) }
-    ensures refused { IfErr result (Refuses (server_with config) (first_state 1) 0 (I.remaining reader.old) (W.contents writer.old) (W.contents writer.new)) }
-    ensures faulted { IfErr result (IsFaulted (I.has_failed reader.new ⊎ (I.asked reader.new ≡ later 4294967295 (I.asked reader.old))) (GaveUp (W.has_failed writer.new) (W.called writer.new))) }
+    ensures refused { IfErr result (Refuses (server_with config) (first_state 1) 0 (I.remaining reader.old) (W.contents writer.old)
+        (W.contents writer.new)) }
+    ensures faulted { IfErr result (IsFaulted (I.has_failed reader.new ⊎ (I.asked reader.new ≡ later 4294967295 (I.asked reader.old)))
+        (GaveUp (W.has_failed writer.new) (W.called writer.new))) }
     ensures asked { IsAsked 4294967295 (I.asked reader.old) (I.asked reader.new) }
 {
     let mut engine = match Engine::<T, R>::open(alloc, config, BOOT) {
@@ -100,11 +103,14 @@ fn take_next<T: Timers, R: Rules, I: TellingReader, W: TellingWriter>(
     writer: &mut W,
 ) -> Result<bool, ReplayError>
     ensures server { engine.new.server ≡ engine.old.server }
-    ensures taken { IfOk result (λ more. more ≡ true → PlaysNext engine.old.server engine.old.state engine.new.state lines.old lines.new (I.remaining reader.old) (I.remaining reader.new) (W.contents writer.old) (W.contents writer.new)) }
+    ensures taken { IfOk result (λ more. more ≡ true → PlaysNext engine.old.server engine.old.state engine.new.state lines.old lines.new
+        (I.remaining reader.old) (I.remaining reader.new) (W.contents writer.old) (W.contents writer.new)) }
     ensures over { IfOk result (λ more. more ≡ false → IsOver lines.old lines.new (I.remaining reader.old) (I.remaining reader.new)) }
     ensures silent { IfOk result (λ more. more ≡ false → W.contents writer.new ≡ W.contents writer.old) }
-    ensures refused { IfErr result (Refuses engine.old.server engine.old.state lines.old.number (pending lines.old (I.remaining reader.old)) (W.contents writer.old) (W.contents writer.new)) }
-    ensures faulted { IfErr result (IsFaulted (IsSpent (I.has_failed reader.new) lines.new.asks) (GaveUp (W.has_failed writer.new) (W.called writer.new))) }
+    ensures refused { IfErr result (Refuses engine.old.server engine.old.state lines.old.number (pending lines.old (I.remaining reader.old))
+        (W.contents writer.old) (W.contents writer.new)) }
+    ensures faulted { IfErr result (IsFaulted (IsSpent (I.has_failed reader.new) lines.new.asks)
+        (GaveUp (W.has_failed writer.new) (W.called writer.new))) }
     ensures asked { later lines.new.asks (I.asked reader.new) ≡ later lines.old.asks (I.asked reader.old) }
     ensures less { lines.new.asks ≤ lines.old.asks }
 {
@@ -128,8 +134,10 @@ fn take_event<T: Timers, R: Rules, W: TellingWriter>(
     writer: &mut W,
 ) -> Result<(), Stop>
     ensures server { engine.new.server ≡ engine.old.server }
-    ensures taken { OnOk result (Plays engine.old.server engine.old.state engine.new.state (event ∷ []) None (W.contents writer.old) (W.contents writer.new)) }
-    ensures stopped { IfErr result (TakingStops engine.old.server engine.old.state event (W.contents writer.old) (W.contents writer.new) (GaveUp (W.has_failed writer.new) (W.called writer.new))) }
+    ensures taken { OnOk result (Plays engine.old.server engine.old.state engine.new.state (event ∷ []) None (W.contents writer.old)
+        (W.contents writer.new)) }
+    ensures stopped { IfErr result (TakingStops engine.old.server engine.old.state event (W.contents writer.old) (W.contents writer.new)
+        (GaveUp (W.has_failed writer.new) (W.called writer.new))) }
 {
     fire_due(alloc, engine, event_moment(&event), writer)?;
     let out = own_step(engine, &event)?;

@@ -31,7 +31,8 @@ struct Synced {
 /// The branch at a place with its timers, if it has keys.
 fn stood_at(was: &OpenRequest, keys: &[TimerKeys], place: usize) -> Option<Stood>
     requires { IsNear (2 ^ 64) was.now }
-    ensures left { MatchOption result (left_timers was.now keys.now place ≡ []) (λ s. left_timers was.now keys.now place ≡ part_standing s.keys s.part ++ left_timers was.now keys.now s.behind) }
+    ensures left { MatchOption result (left_timers was.now keys.now place ≡ [])
+        (λ s. left_timers was.now keys.now place ≡ part_standing s.keys s.part ++ left_timers was.now keys.now s.behind) }
     ensures within { IfSome result (λ s. (s.behind ≡ place + 1) × (place < length keys.now)) }
 {
     let branches = was.branches.as_slice();
@@ -86,7 +87,8 @@ fn change_branch<T: Timers>(
     requires moments { T.reached timers.old + 2 ^ 30 ≤ 2 ^ 64 }
     requires near { AreBefore (T.reached timers.old + 2 ^ 30) (branch_timers next.now branch.now) }
     ensures moves { Moves (T.pending timers.old) (left_timers was.now was_keys.now place) (T.pending timers.new)
-        (part_timers next.now.number (owner_of branch.now) result.keys (branch_timers next.now branch.now) ++ left_timers was.now was_keys.now result.place) }
+        (part_timers next.now.number (owner_of branch.now) result.keys (branch_timers next.now branch.now)
+        ++ left_timers was.now was_keys.now result.place) }
     ensures left { T.room timers.old ≤ T.room timers.new + 3 }
     ensures still { T.reached timers.new ≡ T.reached timers.old }
 {
@@ -115,7 +117,8 @@ fn kept_at(
     branch: &Branch,
 ) -> Option<Synced>
     requires { AreAlike was.now next.now }
-    ensures { IfSome result (λ s. left_timers was.now keys.now place ≡ part_timers next.now.number (owner_of branch.now) s.keys (branch_timers next.now branch.now) ++ left_timers was.now keys.now s.place) }
+    ensures { IfSome result (λ s. left_timers was.now keys.now place
+        ≡ part_timers next.now.number (owner_of branch.now) s.keys (branch_timers next.now branch.now) ++ left_timers was.now keys.now s.place) }
 {
     if place >= keys.len() {
         return None;
@@ -151,7 +154,8 @@ fn sync_branch<T: Timers>(
     requires moments { T.reached timers.old + 2 ^ 30 ≤ 2 ^ 64 }
     requires near { AreBefore (T.reached timers.old + 2 ^ 30) (branch_timers next.now branch.now) }
     ensures moves { Moves (T.pending timers.old) (left_timers was.now was_keys.now place) (T.pending timers.new)
-        (part_timers next.now.number (owner_of branch.now) result.keys (branch_timers next.now branch.now) ++ left_timers was.now was_keys.now result.place) }
+        (part_timers next.now.number (owner_of branch.now) result.keys (branch_timers next.now branch.now)
+        ++ left_timers was.now was_keys.now result.place) }
     ensures left { T.room timers.old ≤ T.room timers.new + 3 }
     ensures still { T.reached timers.new ≡ T.reached timers.old }
 {

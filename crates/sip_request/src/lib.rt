@@ -2,6 +2,10 @@
 //! and set once an event changed the request, where a timer that stays the same keeps its key and its place in the order
 //! of firing (RFC 3261 16.6 to 16.8, 17; RFC 6026). Who fires looks at the first timer, takes its event and lets the
 //! request move its timers; no timer is ever taken out by its moment.
+//!
+//! - Used: `sip_fork`, for each request that is opened or changed.
+//! - Not here: the reading of moments.
+//! - Tried: `test_server` by its stored runs.
 #![tactic(auto)]
 
 mod branches;

@@ -106,7 +106,8 @@ fn lingering(until: u64, status: u16) -> PartTimers
 fn invite_part(phase: Phase, again: Resend) -> PartTimers
     requires { IsEarly phase }
     ensures timers { listed result ≡ invite_timers phase again ++ call_timers phase }
-    ensures names { (number : ℕ) (owner : Owner) (keys : TimerKeys) → slots_standing number owner keys result ≡ part_timers number owner keys (invite_timers phase again ++ call_timers phase) }
+    ensures names { (number : ℕ) (owner : Owner) (keys : TimerKeys) → slots_standing number owner keys result
+        ≡ part_timers number owner keys (invite_timers phase again ++ call_timers phase) }
 {
     match phase {
         Phase::Unheard { until } => PartTimers {
@@ -124,7 +125,8 @@ fn invite_part(phase: Phase, again: Resend) -> PartTimers
 /// The timers of a branch of another request, and of a CANCEL (RFC 3261 17.1.2.2).
 fn other_part(phase: Phase, again: Resend) -> PartTimers
     ensures timers { listed result ≡ other_timers phase again }
-    ensures names { (number : ℕ) (owner : Owner) (keys : TimerKeys) → slots_standing number owner keys result ≡ part_timers number owner keys (other_timers phase again) }
+    ensures names { (number : ℕ) (owner : Owner) (keys : TimerKeys) → slots_standing number owner keys result
+        ≡ part_timers number owner keys (other_timers phase again) }
 {
     match phase {
         Phase::Unheard { until } => repeating(Letter::E, again.due, Letter::F, until),
@@ -138,7 +140,8 @@ fn other_part(phase: Phase, again: Resend) -> PartTimers
 /// The timers of the answering side of an INVITE (RFC 3261 17.2.1, RFC 6026 7.1).
 fn invite_side_part(side: Side, answer: &Option<LastAnswer>, again: Resend) -> PartTimers
     ensures timers { listed result ≡ invite_side_timers side answer.now again }
-    ensures names { (number : ℕ) (owner : Owner) (keys : TimerKeys) → slots_standing number owner keys result ≡ part_timers number owner keys (invite_side_timers side answer.now again) }
+    ensures names { (number : ℕ) (owner : Owner) (keys : TimerKeys) → slots_standing number owner keys result
+        ≡ part_timers number owner keys (invite_side_timers side answer.now again) }
 {
     match side {
         Side::Answering => nothing(),
@@ -157,7 +160,8 @@ fn invite_side_part(side: Side, answer: &Option<LastAnswer>, again: Resend) -> P
 /// The timer of the answering side of another request (RFC 3261 17.2.2).
 fn other_side_part(side: Side) -> PartTimers
     ensures timers { listed result ≡ other_side_timers side }
-    ensures names { (number : ℕ) (owner : Owner) (keys : TimerKeys) → slots_standing number owner keys result ≡ part_timers number owner keys (other_side_timers side) }
+    ensures names { (number : ℕ) (owner : Owner) (keys : TimerKeys) → slots_standing number owner keys result
+        ≡ part_timers number owner keys (other_side_timers side) }
 {
     match side {
         Side::Answering => nothing(),
@@ -182,7 +186,8 @@ fn owner_of(branch: &Branch) -> Owner
 fn timers_of_branch(call: &OpenRequest, branch: &Branch) -> PartTimers
     requires { AreBefore (2 ^ 64) (branch_timers call.now branch.now) }
     ensures timers { listed result ≡ branch_timers call.now branch.now }
-    ensures names { (number : ℕ) (owner : Owner) (keys : TimerKeys) → slots_standing number owner keys result ≡ part_timers number owner keys (branch_timers call.now branch.now) }
+    ensures names { (number : ℕ) (owner : Owner) (keys : TimerKeys) → slots_standing number owner keys result
+        ≡ part_timers number owner keys (branch_timers call.now branch.now) }
 {
     if is_invite(call) && !branch.is_cancel {
         invite_part(branch.phase, branch.again)
@@ -194,7 +199,8 @@ fn timers_of_branch(call: &OpenRequest, branch: &Branch) -> PartTimers
 /// The timers of the answering side.
 fn timers_of_side(call: &OpenRequest) -> PartTimers
     ensures timers { listed result ≡ side_timers call.now }
-    ensures names { (number : ℕ) (owner : Owner) (keys : TimerKeys) → slots_standing number owner keys result ≡ part_timers number owner keys (side_timers call.now) }
+    ensures names { (number : ℕ) (owner : Owner) (keys : TimerKeys) → slots_standing number owner keys result
+        ≡ part_timers number owner keys (side_timers call.now) }
 {
     if is_invite(call) {
         invite_side_part(call.side, &call.answer, call.again)
@@ -207,7 +213,8 @@ fn timers_of_side(call: &OpenRequest) -> PartTimers
 pub fn branch_part(call: &OpenRequest, branch: &Branch) -> Part
     requires { AreBefore (2 ^ 64) (branch_timers call.now branch.now) }
     ensures timers { listed result.timers ≡ branch_timers call.now branch.now }
-    ensures names { (keys : TimerKeys) → part_standing keys result ≡ part_timers call.now.number (owner_of branch.now) keys (branch_timers call.now branch.now) }
+    ensures names { (keys : TimerKeys) → part_standing keys result
+        ≡ part_timers call.now.number (owner_of branch.now) keys (branch_timers call.now branch.now) }
 {
     Part {
         request: call.number,

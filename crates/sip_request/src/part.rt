@@ -64,7 +64,8 @@ fn sync_slot<T: Timers>(
     requires held { IsHeld (T.pending timers.old) (slot_timers was.request was.owner key stood) }
     requires room { 1 ≤ T.room timers.old }
     requires near { IsBefore (T.reached timers.old + 2 ^ 30) slot }
-    ensures moves { Moves (T.pending timers.old) (slot_timers was.request was.owner key stood) (T.pending timers.new) (slot_timers next.request next.owner result slot) }
+    ensures moves { Moves (T.pending timers.old) (slot_timers was.request was.owner key stood) (T.pending timers.new)
+        (slot_timers next.request next.owner result slot) }
     ensures left { T.room timers.old ≤ T.room timers.new + 1 }
     ensures still { T.reached timers.new ≡ T.reached timers.old }
 {

@@ -56,7 +56,8 @@ pub(crate) fn retime<T: Timers>(
     requires timed { IsNear (2 ^ 64) was.now }
     requires moments { T.reached timers.old + 2 ^ 30 ≤ 2 ^ 64 }
     requires near { IsNear (T.reached timers.old + 2 ^ 30) next.now }
-    ensures moves { Moves (T.pending timers.old) (timers_of was.now was_side was_keys.now) (T.pending timers.new) (timers_of next.now result keys.new) }
+    ensures moves { Moves (T.pending timers.old) (timers_of was.now was_side was_keys.now) (T.pending timers.new)
+        (timers_of next.now result keys.new) }
     ensures left { T.room timers.old ≤ T.room timers.new + most_timers next.now }
     ensures still { T.reached timers.new ≡ T.reached timers.old }
 {

@@ -20,7 +20,8 @@ pub record IsDueBy (moment : ℕ) (state : ProxyState) : Type 0 where
   pub is_due : Contains (deadlines state.requests) due ⊎ Contains (resends state.requests) due
   pub in_time : due ≤ moment
 
--- Something is due by a moment, of those that the server takes, and the first of it happens: one of the first deadlines passes, or something goes again, at its own moment. Fewer such steps
+-- Something is due by a moment, of those that the server takes, and the first of it happens: one of the first deadlines passes, or
+-- something goes again, at its own moment. Fewer such steps
 -- are left by then.
 pub record Fires (server : Server) (old : ProxyState) (at : ℕ) (out : StepOut) (new : ProxyState) : Type 0 where
   pub not_refused : refusal_at at ≡ None

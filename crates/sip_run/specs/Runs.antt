@@ -52,7 +52,8 @@ pub record IsUnopened (history : List Link) (stopped : Option StepError) : Type 
   pub nothing : history ≡ []
   pub no_memory : stopped ≡ Some NoMemory
 
--- A server that begins with a datagram's number took events in their order, all or up to a refusal, each in its turn. These steps are a run for those, in which time passed up to the moment
+-- A server that begins with a datagram's number took events in their order, all or up to a refusal, each in its turn. These steps
+-- are a run for those, in which time passed up to the moment
 -- of the first that is left; each step is lawful by its history, as `Access` says, and the history is bounded, as `IsBounded` says.
 pub record IsRunOver (server : Server) (first : ℕ) (events : List Event) (steps : List StepOut) (stopped : Option StepError) : Type 0 where
   pub taken : List Event

@@ -22,7 +22,8 @@ pub fn fire_next<T: Timers, R: Rules>(
 ) -> Result<Option<StepOut>, StepError>
     ensures server { engine.new.server ≡ engine.old.server }
     ensures fired { IfOk result (λ fired. IfSome fired (λ out. Fires engine.old.server engine.old.state at out engine.new.state)) }
-    ensures in_order { IfOk result (λ fired. IfSome fired (λ out. IsFiredFirst engine.old.server engine.old.timers engine.old.state at out engine.new.state)) }
+    ensures in_order { IfOk result
+        (λ fired. IfSome fired (λ out. IsFiredFirst engine.old.server engine.old.timers engine.old.state at out engine.new.state)) }
     ensures none { IfOk result (λ fired. IfNone fired (NothingDueBy (moment_of engine.old.state at) engine.old.state)) }
     ensures waits { IfOk result (λ fired. IfNone fired (engine.new ≡ engine.old)) }
     ensures due { OnErr result (IsDueBy (moment_of engine.old.state at) engine.old.state) }

@@ -51,7 +51,8 @@ pub record Does (now : ℕ) (draft : Draft) (nonces : List Nonce) (plan : Option
 
 -- So it does in each state with 1,024 requests open or fewer, with what becomes of the nonces.
 abbrev pub Drafts : Bool → ℕ → Draft → (List Nonce → List Nonce) → Option Planned → (ProxyState → Effect) → Type 0
-Drafts full now draft nonces plan effect = (state : ProxyState) → is_full state ≡ full → Does now draft (nonces state.nonces) plan state (effect state)
+Drafts full now draft nonces plan effect = (state : ProxyState) → is_full state ≡ full
+    → Does now draft (nonces state.nonces) plan state (effect state)
 
 -- ---- what is opened
 

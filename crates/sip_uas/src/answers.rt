@@ -33,7 +33,14 @@ fn drafted(
     records: Items<Record>,
     is_full: bool,
 ) -> Result<Draft, AllocError>
-    ensures { IfOk result (λ draft. draft ≡ record { packets = replied.packet ∷ []; records = records; opened = if is_full then None else Some replied.request; lessons = [] }) }
+    ensures { IfOk result
+        (λ draft. draft ≡ record {
+          packets = replied.packet ∷ [];
+          records = records;
+          opened = if is_full then None
+              else Some replied.request;
+          lessons = [];
+        }) }
 {
     let Replied { packet, request } = replied;
     let mut packets = Items::new(alloc);
@@ -62,7 +69,8 @@ pub fn answer(
 ) -> Result<Draft, AllocError>
     requires key { key_of request ≡ Some key }
     requires now { arrival.now + 32000 < 2 ^ 64 }
-    ensures does { IfOk result (λ draft. Drafts is_full arrival.now draft (λ nonces. nonces) None (Effects.replied server.now (arrival_of arrival) request status extras.now records)) }
+    ensures does { IfOk result (λ draft. Drafts is_full arrival.now draft (λ nonces. nonces) None
+        (Effects.replied server.now (arrival_of arrival) request status extras.now records)) }
     ensures opens { IfOk result (λ draft. IsFinalAnswer status → IfSome draft.opened (IsOpenable arrival key)) }
 {
     opens_fitting();

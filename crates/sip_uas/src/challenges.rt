@@ -49,7 +49,8 @@ pub fn challenges_to(
     word: u128,
     question: &Question<'_>,
 ) -> Result<Fields, AllocError>
-    ensures { IfOk result (λ fields. (number now : ℕ) (from : Addr) → fields ≡ Effects.challenges_to server.now (record { number = number; now = now; word = word; from = from }) question.now) }
+    ensures { IfOk result (λ fields. (number now : ℕ) (from : Addr) → fields
+        ≡ Effects.challenges_to server.now (record { number = number; now = now; word = word; from = from }) question.now) }
 {
     let config = &server.config;
     let name = challenge_name(&question.operation);

@@ -45,7 +45,8 @@ fn fields_of(alloc: Global, now: u64, bindings: Bindings<'_>) -> Result<Fields, 
 /// then, in their order, with the whole seconds that it has left (RFC 3261 10.3 step 8). `AllocError` is the only refusal.
 pub fn contact_fields(alloc: Global, now: u64, plan: &Plan) -> Result<Fields, AllocError>
     ensures planned { IfOk result (λ fields. fields ≡ map (Effects.contact_field now) plan.now.bindings) }
-    ensures registered { IfOk result (λ fields. (rows after : List Binding) (r : Registration) → IsPlan rows r now plan.now → registered rows r now ≡ Ok after → fields ≡ Effects.contact_fields now plan.now.aor after) }
+    ensures registered { IfOk result (λ fields. (rows after : List Binding) (r : Registration) → IsPlan rows r now plan.now
+        → registered rows r now ≡ Ok after → fields ≡ Effects.contact_fields now plan.now.aor after) }
 {
     fields_of(alloc, now, plan.bindings())
 }

@@ -180,9 +180,11 @@ fn bound(
     requires key { key_of request ≡ Some key }
     requires now { arrival.now + 32000 < 2 ^ 64 }
     ensures does { IfOk result (λ draft. judged.now.minute ≡ Definition.minute_on server.now judged.now.question
-        → (rows after : List Binding) (r : Registration) → IsPlan rows r arrival.now plan.now → registered rows r arrival.now ≡ Ok after → plan.now.aor ≡ judged.now.question.target
+        → (rows after : List Binding) (r : Registration) → IsPlan rows r arrival.now plan.now → registered rows r arrival.now ≡ Ok after
+        → plan.now.aor ≡ judged.now.question.target
         → Drafts is_full arrival.now draft (λ nonces. used nonces arrival.now judged.now.question.proof) None
-        (Effects.answered_by_rule server.now (arrival_of arrival) request judged.now.question rule 200 (Effects.contact_fields arrival.now judged.now.question.target after))) }
+        (Effects.answered_by_rule server.now (arrival_of arrival) request judged.now.question rule 200
+        (Effects.contact_fields arrival.now judged.now.question.target after))) }
     ensures opens { IfOk result (λ draft. IfSome draft.opened (IsOpenable arrival key)) }
 {
     let extras = contact_fields(alloc, arrival.now, plan)?;
@@ -206,10 +208,12 @@ fn registering(
     requires key { key_of request ≡ Some key }
     requires now { arrival.now + 32000 < 2 ^ 64 }
     ensures does { IfOk result (λ draft. judged.now.minute ≡ Definition.minute_on server.now judged.now.question
-        → (state : ProxyState) (registered : Definition.Registered) → Definition.is_full state ≡ is_full → ComesTo state.bindings arrival.now judged.now.question.target registered outcome.now
+        → (state : ProxyState) (registered : Definition.Registered) → Definition.is_full state ≡ is_full
+        → ComesTo state.bindings arrival.now judged.now.question.target registered outcome.now
         → Does arrival.now draft (used state.nonces arrival.now judged.now.question.proof) (plan_in outcome.now) state
         (Effects.registering server.now (arrival_of arrival) request judged.now.question rule registered state)) }
-    ensures opens { IfOk result (λ draft. (rows : List Binding) (registered : Definition.Registered) → ComesTo rows arrival.now judged.now.question.target registered outcome.now
+    ensures opens { IfOk result (λ draft. (rows : List Binding) (registered : Definition.Registered)
+        → ComesTo rows arrival.now judged.now.question.target registered outcome.now
         → Asking.RefusesFinally registered → IfSome draft.opened (IsOpenable arrival key)) }
 {
     match outcome {
@@ -238,12 +242,14 @@ pub fn judged(
     requires key { key_of request ≡ Some key }
     requires now { arrival.now + 32000 < 2 ^ 64 }
     requires here { Asking.is_answered_here judged.now.outcome ≡ true }
-    ensures does { IfOk result (λ draft. (state : ProxyState) (rows : List Binding) (named : Option OpenRequest) (verdict : Definition.Verdict) → state.bindings ≡ rows → Definition.is_full state ≡ is_full
+    ensures does { IfOk result (λ draft. (state : ProxyState) (rows : List Binding) (named : Option OpenRequest)
+        (verdict : Definition.Verdict) → state.bindings ≡ rows → Definition.is_full state ≡ is_full
         → Is server.now rows arrival.now named verdict (Arrived.Judged judged.now)
         → Does arrival.now draft (Asking.after_asking (arrival_of arrival) judged.now state.nonces) (plan_of judged.now.outcome) state
         (Effects.effect_of server.now (arrival_of arrival) request verdict state)) }
     ensures opens { IfOk result (λ draft. (rows : List Binding) (named : Option OpenRequest) (verdict : Definition.Verdict)
-        → Is server.now rows arrival.now named verdict (Arrived.Judged judged.now) → Asking.AnswersFinally verdict → IfSome draft.opened (IsOpenable arrival key)) }
+        → Is server.now rows arrival.now named verdict (Arrived.Judged judged.now) → Asking.AnswersFinally verdict
+        → IfSome draft.opened (IsOpenable arrival key)) }
 {
     match &judged.outcome {
         Outcome::Challenge => challenged(alloc, server, arrival, key, request, judged, is_full),

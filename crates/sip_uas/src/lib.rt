@@ -2,6 +2,10 @@
 //! REGISTER or of a request that goes to nobody; and what such an answer says and what is recorded of it: challenges,
 //! denials, the bindings that a 200 lists, the extensions that a 420 names. All of it is drafted, with all memory, before
 //! anything changes.
+//!
+//! - Used: `sip_engine_answer`, and `sip_engine_forward` for its records.
+//! - Not here: the decision (`sip_core`).
+//! - Tried: `test_server` by its stored runs.
 #![tactic(auto)]
 
 mod answers;

@@ -57,7 +57,9 @@ pub fn record_of(
     minute: Option<u16>,
     outcome: Outcome,
 ) -> Result<Record, AllocError>
-    ensures { IfOk result (λ made. (server : Server) (word : ℕ) (from : Addr) (request : Message) → request.start ≡ start_seen start.now → minute ≡ minute_on server question.now → made ≡ Effects.record_of server (record { number = number; now = now; word = word; from = from }) request question.now outcome) }
+    ensures { IfOk result (λ made. (server : Server) (word : ℕ) (from : Addr) (request : Message) → request.start ≡ start_seen start.now
+        → minute ≡ minute_on server question.now → made ≡ Effects.record_of server
+        (record { number = number; now = now; word = word; from = from }) request question.now outcome) }
 {
     let method = Bytes::copy(alloc, method_of(start))?;
     let who = copied_name(alloc, question.proof.name())?;

@@ -1,4 +1,8 @@
 //! The program's command line carried out: a configuration checked, a script replayed with one, or phones served.
+//!
+//! - Used: the program `sipd`, with its kinds of timers and rules.
+//! - Not here: the process's streams themselves.
+//! - Tried: `test_server`, `tests/serve.py`.
 #![tactic(auto)]
 
 mod printing;

@@ -159,7 +159,9 @@ pub fn serve_turns<T: Timers, P: Rules, R: Net + rt::Clock + RandomSource + Allo
     turns: Option<u32>,
     output: &mut W,
 ) -> Result<(), Exit>
-    ensures { IfSome turns (λ n. OnOk result (PrintsServed (record { ip = config.own.ip; port = config.bound_port }) n (W.contents output.old) (W.contents output.new))) }
+    ensures { IfSome turns
+        (λ n. OnOk result (PrintsServed (record { ip = config.own.ip; port = config.bound_port }) n (W.contents output.old)
+        (W.contents output.new))) }
 {
     let alloc = rt.alloc();
     let ip = config.own.ip;

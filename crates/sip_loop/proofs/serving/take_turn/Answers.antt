@@ -18,9 +18,9 @@ returns-in_err-out-clause-broken g c =
     (g.L.Link.given c.take_event.new.link) (g.W.Rng.stream c.args.words.now) (g.W.Rng.stream c.take_event.new.words) c.in_err-out.field-0.0 (ap (λ (e : Engine). e.state) c.in_err-out.ensures.unchanged)
     c.take_event.ensures.given c.in_err-out.ensures.broken)
 
-pub returns-in_err-add_records-clause-broken : goal.returns-in_err-add_records-clause-broken
-returns-in_err-add_records-clause-broken g c =
-    let p = err_from_is_err_and c.from_residual-in_err-add_records.result c.from_residual-in_err-add_records.ensures.1 in
+pub returns-in_err-list_records-clause-broken : goal.returns-in_err-list_records-clause-broken
+returns-in_err-list_records-clause-broken g c =
+    let p = err_from_is_err_and c.from_residual-in_err-list_records.result c.from_residual-in_err-list_records.ensures.1 in
     let taken = c.in_ok-out.ensures.taken in
     rw (p.1, p.2)
     (breaks_behind c.args.engine.now.server c.args.engine.now.state c.take_event.new.engine.state c.take_event.new.engine.state c.args.at (g.L.Link.heard c.args.link.now) (g.L.Link.heard c.take_event.new.link)
@@ -34,11 +34,11 @@ returns-clause-goes g c =
     on_ok_weaker c.hand_out.result
     (λ hands. rw c.hand_out.ensures.heard (goes_on c.args.engine.now.server c.args.engine.now.state c.take_event.new.engine.state c.hand_out.new.engine.state c.args.at (g.L.Link.heard c.args.link.now)
     (g.L.Link.heard c.take_event.new.link) (g.L.Link.given c.args.link.now) (g.L.Link.given c.hand_out.new.link) (g.W.Rng.stream c.args.words.now) (g.W.Rng.stream c.take_event.new.words) c.in_ok-out.out c.args.records.now
-    c.add_records.new.records taken
+    c.list_records.new.records taken
     (c.steps_stand_at_their_moments.ensures c.args.engine.now.server c.args.engine.now.state c.take_event.new.engine.state (ForEvent (event_of_turn taken.turn)) c.in_ok-out.out taken.step)
     (subst (λ (s : Server). Hands s c.take_event.new.engine.state c.hand_out.new.engine.state c.in_ok-out.out.packets None [] (g.L.Link.given c.args.link.now) (g.L.Link.given c.hand_out.new.link)) c.take_event.ensures.server
     (subst (λ (l : Option (List Given)). Hands c.take_event.new.engine.server c.take_event.new.engine.state c.hand_out.new.engine.state c.in_ok-out.out.packets None [] l (g.L.Link.given c.hand_out.new.link)) c.take_event.ensures.given hands))
-    (rw c.as_slice.ensures at c.in_ok-add_records.ensures))) c.hand_out.ensures.handed
+    c.in_ok-list_records.ensures)) c.hand_out.ensures.handed
 
 pub returns-clause-broken : goal.returns-clause-broken
 returns-clause-broken g c =

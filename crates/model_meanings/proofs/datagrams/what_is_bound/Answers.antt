@@ -1,7 +1,7 @@
-use Rattle.sip_engine.proofs.Heard.{binds}
+use Rattle.model_meanings.proofs.Heard.{binds}
 use Rattle.sip_targets.specs.declared.targets.Targets.TheVariants as Targets
-use Rattle.sip_core.specs.verdict_model.Verdict as Verdict
-use Rattle.sip_engine.proofs.laws.what_is_bound.Goals as goal
+use Rattle.sip_model.specs.verdict_model.Verdict as Verdict
+use Rattle.model_meanings.proofs.datagrams.what_is_bound.Goals as goal
 
 pub returns-clause-bound : goal.returns-clause-bound
 returns-clause-bound c = λ server old new at word from bytes m out q id rows h. binds server old new at word from bytes m (Verdict.Register q id (Verdict.Bound rows)) out h

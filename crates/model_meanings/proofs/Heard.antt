@@ -7,13 +7,13 @@ use Rattle.sip_uri.specs.declared.addr.Addr.{Addr}
 use Rattle.sip_location.specs.Sameness.{SameBindings}
 use Rattle.sip_model.specs.steps_model.Effect.{Effect, counted, datagram_effect, effect_of, nothing, method_of}
 use Rattle.sip_model.specs.steps_model.Step.{arrival_of, originals, retransmissions}
-use Rattle.sip_core.specs.context_model.Retransmission.{answers_again}
-use Rattle.sip_core.specs.state.SameState.{SameState}
-use Rattle.sip_core.specs.state.declared.open_request.OpenRequest.{OpenRequest}
-use Rattle.sip_core.specs.state.declared.proxy_state.ProxyState.{ProxyState}
-use Rattle.sip_core.specs.state.declared.server.Server.{Server}
-use Rattle.sip_core.specs.verdict_model.Verdict as Verdict
-use Rattle.sip_engine.specs.Hearing.{Hears}
+use Rattle.sip_model.specs.context_model.Retransmission.{answers_again}
+use Rattle.sip_model.specs.state.SameState.{SameState}
+use Rattle.sip_model.specs.state.declared.open_request.OpenRequest.{OpenRequest}
+use Rattle.sip_model.specs.state.declared.proxy_state.ProxyState.{ProxyState}
+use Rattle.sip_model.specs.state.declared.server.Server.{Server}
+use Rattle.sip_model.specs.verdict_model.Verdict as Verdict
+use Rattle.model_meanings.specs.Hearing.{Hears}
 
 module _ (server : Server) (old new : ProxyState) (at word : ℕ) (from : Addr) (bytes : List ℕ) (m : Message) (v : Verdict.Verdict) (out : StepOut) where
   -- the effect of the verdict

@@ -1,6 +1,6 @@
-use Rattle.sip_engine.proofs.Heard.{copied, repeats, sends}
-use Rattle.sip_core.specs.verdict_model.Verdict as Verdict
-use Rattle.sip_engine.proofs.laws.what_goes_again.Goals as goal
+use Rattle.model_meanings.proofs.Heard.{copied, repeats, sends}
+use Rattle.sip_model.specs.verdict_model.Verdict as Verdict
+use Rattle.model_meanings.proofs.datagrams.what_goes_again.Goals as goal
 
 pub returns-clause-copied : goal.returns-clause-copied
 returns-clause-copied c = copied

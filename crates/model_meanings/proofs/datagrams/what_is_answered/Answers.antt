@@ -1,6 +1,6 @@
-use Rattle.sip_engine.proofs.Heard.{records, sends}
-use Rattle.sip_core.specs.verdict_model.Verdict as Verdict
-use Rattle.sip_engine.proofs.laws.what_is_answered.Goals as goal
+use Rattle.model_meanings.proofs.Heard.{records, sends}
+use Rattle.sip_model.specs.verdict_model.Verdict as Verdict
+use Rattle.model_meanings.proofs.datagrams.what_is_answered.Goals as goal
 
 pub returns-clause-challenged : goal.returns-clause-challenged
 returns-clause-challenged c = λ server old new at word from bytes m out q h. sends server old new at word from bytes m (Verdict.Challenge q) out h

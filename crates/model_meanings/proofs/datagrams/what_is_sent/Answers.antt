@@ -1,8 +1,8 @@
-use Rattle.sip_engine.proofs.Heard.{records, sends}
+use Rattle.model_meanings.proofs.Heard.{records, sends}
 use Rattle.sip_targets.specs.declared.targets.Targets.TheVariants as Targets
 use Rattle.std.specs.Prelude.{Some}
-use Rattle.sip_core.specs.verdict_model.Verdict as Verdict
-use Rattle.sip_engine.proofs.laws.what_is_sent.Goals as goal
+use Rattle.sip_model.specs.verdict_model.Verdict as Verdict
+use Rattle.model_meanings.proofs.datagrams.what_is_sent.Goals as goal
 
 pub returns-clause-called : goal.returns-clause-called
 returns-clause-called c = λ server old new at word from bytes m out q id targets h. sends server old new at word from bytes m (Verdict.Send q id (Targets.Bindings targets)) out h
