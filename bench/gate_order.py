@@ -14,13 +14,15 @@ import functools
 import glob
 import os
 import re
+import subprocess
 import sys
 
 os.chdir(os.path.join(os.path.dirname(os.path.abspath(__file__)), ".."))
 LANES = 4
-# How many times as fast a proof is by so many processors, and a proof in a crate's edits beside its own.
+# How many times as fast a proof is by so many processors (an estimate).
 FASTER = {1: 1, 2: 1.75, 3: 2.3, 4: 2.8}
-KIT = os.environ.get("RATTLE_RLIBS", "/opt/rattle/rlibs")
+# Where the kit's libraries are: beside the page that `rt doc` names.
+KIT = os.path.join(os.path.dirname(subprocess.run(["rt", "doc"], capture_output=True, text=True).stdout.strip()), "rlibs")
 
 
 def lines_of(crate, ending):
