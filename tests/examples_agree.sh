@@ -6,7 +6,7 @@ exec python3 - "$@" <<'PY'
 import re
 import sys
 
-TEXTS = "crates/test_decisions/src/config_texts.rt"
+TEXTS = "crates/test_parts/src/config_texts.rt"
 wanted = "//! The configurations of `examples/`, copied by `tests/examples_agree.sh`.\n"
 for name in ["sample", "office"]:
     text = open(f"examples/{name}.toml", encoding="utf-8").read()

@@ -6,7 +6,7 @@ use Rattle.sip_uri.specs.declared.addr.Addr.{Addr}
 use Rattle.sip_message_form.specs.declared.message.Start.{Start}
 use Rattle.sip_message_form.specs.declared.message.Message.{Message}
 use Rattle.sip_message_form.specs.Text.{start_text, field_text, text_of}
-use Rattle.sip_model.specs.edit_onward.Onward.{with_record_route}
+use Rattle.sip_edit.specs.Onward.{with_record_route}
 use Rattle.sip_edit.specs.OwnRequests.{ack_with, cancel_of}
 use Rattle.sip_event.specs.declared.packet.Packet.{Packet}
 use Rattle.sip_model.specs.state.declared.server.Server.{Server}

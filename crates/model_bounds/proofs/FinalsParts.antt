@@ -13,7 +13,7 @@ use Rattle.sip_model.specs.state.declared.proxy_state.ProxyState.{ProxyState}
 use Rattle.sip_model.specs.state.Arrival.{Arrival}
 use Rattle.sip_model.specs.state.State.{is_invite, is_answering}
 use Rattle.sip_model.specs.context_model.Branches.{Change, acknowledged, acknowledged_side, was_refused}
-use Rattle.sip_model.specs.edit_onward.Onward.{onward_uri}
+use Rattle.sip_edit.specs.Onward.{onward_uri}
 use Rattle.sip_model.specs.context_model.Retransmission.{IsResent, OfAnswer, OfRequest}
 use Rattle.sip_model.specs.steps_model.Effect.{replaced, change_packets, ack_packet, method_of}
 use Rattle.sip_model.specs.steps_model.Step.{Act, Given, Passing}

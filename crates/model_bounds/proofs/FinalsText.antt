@@ -10,7 +10,7 @@ use Rattle.sip_message_form.specs.declared.message.Start.{Start}
 use Rattle.sip_message_form.specs.declared.message.Start.TheVariants.{Request, Status}
 use Rattle.sip_message_form.specs.declared.message.Message.{Message}
 use Rattle.sip_message_form.specs.Text.{start_text, field_text, text_of}
-use Rattle.sip_model.specs.edit_onward.Onward.{with_uri}
+use Rattle.sip_edit.specs.Onward.{with_uri}
 use Rattle.sip_edit.specs.OwnRequests.{ack_with, cancel_of}
 use Rattle.sip_model.specs.state.declared.server.Server.{Server}
 use Rattle.sip_model.specs.state.State.{is_success, is_provisional}

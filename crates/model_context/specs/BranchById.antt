@@ -20,7 +20,8 @@ is_sent target method r b = b.number == target && bytes_eq (if b.is_cancel then 
 abbrev pub sent_in : ℕ → List ℕ → OpenRequest → Option (OpenRequest × Branch)
 sent_in target method r = option_map (λ b. (r, b)) (find (is_sent target method r) r.branches)
 
--- the branch that a text names: of the request that came in the datagram of its first number, the branch to the target of its second (RFC 3261 17.1.3)
+-- the branch that a text names: of the request that came in the datagram of its first number, the branch to the target of its second
+-- (RFC 3261 17.1.3)
 abbrev pub branch_by_id : Server → List ℕ → List ℕ → List OpenRequest → Option (OpenRequest × Branch)
 branch_by_id server text method requests =
     option_and_then (λ id. option_and_then (sent_in id.target method) (find (is_of_datagram id.number) requests)) (branch_id_of server.word text)

@@ -1,8 +1,10 @@
 -- One open request: what a response, a deadline, a fault or a CANCEL changes of it, and what it sends then (RFC 3261 16.7 to 16.10, 17; RFC 6026).
 -- Moments and deadlines are in milliseconds.
-use Rattle.std.specs.Prelude.{ℕ, ◌+◌, Bool, true, false, not, ◌&&◌, ◌||◌, ◌==◌, if◌then◌else◌, List, [], ◌∷◌, ◌++◌, map, filter, Option, Some, None, option_map}
+use Rattle.std.specs.Prelude.{◌*◌, ℕ, ◌+◌, Bool, true, false, not, ◌&&◌, ◌||◌, ◌==◌, if◌then◌else◌, List, [], ◌∷◌, ◌++◌, map, filter, Option}
+use Rattle.std.specs.Prelude.{Some, None, option_map}
 use Rattle.std.specs.Option.{option_map_or}
 use Rattle.std.specs.List.{flat_map, list_all}
+use Rattle.sip_timers.specs.Intervals.{T1, T4, timer_C, timer_C_past_B}
 use Rattle.sip_message_form.specs.declared.message.Message.{Message}
 use Rattle.sip_message_form.specs.Text.{text_of}
 use Rattle.sip_message_fields.specs.declared.field_name.FieldName.TheVariants as Name
@@ -19,7 +21,8 @@ use Rattle.sip_state.specs.declared.branch.Branch.{Branch}
 use Rattle.sip_state.specs.declared.open_request.OpenRequest.{OpenRequest}
 use Rattle.sip_state.specs.declared.branch.Phase.TheVariants.{Unheard, Heard, Cancelled, Done, Ended}
 use Rattle.sip_state.specs.declared.open_request.Side.TheVariants.{Answering, Closing, Acknowledged, Closed}
-use Rattle.sip_state.specs.State.{first_resend, is_invite, is_final, is_answering, target_branches, is_success, is_failure, is_decline, is_provisional}
+use Rattle.sip_state.specs.State.{first_resend, is_invite, is_final, is_answering, target_branches, is_success, is_failure, is_decline}
+use Rattle.sip_state.specs.State.{is_provisional}
 use Rattle.model_context.specs.Sending.{made_answer, branch_packets, ack_packets}
 use Rattle.sip_state.specs.declared.open_request.Upward.{Upward}
 
@@ -66,16 +69,18 @@ given_up b status r = with_final (record { status = status; message = None }) (w
 
 -- ---- what goes to the caller
 
--- The answer that was sent last. Of a 2xx to an INVITE its bytes aren't kept: its core sends it again, and no transaction (RFC 3261 13.3.1.4, RFC 6026 7.1).
+-- The answer that was sent last. Of a 2xx to an INVITE its bytes aren't kept: its core sends it again, and no transaction (RFC 3261
+-- 13.3.1.4, RFC 6026 7.1).
 abbrev pub last_answer : OpenRequest → ℕ → List ℕ → LastAnswer
 last_answer r status text = record { status = status; text = if is_invite r && is_success status then [] else text }
 
--- the request after an answer of its went to the caller: the first final one begins to close it (RFC 3261 17.2: Timers H, J and L), and final answers are kept no longer
+-- the request after an answer of its went to the caller: the first final one begins to close it (RFC 3261 17.2: Timers H, J and L),
+-- and final answers are kept no longer
 abbrev pub answered : ℕ → Upward → OpenRequest → OpenRequest
 answered now u r =
     record r {
       answer = Some (last_answer r u.status (text_of u.message));
-      side = if is_answering r.side && not (is_provisional u.status) then Closing (now + 32000) else r.side;
+      side = if is_answering r.side && not (is_provisional u.status) then Closing (now + 64 * T1) else r.side;
       finals = if is_provisional u.status then r.finals else [];
       again = first_resend now;
     }
@@ -83,7 +88,11 @@ answered now u r =
 -- the best answer, as it goes to the caller: one that came, or one that is made here
 abbrev pub upward_of : Server → OpenRequest → Final → Upward
 upward_of server r f =
-    record { status = f.status; message = option_map_or (λ m. m) f.message (made_answer server r.number r.request r.source f.status []); target = None }
+    record {
+      status = f.status;
+      message = option_map_or (λ m. m) f.message (made_answer server r.number r.request r.source f.status []);
+      target = None;
+    }
 
 -- whether every branch to a target has a final answer
 abbrev pub all_final : OpenRequest → Bool
@@ -109,7 +118,7 @@ is_cancellable b = not b.is_cancel && b.wants_cancel && is_ready b.phase
 
 -- the CANCEL of a branch
 abbrev pub cancel_branch : ℕ → Branch → Branch
-cancel_branch now b = record b { is_cancel = true; wants_cancel = false; phase = Unheard (now + 32000); again = first_resend now }
+cancel_branch now b = record b { is_cancel = true; wants_cancel = false; phase = Unheard (now + 64 * T1); again = first_resend now }
 
 -- the CANCELs of the branches that are sent one now
 abbrev pub new_cancels : ℕ → OpenRequest → List Branch
@@ -117,7 +126,7 @@ new_cancels now r = map (cancel_branch now) (filter is_cancellable r.branches)
 
 -- a branch that is sent a CANCEL has another 32,000 ms for its final answer
 abbrev pub held_branch : ℕ → Branch → Branch
-held_branch now b = record b { phase = Cancelled (now + 32000) }
+held_branch now b = record b { phase = Cancelled (now + 64 * T1) }
 
 -- a branch, and right behind it the CANCEL that it is sent now, if it is
 abbrev pub with_cancel : ℕ → Branch → List Branch
@@ -139,7 +148,8 @@ abbrev pub upward_list : Option Upward → List Upward
 upward_list None = []
 upward_list (Some u) = u ∷ []
 
--- What follows every event: what goes to the caller at once, then the best answer if it is time for it, then the CANCELs of the branches that are ready for one.
+-- What follows every event: what goes to the caller at once, then the best answer if it is time for it, then the CANCELs of the
+-- branches that are ready for one.
 abbrev pub settled : Server → ℕ → List Packet → Option Upward → OpenRequest → Change
 settled server now acks relayed r =
     let told : OpenRequest = after_upward now relayed r in
@@ -156,8 +166,8 @@ settled server now acks relayed r =
 
 -- the phase after a provisional response to an INVITE: it is heard, and 101 to 199 set Timer C anew (RFC 3261 16.7 step 2, 16.8)
 abbrev pub invite_heard : ℕ → ℕ → Phase → Phase
-invite_heard now status (Unheard due) = if status == 100 then Heard (due + 153000) else Heard (now + 185000)
-invite_heard now status (Heard due) = if status == 100 then Heard due else Heard (now + 185000)
+invite_heard now status (Unheard due) = if status == 100 then Heard (due + timer_C_past_B) else Heard (now + timer_C)
+invite_heard now status (Heard due) = if status == 100 then Heard due else Heard (now + timer_C)
 invite_heard now status (Cancelled due) = Cancelled due
 invite_heard now status (Done due first) = Done due first
 invite_heard now status Ended = Ended
@@ -205,7 +215,7 @@ relayed_success r b status m = if is_success status && (is_answering r.side || i
 
 -- how long a branch with a final answer takes more of them: Timers D and M of an INVITE, K of another (RFC 3261 17.1, RFC 6026 7.2)
 abbrev pub linger : OpenRequest → ℕ
-linger r = if is_invite r then 32000 else 5000
+linger r = if is_invite r then 64 * T1 else T4
 
 -- the final answer of a branch, without its top Via
 abbrev pub final_of : ℕ → Message → Final
@@ -225,7 +235,8 @@ told_to r b status m = record b { final_to = acked_to r status m }
 
 -- the request after the first final answer of a branch
 abbrev pub with_answer : OpenRequest → Branch → ℕ → ℕ → Message → OpenRequest
-with_answer r b now status m = search_ended r status (with_final (final_of status m) (with_phase (told_to r b status m) (Done (now + linger r) status) r))
+with_answer r b now status m = search_ended r status (with_final (final_of status m)
+    (with_phase (told_to r b status m) (Done (now + linger r) status) r))
 
 -- the ACK of a final answer of an INVITE that is no 2xx
 abbrev pub acks_of : Server → OpenRequest → Branch → ℕ → Message → List Packet
@@ -251,7 +262,7 @@ abbrev pub cancel_responded : Server → ℕ → OpenRequest → Branch → ℕ 
 cancel_responded server now r b status m =
     if is_provisional status then settled server now [] None (with_phase b (other_heard b.phase) r)
     else if is_final b.phase then settled server now [] None r
-    else settled server now [] None (with_phase b (Done (now + 5000) status) r)
+    else settled server now [] None (with_phase b (Done (now + T4) status) r)
 
 -- a response
 abbrev pub responded : Server → ℕ → OpenRequest → Branch → ℕ → Message → Change
@@ -259,7 +270,8 @@ responded server now r b status m = if b.is_cancel then cancel_responded server 
 
 -- ---- a deadline
 
--- the deadline of a branch to a target: an INVITE that was heard is to be cancelled (Timer C); one that was sent a CANCEL counts as 487, another one as 408 (RFC 3261 16.8, 17.1)
+-- the deadline of a branch to a target: an INVITE that was heard is to be cancelled (Timer C); one that was sent a CANCEL counts as
+-- 487, another one as 408 (RFC 3261 16.8, 17.1)
 abbrev pub target_overdue : OpenRequest → Branch → Phase → OpenRequest
 target_overdue r b (Unheard due) = given_up b 408 r
 target_overdue r b (Heard due) =
@@ -303,7 +315,7 @@ cancelled server now r = settled server now [] None (if is_invite r && is_answer
 
 -- the answering side after an ACK of its final answer: Timer I (RFC 3261 17.2.1)
 abbrev pub acknowledged_side : ℕ → Side → Side
-acknowledged_side now (Closing due) = Acknowledged (now + 5000)
+acknowledged_side now (Closing due) = Acknowledged (now + T4)
 acknowledged_side now Answering = Answering
 acknowledged_side now (Acknowledged due) = Acknowledged due
 acknowledged_side now Closed = Closed

@@ -5,7 +5,7 @@ use Rattle.sip_message_fields.specs.declared.field_name.FieldName.TheVariants as
 use Rattle.sip_message_form.specs.declared.message.Start.TheVariants.{Status}
 use Rattle.sip_message_form.specs.declared.message.Message.{Message}
 use Rattle.sip_hops.specs.Examples as Places
-use Rattle.sip_state.specs.edit_onward.OnwardExamples as Onward
+use Rattle.sip_edit.specs.OnwardExamples as Onward
 use Rattle.sip_config_types.specs.Sample as Settings
 use Rattle.sip_event.specs.declared.packet.Packet.{Packet}
 use Rattle.sip_state.specs.declared.server.Server.{Server}
@@ -109,7 +109,8 @@ repeating pick r = option_map_or (λ (b : Branch). with_resend b r) (pick r) r
 -- the next moments at which what a branch sends goes again, if nothing else happens
 abbrev pub branch_moments : ℕ → (OpenRequest → Option Branch) → OpenRequest → List ℕ
 branch_moments zero pick r = []
-branch_moments (suc count) pick r = option_map_or (λ (b : Branch). option_to_list (branch_due r b)) (pick r) [] ++ branch_moments count pick (repeating pick r)
+branch_moments (suc count) pick r = option_map_or (λ (b : Branch). option_to_list (branch_due r b)) (pick r) []
+    ++ branch_moments count pick (repeating pick r)
 
 -- the next moments at which the last answer goes again
 abbrev pub answer_moments : ℕ → OpenRequest → List ℕ

@@ -6,6 +6,4 @@ pub mod Calls
 pub mod Opening
 pub mod Retransmission
 pub mod Examples
-pub use Rattle.sip_state.specs.context_request
-pub use Rattle.sip_state.specs.edit_onward
 pub use Rattle.sip_state.specs as state

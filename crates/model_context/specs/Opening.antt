@@ -1,13 +1,14 @@
 -- An open request as it comes, as it is answered at once, and as it is sent to its targets (RFC 3261 16.2, 16.6, 17.2).
-use Rattle.std.specs.Prelude.{ℕ, ◌+◌, Bool, false, not, ◌&&◌, is_some, if◌then◌else◌, List, [], ◌∷◌, map, filter, Some, None}
+use Rattle.std.specs.Prelude.{◌*◌, ℕ, ◌+◌, Bool, false, not, ◌&&◌, is_some, if◌then◌else◌, List, [], ◌∷◌, map, filter, Some, None}
 use Rattle.std.specs.Option.{unwrap_or}
 use Rattle.std.specs.List.{list_any}
+use Rattle.sip_timers.specs.Intervals.{T1}
 use Rattle.sip_uri.specs.declared.addr.Addr.{Addr}
 use Rattle.sip_uri.specs.Uri as UriText
 use Rattle.sip_message_form.specs.declared.message.Message.{Message}
 use Rattle.sip_transaction_table.specs.declared.key.Key.{Key}
 use Rattle.sip_transaction_table.specs.Key.{key_of}
-use Rattle.sip_state.specs.edit_onward.Onward.{onward_uri}
+use Rattle.sip_edit.specs.Onward.{onward_uri}
 use Rattle.sip_targets.specs.declared.target.Target.{Target}
 use Rattle.sip_best.specs.declared.final_answer.Final.{Final}
 use Rattle.sip_state.specs.declared.server.Server.{Server}
@@ -30,11 +31,22 @@ request_key m = unwrap_or (key_of m) (record { branch = []; host = []; port = 0;
 -- a request that comes, before anything was sent for it
 abbrev pub arriving : Arrival → Message → OpenRequest
 arriving a m =
-    record { key = request_key m; request = m; source = a.from; number = a.number; arrived_at = a.now; answer = None; side = Answering; again = first_resend a.now; finals = []; branches = [] }
+    record {
+      key = request_key m;
+      request = m;
+      source = a.from;
+      number = a.number;
+      arrived_at = a.now;
+      answer = None;
+      side = Answering;
+      again = first_resend a.now;
+      finals = [];
+      branches = [];
+    }
 
 -- the same, with its final answer
 abbrev pub closing : Arrival → Message → ℕ → List ℕ → OpenRequest
-closing a m status text = record (arriving a m) { answer = Some (record { status = status; text = text }); side = Closing (a.now + 32000) }
+closing a m status text = record (arriving a m) { answer = Some (record { status = status; text = text }); side = Closing (a.now + 64 * T1) }
 
 -- ---- a request is sent on
 
@@ -47,7 +59,7 @@ branch_to now number t =
       uri = UriText.text_of t.uri;
       address = t.address;
       wants_cancel = false;
-      phase = if is_some t.address then Unheard (now + 32000) else Ended;
+      phase = if is_some t.address then Unheard (now + 64 * T1) else Ended;
       final_to = None;
       again = first_resend now;
     }
@@ -60,7 +72,16 @@ branches_from now number (t ∷ ts) = branch_to now number t ∷ branches_from n
 -- the branch of a request in a dialog: its own Request-URI, to the address that the dialog holds (RFC 3261 16.12)
 abbrev pub dialog_branch : Server → ℕ → Message → Addr → Branch
 dialog_branch server now m address =
-    record { number = 1; is_cancel = false; uri = onward_uri server.config.own m; address = Some address; wants_cancel = false; phase = Unheard (now + 32000); final_to = None; again = first_resend now }
+    record {
+      number = 1;
+      is_cancel = false;
+      uri = onward_uri server.config.own m;
+      address = Some address;
+      wants_cancel = false;
+      phase = Unheard (now + 64 * T1);
+      final_to = None;
+      again = first_resend now;
+    }
 
 -- a branch without an address has answered 503 (RFC 3261 16.9)
 abbrev pub unsent : List Branch → List Final
@@ -76,7 +97,11 @@ is_tried r = is_invite r && list_any (λ (b : Branch). is_some b.address) r.bran
 
 -- the 100 of a request, if it gets one
 abbrev pub trying : Server → OpenRequest → List Upward
-trying server r = if is_tried r then record { status = 100; message = made_answer server r.number r.request r.source 100 []; target = None } ∷ [] else []
+trying server r = if is_tried r then record {
+  status = 100;
+  message = made_answer server r.number r.request r.source 100 [];
+  target = None;
+} ∷ [] else []
 
 -- the request after it
 abbrev pub tried : ℕ → List Upward → OpenRequest → OpenRequest

@@ -1,7 +1,9 @@
 -- What goes again of an open request, and when (RFC 3261 17).
-use Rattle.std.specs.Prelude.{◌≡◌, ℕ, ◌+◌, ◌*◌, min, Bool, true, false, not, ◌&&◌, if◌then◌else◌, List, [], ◌∷◌, ◌++◌, map, Contains, Option, Some, None}
+use Rattle.std.specs.Prelude.{◌≡◌, ℕ, ◌+◌, ◌*◌, min, Bool, true, false, not, ◌&&◌, if◌then◌else◌, List, [], ◌∷◌, ◌++◌, map, Contains}
+use Rattle.std.specs.Prelude.{Option, Some, None}
 use Rattle.std.specs.Option.{option_to_list}
 use Rattle.std.specs.List.{flat_map, filter_map}
+use Rattle.sip_timers.specs.Intervals.{T1, T2}
 use Rattle.sip_event.specs.declared.packet.Packet.{Packet}
 use Rattle.sip_state.specs.declared.server.Server.{Server}
 use Rattle.sip_state.specs.declared.branch.Phase.{Phase}
@@ -32,7 +34,8 @@ answers_again r (Some a) = if is_lasting r.side && not (is_invite r && is_succes
 
 -- ---- requests
 
--- whether the request of a branch to a target goes out again, by whether it is an INVITE: that does until a response comes, another one until the final one comes
+-- whether the request of a branch to a target goes out again, by whether it is an INVITE: that does until a response comes, another
+-- one until the final one comes
 -- (RFC 3261 17.1.1.2, 17.1.2.2)
 abbrev pub is_sent_again : Bool → Phase → Bool
 is_sent_again invite (Unheard due) = true
@@ -71,16 +74,17 @@ acked_again server r b status = if is_failure status then acks_again server r b 
 abbrev pub resend_after : ℕ → Resend → Resend
 resend_after most x = let wait = min (2 * x.wait) most in record { due = x.due + wait; wait = wait }
 
--- What a branch sends goes next: an INVITE after twice the wait, a CANCEL and any other request after at most 4,000 ms, and after so much once they were heard (RFC 3261 17.1.1.2, 17.1.2.2)
+-- What a branch sends goes next: an INVITE after twice the wait, a CANCEL and any other request after at most 4,000 ms, and after so
+-- much once they were heard (RFC 3261 17.1.1.2, 17.1.2.2)
 abbrev pub branch_next : OpenRequest → Branch → Resend
 branch_next r b =
-    if is_invite r && not b.is_cancel then resend_after 32000 b.again
-    else if is_unheard b.phase then resend_after 4000 b.again
-    else record { due = b.again.due + 4000; wait = 4000 }
+    if is_invite r && not b.is_cancel then resend_after (64 * T1) b.again
+    else if is_unheard b.phase then resend_after T2 b.again
+    else record { due = b.again.due + T2; wait = T2 }
 
 -- the last answer goes next: after twice the wait, but at most 4,000 ms (RFC 3261 17.2.1: Timer G)
 abbrev pub answer_next : OpenRequest → Resend
-answer_next r = resend_after 4000 r.again
+answer_next r = resend_after T2 r.again
 
 -- whether the last answer goes again by itself: a 300 to 699 to an INVITE does until its ACK comes (RFC 3261 17.2.1)
 abbrev pub insists : OpenRequest → Bool
@@ -113,7 +117,8 @@ with_resend b r = record r { branches = map (resent_branch b (branch_next r b)) 
 -- At a moment something of an open request goes again: what is sent, and the request after it.
 pub data IsResent (server : Server) (due : ℕ) (r : OpenRequest) : List Packet → OpenRequest → Type 0 where
   OfAnswer : answer_due r ≡ Some due → IsResent server due r (answers_again r r.answer) (record r { again = answer_next r })
-  OfRequest : (b : Branch) → Contains r.branches b → branch_due r b ≡ Some due → IsResent server due r (branch_packets server true r b) (with_resend b r)
+  OfRequest : (b : Branch) → Contains r.branches b → branch_due r b ≡ Some due
+      → IsResent server due r (branch_packets server true r b) (with_resend b r)
 
 -- ---- the whole
 

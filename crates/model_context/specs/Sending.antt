@@ -6,7 +6,7 @@ use Rattle.sip_message_form.specs.declared.message.Message.{Message}
 use Rattle.sip_message_form.specs.Text.{text_of}
 use Rattle.sip_uri.specs.declared.addr.Addr.{Addr}
 use Rattle.sip_edit.specs.OwnVia.{branch_text}
-use Rattle.sip_state.specs.edit_onward.Onward.{onward_of, with_record_route}
+use Rattle.sip_edit.specs.Onward.{onward_of, with_record_route}
 use Rattle.sip_edit.specs.OwnRequests.{ack_with, cancel_of}
 use Rattle.sip_edit.specs.ReceivedRequest.{received, response_address}
 use Rattle.sip_edit_response.specs.Reply.{reply_of}
@@ -41,7 +41,8 @@ begins_dialog r = is_invite r && not (is_some (dialog_of r.request))
 
 -- the request that goes onward with a Request-URI and the branch of a number
 abbrev pub onward_as : Server → ℕ → Message → Addr → List ℕ → ℕ → Message
-onward_as server number m from uri target = onward_of server.config.own server.config.realm uri (branch_text server.word number target) (received m from)
+onward_as server number m from uri target = onward_of server.config.own server.config.realm uri (branch_text server.word number target)
+    (received m from)
 
 -- the request of a branch; an INVITE that begins a dialog has this server's Record-Route (RFC 3261 16.6)
 abbrev pub request_of : Server → OpenRequest → Branch → Message
@@ -60,7 +61,12 @@ ticket_branch b = if b.is_cancel then 0 else b.number
 -- a message of an open request to the address of a branch, if it has one
 abbrev pub to_branch : OpenRequest → Branch → ℕ → Bool → Message → List Packet
 to_branch r b target again m =
-    option_map_or (λ address. record { to = address; bytes = text_of m; ticket = record { datagram = r.number; branch = target }; again = again } ∷ []) b.address []
+    option_map_or (λ address. record {
+      to = address;
+      bytes = text_of m;
+      ticket = record { datagram = r.number; branch = target };
+      again = again;
+    } ∷ []) b.address []
 
 -- what a branch sends, as a packet
 abbrev pub branch_packets : Server → Bool → OpenRequest → Branch → List Packet

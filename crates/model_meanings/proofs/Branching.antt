@@ -10,7 +10,7 @@ use Rattle.sip_message_form.specs.declared.message.Message.{Message}
 use Rattle.sip_message_form.specs.Text.{start_text, field_text, text_of}
 use Rattle.sip_header.specs.declared.core_fields.CoreFields.{CoreFields}
 use Rattle.sip_route.specs.declared.own.Own.{Own}
-use Rattle.sip_model.specs.edit_onward.Onward.{with_uri, with_record_route}
+use Rattle.sip_edit.specs.Onward.{with_uri, with_record_route}
 use Rattle.sip_validate.specs.Refusal.{Row, refusal, refusal_of, candidate_by}
 use Rattle.sip_targets.specs.declared.target.Target.{Target}
 use Rattle.sip_event.specs.declared.event.Event.TheVariants.{Datagram}

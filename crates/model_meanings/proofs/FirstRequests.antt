@@ -12,7 +12,7 @@ use Rattle.sip_transaction_table.specs.declared.key.Key.{Key}
 use Rattle.sip_transaction_table.specs.Key.{key_of}
 use Rattle.sip_validate.specs.Refusal.{refusal_of}
 use Rattle.sip_edit_response.specs.Examples.{register}
-use Rattle.sip_model.specs.edit_onward.OnwardExamples.{invite}
+use Rattle.sip_edit.specs.OnwardExamples.{invite}
 use Rattle.sip_model.specs.state.State.{first_state}
 use Rattle.sip_model.specs.verdict_model.Verdict.{message_in, is_outside}
 use Rattle.sip_model.specs.steps_model.Examples.{sample}

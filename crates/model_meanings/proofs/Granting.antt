@@ -13,7 +13,7 @@ use Rattle.sip_message.specs.Reading.{reading_of}
 use Rattle.sip_uri.specs.declared.addr.Addr.{Addr}
 use Rattle.sip_best.specs.declared.final_answer.Final.{Final}
 use Rattle.sip_best.specs.Best.{is_unbeaten, picked, chosen_of, is_challenge_status, challenging, going_up, best_of}
-use Rattle.sip_model.specs.edit_onward.Onward.{onward_uri, with_uri}
+use Rattle.sip_edit.specs.Onward.{onward_uri, with_uri}
 use Rattle.sip_edit_response.specs.Reasons.{reason_of}
 use Rattle.sip_targets.specs.declared.target.Target.{Target}
 use Rattle.sip_targets.specs.declared.targets.Targets.{Targets}

@@ -5,14 +5,13 @@ use Rattle.std.proofs.lemmas.Bool.Decides.{nat_tests}
 use Rattle.std.proofs.lemmas.List.{length-append, drop-append-le}
 use Rattle.std.proofs.lemmas.List.Sums.{sum_by-cons}
 use Rattle.std.proofs.lemmas.List.Elements.{Contains-push}
-use Rattle.circular_buffer.specs.Buffer.{keep_last}
 use Rattle.sip_digest.specs.declared.algorithm.Algorithm.{Algorithm}
 use Rattle.sip_digest.specs.declared.algorithm.Algorithm.TheVariants.{Md5, Sha256}
 use Rattle.sip_message_fields.specs.declared.field_name.FieldName.{FieldName}
 use Rattle.sip_edit_response.specs.Challenges.{stale_part, challenge, challenge_fields}
 use Rattle.sip_digest.specs.Algorithm.{name_of}
 use Rattle.sip_digest.specs.declared.nonces.Nonce.{Nonce}
-use Rattle.sip_digest.specs.Nonces.{IsNonceOf, is_this, issued}
+use Rattle.sip_digest.specs.Nonces.{keep_last, IsNonceOf, is_this, issued}
 use Rattle.model_meanings.specs.Nonces.{TellsNonce}
 
 -- ---- what is told

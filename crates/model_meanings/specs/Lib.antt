@@ -6,3 +6,11 @@ pub mod Packets
 pub mod Responses
 pub mod Successes
 pub mod Hearing
+pub mod Requests
+pub mod Dialogs
+pub mod Links
+pub mod WrongAnswers
+pub mod WrongRequests
+pub mod WrongCopies
+pub mod WrongRecords
+pub mod WrongMoments

@@ -1,5 +1,7 @@
-//! What the definitions of the model mean, said by other means than they themselves do: a definition that stands
-//! both in a body's contract and in the law about it pins nothing. Nothing runs here.
+//! What the definitions of the model mean, said by other means than they themselves do, since a definition that stands
+//! both in a body's contract and in the law about it pins nothing: what each kind of datagram does; where what a state
+//! knows comes from, its open requests and its dialogs, said from the history alone; and histories that a sceptic would
+//! write, none of which has `Access`. Nothing runs here.
 //!
 //! - Used: nobody: it is read.
 //! - Not here: a body.
@@ -7,12 +9,19 @@
 #![tactic(auto)]
 
 pub mod datagrams;
+pub mod early_copies;
+pub mod every_step;
+pub mod extra_answers;
+pub mod extra_records;
+pub mod extra_requests;
 pub mod keys;
 pub mod listing;
 pub mod nonces;
+pub mod origins;
 pub mod responses;
 pub mod sending;
 pub mod successes;
 pub mod tables;
 pub mod validity;
 pub mod warnings;
+pub mod wrong_times;

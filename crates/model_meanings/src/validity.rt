@@ -3,7 +3,7 @@ ghost use Rattle.sip_event.specs.declared.event.Event.TheVariants.{Datagram};
 ghost use Rattle.sip_message_form.specs.Text.{text_of};
 ghost use Rattle.sip_hops.specs.Examples.{local};
 ghost use Rattle.sip_edit_response.specs.Examples.{register};
-ghost use Rattle.sip_model.specs.edit_onward.OnwardExamples.{invite};
+ghost use Rattle.sip_edit.specs.OnwardExamples.{invite};
 ghost use Rattle.sip_model.specs.state.State.{first_state};
 ghost use Rattle.sip_validate.specs.Refusal.{refusal_of};
 ghost use Rattle.sip_model.specs.steps_model.Examples.{sample, arriving_at};

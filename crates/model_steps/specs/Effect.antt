@@ -19,7 +19,7 @@ use Rattle.sip_edit_response.specs.Challenges.{challenge_fields}
 use Rattle.sip_auth.specs.Offer.{offers_sha256}
 use Rattle.sip_edit_response.specs.Contacts.{contact_value}
 use Rattle.sip_edit_response.specs.Extras.{denial_warning}
-use Rattle.model_verdict.specs.edit_onward.Onward.{onward_uri}
+use Rattle.sip_edit.specs.Onward.{onward_uri}
 use Rattle.sip_policy.specs.declared.operation.Operation.{Operation}
 use Rattle.sip_location.specs.declared.binding.Binding.{Binding}
 use Rattle.sip_location.specs.Binding.{live, seconds_left}

@@ -13,7 +13,7 @@ use Rattle.sip_message_form.specs.declared.message.Message.{Message}
 use Rattle.sip_uri.specs.declared.addr.Addr.{Addr}
 use Rattle.sip_hops.specs.Examples as Places
 use Rattle.sip_edit_response.specs.Examples as Replies
-use Rattle.model_verdict.specs.edit_onward.OnwardExamples as Onward
+use Rattle.sip_edit.specs.OnwardExamples as Onward
 use Rattle.sip_edit.specs.OwnVia.{branch_text}
 use Rattle.sip_policy.specs.Examples.{mufasas_a1, alices_a1}
 use Rattle.sip_config_types.specs.Sample as Settings

@@ -3,7 +3,7 @@ ghost use Rattle.sip_audit.specs.declared.record.Outcome.TheVariants.{Challenge,
 ghost use Rattle.sip_audit.specs.Lines.{line_of};
 ghost use Rattle.sip_edit_response.specs.Examples as Replies;
 ghost use Rattle.sip_edit_response.specs.ExtrasExamples as Extras;
-ghost use Rattle.model_verdict.specs.edit_onward.OnwardExamples as Onward;
+ghost use Rattle.sip_edit.specs.OnwardExamples as Onward;
 ghost use Rattle.sip_hops.specs.Examples as Places;
 ghost use Rattle.model_steps.specs.Examples;
 
@@ -202,7 +202,7 @@ pub fn ack_in_dialog()
 
 /// A BYE in the call to an address that the dialog does not hold is answered 481, and doesn't renew the dialog, which is known
 /// since the INVITE came.
-pub fn refused_requests_teach_nothing()
+pub fn refused_requests_renew_no_dialog()
     ensures { map (λ d. d.since) (Examples.asking Examples.in_call 64000
         (Examples.bye (codes "sip:help@127.0.0.1:9") (codes "t1") [])).state.dialogs ≡ 62000 ∷ [] }
 {}

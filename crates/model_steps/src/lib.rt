@@ -18,17 +18,9 @@ pub mod context_model {
     pub use model_verdict::context_model::laws;
 }
 
-/// Of `sip_context_request`.
-pub mod context_request {
-    pub use model_verdict::context_request::{Heard, received_value};
-}
-
-/// Of `sip_edit_onward`.
-pub mod edit_onward {
-    pub use model_verdict::edit_onward::{onward_base, onward_uri, to_target};
-}
-
 /// Of `sip_state`.
 pub mod state {
-    pub use model_verdict::state::{Branch, LastAnswer, OpenRequest, Phase, Server, Side, Upward};
+    pub use model_verdict::state::{
+        Branch, Heard, LastAnswer, OpenRequest, Phase, Server, Side, Upward, received_value,
+    };
 }

@@ -32,7 +32,7 @@ pub fn interval_too_brief()
 {}
 
 /// A REGISTER that is refused changes no binding, neither its user's nor another's, not even one that has expired (RFC 3261 10.3).
-pub fn refused_registers_change_nothing()
+pub fn refused_registers_change_no_binding()
     ensures answer { Examples.first_lines (Registers.brief_beside Registers.known_before) ≡ codes "SIP/2.0 423 Interval Too Brief" ∷ [] }
     ensures kept { (Registers.brief_beside Registers.known_before).state.bindings ≡ Registers.known_before }
 {}

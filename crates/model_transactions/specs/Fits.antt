@@ -34,8 +34,10 @@ pub record BranchFits (invite : Bool) (b : Branch) : Type 0 where
 
 -- the answering side fits the server transaction of an INVITE, or the other one (RFC 3261 17.2)
 pub data SideFits : Bool → Side → Option LastAnswer → Resend → Type 0 where
-  OfInvite : (side : Side) (answer : Option LastAnswer) (again : Resend) (state : ServerInvite) → RunsInviteServer side answer again state → SideFits true side answer again
-  OfRequest : (side : Side) (answer : Option LastAnswer) (again : Resend) (state : ServerOther) → RunsOtherServer side answer state → SideFits false side answer again
+  OfInvite : (side : Side) (answer : Option LastAnswer) (again : Resend) (state : ServerInvite) → RunsInviteServer side answer again state
+      → SideFits true side answer again
+  OfRequest : (side : Side) (answer : Option LastAnswer) (again : Resend) (state : ServerOther) → RunsOtherServer side answer state
+      → SideFits false side answer again
 
 -- a status is that of a final answer (RFC 3261 7.2)
 abbrev pub IsFinalAnswer : ℕ → Type 0

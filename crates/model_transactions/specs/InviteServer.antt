@@ -24,8 +24,10 @@ pub data RunsInviteServer : Side → Option LastAnswer → Resend → ServerInvi
   BeforeAnswer : (again : Resend) → RunsInviteServer Answering None again (Proceeding false)
   WhileProvisional : (a : LastAnswer) (again : Resend) → is_provisional a.status ≡ true → RunsInviteServer Answering (Some a) again (Proceeding true)
   AfterSuccess : (until : ℕ) (a : LastAnswer) (again : Resend) → is_success a.status ≡ true → RunsInviteServer (Closing until) (Some a) again Accepted
-  AfterFailure : (until : ℕ) (a : LastAnswer) (again : Resend) → is_failure a.status ≡ true → RunsInviteServer (Closing until) (Some a) again (Completed again.wait)
-  AfterAck : (until : ℕ) (a : LastAnswer) (again : Resend) → is_failure a.status ≡ true → RunsInviteServer (Acknowledged until) (Some a) again Confirmed
+  AfterFailure : (until : ℕ) (a : LastAnswer) (again : Resend) → is_failure a.status ≡ true
+      → RunsInviteServer (Closing until) (Some a) again (Completed again.wait)
+  AfterAck : (until : ℕ) (a : LastAnswer) (again : Resend) → is_failure a.status ≡ true
+      → RunsInviteServer (Acknowledged until) (Some a) again Confirmed
   WhenClosed : (answer : Option LastAnswer) (again : Resend) → RunsInviteServer Closed answer again Terminated
 
 -- the timers of the transaction (RFC 3261 17.2.1, RFC 6026 7.1)

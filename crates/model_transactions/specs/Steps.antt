@@ -17,7 +17,8 @@ timers_after m now next timers = started_at now (filter_map m.start_of next.1) +
 -- A step of a machine at a moment does what the event does to the part that the machine runs: the next state fits
 -- the part after the event; this is done, and nothing else; and of the timers that stood, with those that are
 -- started, exactly those stand that the part then has.
-pub record Steps {State Input Action : Type 0} (m : Machine State Input Action) (now : ℕ) (next : State × List Action) (Fits : State → Type 0) (actions : List Action) (before after : List (Letter × ℕ)) : Type 0 where
+pub record Steps {State Input Action : Type 0} (m : Machine State Input Action) (now : ℕ) (next : State × List Action)
+    (Fits : State → Type 0) (actions : List Action) (before after : List (Letter × ℕ)) : Type 0 where
   pub fits : Fits next.0
   pub does : next.1 ≡ actions
   pub timers : after ≡ timers_after m now next before

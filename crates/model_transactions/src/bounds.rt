@@ -13,7 +13,8 @@ ghost use Rattle.model_transactions.specs.Near.{IsNear, IsBranchWithin, IsWithin
 pub fn time_passes()
     ensures branch { (bound later : ℕ) (b : Branch) → bound ≤ later → IsBranchWithin bound b → IsBranchWithin later b }
     ensures request { (bound later : ℕ) (r : OpenRequest) → bound ≤ later → IsWithin bound r → IsWithin later r }
-    ensures all { (bound later : ℕ) (requests : List OpenRequest) → bound ≤ later → AllByRecursion (IsWithin bound) requests → AllByRecursion (IsWithin later) requests }
+    ensures all { (bound later : ℕ) (requests : List OpenRequest) → bound ≤ later → AllByRecursion (IsWithin bound) requests
+        → AllByRecursion (IsWithin later) requests }
 {}
 
 /// Each branch of a request is within what lies near the request's bound, and so is the first one that passes a test.
@@ -31,7 +32,8 @@ pub fn moments_are_near()
 /// Of a bound below 2^62, Timer C of each branch is a moment of 64 bits.
 pub fn leaves_room()
     ensures branch { (bound : ℕ) (b : Branch) → bound < 2 ^ 62 → IsBranchWithin bound b → IsEarly b.phase }
-    ensures request { (bound : ℕ) (r : OpenRequest) → bound < 2 ^ 62 → IsWithin bound r → AllByRecursion (λ (b : Branch). IsEarly b.phase) r.branches }
+    ensures request { (bound : ℕ) (r : OpenRequest) → bound < 2 ^ 62 → IsWithin bound r
+        → AllByRecursion (λ (b : Branch). IsEarly b.phase) r.branches }
 {}
 
 /// Nothing less would do: a branch that is sent to its target at a moment is within no earlier bound.

@@ -37,14 +37,18 @@ pub fn stays_timely()
 pub fn begins_with()
     ensures invite { (now : ℕ) → invite_copies_left (Unheard (now + 32000)) (first_resend now) ≡ 6 }
     ensures other { (now : ℕ) → other_copies_left (Unheard (now + 32000)) (first_resend now) ≡ 10 }
-    ensures answer { (now : ℕ) (a : LastAnswer) → was_refused (Some a) ≡ true → answer_copies_left (Closing (now + 32000)) (Some a) (first_resend now) ≡ 10 }
+    ensures answer { (now : ℕ) (a : LastAnswer) → was_refused (Some a) ≡ true
+        → answer_copies_left (Closing (now + 32000)) (Some a) (first_resend now) ≡ 10 }
 {}
 
 /// Each copy that is sent by the deadline leaves one less.
 pub fn copy_leaves_one_less()
-    ensures invite { (until : ℕ) (again : Resend) → IsTimely until again → again.due ≤ until → invite_copies_left (Unheard until) (resend_after 32000 again) + 1 ≡ invite_copies_left (Unheard until) again }
-    ensures unheard { (until : ℕ) (again : Resend) → IsTimely until again → again.due ≤ until → other_copies_left (Unheard until) (resend_after 4000 again) + 1 ≡ other_copies_left (Unheard until) again }
-    ensures heard { (until : ℕ) (again : Resend) → IsTimely until again → again.due ≤ until → other_copies_left (Heard until) (steady again) + 1 ≡ other_copies_left (Heard until) again }
+    ensures invite { (until : ℕ) (again : Resend) → IsTimely until again → again.due ≤ until
+        → invite_copies_left (Unheard until) (resend_after 32000 again) + 1 ≡ invite_copies_left (Unheard until) again }
+    ensures unheard { (until : ℕ) (again : Resend) → IsTimely until again → again.due ≤ until
+        → other_copies_left (Unheard until) (resend_after 4000 again) + 1 ≡ other_copies_left (Unheard until) again }
+    ensures heard { (until : ℕ) (again : Resend) → IsTimely until again → again.due ≤ until → other_copies_left (Heard until) (steady again)
+        + 1 ≡ other_copies_left (Heard until) again }
     ensures answer { (until : ℕ) (a : LastAnswer) (again : Resend) → was_refused (Some a) ≡ true → IsTimely until again → again.due ≤ until
         → answer_copies_left (Closing until) (Some a) (resend_after 4000 again) + 1 ≡ answer_copies_left (Closing until) (Some a) again }
 {}
@@ -60,5 +64,6 @@ pub fn nothing_leaves_more()
         → answer_copies_left (answered now u r).side (answered now u r).answer (answered now u r).again ≤ answer_copies_left r.side r.answer r.again }
     ensures further { (now : ℕ) (r : OpenRequest) (u : Upward) → is_accepted r ≡ true → is_success u.status ≡ true
         → answer_copies_left (answered now u r).side (answered now u r).answer (answered now u r).again ≤ answer_copies_left r.side r.answer r.again }
-    ensures ack { (now : ℕ) (r : OpenRequest) → answer_copies_left (acknowledged now r).side (acknowledged now r).answer (acknowledged now r).again ≤ answer_copies_left r.side r.answer r.again }
+    ensures ack { (now : ℕ) (r : OpenRequest) → answer_copies_left (acknowledged now r).side (acknowledged now r).answer
+        (acknowledged now r).again ≤ answer_copies_left r.side r.answer r.again }
 {}

@@ -17,14 +17,16 @@ ghost use Rattle.model_transactions.specs.Fits.{Fits, BranchesFit, IsFinalAnswer
 pub fn opens_fitting()
     ensures answered { (a : Arrival) (m : Message) (status : ℕ) (text : List ℕ) → IsFinalAnswer status → Fits (closing a m status text) }
     ensures sent { (a : Arrival) (m : Message) (targets : List Target) → Fits (forking a m (branches_from a.now 1 targets)) }
-    ensures sent_within { (server : Server) (a : Arrival) (m : Message) (address : Addr) → Fits (forking a m (dialog_branch server a.now m address ∷ [])) }
+    ensures sent_within { (server : Server) (a : Arrival) (m : Message) (address : Addr)
+        → Fits (forking a m (dialog_branch server a.now m address ∷ [])) }
     ensures begun { (server : Server) (now : ℕ) (r : OpenRequest) → is_answering r.side ≡ true → Fits r → Fits (opening server now r).request }
 {}
 
 /// Every event leaves the parts fitting: a response to a branch, a deadline of a branch and of the answering side, a
 /// packet that couldn't be sent, the caller's CANCEL and ACK (RFC 3261 16.7 to 16.10, 17).
 pub fn stays_fitting()
-    ensures responded { (server : Server) (now status : ℕ) (r : OpenRequest) (b : Branch) (m : Message) → Fits r → Contains r.branches b → Fits (responded server now r b status m).request }
+    ensures responded { (server : Server) (now status : ℕ) (r : OpenRequest) (b : Branch) (m : Message) → Fits r → Contains r.branches b
+        → Fits (responded server now r b status m).request }
     ensures overdue { (server : Server) (now : ℕ) (r : OpenRequest) (b : Branch) → Fits r → Fits (overdue server now r b).request }
     ensures side_overdue { (server : Server) (now : ℕ) (r : OpenRequest) → Fits r → Fits (side_overdue server now r).request }
     ensures send_failed { (server : Server) (now : ℕ) (r : OpenRequest) (b : Branch) → Fits r → Fits (send_failed server now r b).request }

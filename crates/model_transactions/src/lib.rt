@@ -5,6 +5,10 @@
 //! how many copies may still be sent (`ties`, `copies`); and that each of its moments is at most 185,000 ms past that of
 //! the last event (`bounds`, `events`, `openings`, `timers`; RFC 3261 16.6 step 11). Nothing runs here: bodies call these
 //! laws.
+//!
+//! - Used: `sip_request`, `sip_forwarding` and `sip_uas` call its laws.
+//! - Not here: a body.
+//! - Tried: the machines' own worked runs in `sip_client` and `sip_server`.
 #![tactic(auto)]
 
 pub mod bounds;
@@ -25,5 +29,7 @@ pub use timer_keys::TimerKeys;
 
 /// Of `sip_state`.
 pub mod state {
-    pub use sip_context_branches::state::{Branch, LastAnswer, OpenRequest, Phase, Resend, Side};
+    pub use sip_context_branches::state::{
+        Branch, LastAnswer, OpenRequest, Phase, Resend, Side, is_invite, is_success,
+    };
 }

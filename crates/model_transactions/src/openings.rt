@@ -24,8 +24,11 @@ pub fn branches_begin()
 
 /// A request that is sent on is near the moment at which it comes, before anything is sent and after it.
 pub fn sent_on()
-    ensures forking { (a : Arrival) (m : Message) (branches : List Branch) → AllByRecursion (IsBranchWithin a.now) branches → IsWithin a.now (forking a m branches) }
+    ensures forking { (a : Arrival) (m : Message) (branches : List Branch) → AllByRecursion (IsBranchWithin a.now) branches
+        → IsWithin a.now (forking a m branches) }
     ensures opening { (server : Server) (now : ℕ) (r : OpenRequest) → IsWithin now r → IsWithin now (opening server now r).request }
-    ensures targets { (server : Server) (a : Arrival) (m : Message) (number : ℕ) (targets : List Target) → IsWithin a.now (opening server a.now (forking a m (branches_from a.now number targets))).request }
-    ensures dialog { (server : Server) (a : Arrival) (m : Message) (address : Addr) → IsWithin a.now (opening server a.now (forking a m (dialog_branch server a.now m address ∷ []))).request }
+    ensures targets { (server : Server) (a : Arrival) (m : Message) (number : ℕ) (targets : List Target)
+        → IsWithin a.now (opening server a.now (forking a m (branches_from a.now number targets))).request }
+    ensures dialog { (server : Server) (a : Arrival) (m : Message) (address : Addr)
+        → IsWithin a.now (opening server a.now (forking a m (dialog_branch server a.now m address ∷ []))).request }
 {}

@@ -28,15 +28,18 @@ pub fn begins()
 
 /// An answer of 101 to 699 goes to the caller, while there is no final one (RFC 3261 17.2.2).
 pub fn answers()
-    ensures { (now : ℕ) (r : OpenRequest) (u : Upward) (state : ServerOther) → RunsOtherServer r.side r.answer state → 101 ≤ u.status → u.status < 700 → is_answering r.side ≡ true
-        → Steps other_machine now (server_other state (Answer u.status)) (RunsOtherServer (answered now u r).side (answered now u r).answer) (answer_actions u.status)
+    ensures { (now : ℕ) (r : OpenRequest) (u : Upward) (state : ServerOther) → RunsOtherServer r.side r.answer state → 101 ≤ u.status
+        → u.status < 700 → is_answering r.side ≡ true
+        → Steps other_machine now (server_other state (Answer u.status)) (RunsOtherServer (answered now u r).side (answered now u r).answer)
+        (answer_actions u.status)
         (other_side_timers r.side) (other_side_timers (answered now u r).side) }
 {}
 
 /// A copy of the request changes nothing (RFC 3261 17.2.2).
 pub fn hears_copy()
     ensures { (now : ℕ) (side : Side) (answer : Option LastAnswer) (state : ServerOther) → RunsOtherServer side answer state
-        → Steps other_machine now (server_other state Request) (RunsOtherServer side answer) (copy_actions (answers_copy state)) (other_side_timers side) (other_side_timers side) }
+        → Steps other_machine now (server_other state Request) (RunsOtherServer side answer) (copy_actions (answers_copy state))
+        (other_side_timers side) (other_side_timers side) }
 {}
 
 /// The transaction ends by Timer J (RFC 3261 17.2.2).
@@ -47,14 +50,17 @@ pub fn ends()
 
 /// The timers of the answering side are those that run in the state.
 pub fn has_timers()
-    ensures run { (side : Side) (answer : Option LastAnswer) (state : ServerOther) → RunsOtherServer side answer state → list_all (λ (t : Letter × ℕ). runs state t.0) (other_side_timers side) ≡ true }
-    ensures all { (side : Side) (answer : Option LastAnswer) (state : ServerOther) (letter : Letter) → RunsOtherServer side answer state → runs state letter ≡ true
+    ensures run { (side : Side) (answer : Option LastAnswer) (state : ServerOther) → RunsOtherServer side answer state
+        → list_all (λ (t : Letter × ℕ). runs state t.0) (other_side_timers side) ≡ true }
+    ensures all { (side : Side) (answer : Option LastAnswer) (state : ServerOther) (letter : Letter) → RunsOtherServer side answer state
+        → runs state letter ≡ true
         → IsOneOf (map (λ (t : Letter × ℕ). t.0) (other_side_timers side)) letter }
 {}
 
 /// The answering side has one state.
 pub fn is_one()
-    ensures { (side : Side) (answer : Option LastAnswer) (state other : ServerOther) → RunsOtherServer side answer state → RunsOtherServer side answer other → state ≡ other }
+    ensures { (side : Side) (answer : Option LastAnswer) (state other : ServerOther) → RunsOtherServer side answer state
+        → RunsOtherServer side answer other → state ≡ other }
 {}
 
 /// What is sent again is what the actions say: the last answer goes to a copy where the state says so, and never by
@@ -62,5 +68,6 @@ pub fn is_one()
 pub fn is_carried_out()
     ensures quiet { (r : OpenRequest) → is_invite r ≡ false → insists r ≡ false }
     ensures acknowledged { (now : ℕ) (r : OpenRequest) → is_invite r ≡ false → acknowledged now r ≡ r }
-    ensures copied { (r : OpenRequest) (state : ServerOther) → is_invite r ≡ false → RunsOtherServer r.side r.answer state → answers_again r r.answer ≡ repeated (answers_copy state) r r.answer }
+    ensures copied { (r : OpenRequest) (state : ServerOther) → is_invite r ≡ false → RunsOtherServer r.side r.answer state
+        → answers_again r r.answer ≡ repeated (answers_copy state) r r.answer }
 {}

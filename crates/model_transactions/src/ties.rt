@@ -17,12 +17,15 @@ ghost use Rattle.model_transactions.specs.declared.timer_keys.TimerKeys.{TimerKe
 
 /// The deadline of a part, and the moment at which it goes again, are moments of timers that it names.
 pub fn moments_are_named()
-    ensures invite { (r : OpenRequest) (b : Branch) (due : ℕ) → (is_invite r && not b.is_cancel) ≡ true → phase_deadline b.phase ≡ Some due → 1 ≤ due_at due (branch_timers r b) }
-    ensures other { (r : OpenRequest) (b : Branch) (due : ℕ) (state : ClientOther) → (is_invite r && not b.is_cancel) ≡ false → RunsOtherClient b.phase b.again state → phase_deadline b.phase ≡ Some due
+    ensures invite { (r : OpenRequest) (b : Branch) (due : ℕ) → (is_invite r && not b.is_cancel) ≡ true → phase_deadline b.phase ≡ Some due
+        → 1 ≤ due_at due (branch_timers r b) }
+    ensures other { (r : OpenRequest) (b : Branch) (due : ℕ) (state : ClientOther) → (is_invite r && not b.is_cancel) ≡ false
+        → RunsOtherClient b.phase b.again state → phase_deadline b.phase ≡ Some due
         → 1 ≤ due_at due (branch_timers r b) }
     ensures branch_again { (r : OpenRequest) (b : Branch) (due : ℕ) → branch_due r b ≡ Some due → 1 ≤ due_at due (branch_timers r b) }
     ensures invite_side { (r : OpenRequest) (due : ℕ) → is_invite r ≡ true → side_deadline r.side ≡ Some due → 1 ≤ due_at due (side_timers r) }
-    ensures other_side { (r : OpenRequest) (due : ℕ) (state : ServerOther) → is_invite r ≡ false → RunsOtherServer r.side r.answer state → side_deadline r.side ≡ Some due → 1 ≤ due_at due (side_timers r) }
+    ensures other_side { (r : OpenRequest) (due : ℕ) (state : ServerOther) → is_invite r ≡ false → RunsOtherServer r.side r.answer state
+        → side_deadline r.side ≡ Some due → 1 ≤ due_at due (side_timers r) }
     ensures answer_again { (r : OpenRequest) (due : ℕ) → answer_due r ≡ Some due → 1 ≤ due_at due (side_timers r) }
 {}
 
@@ -38,7 +41,9 @@ pub fn timers_add_up()
     ensures part { (p : Timer → Bool) (number : ℕ) (owner : Owner) (keys : TimerKeys) (ts : List (Letter × ℕ))
         → count_by p (part_timers number owner keys ts) ≡ count_by (λ (t : Letter × ℕ). p (named number owner keys t)) ts }
     ensures whole { (p : Timer → Bool) (r : OpenRequest) (side : TimerKeys) (keys : List TimerKeys)
-        → count_by p (timers_of r side keys) ≡ count_by p (part_timers r.number Of.Server side (side_timers r)) + count_by p (branches_timers r r.branches keys) }
+        → count_by p (timers_of r side keys) ≡ count_by p (part_timers r.number Of.Server side (side_timers r))
+        + count_by p (branches_timers r r.branches keys) }
     ensures first { (p : Timer → Bool) (r : OpenRequest) (b : Branch) (bs : List Branch) (key : TimerKeys) (keys : List TimerKeys)
-        → count_by p (branches_timers r (b ∷ bs) (key ∷ keys)) ≡ count_by p (part_timers r.number (owner_of b) key (branch_timers r b)) + count_by p (branches_timers r bs keys) }
+        → count_by p (branches_timers r (b ∷ bs) (key ∷ keys)) ≡ count_by p (part_timers r.number (owner_of b) key (branch_timers r b))
+        + count_by p (branches_timers r bs keys) }
 {}

@@ -11,9 +11,12 @@ ghost use Rattle.model_transactions.specs.Near.{IsNear, IsBranchWithin, IsWithin
 /// Each timer that a request names is due at a near moment, none later.
 pub fn timers_are_near()
     ensures side { (bound : ℕ) (r : OpenRequest) → IsWithin bound r → AllByRecursion (λ (t : Letter × ℕ). IsNear bound t.1) (side_timers r) }
-    ensures branch { (bound : ℕ) (r : OpenRequest) (b : Branch) → IsBranchWithin bound b → AllByRecursion (λ (t : Letter × ℕ). IsNear bound t.1) (branch_timers r b) }
-    ensures whole { (bound : ℕ) (r : OpenRequest) (side : TimerKeys) (keys : List TimerKeys) → IsWithin bound r → AllByRecursion (λ (t : Timer). IsNear bound t.due) (timers_of r side keys) }
-    ensures none_later { (bound : ℕ) (r : OpenRequest) (side : TimerKeys) (keys : List TimerKeys) → IsWithin bound r → count_by (λ (t : Timer). nat_lt (bound + 185000) t.due) (timers_of r side keys) ≡ 0 }
+    ensures branch { (bound : ℕ) (r : OpenRequest) (b : Branch) → IsBranchWithin bound b
+        → AllByRecursion (λ (t : Letter × ℕ). IsNear bound t.1) (branch_timers r b) }
+    ensures whole { (bound : ℕ) (r : OpenRequest) (side : TimerKeys) (keys : List TimerKeys) → IsWithin bound r
+        → AllByRecursion (λ (t : Timer). IsNear bound t.due) (timers_of r side keys) }
+    ensures none_later { (bound : ℕ) (r : OpenRequest) (side : TimerKeys) (keys : List TimerKeys) → IsWithin bound r
+        → count_by (λ (t : Timer). nat_lt (bound + 185000) t.due) (timers_of r side keys) ≡ 0 }
 {}
 
 /// So none of them is too far ahead to be set, where timers were asked for by the millisecond before the bound.

@@ -93,7 +93,15 @@ in_call = knowing [] (call ∷ [])
 -- it knows one binding of help's, until a moment
 abbrev pub bound_until : ℕ → ProxyState
 bound_until expires_at =
-    record (knowing [] []) { bindings = record { aor = Policy.user_at (codes "help") (codes "host.com"); uri = help_contact; call_id = codes "h1"; cseq = 1; expires_at = expires_at } ∷ [] }
+    record (knowing [] []) {
+      bindings = record {
+        aor = Policy.user_at (codes "help") (codes "host.com");
+        uri = help_contact;
+        call_id = codes "h1";
+        cseq = 1;
+        expires_at = expires_at;
+      } ∷ [];
+    }
 
 -- ---- what comes
 

@@ -2,6 +2,4 @@ pub mod Verdict
 pub mod Examples
 pub mod Sameness
 pub use Rattle.model_context.specs as context_model
-pub use Rattle.model_context.specs.context_request
-pub use Rattle.model_context.specs.edit_onward
 pub use Rattle.model_context.specs.state

@@ -1,7 +1,7 @@
 //! What is to be done with a datagram, of all that a proxy knows: the first case that applies (RFC 3261 9.2,
 //! 10.3, 16.3 to 16.5, 17.1.3, 17.2.3). Nothing runs here.
 //!
-//! - Used: contracts of `sip_core` and `sip_matching`, and `model_steps`.
+//! - Used: contracts of `sip_core`, and `model_steps`.
 //! - Not here: a body.
 //! - Tried: worked examples in `src/examples.rt`, as contracts that compute.
 #![tactic(auto)]
@@ -17,17 +17,9 @@ pub mod context_model {
     pub use model_context::laws;
 }
 
-/// Of `sip_context_request`.
-pub mod context_request {
-    pub use model_context::context_request::{Heard, Names, received_value};
-}
-
-/// Of `sip_edit_onward`.
-pub mod edit_onward {
-    pub use model_context::edit_onward::{onward_base, onward_uri, to_target};
-}
-
 /// Of `sip_state`.
 pub mod state {
-    pub use model_context::state::{Branch, LastAnswer, OpenRequest, Phase, Server, Side, Upward};
+    pub use model_context::state::{
+        Branch, Heard, LastAnswer, Names, OpenRequest, Phase, Server, Side, Upward, received_value,
+    };
 }

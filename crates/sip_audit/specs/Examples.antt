@@ -15,7 +15,16 @@ help = record { user = codes "help"; host = codes "host.com" }
 
 -- a REGISTER of nobody's that is challenged
 abbrev pub challenged : Record
-challenged = record { at = 1000; number = 1; method = codes "REGISTER"; who = None; target = mufasa; operation = Operation.Register; minute = None; outcome = Challenge 401 }
+challenged = record {
+  at = 1000;
+  number = 1;
+  method = codes "REGISTER";
+  who = None;
+  target = mufasa;
+  operation = Operation.Register;
+  minute = None;
+  outcome = Challenge 401;
+}
 
 -- one of Mufasa's that is answered
 abbrev pub answered : Record
@@ -27,7 +36,16 @@ denied = record answered { who = Some (codes "alice"); outcome = Deny 0 }
 
 -- an INVITE of nobody's that goes to one target
 abbrev pub sent : Record
-sent = record { at = 62000; number = 4; method = codes "INVITE"; who = None; target = help; operation = Operation.Send; minute = None; outcome = Sent 4 1 }
+sent = record {
+  at = 62000;
+  number = 4;
+  method = codes "INVITE";
+  who = None;
+  target = help;
+  operation = Operation.Send;
+  minute = None;
+  outcome = Sent 4 1;
+}
 
 -- a REGISTER of Mufasa's without Contact
 abbrev pub listed : Record
@@ -35,7 +53,16 @@ listed = record answered { operation = Operation.List }
 
 -- an INVITE of nobody's that rule 4, which has a window, lets through at 8:00, to a user without a live binding
 abbrev pub within_a_window : Record
-within_a_window = record { at = 25200000; number = 1; method = codes "INVITE"; who = None; target = help; operation = Operation.Send; minute = Some 480; outcome = Answer 4 480 }
+within_a_window = record {
+  at = 25200000;
+  number = 1;
+  method = codes "INVITE";
+  who = None;
+  target = help;
+  operation = Operation.Send;
+  minute = Some 480;
+  outcome = Answer 4 480;
+}
 
 -- the same at 7:59, where rule 6 asks for a user
 abbrev pub before_a_window : Record

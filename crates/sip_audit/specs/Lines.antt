@@ -1,5 +1,6 @@
 -- Audit lines (this project's profile).
-use Rattle.std.specs.Prelude.{◌≡◌, ◌<◌, ℕ, Bool, true, ◌&&◌, ◌+◌, ◌/◌, ◌%◌, ◌^◌, nat_lt, List, [], ◌∷◌, ◌++◌, codes, decimal, Option, Some, None, if◌then◌else◌}
+use Rattle.std.specs.Prelude.{◌≡◌, ◌<◌, ℕ, Bool, true, ◌&&◌, ◌+◌, ◌/◌, ◌%◌, ◌^◌, nat_lt, List, [], ◌∷◌, ◌++◌, codes, decimal, Option, Some}
+use Rattle.std.specs.Prelude.{None, if◌then◌else◌}
 use Rattle.std.specs.List.{flat_map, list_all}
 use Rattle.std.specs.Str.{byte}
 use Rattle.sip_text.specs.Words.{is_token_text}
@@ -49,7 +50,8 @@ outcome_text minute (Answer rule status) = rule_text rule minute ++ codes " answ
 -- a record as a line, without its end: moment, number, method, who, target, operation, rule and outcome, a space between each two
 abbrev pub line_of : Record → List ℕ
 line_of r =
-    decimal r.at ++ codes " " ++ decimal r.number ++ codes " " ++ r.method ++ codes " " ++ who_text r.who ++ codes " " ++ target_text r.target ++ codes " "
+    decimal r.at ++ codes " " ++ decimal r.number ++ codes " " ++ r.method ++ codes " " ++ who_text r.who ++ codes " "
+    ++ target_text r.target ++ codes " "
     ++ operation_text r.operation ++ codes " " ++ outcome_text r.minute r.outcome
 
 -- the rule that decided; 0 is none, and none decided at a challenge
@@ -64,7 +66,8 @@ abbrev pub is_minute_of : Outcome → Option ℕ → Bool
 is_minute_of outcome None = true
 is_minute_of outcome (Some minute) = nat_lt 0 (rule_of outcome) && nat_lt minute 1440
 
--- A record of a request: its method is a token, its user has a name, its host is one, and its minute goes with its outcome. Only such records are written, and each line that is read is one's.
+-- A record of a request: its method is a token, its user has a name, its host is one, and its minute goes with its outcome. Only
+-- such records are written, and each line that is read is one's.
 pub record IsOfRequest (r : Record) : Type 0 where
   pub method : is_token_text r.method ≡ true
   pub who : is_name_or_none r.who ≡ true

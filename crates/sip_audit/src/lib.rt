@@ -1,4 +1,12 @@
 //! Audit lines: what is recorded of a request that policy decided, and its text, which is written and read.
+//!
+//! - Used: `sip_uas` and `sip_engine_request` make records, `sipd_command` and `sip_replay_script` write their lines.
+//! - Not here: where lines go: whoever runs the server says that.
+//! - Tried: worked examples in `src/examples.rt`, as contracts that compute; `test_parts`.
+//!
+//! ```text
+//! let line = line_of(alloc, &record)?;
+//! ```
 #![tactic(auto)]
 
 mod decision;

@@ -50,7 +50,8 @@ fn operation_word(operation: Operation) -> &'static [u8]
 
 /// Adds what stands before the target: moment, number, method and user.
 fn push_request(line: &mut Bytes, record: &Record) -> Result<(), AllocError>
-    ensures { OnOk result (line.new ≡ line.old ++ decimal «record».now.at ++ codes " " ++ decimal «record».now.number ++ codes " " ++ «record».now.method ++ codes " " ++ who_text «record».now.who ++ codes " ") }
+    ensures { OnOk result (line.new ≡ line.old ++ decimal «record».now.at ++ codes " " ++ decimal «record».now.number ++ codes " "
+        ++ «record».now.method ++ codes " " ++ who_text «record».now.who ++ codes " ") }
 {
     push_number(line, record.at)?;
     push_number(line, record.number)?;
@@ -60,7 +61,8 @@ fn push_request(line: &mut Bytes, record: &Record) -> Result<(), AllocError>
 
 /// Adds the target, the operation, the rule and the outcome.
 fn push_decision(line: &mut Bytes, record: &Record) -> Result<(), AllocError>
-    ensures { OnOk result (line.new ≡ line.old ++ target_text «record».now.target ++ codes " " ++ operation_text «record».now.operation ++ codes " " ++ outcome_text «record».now.minute «record».now.outcome) }
+    ensures { OnOk result (line.new ≡ line.old ++ target_text «record».now.target ++ codes " " ++ operation_text «record».now.operation
+        ++ codes " " ++ outcome_text «record».now.minute «record».now.outcome) }
 {
     push_target(line, &record.target)?;
     line.push(b' ')?;

@@ -23,14 +23,22 @@ protected count = record { nc = count; cnonce = codes "0a4f113b" }
 -- the value that answers that nonce for a request, by the H(A1) of a user
 abbrev pub credential : List ℕ → List ℕ → List ℕ → List ℕ → List ℕ → List ℕ
 credential name a1 method uri count =
-    codes "Digest username=\"" ++ name ++ codes "\", realm=\"testrealm@host.com\", nonce=\"00000000000000000000000000000001\", uri=\"" ++ uri ++ codes "\", response=\""
+    codes "Digest username=\"" ++ name ++ codes "\", realm=\"testrealm@host.com\", nonce=\"00000000000000000000000000000001\", uri=\""
+    ++ uri ++ codes "\", response=\""
     ++ answer_of Md5 a1 method uri nonce (Some (protected count))
     ++ codes "\", algorithm=MD5, cnonce=\"0a4f113b\", qop=auth, nc=" ++ count
 
 -- what it says
 abbrev pub said : List ℕ → List ℕ → List ℕ → List ℕ → Credential
 said a1 method uri count =
-    record { algorithm = Md5; method = method; uri = uri; nonce = nonce; protection = Some (protected count); response = answer_of Md5 a1 method uri nonce (Some (protected count)) }
+    record {
+      algorithm = Md5;
+      method = method;
+      uri = uri;
+      nonce = nonce;
+      protection = Some (protected count);
+      response = answer_of Md5 a1 method uri nonce (Some (protected count));
+    }
 
 -- a request whose one field is this value
 abbrev pub request_with : List ℕ → List ℕ → FieldName → List ℕ → Message

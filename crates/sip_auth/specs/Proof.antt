@@ -68,7 +68,8 @@ algorithm_of (Some name) = if is_same_text name (name_of Md5) then Some Md5 else
 -- no quality of protection, or `auth` with a count and a nonce of the client's (RFC 2617 3.2.2)
 abbrev pub protection_of : Option (List ℕ) → Option (List ℕ) → Option (List ℕ) → Option (Option Protection)
 protection_of None _ _ = Some None
-protection_of (Some qop) (Some count) (Some client) = if bytes_eq qop (codes "auth") then Some (Some (record { nc = count; cnonce = client })) else None
+protection_of (Some qop) (Some count) (Some client) = if bytes_eq qop (codes "auth")
+    then Some (Some (record { nc = count; cnonce = client })) else None
 protection_of (Some qop) _ _ = None
 
 -- an algorithm goes without a quality of protection only where RFC 2617 let it: SHA-256 needs one (RFC 7616 3.4)
@@ -79,7 +80,10 @@ is_protected Sha256 protection = is_some protection
 -- a claim with all its parts, or none
 abbrev pub claim_with : List ℕ → Algorithm → Option Protection → Option (List ℕ) → Option (List ℕ) → Option (List ℕ) → Option (List ℕ) → Option Claim
 claim_with method algorithm protection (Some name) (Some text) (Some uri) (Some response) =
-    Some (record { name = name; credential = record { algorithm = algorithm; method = method; uri = uri; nonce = text; protection = protection; response = response } })
+    Some (record {
+      name = name;
+      credential = record { algorithm = algorithm; method = method; uri = uri; nonce = text; protection = protection; response = response };
+    })
 claim_with method algorithm protection _ _ _ _ = None
 
 -- a claim by an algorithm, with a quality of protection where it needs one

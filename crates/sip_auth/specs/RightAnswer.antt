@@ -13,9 +13,12 @@ use Rattle.sip_digest.specs.declared.nonces.Nonce.{Nonce}
 use Rattle.sip_policy.specs.declared.user.User.{User}
 use Rattle.sip_auth.specs.Proof.{claim_of, credentials_field, is_equal_uri, key_of}
 
--- A credential proves a user: some value of the request's field for credentials says it, for this realm and for its Request-URI; its response is the answer by the key of a configured
--- user of that name, by its algorithm; it names a nonce that was issued and lives, and its count is above that of the nonce (RFC 2617 3.2.2, RFC 3261 22).
-pub record IsRightAnswer (realm : List ℕ) (users : List User) (nonces : List Nonce) (now : ℕ) (m : Message) (name : List ℕ) (c : Credential) : Type 0 where
+-- A credential proves a user: some value of the request's field for credentials says it, for this realm and for its Request-URI; its
+-- response is the answer by the key of a configured
+-- user of that name, by its algorithm; it names a nonce that was issued and lives, and its count is above that of the nonce (RFC
+-- 2617 3.2.2, RFC 3261 22).
+pub record IsRightAnswer (realm : List ℕ) (users : List User) (nonces : List Nonce) (now : ℕ) (m : Message) (name : List ℕ) (c : Credential)
+    : Type 0 where
   pub method : List ℕ
   pub uri : List ℕ
   pub version : List ℕ

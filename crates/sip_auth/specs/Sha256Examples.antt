@@ -12,14 +12,17 @@ use Rattle.sip_auth.specs.Proof.{Proof, proof_of}
 abbrev pub users : List User
 users =
     user_of (codes "Mufasa") mufasas_a1 []
-    ∷ record (user_of (codes "help") (codes "22222222222222222222222222222222") []) { a1_sha256 = Some (codes "3333333333333333333333333333333333333333333333333333333333333333") }
+    ∷ record (user_of (codes "help") (codes "22222222222222222222222222222222") [])
+    { a1_sha256 = Some (codes "3333333333333333333333333333333333333333333333333333333333333333") }
     ∷ []
 
 -- a REGISTER by which a user answers the first nonce with a response; what else the credentials say
 abbrev pub register_by : List ℕ → List ℕ → List ℕ → Message
 register_by name response rest =
     request_with (codes "REGISTER") (codes "sip:host.com") Name.Authorization
-    (codes "Digest username=\"" ++ name ++ codes "\", realm=\"testrealm@host.com\", nonce=\"00000000000000000000000000000001\", uri=\"sip:host.com\", response=\"" ++ response ++ codes "\"" ++ rest)
+    (codes "Digest username=\"" ++ name
+    ++ codes "\", realm=\"testrealm@host.com\", nonce=\"00000000000000000000000000000001\", uri=\"sip:host.com\", response=\"" ++ response
+    ++ codes "\"" ++ rest)
 
 -- what it proves at 2,000, where the nonce was used as often as this
 abbrev pub proof_with : ℕ → Message → Proof

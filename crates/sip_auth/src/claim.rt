@@ -39,7 +39,11 @@ impl<'v> Model for Claim<'v> {
 
     ghost Value = { Claim };
 
-    ghost view = { λ c. record { name = c.name; credential = record { algorithm = c.algorithm; method = c.method.now; uri = c.uri; nonce = c.nonce; protection = c.protection; response = c.response } } };
+    ghost view = { λ c. record {
+      name = c.name;
+      credential =
+          record { algorithm = c.algorithm; method = c.method.now; uri = c.uri; nonce = c.nonce; protection = c.protection; response = c.response };
+    } };
 }
 
 /// A quality of protection as an answer takes it, if there is one.

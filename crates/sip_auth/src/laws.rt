@@ -21,13 +21,16 @@ pub fn md5_alone_is_unchanged()
 /// no algorithm is claimed by MD5.
 pub fn md5_needs_no_second_key()
     ensures worth { (users : List User) (nonces : List Nonce) (now : ℕ) (uri : List ℕ) (claim : Claim)
-        → claim.credential.algorithm ≡ Md5 → proof_from users nonces now uri (Some claim) ≡ proof_from (map with_md5_alone users) nonces now uri (Some claim) }
-    ensures unnamed { (method : List ℕ) (c : Credentials) (claim : Claim) → c.algorithm ≡ None → claim_of method c ≡ Some claim → claim.credential.algorithm ≡ Md5 }
+        → claim.credential.algorithm ≡ Md5 → proof_from users nonces now uri (Some claim)
+        ≡ proof_from (map with_md5_alone users) nonces now uri (Some claim) }
+    ensures unnamed { (method : List ℕ) (c : Credentials) (claim : Claim) → c.algorithm ≡ None → claim_of method c ≡ Some claim
+        → claim.credential.algorithm ≡ Md5 }
 {}
 
 /// SHA-256 isn't claimed without a quality of protection.
 pub fn sha256_is_protected()
-    ensures { (method : List ℕ) (c : Credentials) (claim : Claim) → claim_of method c ≡ Some claim → claim.credential.algorithm ≡ Sha256 → claim.credential.protection ≢ None }
+    ensures { (method : List ℕ) (c : Credentials) (claim : Claim) → claim_of method c ≡ Some claim → claim.credential.algorithm ≡ Sha256
+        → claim.credential.protection ≢ None }
 {}
 
 /// Whoever is proven answered: some value of the request's field for credentials is for this realm and this

@@ -1,11 +1,18 @@
-//! What isn't SIP: values with several owners, which a copy of a state has in common with the state (`Shared`); and hashing
-//! under a secret, for maps whose keys peers choose (`Keyed`).
+//! What isn't SIP: values with several owners, which a copy of a state has in common with the state (`Shared`); hashing under
+//! a secret, for maps whose keys peers choose (`Keyed`); and codes of names that are configured (`mixed`).
+//!
+//! - Used: the tables of dialogs and of open requests hash under a secret (`Keyed`); open requests share the kept message
+//!   (`Shared`); hosts, bindings and rules are found by codes (`mixed`).
+//! - Not here: anything of SIP.
+//! - Tried: `test_counts`.
 #![tactic(auto)]
 
+mod code;
 mod keyed;
 mod shared;
 mod word_hasher;
 
+pub use code::{BASIS, mixed};
 pub use keyed::Keyed;
 pub use shared::Shared;
 pub use word_hasher::WordHasher;

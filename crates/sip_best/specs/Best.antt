@@ -1,5 +1,6 @@
 -- The answer that goes up when all branches have a final one and no 2xx went up (RFC 3261 16.7 steps 6 and 7).
-use Rattle.std.specs.Prelude.{◌≡◌, ℕ, Bool, false, ◌||◌, ◌==◌, not, nat_le, List, [], ◌∷◌, ◌++◌, length, filter, Option, Some, None, option_map, if◌then◌else◌}
+use Rattle.std.specs.Prelude.{◌≡◌, ℕ, Bool, false, ◌||◌, ◌==◌, not, nat_le, List, [], ◌∷◌, ◌++◌, length, filter, Option, Some, None}
+use Rattle.std.specs.Prelude.{option_map, if◌then◌else◌}
 use Rattle.std.specs.List.{AllByRecursion, list_any, flat_map}
 use Rattle.sip_message_fields.specs.declared.field_name.FieldName.TheVariants.{WwwAuthenticate, ProxyAuthenticate}
 use Rattle.sip_message_fields.specs.declared.field.Field.{Field}
@@ -18,7 +19,8 @@ abbrev pub picked : (Final → Bool) → List Final → Option (Final × List Fi
 picked test [] = None
 picked test (f ∷ fs) = if test f then Some (f, fs) else option_map (λ x. (x.0, f ∷ x.1)) (picked test fs)
 
--- The best of some answers in order of arrival, as it came, and the others: the first that none outranks (RFC 3261 16.7 step 6; the order of arrival is this project's profile).
+-- The best of some answers in order of arrival, as it came, and the others: the first that none outranks (RFC 3261 16.7 step 6; the
+-- order of arrival is this project's profile).
 abbrev pub chosen_of : List Final → Option (Final × List Final)
 chosen_of finals = picked (is_unbeaten finals) finals
 
@@ -69,13 +71,15 @@ taking_along m (field ∷ fields) = if fits (with_field m field) then taking_alo
 abbrev pub challenging : List Final → Final → Final
 challenging others f = record f { message = option_map (λ m. taking_along m (flat_map challenges_of others)) f.message }
 
--- the chosen answer as it goes up: a 503 as a 500 made here (RFC 3261 16.7 step 6), a 401 or 407 with the challenges of the others, and any other as it is
+-- the chosen answer as it goes up: a 503 as a 500 made here (RFC 3261 16.7 step 6), a 401 or 407 with the challenges of the others,
+-- and any other as it is
 abbrev pub going_up : List Final → Final → Final
 going_up others f =
     if f.status == 503 then record { status = 500; message = None }
     else if is_challenge_status f.status then challenging others f
     else f
 
--- The best of some answers in order of arrival, as it goes up; one without a message is made here (RFC 3261 16.7 steps 6 and 7). None exactly where there is no answer.
+-- The best of some answers in order of arrival, as it goes up; one without a message is made here (RFC 3261 16.7 steps 6 and 7).
+-- None exactly where there is no answer.
 abbrev pub best_of : List Final → Option Final
 best_of finals = option_map (λ x. going_up x.1 x.0) (chosen_of finals)

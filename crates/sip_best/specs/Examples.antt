@@ -9,7 +9,11 @@ use Rattle.sip_best.specs.declared.final_answer.Final.{Final}
 abbrev pub answer : ℕ → List Field → Final
 answer status fields = record {
   status = status;
-  message = Some (record { start = Status status (codes "x"); fields = record { name = Name.Via; value = codes "SIP/2.0/UDP pc.host.com;branch=z9hG4bKinv1" } ∷ fields; body = [] });
+  message = Some (record {
+    start = Status status (codes "x");
+    fields = record { name = Name.Via; value = codes "SIP/2.0/UDP pc.host.com;branch=z9hG4bKinv1" } ∷ fields;
+    body = [];
+  });
 }
 
 -- an answer without a message
@@ -27,10 +31,12 @@ abbrev pub three_answers : List Final
 three_answers =
     answer 404 (user_challenge (codes "Digest realm=\"none\"") ∷ [])
     ∷ answer 407 (proxy_challenge (codes "Digest realm=\"a\"") ∷ record { name = Name.Subject; value = codes "last" } ∷ [])
-    ∷ answer 401 (user_challenge (codes "Digest realm=\"b\"") ∷ record { name = Name.Subject; value = codes "other" } ∷ proxy_challenge (codes "Digest realm=\"c\"") ∷ [])
+    ∷ answer 401 (user_challenge (codes "Digest realm=\"b\"") ∷ record { name = Name.Subject; value = codes "other" }
+    ∷ proxy_challenge (codes "Digest realm=\"c\"") ∷ [])
     ∷ []
 
 -- the 407 with the challenges of the 401 behind its last field
 abbrev pub challenge_up : Final
 challenge_up =
-    answer 407 (proxy_challenge (codes "Digest realm=\"a\"") ∷ record { name = Name.Subject; value = codes "last" } ∷ user_challenge (codes "Digest realm=\"b\"") ∷ proxy_challenge (codes "Digest realm=\"c\"") ∷ [])
+    answer 407 (proxy_challenge (codes "Digest realm=\"a\"") ∷ record { name = Name.Subject; value = codes "last" }
+    ∷ user_challenge (codes "Digest realm=\"b\"") ∷ proxy_challenge (codes "Digest realm=\"c\"") ∷ [])

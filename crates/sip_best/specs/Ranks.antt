@@ -11,7 +11,8 @@ class_of f = f.status / 100
 abbrev pub says_how_to_retry : Final → Bool
 says_how_to_retry f = list_any (λ status. f.status == status) (401 ∷ 407 ∷ 415 ∷ 420 ∷ 484 ∷ [])
 
--- One answer outranks another, whichever came first: a 6xx any other class, else a lower class a higher one, and in 4xx an answer that says how to retry one that doesn't.
+-- One answer outranks another, whichever came first: a 6xx any other class, else a lower class a higher one, and in 4xx an answer
+-- that says how to retry one that doesn't.
 pub data Outranks (f g : Final) : Type 0 where
   GlobalFailure : class_of f ≡ 6 → class_of g ≢ 6 → Outranks f g
   LowerClass : class_of f ≢ 6 → class_of g ≢ 6 → class_of f < class_of g → Outranks f g

@@ -28,7 +28,8 @@ fn is_outranked(answer: &Final, finals: &[Final]) -> bool
 
 /// The first of some answers that none outranks, and the others. There are no more than a request has branches.
 fn choose<'a>(finals: &'a [Final]) -> Option<Choice<'a>>
-    ensures { MatchOption result (chosen_of finals.now ≡ None) (λ choice. chosen_of finals.now ≡ Some (choice.chosen.now, choice.before.now ++ choice.behind.now)) }
+    ensures { MatchOption result (chosen_of finals.now ≡ None)
+        (λ choice. chosen_of finals.now ≡ Some (choice.chosen.now, choice.before.now ++ choice.behind.now)) }
 {
     for (place, answer) in finals.iter().enumerate() {
         if !is_outranked(answer, finals) {
@@ -89,7 +90,9 @@ fn message_up(
     choice: &Choice<'_>,
     message: &Shared<Kept>,
 ) -> Result<Shared<Kept>, AllocError>
-    ensures { IfOk result (λ up. up ≡ (if is_challenge_status choice.now.chosen.now.status then taking_along message.now (flat_map challenges_of (choice.now.before.now ++ choice.now.behind.now)) else message.now)) }
+    ensures { IfOk result
+        (λ up. up ≡ (if is_challenge_status choice.now.chosen.now.status
+        then taking_along message.now (flat_map challenges_of (choice.now.before.now ++ choice.now.behind.now)) else message.now)) }
 {
     if !is_challenge_status(choice.chosen.status) {
         return message.clone();

@@ -1,6 +1,7 @@
 -- The client transaction of an INVITE: RFC 3261 17.1.1 and figure 5, with the Accepted state of RFC 6026
 -- 7.2. Times are in milliseconds.
 use Rattle.std.specs.Prelude.{ℕ, ◌≤◌, ◌*◌, min, Bool, true, false, ◌&&◌, nat_le, if◌then◌else◌, List, [], ◌∷◌, Option, Some, None}
+use Rattle.sip_timers.specs.Intervals.{T1}
 use Rattle.sip_timers.specs.Machine.{Machine}
 use Rattle.sip_timers.specs.declared.letter.Letter.{Letter}
 use Rattle.sip_client.specs.Action.{start_of, sends_request}
@@ -36,22 +37,22 @@ heard GivenUp = given_up
 
 -- an INVITE that is sent for the first time
 abbrev pub start : ClientInvite × List Action
-start = (Calling 500, Send ∷ Start A 500 ∷ Start B 32000 ∷ [])
+start = (Calling T1, Send ∷ Start A T1 ∷ Start B (64 * T1) ∷ [])
 
 -- the rows of the figures; what has no row changes nothing
 -- `Calling a`: A was last set to a. `given_up`: the core ends the wait for a final response to an INVITE that
 -- it has cancelled (RFC 3261 9.1). In this project's profile A is at most 32,000, and a fault of a sending
 -- counts only while no response came.
 abbrev pub row : ClientInvite → Heard → ClientInvite × List Action
-row (Calling a) (fired A) = let next = min (2 * a) 32000 in (Calling next, SendAgain ∷ Start A next ∷ [])
+row (Calling a) (fired A) = let next = min (2 * a) (64 * T1) in (Calling next, SendAgain ∷ Start A next ∷ [])
 row (Calling a) (fired B) = (Terminated, Up Timeout ∷ [])
 row (Calling a) fault = (Terminated, Up Unavailable ∷ [])
 row (Calling a) provisional = (Proceeding, Up Response ∷ [])
 row Proceeding provisional = (Proceeding, Up Response ∷ [])
-row (Calling a) success = (Accepted, Up Response ∷ Start M 32000 ∷ [])
-row Proceeding success = (Accepted, Up Response ∷ Start M 32000 ∷ [])
-row (Calling a) failure = (Completed, Ack ∷ Up Response ∷ Start D 32000 ∷ [])
-row Proceeding failure = (Completed, Ack ∷ Up Response ∷ Start D 32000 ∷ [])
+row (Calling a) success = (Accepted, Up Response ∷ Start M (64 * T1) ∷ [])
+row Proceeding success = (Accepted, Up Response ∷ Start M (64 * T1) ∷ [])
+row (Calling a) failure = (Completed, Ack ∷ Up Response ∷ Start D (64 * T1) ∷ [])
+row Proceeding failure = (Completed, Ack ∷ Up Response ∷ Start D (64 * T1) ∷ [])
 row Proceeding given_up = (Terminated, [])
 row Completed failure = (Completed, AckAgain ∷ [])
 row Completed (fired D) = (Terminated, [])

@@ -1,6 +1,7 @@
 -- The client transaction of a request that isn't an INVITE: RFC 3261 17.1.2 and figure 6. Times are in
 -- milliseconds.
 use Rattle.std.specs.Prelude.{ℕ, ◌*◌, min, Bool, true, false, ◌&&◌, nat_le, if◌then◌else◌, List, [], ◌∷◌, Option, Some, None}
+use Rattle.sip_timers.specs.Intervals.{T1, T2, T4}
 use Rattle.sip_timers.specs.Machine.{Machine}
 use Rattle.sip_timers.specs.declared.letter.Letter.{Letter}
 use Rattle.sip_client.specs.Action.{start_of, sends_request}
@@ -32,21 +33,21 @@ heard Fault = fault
 
 -- a request that is sent for the first time
 abbrev pub start : ClientOther × List Action
-start = (Trying 500, Send ∷ Start E 500 ∷ Start F 32000 ∷ [])
+start = (Trying T1, Send ∷ Start E T1 ∷ Start F (64 * T1) ∷ [])
 
 -- the rows of the figure; what has no row changes nothing
 -- `Trying e`: E was last set to e. In this project's profile a fault of a sending counts only while no
 -- response came.
 abbrev pub row : ClientOther → Heard → ClientOther × List Action
-row (Trying e) (fired E) = let next = min (2 * e) 4000 in (Trying next, SendAgain ∷ Start E next ∷ [])
+row (Trying e) (fired E) = let next = min (2 * e) T2 in (Trying next, SendAgain ∷ Start E next ∷ [])
 row (Trying e) fault = (Terminated, Up Unavailable ∷ [])
 row (Trying e) provisional = (Proceeding, Up Response ∷ [])
-row Proceeding (fired E) = (Proceeding, SendAgain ∷ Start E 4000 ∷ [])
+row Proceeding (fired E) = (Proceeding, SendAgain ∷ Start E T2 ∷ [])
 row Proceeding provisional = (Proceeding, Up Response ∷ [])
 row (Trying e) (fired F) = (Terminated, Up Timeout ∷ [])
 row Proceeding (fired F) = (Terminated, Up Timeout ∷ [])
-row (Trying e) final = (Completed, Up Response ∷ Start K 5000 ∷ [])
-row Proceeding final = (Completed, Up Response ∷ Start K 5000 ∷ [])
+row (Trying e) final = (Completed, Up Response ∷ Start K T4 ∷ [])
+row Proceeding final = (Completed, Up Response ∷ Start K T4 ∷ [])
 row Completed (fired K) = (Terminated, [])
 row state _ = (state, [])
 

@@ -26,5 +26,5 @@ pub enum Action {
     /// Hand this up to the core.
     Up(Report),
     /// Set this timer to fire after so many milliseconds.
-    Start(Letter, u32),
+    Start(Letter, u64),
 }

@@ -44,7 +44,7 @@ pub enum ClientInvite {
     /// No response came.
     Calling {
         /// What Timer A was last set to, in milliseconds.
-        interval: u32,
+        interval: u64,
     },
     /// A response of 100 to 199 came.
     Proceeding,

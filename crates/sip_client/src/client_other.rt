@@ -41,7 +41,7 @@ pub enum ClientOther {
     /// No response came.
     Trying {
         /// What Timer E was last set to, in milliseconds.
-        interval: u32,
+        interval: u64,
     },
     /// A response of 100 to 199 came.
     Proceeding,

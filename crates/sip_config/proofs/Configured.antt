@@ -14,13 +14,13 @@ use Rattle.sip_policy.specs.declared.rule_verdict.RuleVerdict.{RuleVerdict}
 use Rattle.sip_policy.specs.Rule.{is_numbered}
 use Rattle.sip_policy.specs.Users.{have_own_names}
 use Rattle.sip_config_types.specs.declared.config.Config.{Config}
-use Rattle.sip_config_rules.specs.declared.error.ConfigError.{ConfigError}
-use Rattle.sip_config_rules.specs.declared.error.ConfigError.TheVariants.{BadValue, DuplicateRule, UnknownGroup, TooMany}
-use Rattle.sip_config_rules.specs.Refusals.{◌>>=◌, confirmed, kept_if}
-use Rattle.sip_config_rules.specs.Values.{needed, number_of, between, number_between, table_of, items_at, some_items_at}
-use Rattle.sip_config_rules.specs.Rows.{rows_after, all_pass}
-use Rattle.sip_config_rules.specs.Words.{is_hop, hop_named, via_of, via_place, verdict_of}
-use Rattle.sip_config_rules.specs.Rules.{id_at, verdict_text, verdict_at, window_at, who_at, operation_at, target_at, rule_lines, new_id, rule_at, names_known_group, rules_of}
+use Rattle.sip_config.specs.declared.error.ConfigError.{ConfigError}
+use Rattle.sip_config.specs.declared.error.ConfigError.TheVariants.{BadValue, DuplicateRule, UnknownGroup, TooMany}
+use Rattle.sip_config.specs.Refusals.{◌>>=◌, confirmed, kept_if}
+use Rattle.sip_config.specs.Values.{needed, number_of, between, number_between, table_of, items_at, some_items_at}
+use Rattle.sip_config.specs.Rows.{rows_after, all_pass}
+use Rattle.sip_config.specs.Words.{is_hop, hop_named, via_of, via_place, verdict_of}
+use Rattle.sip_config.specs.Rules.{id_at, verdict_text, verdict_at, window_at, who_at, operation_at, target_at, rule_lines, new_id, rule_at, names_known_group, rules_of}
 use Rattle.sip_config.specs.declared.head.Head.{Head}
 use Rattle.sip_config.specs.declared.users.UserLine.TheVariants.{A1, A1Sha256, Groups}
 use Rattle.sip_config.specs.Head.{head_of}

@@ -2,3 +2,7 @@ pub mod Rows
 pub mod Configured
 pub mod Within
 pub mod RowPlaces
+pub mod ValueRows
+pub mod InOrder
+pub mod RuleRows
+pub mod Groups

@@ -1,7 +1,10 @@
 -- The places of rows, and the keys of a set that they are.
-use Rattle.std.proofs.Common.{◌≡◌, ℕ, ◌+◌, ◌<◌, ◌≤◌, Bool, true, false, ◌&&◌, ◌||◌, ◌==◌, not, if◌then◌else◌, List, [], ◌∷◌, ◌++◌, length, drop, get_or, map, codes, Vec, Global, Result, Ok, Err, refl, sym, ap, ap₂, ◌∙◌}
+use Rattle.std.proofs.Common.{◌≡◌, ℕ, ◌+◌, ◌<◌, ◌≤◌, Bool, false, ◌&&◌, ◌||◌, ◌==◌, not, List, [], ◌∷◌, ◌++◌, length, drop, get_or, map, codes, Vec, Global, Option, Result, Ok, Err, refl, sym, ap, ap₂, ◌∙◌}
 use Rattle.std.specs.List.{list_any}
+use Rattle.std.specs.Prelude.{is_some}
 use Rattle.std.specs.Str.{bytes_eq}
+use Rattle.std.specs.Map.{lookup}
+use Rattle.std.specs.HashMap.{HashMap, get, PutsEntry}
 use Rattle.std.proofs.lemmas.Cmp.{nat_list_eq_equiv, nat_eq_equiv}
 use Rattle.std.proofs.lemmas.List.{map-append, drop_all}
 use Rattle.toml.specs.Data.{Data, Items, no_items, item, Members, get_member}
@@ -11,16 +14,18 @@ use Rattle.toml.proofs.Views.{items_view-drop}
 use Rattle.sip_text.specs.Words.{without_case}
 use Rattle.sip_hops.specs.declared.host_address.HostAddress.{HostAddress}
 use Rattle.sip_hops.specs.HostAddress.{is_row_for}
-use Rattle.sip_config_rules.specs.declared.error.ConfigError.{ConfigError}
-use Rattle.sip_config_rules.specs.declared.error.ConfigError.TheVariants.{BadValue}
-use Rattle.sip_config_rules.specs.declared.grammar.Grammar.TheVariants.{Host}
-use Rattle.sip_config_rules.specs.Refusals.{◌>>=◌, confirmed}
-use Rattle.sip_config_rules.specs.Values.{needed, text_as, address_of, table_of}
-use Rattle.sip_config_rules.specs.Rows.{rows_after}
+use Rattle.sip_config.specs.declared.error.ConfigError.{ConfigError}
+use Rattle.sip_config.specs.declared.error.ConfigError.TheVariants.{BadValue}
+use Rattle.sip_config.specs.declared.grammar.Grammar.TheVariants.{Host}
+use Rattle.sip_config.specs.Refusals.{◌>>=◌, confirmed}
+use Rattle.sip_config.specs.Values.{needed, text_as, address_of, table_of}
+use Rattle.sip_config.specs.Rows.{rows_after}
 use Rattle.sip_config.specs.HostAddresses.{port_in, new_row}
+use Rattle.sip_config.specs.InOrder.{in_order, places_in_order, ArePlaced}
+use Rattle.sip_config.proofs.InOrder.{found_in_order, new_last}
 use Rattle.sip_config.specs.Places.{place_of, is_place, row_besides, rows_besides}
 
--- ---- the keys of a set
+-- ---- hosts and ports in the order of their places
 
 abbrev pub Key : Type 0
 Key = Vec ℕ Global × ℕ
@@ -35,24 +40,28 @@ any_key : (host : List ℕ) (port : ℕ) (keys : List Key) → list_any (is_key 
 any_key host port [] = refl
 any_key host port (k ∷ ks) = ap (λ (b : Bool). is_key (without_case host) port k || b) (any_key host port ks)
 
--- whether a place is new
-pub told : (host : List ℕ) (port : ℕ) (copy : Vec ℕ Global) (keys : List Key) (new : Bool) → copy.items ≡ without_case host → new ≡ not (list_any (is_key copy.items port) keys)
-    → new ≡ not (list_any (is_place host port) (places_of keys))
-told host port copy keys new is e = e ∙ ap not (ap (λ (lower : List ℕ). list_any (is_key lower port) keys) is ∙ any_key host port keys)
+-- whether a host and a port are among some
+pub place_found : {S : Type 0} (places : HashMap Key ℕ S) (host : List ℕ) (port : ℕ) (copy : Vec ℕ Global) → ArePlaced places.entries → copy.items ≡ without_case host
+    → is_some (lookup (is_key copy.items port) places.entries) ≡ list_any (is_place host port) (places_in_order places)
+place_found places host port copy placed is =
+    ap (λ (lower : List ℕ). is_some (lookup (is_key lower port) places.entries)) is
+    ∙ found_in_order (is_key (without_case host) port) places.entries placed
+    ∙ any_key host port (in_order places.entries)
 
-grown_by : (host : List ℕ) (port : ℕ) (copy : Vec ℕ Global) (keys more : List Key) (new there : Bool) → copy.items ≡ without_case host → new ≡ not there → more ≡ (if there then keys else keys ++ (copy, port) ∷ [])
-    → places_of more ≡ (if new then places_of keys ++ (without_case host, port) ∷ [] else places_of keys)
-grown_by host port copy keys more new true is n g = ap places_of g ∙ sym (ap (λ (b : Bool). if b then places_of keys ++ (without_case host, port) ∷ [] else places_of keys) n)
-grown_by host port copy keys more new false is n g =
-    ap places_of g
-    ∙ map-append (λ (place : Key). (place.0.items, place.1)) keys ((copy, port) ∷ [])
-    ∙ ap (λ (lower : List ℕ). places_of keys ++ (lower, port) ∷ []) is
-    ∙ sym (ap (λ (b : Bool). if b then places_of keys ++ (without_case host, port) ∷ [] else places_of keys) n)
+abbrev pub key_eq : Key → Key → Bool
+key_eq key other = is_key key.0.items key.1 other
 
 -- a new place goes last
-pub grown : (host : List ℕ) (port : ℕ) (copy : Vec ℕ Global) (keys more : List Key) (new : Bool) → copy.items ≡ without_case host → new ≡ not (list_any (is_key copy.items port) keys)
-    → more ≡ (if list_any (is_key copy.items port) keys then keys else keys ++ (copy, port) ∷ []) → places_of more ≡ (if new then places_of keys ++ (without_case host, port) ∷ [] else places_of keys)
-grown host port copy keys more new is n g = grown_by host port copy keys more new (list_any (is_key copy.items port) keys) is n g
+pub place_last : {S : Type 0} (places more : HashMap Key ℕ S) (host : List ℕ) (port : ℕ) (copy : Vec ℕ Global) (at : ℕ) (old : Option ℕ) → ArePlaced places.entries → at ≡ length places.entries
+    → copy.items ≡ without_case host → is_some (get key_eq places (copy, port)) ≡ false → old ≡ get key_eq places (copy, port) → PutsEntry key_eq places more (copy, port) at old
+    → (places_in_order more ≡ places_in_order places ++ (without_case host, port) ∷ []) × ArePlaced more.entries
+place_last places more host port copy at old placed last is new was puts =
+    let both = new_last key_eq places more (copy, port) at old placed last new was puts in (
+      ap places_of both.0
+          ∙ map-append (λ (place : Key). (place.0.items, place.1)) (in_order places.entries) ((copy, port) ∷ [])
+          ∙ ap (λ (lower : List ℕ). places_in_order places ++ (lower, port) ∷ []) is,
+      both.1,
+    )
 
 -- ---- the rows of a list
 

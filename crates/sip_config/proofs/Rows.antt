@@ -5,10 +5,10 @@ use Rattle.toml.specs.Data.{Members, as_table}
 use Rattle.toml.specs.View.{view, items_view}
 use Rattle.toml.specs.declared.value.Value.{Value}
 use Rattle.toml.proofs.Views.{items_view-drop}
-use Rattle.sip_config_rules.specs.declared.error.ConfigError.{ConfigError}
-use Rattle.sip_config_rules.specs.Refusals.{◌>>=◌}
-use Rattle.sip_config_rules.specs.Values.{table_of}
-use Rattle.sip_config_rules.specs.Rows.{rows_after, all_pass}
+use Rattle.sip_config.specs.declared.error.ConfigError.{ConfigError}
+use Rattle.sip_config.specs.Refusals.{◌>>=◌}
+use Rattle.sip_config.specs.Values.{table_of}
+use Rattle.sip_config.specs.Rows.{rows_after, all_pass}
 use Rattle.sip_config.specs.declared.keys.TableKind.{TableKind}
 use Rattle.sip_config.specs.Keys.{knows_table, knows_each}
 use Rattle.sip_config.specs.Limits.{count_items, has_many_groups, one_has_many_groups}

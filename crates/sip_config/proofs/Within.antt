@@ -10,16 +10,16 @@ use Rattle.sip_hops.specs.declared.host_address.HostAddress.{HostAddress}
 use Rattle.sip_hops.specs.HostAddress.{is_row_for}
 use Rattle.sip_policy.specs.declared.user.User.{User}
 use Rattle.sip_config_types.specs.declared.config.Config.{Config}
-use Rattle.sip_config_rules.specs.declared.error.ConfigError.{ConfigError}
-use Rattle.sip_config_rules.specs.declared.error.ConfigError.TheVariants.{BadValue}
-use Rattle.sip_config_rules.specs.declared.grammar.Grammar.{Grammar}
-use Rattle.sip_config_rules.specs.declared.grammar.Grammar.TheVariants.{Realm, OwnHost, HostName, Host, Name}
-use Rattle.sip_config_rules.specs.Refusals.{◌>>=◌, valid, confirmed, kept_if}
-use Rattle.sip_config_rules.specs.Grammar.{accepts, is_name}
-use Rattle.sip_config_rules.specs.Values.{required, needed, text_of, text_as, text_at, list_of, table_of, address_of, items_in, items_at, has_items, some_items_at}
-use Rattle.sip_config_rules.specs.Rows.{rows_after, texts_after, texts_of}
-use Rattle.sip_config_rules.specs.Words.{is_hop}
-use Rattle.sip_config_rules.specs.Rules.{rule_at}
+use Rattle.sip_config.specs.declared.error.ConfigError.{ConfigError}
+use Rattle.sip_config.specs.declared.error.ConfigError.TheVariants.{BadValue}
+use Rattle.sip_config.specs.declared.grammar.Grammar.{Grammar}
+use Rattle.sip_config.specs.declared.grammar.Grammar.TheVariants.{Realm, OwnHost, HostName, Host, Name}
+use Rattle.sip_config.specs.Refusals.{◌>>=◌, valid, confirmed, kept_if}
+use Rattle.sip_config.specs.Grammar.{accepts, is_name}
+use Rattle.sip_config.specs.Values.{required, needed, text_of, text_as, text_at, list_of, table_of, address_of, items_in, items_at, has_items, some_items_at}
+use Rattle.sip_config.specs.Rows.{rows_after, texts_after, texts_of}
+use Rattle.sip_config.specs.Words.{is_hop}
+use Rattle.sip_config.specs.Rules.{rule_at}
 use Rattle.sip_config.specs.declared.head.Head.{Head}
 use Rattle.sip_config.specs.Head.{version_at, offset_at, port_at, address_at, domains_at, head_of}
 use Rattle.sip_config.specs.Users.{a1_at, a1_sha256_at, groups_in, groups_at, user_at}

@@ -7,16 +7,16 @@ use Rattle.sip_policy.specs.declared.rule.Rule.{Rule}
 use Rattle.sip_hops.specs.declared.hop.Hop.{Hop}
 use Rattle.sip_hops.specs.declared.host_address.HostAddress.{HostAddress}
 use Rattle.sip_config_types.specs.declared.config.Config.{Config}
-use Rattle.sip_config_rules.specs.declared.error.ConfigError.{ConfigError}
-use Rattle.sip_config_rules.specs.declared.error.ConfigError.TheVariants.{BadToml, BadValue, TooMany}
+use Rattle.sip_config.specs.declared.error.ConfigError.{ConfigError}
+use Rattle.sip_config.specs.declared.error.ConfigError.TheVariants.{BadToml, BadValue, TooMany}
 use Rattle.sip_config.specs.declared.head.Head.{Head}
-use Rattle.sip_config_rules.specs.Refusals.{◌>>=◌, confirmed}
-use Rattle.sip_config_rules.specs.Values.{items_at}
+use Rattle.sip_config.specs.Refusals.{◌>>=◌, confirmed}
+use Rattle.sip_config.specs.Values.{items_at}
 use Rattle.sip_config.specs.Head.{head_of}
 use Rattle.sip_config.specs.Users.{users_at}
 use Rattle.sip_config.specs.Hops.{hops_at}
 use Rattle.sip_config.specs.HostAddresses.{host_addresses_at}
-use Rattle.sip_config_rules.specs.Rules.{rule_lines, rules_of}
+use Rattle.sip_config.specs.Rules.{rule_lines, rules_of}
 use Rattle.sip_config.specs.Keys.{knows_all}
 use Rattle.sip_config.specs.Limits.{has_too_many}
 
@@ -42,7 +42,8 @@ rules_at version users hops members = do
   _ ← confirmed (knows_all version members) BadValue
   rules_of version users hops items
 
--- What the keys of a file state. Refused is first a list that is too long; then what is missing or bad, by the lines of the table of keys, each line in file order;
+-- What the keys of a file state. Refused is first a list that is too long; then what is missing or bad, by the lines of the table of
+-- keys, each line in file order;
 -- then an unknown key; then what the rules name: a number twice, an unknown hop, an unknown group.
 abbrev pub stated_by : Members → Result Config ConfigError
 stated_by members = do

@@ -9,8 +9,8 @@ use Rattle.sip_policy.specs.declared.rule_verdict.RuleVerdict.{RuleVerdict}
 use Rattle.sip_policy.specs.Rule.{is_numbered}
 use Rattle.sip_policy.specs.Users.{have_own_names}
 use Rattle.sip_config_types.specs.declared.config.Config.{Config}
-use Rattle.sip_config_rules.specs.Grammar.{is_realm, is_host_name, is_own_host_name, is_name}
-use Rattle.sip_config_rules.specs.Rules.{names_known_group}
+use Rattle.sip_config.specs.Grammar.{is_realm, is_host_name, is_own_host_name, is_name}
+use Rattle.sip_config.specs.Rules.{names_known_group}
 
 -- whether no number stands twice
 abbrev pub numbers_differ : List ℕ → Bool

@@ -17,7 +17,8 @@ sample_domains = codes "domains = [\"host.com\"]\n"
 
 -- the keys before all tables, of which four are given
 abbrev pub head_with : List ℕ → List ℕ → List ℕ → List ℕ → List ℕ
-head_with version realm port domains = version ++ realm ++ codes "host = \"sip.host.com\"\n" ++ port ++ codes "address = \"127.0.0.1:5060\"\n" ++ domains
+head_with version realm port domains = version ++ realm ++ codes "host = \"sip.host.com\"\n" ++ port
+    ++ codes "address = \"127.0.0.1:5060\"\n" ++ domains
 
 abbrev pub sample_head : List ℕ
 sample_head = head_with sample_version sample_realm sample_port sample_domains
@@ -53,7 +54,8 @@ sample_text = sample_head ++ sample_users ++ sample_places ++ sample_first_rules
 -- as version 2, an hour ahead of UTC, where rule 4 has more keys
 abbrev pub windowed : List ℕ → List ℕ
 windowed keys =
-    head_with (codes "version = 2\noffset = 60\n") sample_realm sample_port sample_domains ++ sample_users ++ sample_places ++ sample_first_rules ++ (sample_rule_4 ++ keys)
+    head_with (codes "version = 2\noffset = 60\n") sample_realm sample_port sample_domains ++ sample_users ++ sample_places
+    ++ sample_first_rules ++ (sample_rule_4 ++ keys)
     ++ sample_last_rules
 
 -- its head and users, and then other tables
@@ -67,7 +69,8 @@ behind_head tables = sample_head ++ tables
 -- a rule with these `id`, `who`, `op` and `verdict`
 abbrev pub a_rule : List ℕ → List ℕ → List ℕ → List ℕ → List ℕ
 a_rule id who op verdict =
-    codes "[[rule]]\nid = " ++ id ++ codes "\nwho = \"" ++ who ++ codes "\"\nop = \"" ++ op ++ codes "\"\ntarget = \"*\"\nverdict = \"" ++ verdict ++ codes "\"\n"
+    codes "[[rule]]\nid = " ++ id ++ codes "\nwho = \"" ++ who ++ codes "\"\nop = \"" ++ op ++ codes "\"\ntarget = \"*\"\nverdict = \""
+    ++ verdict ++ codes "\"\n"
 
 -- a rule that is like no other but for its number
 abbrev pub plain_rule : List ℕ → List ℕ

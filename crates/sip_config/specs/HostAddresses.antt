@@ -4,12 +4,12 @@ use Rattle.std.specs.List.{list_any}
 use Rattle.toml.specs.Data.{Data, Members, get_member}
 use Rattle.sip_hops.specs.declared.host_address.HostAddress.{HostAddress}
 use Rattle.sip_hops.specs.HostAddress.{is_row_for}
-use Rattle.sip_config_rules.specs.declared.error.ConfigError.{ConfigError}
-use Rattle.sip_config_rules.specs.declared.error.ConfigError.TheVariants.{BadValue}
-use Rattle.sip_config_rules.specs.declared.grammar.Grammar.TheVariants.{Host}
-use Rattle.sip_config_rules.specs.Refusals.{◌>>=◌, confirmed}
-use Rattle.sip_config_rules.specs.Values.{needed, text_as, address_of, port_of, items_at}
-use Rattle.sip_config_rules.specs.Rows.{rows_after}
+use Rattle.sip_config.specs.declared.error.ConfigError.{ConfigError}
+use Rattle.sip_config.specs.declared.error.ConfigError.TheVariants.{BadValue}
+use Rattle.sip_config.specs.declared.grammar.Grammar.TheVariants.{Host}
+use Rattle.sip_config.specs.Refusals.{◌>>=◌, confirmed}
+use Rattle.sip_config.specs.Values.{needed, text_as, address_of, port_of, items_at}
+use Rattle.sip_config.specs.Rows.{rows_after}
 
 -- a port, 5060 where none is there (RFC 3261 19.1.2)
 abbrev pub port_in : Option Data → Result ℕ ConfigError

@@ -27,7 +27,8 @@ is_host_address_key key = bytes_eq key (codes "host") || bytes_eq key (codes "po
 -- whether a key is of a rule; `from` and `until` are of version 2
 abbrev pub is_rule_key : ℕ → List ℕ → Bool
 is_rule_key version key =
-    bytes_eq key (codes "id") || bytes_eq key (codes "who") || bytes_eq key (codes "op") || bytes_eq key (codes "target") || bytes_eq key (codes "verdict")
+    bytes_eq key (codes "id") || bytes_eq key (codes "who") || bytes_eq key (codes "op") || bytes_eq key (codes "target")
+    || bytes_eq key (codes "verdict")
     || ((bytes_eq key (codes "from") || bytes_eq key (codes "until")) && version == 2)
 
 -- whether a table of a kind may have a key
@@ -64,5 +65,6 @@ knows_list version kind (Some value) = knows_items version kind (as_array value)
 -- whether a file has no unknown key
 abbrev pub knows_all : ℕ → Members → Bool
 knows_all version members =
-    knows version Whole members && knows_list version User (get_member (codes "user") members) && knows_list version Hop (get_member (codes "hop") members)
+    knows version Whole members && knows_list version User (get_member (codes "user") members)
+    && knows_list version Hop (get_member (codes "hop") members)
     && knows_list version HostAddress (get_member (codes "host_address") members) && knows_list version Rule (get_member (codes "rule") members)

@@ -5,11 +5,11 @@ use Rattle.std.specs.Str.{bytes_eq}
 use Rattle.toml.specs.Data.{Items, no_items, item, Members, get_member}
 use Rattle.sip_text.specs.Words.{without_case}
 use Rattle.sip_hops.specs.declared.host_address.HostAddress.{HostAddress}
-use Rattle.sip_config_rules.specs.declared.error.ConfigError.{ConfigError}
-use Rattle.sip_config_rules.specs.declared.error.ConfigError.TheVariants.{BadValue}
-use Rattle.sip_config_rules.specs.declared.grammar.Grammar.TheVariants.{Host}
-use Rattle.sip_config_rules.specs.Refusals.{◌>>=◌, confirmed}
-use Rattle.sip_config_rules.specs.Values.{needed, text_as, address_of, table_of}
+use Rattle.sip_config.specs.declared.error.ConfigError.{ConfigError}
+use Rattle.sip_config.specs.declared.error.ConfigError.TheVariants.{BadValue}
+use Rattle.sip_config.specs.declared.grammar.Grammar.TheVariants.{Host}
+use Rattle.sip_config.specs.Refusals.{◌>>=◌, confirmed}
+use Rattle.sip_config.specs.Values.{needed, text_as, address_of, table_of}
 use Rattle.sip_config.specs.HostAddresses.{port_in}
 
 -- the host that a row is for, its letters small ones, and the port
@@ -34,4 +34,5 @@ row_besides places members = do
 -- rows, each besides the places of those before
 abbrev pub rows_besides : List (List ℕ × ℕ) → List HostAddress → Items → Result (List HostAddress) ConfigError
 rows_besides places rows no_items = Ok rows
-rows_besides places rows (item first items) = table_of first >>= row_besides places >>= λ row. rows_besides (places ++ place_of row ∷ []) (rows ++ row ∷ []) items
+rows_besides places rows (item first items) = table_of first >>= row_besides places >>= λ row. rows_besides (places ++ place_of row ∷ [])
+    (rows ++ row ∷ []) items

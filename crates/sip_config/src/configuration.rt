@@ -1,15 +1,17 @@
 ghost use Rattle.std.specs.Prelude.{◌≡◌};
 ghost use Rattle.toml.specs.View.{table_view};
-ghost use Rattle.sip_config_rules.specs.Refusals.{Reads};
+ghost use Rattle.sip_config.specs.Refusals.{Reads};
 ghost use Rattle.sip_config.specs.Configuration as Definitions;
 
+use crate::ConfigError;
 use crate::head::{Head, head_of};
 use crate::hops::hops_at;
 use crate::host_addresses::host_addresses_at;
 use crate::keys::knows_all;
 use crate::limits::has_too_many;
+use crate::rules::{check_rules, rules_of};
 use crate::users::users_at;
-use sip_config_rules::{ConfigError, check_rules, confirm, items_at, rules_of};
+use crate::values::{confirm, items_at};
 use sip_config_types::Config;
 use sip_hops::{Hop, HostAddress};
 use sip_policy::{Rule, Users};

@@ -2,7 +2,7 @@ ghost use Rattle.std.specs.Prelude.{◌≡◌, ◌++◌, [], codes, pos, Ok, Err
 ghost use Rattle.toml.specs.Parse.{parse_document};
 ghost use Rattle.sip_policy.specs.Examples.{rules_with, by_day};
 ghost use Rattle.sip_config_types.specs.Sample.{sample};
-ghost use Rattle.sip_config_rules.specs.declared.error.ConfigError.TheVariants as Refusal;
+ghost use Rattle.sip_config.specs.declared.error.ConfigError.TheVariants as Refusal;
 ghost use Rattle.sip_config.specs.Configuration.{stated_in};
 ghost use Rattle.sip_config.specs.Examples as Texts;
 
@@ -20,7 +20,8 @@ pub fn version_2_is_stated()
 pub fn head_refusals()
     ensures not_toml { stated_in (codes "x = ") ≡ Err Refusal.BadToml }
     ensures no_realm { stated_in (Texts.head_with Texts.sample_version [] Texts.sample_port Texts.sample_domains) ≡ Err Refusal.MissingKey }
-    ensures port_0 { stated_in (Texts.head_with Texts.sample_version Texts.sample_realm (codes "port = 0\n") Texts.sample_domains) ≡ Err Refusal.BadValue }
+    ensures port_0 { stated_in (Texts.head_with Texts.sample_version Texts.sample_realm (codes "port = 0\n") Texts.sample_domains)
+        ≡ Err Refusal.BadValue }
     ensures many { stated_in (Texts.head_with Texts.sample_version Texts.sample_realm Texts.sample_port Texts.many_domains) ≡ Err Refusal.TooMany }
 {}
 
@@ -52,18 +53,27 @@ pub fn hop_refusals()
 /// key.
 pub fn rule_refusals()
     ensures number { stated_in (Texts.behind_users (Texts.plain_rule (codes "6") ++ Texts.plain_rule (codes "6"))) ≡ Err Refusal.DuplicateRule }
-    ensures hop { stated_in (Texts.behind_users (Texts.a_rule (codes "6") (codes "anyone") (codes "send *") (codes "via no"))) ≡ Err Refusal.UnknownHop }
-    ensures group { stated_in (Texts.behind_users (Texts.a_rule (codes "6") (codes "group no") (codes "send *") (codes "deny"))) ≡ Err Refusal.UnknownGroup }
-    ensures number_first { stated_in (Texts.behind_users (Texts.a_rule (codes "6") (codes "group no") (codes "send *") (codes "via no") ++ Texts.plain_rule (codes "6"))) ≡ Err Refusal.DuplicateRule }
-    ensures hop_first { stated_in (Texts.behind_users (Texts.a_rule (codes "6") (codes "group no") (codes "send *") (codes "via no"))) ≡ Err Refusal.UnknownHop }
-    ensures key_first { stated_in (Texts.behind_users (Texts.plain_rule (codes "6") ++ Texts.plain_rule (codes "6") ++ codes "note = \"\"\n")) ≡ Err Refusal.BadValue }
+    ensures hop { stated_in (Texts.behind_users (Texts.a_rule (codes "6") (codes "anyone") (codes "send *") (codes "via no")))
+        ≡ Err Refusal.UnknownHop }
+    ensures group { stated_in (Texts.behind_users (Texts.a_rule (codes "6") (codes "group no") (codes "send *") (codes "deny")))
+        ≡ Err Refusal.UnknownGroup }
+    ensures number_first { stated_in
+        (Texts.behind_users (Texts.a_rule (codes "6") (codes "group no") (codes "send *") (codes "via no") ++ Texts.plain_rule (codes "6")))
+        ≡ Err Refusal.DuplicateRule }
+    ensures hop_first { stated_in (Texts.behind_users (Texts.a_rule (codes "6") (codes "group no") (codes "send *") (codes "via no")))
+        ≡ Err Refusal.UnknownHop }
+    ensures key_first { stated_in
+        (Texts.behind_users (Texts.plain_rule (codes "6") ++ Texts.plain_rule (codes "6") ++ codes "note = \"\"\n")) ≡ Err Refusal.BadValue }
 {}
 
 /// A rule may not send a registration to a hop, nor be for a user who isn't configured, nor for ACK.
 pub fn rule_values()
-    ensures via { stated_in (Texts.behind_users (Texts.a_rule (codes "6") (codes "anyone") (codes "register") (codes "via no"))) ≡ Err Refusal.BadValue }
-    ensures user { stated_in (Texts.behind_users (Texts.a_rule (codes "6") (codes "user no") (codes "register") (codes "deny"))) ≡ Err Refusal.BadValue }
-    ensures ack { stated_in (Texts.behind_users (Texts.a_rule (codes "6") (codes "anyone") (codes "send ACK") (codes "deny"))) ≡ Err Refusal.BadValue }
+    ensures via { stated_in (Texts.behind_users (Texts.a_rule (codes "6") (codes "anyone") (codes "register") (codes "via no")))
+        ≡ Err Refusal.BadValue }
+    ensures user { stated_in (Texts.behind_users (Texts.a_rule (codes "6") (codes "user no") (codes "register") (codes "deny")))
+        ≡ Err Refusal.BadValue }
+    ensures ack { stated_in (Texts.behind_users (Texts.a_rule (codes "6") (codes "anyone") (codes "send ACK") (codes "deny")))
+        ≡ Err Refusal.BadValue }
 {}
 
 /// A window has both minutes, which differ, and are below 1440; version 1 has none, and no offset.
@@ -72,5 +82,6 @@ pub fn window_refusals()
     ensures equal { stated_in (Texts.windowed (codes "from = 480\nuntil = 480\n")) ≡ Err Refusal.BadValue }
     ensures too_late { stated_in (Texts.windowed (codes "from = 480\nuntil = 1440\n")) ≡ Err Refusal.BadValue }
     ensures version_1 { stated_in (Texts.behind_users (Texts.plain_rule (codes "6") ++ codes "from = 480\nuntil = 1080\n")) ≡ Err Refusal.BadValue }
-    ensures offset { stated_in (Texts.head_with (codes "version = 1\noffset = 0\n") Texts.sample_realm Texts.sample_port Texts.sample_domains ++ Texts.sample_users) ≡ Err Refusal.BadValue }
+    ensures offset { stated_in (Texts.head_with (codes "version = 1\noffset = 0\n") Texts.sample_realm Texts.sample_port
+        Texts.sample_domains ++ Texts.sample_users) ≡ Err Refusal.BadValue }
 {}

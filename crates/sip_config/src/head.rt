@@ -1,12 +1,13 @@
 ghost use Rattle.std.specs.Prelude.{◌≡◌};
 ghost use Rattle.toml.specs.View.{view, table_view, items_view};
-ghost use Rattle.sip_config_rules.specs.Refusals.{Reads};
+ghost use Rattle.sip_config.specs.Refusals.{Reads};
 ghost use Rattle.sip_config.specs.Head as Definitions;
 
-use sip_config_rules::{
-    ConfigError, Grammar, address_of, find, needed, number_between, number_of, port_of,
-    some_items_at, text_at, texts_of,
+use crate::texts::texts_of;
+use crate::values::{
+    address_of, find, needed, number_between, number_of, port_of, some_items_at, text_at,
 };
+use crate::{ConfigError, Grammar};
 use sip_text::{Bytes, Items};
 use sip_uri::Addr;
 use std::alloc::Global;

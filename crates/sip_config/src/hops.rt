@@ -1,14 +1,13 @@
 ghost use Rattle.std.specs.Prelude.{◌≡◌, []};
 ghost use Rattle.std.specs.List.{list_any};
 ghost use Rattle.toml.specs.View.{table_view, items_view};
-ghost use Rattle.sip_config_rules.specs.Refusals.{Reads};
-ghost use Rattle.sip_config_rules.specs.Rows.{rows_after};
-ghost use Rattle.sip_config_rules.specs.Words.{is_hop};
+ghost use Rattle.sip_config.specs.Refusals.{Reads};
+ghost use Rattle.sip_config.specs.Rows.{rows_after};
+ghost use Rattle.sip_config.specs.Words.{is_hop};
 ghost use Rattle.sip_config.specs.Hops as Definitions;
 
-use sip_config_rules::{
-    ConfigError, Grammar, address_of, confirm, items_at, needed, table_of, text_as,
-};
+use crate::values::{address_of, confirm, items_at, needed, table_of, text_as};
+use crate::{ConfigError, Grammar};
 use sip_hops::Hop;
 use sip_text::{Bytes, Items, same_bytes};
 use std::alloc::Global;

@@ -1,15 +1,14 @@
 ghost use Rattle.std.specs.Prelude.{◌≡◌, [], ◌∷◌, ◌++◌, codes, IfOk};
 ghost use Rattle.toml.specs.Data.{get_member};
 ghost use Rattle.toml.specs.View.{table_view, items_view};
-ghost use Rattle.sip_config_rules.specs.Refusals.{Reads};
-ghost use Rattle.sip_config_rules.specs.Rows.{rows_after};
+ghost use Rattle.sip_config.specs.Refusals.{Reads};
+ghost use Rattle.sip_config.specs.Rows.{rows_after};
 ghost use Rattle.sip_config.specs.HostAddresses as Definitions;
 ghost use Rattle.sip_config.specs.Places.{place_of, row_besides};
 
 use crate::places::Places;
-use sip_config_rules::{
-    ConfigError, Grammar, address_of, find, items_at, needed, port_of, table_of, text_as,
-};
+use crate::values::{address_of, find, items_at, needed, port_of, table_of, text_as};
+use crate::{ConfigError, Grammar};
 use sip_hops::HostAddress;
 use sip_text::{Bytes, Items};
 use std::alloc::Global;

@@ -1,18 +1,36 @@
-//! The configuration file: TOML of version 1 or 2, read into what a server is told before it starts. What a
-//! file states is a definition over its keys; a file that states nothing is refused by the first fault, in
-//! the order of a table of keys.
+//! The configuration file: TOML of version 1 or 2, read into what a server is told before it starts: its limits, users,
+//! hosts and hops, and its rules, the tables `[[rule]]` with each of their lines and what they name. What a file states
+//! is a definition over its keys; a file that states nothing is refused by the first fault, in the order of a table of
+//! keys.
+//!
+//! - Used: `sipd_arguments`, once, before the server is, and for the words of a complaint.
+//! - Not here: anything that runs while the server does.
+//! - Tried: worked examples in `src/examples.rt`, as contracts that compute; `test_parts`.
+//!
+//! ```text
+//! let config = read_config(alloc, text)?;
+//! ```
 #![tactic(auto)]
 
 mod configuration;
+mod error;
 pub mod examples;
+mod grammar;
 mod head;
 mod hops;
 mod host_addresses;
 mod keys;
 pub mod laws;
 mod limits;
+mod names;
 mod places;
+mod rules;
+mod texts;
 mod users;
+mod values;
+mod words;
 
 pub use configuration::read_config;
-pub use sip_config_rules::ConfigError;
+pub use error::ConfigError;
+pub use grammar::Grammar;
+pub use names::Names;

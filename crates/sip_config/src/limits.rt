@@ -3,7 +3,7 @@ ghost use Rattle.toml.specs.Data.{get_member, as_table};
 ghost use Rattle.toml.specs.View.{view, table_view, items_view};
 ghost use Rattle.sip_config.specs.Limits as Definitions;
 
-use sip_config_rules::find;
+use crate::values::find;
 use toml::{Table, Value};
 
 /// Whether what a key holds is a list of more items.

@@ -1,46 +1,59 @@
-ghost use Rattle.std.specs.Prelude.{◌≡◌, ℕ, List, [], ◌∷◌, ◌++◌, not, map, if◌then◌else◌, IfOk, IfErr, OnErr};
+ghost use Rattle.std.specs.Prelude.{◌≡◌, [], ◌∷◌, ◌++◌, not, if◌then◌else◌, IfOk, IfErr, OnErr};
 ghost use Rattle.std.specs.List.{list_any};
 ghost use Rattle.sip_text.specs.Words.{without_case};
-ghost use Rattle.sip_config_rules.specs.declared.error.ConfigError.TheVariants.{NoMemory};
+ghost use Rattle.sip_config.specs.declared.error.ConfigError.TheVariants.{NoMemory};
+ghost use Rattle.sip_config.specs.InOrder.{places_in_order, ArePlaced};
 ghost use Rattle.sip_config.specs.Places.{is_place};
 
-use indexmap::IndexSet;
-use sip_config_rules::ConfigError;
+use crate::ConfigError;
 use sip_text::lower_case;
 use std::alloc::Global;
+use std::collections::HashMap;
 use std::marker::Model;
 
 /// The hosts and ports that rows are for, in their order, no two of them the same; the letters of a host are small
 /// ones. A host and a port are found in constant time, however many others there are.
 #[derive(Drop)]
 pub(crate) struct Places {
-    set: IndexSet<(Vec<u8>, u16)>,
+    /// Each host and port with its place in their order.
+    places: HashMap<(Vec<u8>, u16), usize>,
 }
 
 impl Model for Places {
-    ghost use Rattle.std.specs.Prelude.{ℕ, List, map};
+    ghost use Rattle.std.specs.Prelude.{ℕ, List};
+    ghost use Rattle.sip_config.specs.InOrder.{places_in_order, ArePlaced};
 
     ghost Value = { List (List ℕ × ℕ) };
 
-    ghost view = { λ p. map (λ place. (place.0.items, place.1)) p.set.keys };
+    ghost view = { λ p. places_in_order p.places };
+
+    ghost invariant = { λ p. ArePlaced p.places.entries };
 }
 
 /// Adds a host and a port behind those that are there, and says whether they weren't among them.
 fn add_to(
     alloc: Global,
-    set: &mut IndexSet<(Vec<u8>, u16)>,
+    places: &mut HashMap<(Vec<u8>, u16), usize>,
     host: &[u8],
     port: u16,
 ) -> Result<bool, ConfigError>
-    ensures new { IfOk result (λ new. new ≡ not (list_any (is_place host.now port) (map {B = List ℕ × ℕ} (λ place. (place.0.items, place.1)) set.old.keys))) }
-    ensures places { IfOk result (λ new. map {B = List ℕ × ℕ} (λ place. (place.0.items, place.1)) set.new.keys ≡ (if new then map {B = List ℕ × ℕ} (λ place. (place.0.items, place.1)) set.old.keys ++ (without_case host.now, port) ∷ [] else map {B = List ℕ × ℕ} (λ place. (place.0.items, place.1)) set.old.keys)) }
+    requires { ArePlaced places.old.entries }
+    ensures placed { ArePlaced places.new.entries }
+    ensures new { IfOk result (λ new. new ≡ not (list_any (is_place host.now port) (places_in_order places.old))) }
+    ensures places { IfOk result (λ new. places_in_order places.new
+        ≡ (if new then places_in_order places.old ++ (without_case host.now, port) ∷ [] else places_in_order places.old)) }
     ensures refused { IfErr result (λ e. e ≡ NoMemory) }
-    ensures err { OnErr result (map {B = List ℕ × ℕ} (λ place. (place.0.items, place.1)) set.new.keys ≡ map {B = List ℕ × ℕ} (λ place. (place.0.items, place.1)) set.old.keys) }
+    ensures err { OnErr result (places_in_order places.new ≡ places_in_order places.old) }
 {
     let lower = lower_case(alloc, host)?;
     let copy = Vec::from_slice(alloc, lower.as_slice())?;
-    let new = set.insert((copy, port))?;
-    Ok(new)
+    let place = (copy, port);
+    if places.contains_key(&place) {
+        return Ok(false);
+    }
+    let last = places.len();
+    let _ = places.insert(place, last)?;
+    Ok(true)
 }
 
 impl Places {
@@ -49,7 +62,7 @@ impl Places {
         ensures { result ≡ [] }
     {
         Places {
-            set: IndexSet::new(alloc),
+            places: HashMap::new(alloc),
         }
     }
 
@@ -62,6 +75,6 @@ impl Places {
         ensures refused { IfErr result (λ e. e ≡ NoMemory) }
         ensures err { OnErr result (self.new ≡ self.old) }
     {
-        add_to(alloc, &mut self.set, host, port)
+        add_to(alloc, &mut self.places, host, port)
     }
 }

@@ -1,13 +1,12 @@
 ghost use Rattle.std.specs.Prelude.{◌≡◌, []};
 ghost use Rattle.toml.specs.View.{table_view, items_view};
-ghost use Rattle.sip_config_rules.specs.Refusals.{Reads};
-ghost use Rattle.sip_config_rules.specs.Rows.{rows_after, all_pass};
+ghost use Rattle.sip_config.specs.Refusals.{Reads};
+ghost use Rattle.sip_config.specs.Rows.{rows_after, all_pass};
 ghost use Rattle.sip_config.specs.Users as Definitions;
 
-use sip_config_rules::{
-    ConfigError, Grammar, Names, digest_of, find, list_of, needed, some_items_at, table_of,
-    text_at, texts_of,
-};
+use crate::texts::texts_of;
+use crate::values::{digest_of, find, list_of, needed, some_items_at, table_of, text_at};
+use crate::{ConfigError, Grammar, Names};
 use sip_policy::{PolicyError, User, Users};
 use sip_text::{Bytes, Items};
 use std::alloc::Global;

@@ -2,17 +2,17 @@
 -- goes again.
 use Rattle.std.specs.Prelude.{ℕ, ◌<◌, ◌+◌, ◌^◌, true, List, []}
 use Rattle.sip_event.specs.declared.packet.Packet.{Packet}
-use Rattle.sip_context_events.specs.state.declared.open_request.OpenRequest.{OpenRequest}
-use Rattle.sip_context_events.specs.state.declared.open_request.Upward.{Upward}
-use Rattle.sip_context_events.specs.state.declared.server.Server.{Server}
-use Rattle.sip_context_events.specs.context_branches.Early.{IsEarly}
-use Rattle.sip_context_resend.specs.context_model.Branches.{Change, responded, overdue, side_overdue, send_failed, cancelled, acknowledged}
-use Rattle.sip_context_resend.specs.context_model.Sending.{branch_packets}
-use Rattle.sip_context_resend.specs.context_model.Retransmission.{acked_again, answers_again, answer_next, with_resend}
+use Rattle.sip_context.specs.state.declared.open_request.OpenRequest.{OpenRequest}
+use Rattle.sip_context.specs.state.declared.open_request.Upward.{Upward}
+use Rattle.sip_context.specs.state.declared.server.Server.{Server}
+use Rattle.sip_context_branches.specs.Early.{IsEarly}
+use Rattle.sip_context_branches.specs.context_model.Branches.{Change, responded, overdue, side_overdue, send_failed, cancelled, acknowledged}
+use Rattle.sip_context_branches.specs.context_model.Sending.{branch_packets}
+use Rattle.sip_context_branches.specs.context_model.Retransmission.{acked_again, answers_again, answer_next, with_resend}
 use Rattle.sip_context.specs.declared.input.Input.{Input}
 use Rattle.sip_context.specs.declared.input.Input.TheVariants.{Response, BranchDeadline, SideDeadline, SendFault, Cancel, Ack, BranchAgain}
 use Rattle.sip_context.specs.declared.input.Input.TheVariants.{AnswerAgain}
-use Rattle.sip_context.specs.declared.sending.Sending.{Sending}
+use Rattle.sip_context.specs.declared.sent.Sent.{Sent}
 
 -- the request after an input, and what is sent: ACKs, then what goes to the caller, then CANCELs; and what goes again
 pub record Outcome : Type 0 where
@@ -31,8 +31,8 @@ abbrev pub repeating : OpenRequest → List Packet → Outcome
 repeating r copies = record { request = r; acks = []; upward = []; cancels = []; copies = copies }
 
 -- a request with what is sent of it
-abbrev pub outcome : OpenRequest → Sending → Outcome
-outcome r sending = record { request = r; acks = sending.acks; upward = sending.upward; cancels = sending.cancels; copies = sending.copies }
+abbrev pub outcome : OpenRequest → Sent → Outcome
+outcome r sent = record { request = r; acks = sent.acks; upward = sent.upward; cancels = sent.cancels; copies = sent.copies }
 
 -- ---- inputs
 

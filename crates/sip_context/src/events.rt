@@ -1,35 +1,38 @@
 ghost use Rattle.std.specs.Prelude.{◌≡◌, ◌<◌, ◌+◌, ◌^◌, [], IfOk, option_map, true};
-ghost use Rattle.sip_context_events.specs.context_branches.Early.{IsEarly};
-ghost use Rattle.sip_context_resend.specs.context_model.Branches as Contexts;
-ghost use Rattle.sip_context_resend.specs.context_model.Sending as Sendings;
-ghost use Rattle.sip_context_events.specs.Sent.{change_of};
-ghost use Rattle.sip_context_resend.specs.context_model.Retransmission;
+ghost use Rattle.sip_context_branches.specs.Early.{IsEarly};
+ghost use Rattle.sip_context_branches.specs.context_model.Branches as Contexts;
+ghost use Rattle.sip_context_branches.specs.context_model.Sending as Sendings;
+ghost use Rattle.sip_context.specs.Sent.{change_of};
+ghost use Rattle.sip_context_branches.specs.context_model.Retransmission;
 ghost use Rattle.sip_context.specs.Inputs.{IsFit, changing, outcome, outcome_of, repeating};
 
+use crate::acknowledging::take_ack;
+use crate::cancelling::take_cancel;
+use crate::deadlines::{pass_branch, pass_side};
+use crate::faults::take_fault;
 use crate::input::Input;
-use crate::sending::Sending;
+use crate::responses::take_response;
+use crate::sent::Sent;
+use crate::state::{Branch, OpenRequest, Server};
 use sip_base::Shared;
-use sip_context_events::context_packets::{ack_packets, answer_to, branch_packets};
-use sip_context_events::state::{Branch, OpenRequest, Server};
-use sip_context_events::{
-    Sent, pass_branch, pass_side, take_ack, take_cancel, take_fault, take_response,
-};
-use sip_context_resend::{answer_again, answer_went, branch_went, is_acked_again};
+use sip_context_branches::{answer_again, answer_went, branch_went, is_acked_again};
+use sip_context_packets::{ack_packets, answer_to, branch_packets};
 use sip_event::Packet;
 use sip_message_form::View;
 use sip_text::{Bytes, Items};
 use std::alloc::{AllocError, Global};
 
 /// What a change sends, with what goes again beside it.
-fn sending(sent: Sent, copies: Items<Packet>) -> Sending
+fn with_copies(sent: Sent, copies: Items<Packet>) -> Sent
     ensures { (r : OpenRequest) → outcome r result ≡ changing (change_of r sent) copies }
 {
     let Sent {
         acks,
         upward,
         cancels,
+        copies: _,
     } = sent;
-    Sending {
+    Sent {
         acks,
         upward,
         cancels,
@@ -38,10 +41,10 @@ fn sending(sent: Sent, copies: Items<Packet>) -> Sending
 }
 
 /// What only goes again.
-fn again(alloc: Global, copies: Items<Packet>) -> Sending
+fn again(alloc: Global, copies: Items<Packet>) -> Sent
     ensures { (r : OpenRequest) → outcome r result ≡ repeating r copies }
 {
-    Sending {
+    Sent {
         acks: Items::new(alloc),
         upward: Items::new(alloc),
         cancels: Items::new(alloc),
@@ -120,16 +123,16 @@ fn hear(
     branch: &Branch,
     status: u16,
     response: &View<'_>,
-) -> Result<Sending, AllocError>
+) -> Result<Sent, AllocError>
     requires now { now + 185000 < 2 ^ 64 }
     requires early { IsEarly branch.now.phase }
-    ensures { IfOk result (λ sending. outcome request.new sending
+    ensures { IfOk result (λ sent. outcome request.new sent
         ≡ changing (Contexts.responded server.now now request.old branch.now status response.now)
         (Retransmission.acked_again server.now request.old branch.now status)) }
 {
     let copies = acked_again(alloc, server, request, branch, status)?;
     let sent = take_response(alloc, server, now, request, branch, status, response)?;
-    Ok(sending(sent, copies))
+    Ok(with_copies(sent, copies))
 }
 
 /// The deadline of a branch passes.
@@ -139,12 +142,12 @@ fn expire_branch(
     now: u64,
     request: &mut OpenRequest,
     branch: &Branch,
-) -> Result<Sending, AllocError>
+) -> Result<Sent, AllocError>
     requires { now + 32000 < 2 ^ 64 }
-    ensures { IfOk result (λ sending. outcome request.new sending ≡ changing (Contexts.overdue server.now now request.old branch.now) []) }
+    ensures { IfOk result (λ sent. outcome request.new sent ≡ changing (Contexts.overdue server.now now request.old branch.now) []) }
 {
     let sent = pass_branch(alloc, server, now, request, branch)?;
-    Ok(sending(sent, Items::new(alloc)))
+    Ok(with_copies(sent, Items::new(alloc)))
 }
 
 /// The deadline of the answering side passes.
@@ -153,12 +156,12 @@ fn expire_side(
     server: &Server,
     now: u64,
     request: &mut OpenRequest,
-) -> Result<Sending, AllocError>
+) -> Result<Sent, AllocError>
     requires { now + 32000 < 2 ^ 64 }
-    ensures { IfOk result (λ sending. outcome request.new sending ≡ changing (Contexts.side_overdue server.now now request.old) []) }
+    ensures { IfOk result (λ sent. outcome request.new sent ≡ changing (Contexts.side_overdue server.now now request.old) []) }
 {
     let sent = pass_side(alloc, server, now, request)?;
-    Ok(sending(sent, Items::new(alloc)))
+    Ok(with_copies(sent, Items::new(alloc)))
 }
 
 /// The request of a branch of which nothing was heard could not be sent.
@@ -168,12 +171,12 @@ fn fail(
     now: u64,
     request: &mut OpenRequest,
     branch: &Branch,
-) -> Result<Sending, AllocError>
+) -> Result<Sent, AllocError>
     requires { now + 32000 < 2 ^ 64 }
-    ensures { IfOk result (λ sending. outcome request.new sending ≡ changing (Contexts.send_failed server.now now request.old branch.now) []) }
+    ensures { IfOk result (λ sent. outcome request.new sent ≡ changing (Contexts.send_failed server.now now request.old branch.now) []) }
 {
     let sent = take_fault(alloc, server, now, request, branch)?;
-    Ok(sending(sent, Items::new(alloc)))
+    Ok(with_copies(sent, Items::new(alloc)))
 }
 
 /// The caller cancels.
@@ -182,16 +185,16 @@ fn cancel(
     server: &Server,
     now: u64,
     request: &mut OpenRequest,
-) -> Result<Sending, AllocError>
+) -> Result<Sent, AllocError>
     requires { now + 32000 < 2 ^ 64 }
-    ensures { IfOk result (λ sending. outcome request.new sending ≡ changing (Contexts.cancelled server.now now request.old) []) }
+    ensures { IfOk result (λ sent. outcome request.new sent ≡ changing (Contexts.cancelled server.now now request.old) []) }
 {
     let sent = take_cancel(alloc, server, now, request)?;
-    Ok(sending(sent, Items::new(alloc)))
+    Ok(with_copies(sent, Items::new(alloc)))
 }
 
 /// The caller acknowledges the final answer.
-fn acknowledge(alloc: Global, now: u64, request: &mut OpenRequest) -> Sending
+fn acknowledge(alloc: Global, now: u64, request: &mut OpenRequest) -> Sent
     requires { now + 5000 < 2 ^ 64 }
     ensures { outcome request.new result ≡ repeating (Contexts.acknowledged now request.old) [] }
 {
@@ -205,9 +208,9 @@ fn repeat_branch(
     server: &Server,
     request: &mut OpenRequest,
     branch: &Branch,
-) -> Result<Sending, AllocError>
+) -> Result<Sent, AllocError>
     requires { branch.now.again.due + 32000 < 2 ^ 64 }
-    ensures { IfOk result (λ sending. outcome request.new sending
+    ensures { IfOk result (λ sent. outcome request.new sent
         ≡ repeating (Retransmission.with_resend branch.now request.old) (Sendings.branch_packets server.now true request.old branch.now)) }
 {
     let copies = sent_again(alloc, server, request, branch)?;
@@ -216,9 +219,9 @@ fn repeat_branch(
 }
 
 /// The last answer goes again.
-fn repeat_answer(alloc: Global, request: &mut OpenRequest) -> Result<Sending, AllocError>
+fn repeat_answer(alloc: Global, request: &mut OpenRequest) -> Result<Sent, AllocError>
     requires { request.old.again.due + 32000 < 2 ^ 64 }
-    ensures { IfOk result (λ sending. outcome request.new sending
+    ensures { IfOk result (λ sent. outcome request.new sent
         ≡ repeating (record request.old { again = Retransmission.answer_next request.old })
         (Retransmission.answers_again request.old request.old.answer)) }
 {
@@ -234,10 +237,10 @@ pub fn take_input(
     now: u64,
     request: &mut OpenRequest,
     input: Input<'_>,
-) -> Result<Sending, AllocError>
+) -> Result<Sent, AllocError>
     requires now { now + 185000 < 2 ^ 64 }
     requires fit { IsFit request.old input }
-    ensures { IfOk result (λ sending. outcome request.new sending ≡ outcome_of server.now now request.old input.entry) }
+    ensures { IfOk result (λ sent. outcome request.new sent ≡ outcome_of server.now now request.old input.entry) }
 {
     match input {
         Input::Response {

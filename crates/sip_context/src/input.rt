@@ -1,4 +1,4 @@
-use sip_context_events::state::Branch;
+use crate::state::Branch;
 use sip_message_form::View;
 
 /// What happens to an open request.

@@ -1,30 +1,51 @@
-//! What happens to an open request, as one input: a response, a deadline, a packet that could not be sent, the caller's
-//! CANCEL and ACK, and what goes again by time; what each makes of the request, and what is sent then (RFC 3261 16.7 to
-//! 16.10, 17; RFC 6026). Nothing here waits, reads a clock or sets a timer.
+//! One open request, its response context: what a response, a deadline, a packet that could not be sent, the caller's
+//! CANCEL and ACK, and what goes again by time make of it, as one input, and what it sends then (RFC 3261 16.7 to 16.10,
+//! 17; RFC 6026). Nothing here waits, reads a clock or sets a timer. A refusal says nothing of the request: its caller
+//! works on a clone of it.
 //!
-//! - Used: `sip_fork`, which plans every change by it.
-//! - Not here: the timers (`sip_request`).
-//! - Tried: `test_server` by its stored runs.
+//! - Used: `sip_fork`, which plans every change by it, and `sip_forwarding` for an answer at once.
+//! - Not here: the timers (`sip_request`); which branches there are, and what goes again (`sip_context_branches`).
+//! - Tried: worked examples of `model_context`, which its contracts cite; `test_server` by its stored runs.
 //!
 //! ```text
-//! let sending = take_input(alloc, &server, now, &mut request, input)?;
+//! let sent = take_input(alloc, &server, now, &mut request, input)?;
 //! ```
 #![tactic(auto)]
 
+mod acknowledging;
+mod answers;
+mod cancelling;
+mod deadlines;
 mod events;
+mod faults;
+mod finals;
 mod input;
-mod sending;
+mod relayed;
+mod responses;
+mod sent;
+mod settling;
+mod side;
 
+pub use answers::answered;
 pub use events::take_input;
 pub use input::Input;
-pub use sending::Sending;
+pub use sent::Sent;
+pub use settling::settle_alone;
+pub use side::is_accepted;
 
-/// Of `sip_context_events`.
-pub mod context_events {
-    pub use sip_context_events::{Sent, is_accepted};
+/// Of `sip_context_branches`.
+pub mod context_branches {
+    pub use sip_context_branches::{answer_due, branch_due};
 }
 
-/// Of `sip_context_resend`.
-pub mod context_resend {
-    pub use sip_context_resend::{answer_due, branch_due};
+/// Of `sip_context_packets`.
+pub mod context_packets {
+    pub use sip_context_packets::{
+        answer_packet, answer_to, made_answer, packets_of_branches, written_answer,
+    };
+}
+
+/// Of `sip_state`.
+pub mod state {
+    pub use sip_context_branches::state::{Branch, OpenRequest, Server, first_resend, is_invite};
 }

@@ -1,2 +1,3 @@
 pub mod EitherMoment
 pub mod Lists
+pub mod ResentLists

@@ -3,14 +3,9 @@ ghost use Rattle.model_context.specs.state.State as States;
 ghost use Rattle.model_context.specs.Branches as Contexts;
 
 use crate::phase::{is_final, is_ready};
-use model_context::state::{Branch, Phase, Resend};
+use model_context::state::{Branch, Phase, Resend, first_resend};
+use sip_timers::T1;
 use std::alloc::AllocError;
-
-/// How long a CANCEL, and a branch that was sent one, wait for their final answers, in milliseconds.
-pub(crate) const FINAL_WAIT: u64 = 32_000;
-
-/// How long what was sent waits before it goes again for the first time, in milliseconds (RFC 3261 17.1.1.1: T1).
-const FIRST_WAIT: u64 = 500;
 
 /// Whether two branches are one: their numbers and whether they are CANCELs agree.
 pub(crate) fn is_same_branch(left: &Branch, right: &Branch) -> bool
@@ -65,17 +60,6 @@ pub(crate) fn is_cancellable(branch: &Branch) -> bool
     !branch.is_cancel && branch.wants_cancel && is_ready(branch.phase)
 }
 
-/// What is sent at a moment goes again for the first time (RFC 3261 17.1.1.2).
-fn first_resend(now: u64) -> Resend
-    requires { now + 32000 < 2 ^ 64 }
-    ensures { result ≡ States.first_resend now }
-{
-    Resend {
-        due: now + FIRST_WAIT,
-        wait: FIRST_WAIT,
-    }
-}
-
 /// The CANCEL of a branch, which is sent now.
 pub(crate) fn cancel_branch(now: u64, branch: &Branch) -> Result<Branch, AllocError>
     requires { now + 32000 < 2 ^ 64 }
@@ -85,7 +69,7 @@ pub(crate) fn cancel_branch(now: u64, branch: &Branch) -> Result<Branch, AllocEr
     cancel.is_cancel = true;
     cancel.wants_cancel = false;
     cancel.phase = Phase::Unheard {
-        until: now + FINAL_WAIT,
+        until: now + 64 * T1,
     };
     cancel.again = first_resend(now);
     Ok(cancel)
@@ -98,7 +82,7 @@ pub(crate) fn held_branch(now: u64, branch: &Branch) -> Result<Branch, AllocErro
 {
     let mut held = branch.clone()?;
     held.phase = Phase::Cancelled {
-        until: now + FINAL_WAIT,
+        until: now + 64 * T1,
     };
     Ok(held)
 }

@@ -3,12 +3,7 @@ ghost use Rattle.model_context.specs.Branches as Contexts;
 ghost use Rattle.sip_context_branches.specs.Early.{IsEarly};
 
 use model_context::state::Phase;
-
-/// Timer C: how long a branch of an INVITE waits for its final answer, in milliseconds (RFC 3261 16.8).
-const TIMER_C: u64 = 185_000;
-
-/// How much longer Timer C is than the wait for a first response, in milliseconds.
-const BEHIND_FIRST_WAIT: u64 = 153_000;
+use sip_timers::{TIMER_C, TIMER_C_PAST_B};
 
 /// Until when a branch of an INVITE that is heard waits for its final answer: a 100 lets its wait run, 101 to 199 set
 /// Timer C anew.
@@ -33,7 +28,7 @@ pub fn invite_heard(now: u64, status: u16, phase: Phase) -> Phase
 {
     match phase {
         Phase::Unheard { until } => Phase::Heard {
-            until: heard_until(now, status, until + BEHIND_FIRST_WAIT),
+            until: heard_until(now, status, until + TIMER_C_PAST_B),
         },
         Phase::Heard { until } => Phase::Heard {
             until: heard_until(now, status, until),

@@ -10,7 +10,7 @@ use Rattle.sip_route.specs.declared.own.Own.{Own}
 use Rattle.sip_route.specs.declared.routes_kept.RoutesKept.{RoutesKept}
 use Rattle.sip_route.specs.RoutesKept.{fields_kept}
 use Rattle.sip_route.specs.Way.{fields_left, request_uri}
-use Rattle.model_context.specs.edit_onward.Onward.{onward_base, onward_of, to_target, with_record_route}
+use Rattle.sip_edit.specs.Onward.{onward_base, onward_of, to_target, with_record_route}
 use Rattle.sip_edit.specs.OwnVia.{branch_text}
 use Rattle.sip_edit.specs.OwnRequests.{ack_with, cancel_of}
 use Rattle.sip_edit.specs.ReceivedRequest.{received, received_fields}

@@ -6,7 +6,7 @@ use Rattle.sip_message_fields.specs.Values.{with_first}
 use Rattle.sip_message_form.specs.declared.message.Message.{Message}
 use Rattle.sip_message_form.specs.Text.{text_of}
 use Rattle.sip_edit.specs.OwnVia.{branch_text, own_via}
-use Rattle.model_context.specs.edit_onward.Onward.{onward_base, to_target}
+use Rattle.sip_edit.specs.Onward.{onward_base, to_target}
 use Rattle.sip_edit.specs.OwnRequests.{ack_with, cancel_of}
 use Rattle.sip_event.specs.declared.packet.Packet.{Packet}
 use Rattle.model_context.specs.state.declared.server.Server.{Server}
@@ -37,7 +37,12 @@ sent_by server number base b = if b.is_cancel then cancel_of (request_by server 
 -- a message to the address of a branch, if it has one
 abbrev pub packet_to : Branch → ℕ → ℕ → Bool → Message → List Packet
 packet_to b number target again m =
-    option_map_or (λ address. record { to = address; bytes = text_of m; ticket = record { datagram = number; branch = target }; again = again } ∷ []) b.address []
+    option_map_or (λ address. record {
+      to = address;
+      bytes = text_of m;
+      ticket = record { datagram = number; branch = target };
+      again = again;
+    } ∷ []) b.address []
 
 -- what a branch sends, as a packet
 unfoldable pub packets_by : Server → Bool → ℕ → Message → Branch → List Packet

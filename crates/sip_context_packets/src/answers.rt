@@ -3,8 +3,7 @@ ghost use Rattle.sip_message_form.specs.Text.{text_of};
 ghost use Rattle.sip_edit_response.specs.Reply.{reply_of};
 ghost use Rattle.model_context.specs.Sending as Spec;
 
-use model_context::context_request::Heard;
-use model_context::state::{OpenRequest, Server, Written};
+use model_context::state::{Heard, OpenRequest, Server, Written};
 use sip_edit_response::{reply_view, respond, to_tag};
 use sip_event::{Packet, Ticket};
 use sip_message_fields::Fields;
@@ -98,7 +97,8 @@ pub fn written_answer(
     open_request: &OpenRequest,
     status: u16,
 ) -> Result<Written, AllocError>
-    ensures { IfOk result (λ written. written ≡ Spec.made_answer server.now open_request.now.number open_request.now.request open_request.now.source status []) }
+    ensures { IfOk result (λ written. written ≡ Spec.made_answer server.now open_request.now.number open_request.now.request
+        open_request.now.source status []) }
 {
     let request = open_request.request.get();
     let via = request.received_via(alloc, open_request.source)?;

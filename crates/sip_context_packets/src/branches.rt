@@ -10,23 +10,14 @@ ghost use Rattle.model_context.specs.state.State.{is_invite};
 ghost use Rattle.model_context.specs.Sending as Spec;
 ghost use Rattle.sip_context_packets.specs.Base;
 
-use model_context::context_request::Heard;
-use model_context::edit_onward::{onward_base_by, to_target};
-use model_context::state::{Branch, OpenRequest, Server};
-use sip_edit::{ack_with, branch_text, cancel_of, own_via_value};
+use model_context::state::{Branch, Heard, OpenRequest, Server, is_invite};
+use sip_edit::{ack_with, branch_text, cancel_of, onward_base_by, own_via_value, to_target};
 use sip_event::{Packet, Ticket};
 use sip_message_form::{View, write_view};
 use sip_route::RoutesKept;
 use sip_text::{Bytes, Items};
 use sip_uri::Addr;
 use std::alloc::{AllocError, Global};
-
-/// Whether an open request is an INVITE.
-fn is_invite(request: &OpenRequest) -> bool
-    ensures { result ≡ is_invite request.now }
-{
-    request.key.get().is_method(b"INVITE")
-}
 
 /// Whether an open request is an INVITE that begins a dialog.
 fn begins_dialog(alloc: Global, request: &OpenRequest) -> Result<bool, AllocError>
@@ -103,7 +94,8 @@ fn put_packet(
     branch: u32,
     again: bool,
 ) -> Result<(), AllocError>
-    ensures { OnOk result (out.new ≡ out.old ++ record { to = to; bytes = bytes; ticket = record { datagram = datagram; branch = branch }; again = again } ∷ []) }
+    ensures { OnOk result
+        (out.new ≡ out.old ++ record { to = to; bytes = bytes; ticket = record { datagram = datagram; branch = branch }; again = again } ∷ []) }
 {
     let ticket = Ticket { datagram, branch };
     out.push(Packet {
@@ -188,8 +180,10 @@ fn put_received_branch(
     via: &[u8],
     branch: &Branch,
 ) -> Result<(), AllocError>
-    requires { fields_kept routes (with_first Name.Via via.now request.now.fields) ≡ fields_left server.now.config.own (request_uri request.now.start) (with_first Name.Via via.now request.now.fields) }
-    ensures { OnOk result (out.new ≡ out.old ++ Base.packets_by server.now again number (Base.base_over server.now begins_dialog via.now request.now) branch.now) }
+    requires { fields_kept routes (with_first Name.Via via.now request.now.fields)
+        ≡ fields_left server.now.config.own (request_uri request.now.start) (with_first Name.Via via.now request.now.fields) }
+    ensures { OnOk result (out.new ≡ out.old ++ Base.packets_by server.now again number
+        (Base.base_over server.now begins_dialog via.now request.now) branch.now) }
 {
     let received = request.with_top_via(alloc, via)?;
     let base = base_of(alloc, server, begins_dialog, routes, &received)?;
@@ -329,8 +323,11 @@ fn put_received_branches(
     via: &[u8],
     branches: &[Branch],
 ) -> Result<(), AllocError>
-    requires { fields_kept routes (with_first Name.Via via.now request.now.fields) ≡ fields_left server.now.config.own (request_uri request.now.start) (with_first Name.Via via.now request.now.fields) }
-    ensures { OnOk result (out.new ≡ out.old ++ flat_map (Base.packets_by server.now again number (Base.base_over server.now begins_dialog via.now request.now)) branches.now) }
+    requires { fields_kept routes (with_first Name.Via via.now request.now.fields)
+        ≡ fields_left server.now.config.own (request_uri request.now.start) (with_first Name.Via via.now request.now.fields) }
+    ensures { OnOk result
+        (out.new ≡ out.old ++ flat_map (Base.packets_by server.now again number
+        (Base.base_over server.now begins_dialog via.now request.now)) branches.now) }
 {
     let received = request.with_top_via(alloc, via)?;
     let base = base_of(alloc, server, begins_dialog, routes, &received)?;
@@ -396,7 +393,9 @@ fn ack_bytes(
     branch: &Branch,
     to: Option<&[u8]>,
 ) -> Result<Bytes, AllocError>
-    ensures { IfOk result (λ text. text ≡ text_of (OwnRequests.ack_with (option_map (λ value. value.now) to.entry) (Base.request_by server.now number base.now branch.now))) }
+    ensures { IfOk result
+        (λ text. text ≡ text_of (OwnRequests.ack_with (option_map (λ value. value.now) to.entry)
+        (Base.request_by server.now number base.now branch.now))) }
 {
     let request = request_to(alloc, server, number, base, branch)?;
     let ack = ack_with(alloc, to, &request)?;
@@ -438,8 +437,10 @@ fn put_received_ack(
     branch: &Branch,
     to: Option<&[u8]>,
 ) -> Result<(), AllocError>
-    requires { fields_kept routes (with_first Name.Via via.now request.now.fields) ≡ fields_left server.now.config.own (request_uri request.now.start) (with_first Name.Via via.now request.now.fields) }
-    ensures { OnOk result (out.new ≡ out.old ++ Base.acks_by server.now again number (Base.base_over server.now begins_dialog via.now request.now) branch.now (option_map (λ value. value.now) to.entry)) }
+    requires { fields_kept routes (with_first Name.Via via.now request.now.fields)
+        ≡ fields_left server.now.config.own (request_uri request.now.start) (with_first Name.Via via.now request.now.fields) }
+    ensures { OnOk result (out.new ≡ out.old ++ Base.acks_by server.now again number
+        (Base.base_over server.now begins_dialog via.now request.now) branch.now (option_map (λ value. value.now) to.entry)) }
 {
     let received = request.with_top_via(alloc, via)?;
     let base = base_of(alloc, server, begins_dialog, routes, &received)?;

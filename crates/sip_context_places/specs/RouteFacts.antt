@@ -56,7 +56,11 @@ is_recorded uri = has_lr uri && same uri (route_at uri.host uri.port)
 
 -- where it leads then, and where the first Route but the last one does
 abbrev pub recorded_in : List (List ℕ) → Uri → Option RecordedPlace
-recorded_in routes uri = if is_recorded uri then Some (record { host = uri.host; port = uri.port; first = first_place (all_but_last routes) }) else None
+recorded_in routes uri = if is_recorded uri then Some (record {
+  host = uri.host;
+  port = uri.port;
+  first = first_place (all_but_last routes);
+}) else None
 
 -- the same of a Request-URI, where a last Route can take its place
 abbrev pub recorded_of : List ℕ → List (List ℕ) → Option RecordedPlace
@@ -81,7 +85,8 @@ kept_from own first count =
 -- where the Request-URI is this server's Record-Route the last one doesn't stay
 abbrev pub kept_where : Own → RouteFacts → Option RecordedPlace → RoutesKept
 kept_where own facts None = kept_from own facts.first facts.count
-kept_where own facts (Some place) = if is_own_record own place then kept_from own place.first (facts.count - 1) else kept_from own facts.first facts.count
+kept_where own facts (Some place) = if is_own_record own place then kept_from own place.first (facts.count - 1)
+    else kept_from own facts.first facts.count
 
 -- which Routes are left for a server
 abbrev pub kept_by : Own → RouteFacts → RoutesKept

@@ -5,7 +5,8 @@ ghost use Rattle.sip_dialog.specs.Addresses as Given;
 ghost use Rattle.sip_context_places.specs.Given as Spec;
 
 use crate::route_facts::Place;
-use sip_header::{AnyUri, NameAddr, bracketed_place, name_addr_of, route_of};
+use sip_dialog::item_in;
+use sip_header::{AnyUri, bracketed_place};
 use sip_hops::{is_by_udp, port_or_default};
 use sip_message_fields::{FieldName, ViewField};
 use sip_text::{Bytes, Items};
@@ -36,19 +37,6 @@ fn place_by(alloc: Global, uri: &AnyUri<'_>) -> Result<Option<Place>, AllocError
         AnyUri::Sip(uri) => place_by_udp(alloc, uri),
         AnyUri::Other(_) => Ok(None),
     }
-}
-
-/// What a Contact or a Record-Route says.
-fn item_in<'v>(alloc: Global, field: &'v ViewField<'_>) -> Result<Option<NameAddr<'v>>, AllocError>
-    ensures { IfOk result (λ item. item ≡ Given.item_in field.now) }
-{
-    if field.name().is_same(&FieldName::Contact) {
-        return name_addr_of(alloc, field.value().as_slice());
-    }
-    if field.name().is_same(&FieldName::RecordRoute) {
-        return route_of(alloc, field.value().as_slice());
-    }
-    Ok(None)
 }
 
 /// Whether a field is a Contact or a Record-Route.

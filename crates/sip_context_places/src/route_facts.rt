@@ -1,8 +1,7 @@
-ghost use Rattle.std.specs.Prelude.{◌≡◌, IfOk, map, is_some, if◌then◌else◌, false, codes, Some, None, ◌∷◌, [], decimal};
+ghost use Rattle.std.specs.Prelude.{◌≡◌, ◌∷◌, [], IfOk, map, is_some, if◌then◌else◌, false, Some, None, decimal};
 ghost use Rattle.std.specs.Option.{option_map_or};
 ghost use Rattle.sip_uri_equality.specs.Equality.{both_or_none, says_same_no_case as SaysSame};
 ghost use Rattle.sip_text.specs.Splits.{split_at_byte};
-ghost use Rattle.sip_message_form.specs.ViewStart.{start_seen};
 ghost use Rattle.sip_message_fields.specs.declared.field_name.FieldName.TheVariants as Name;
 ghost use Rattle.sip_message_fields.specs.Values.{values_of};
 ghost use Rattle.sip_route.specs.Way as Ways;
@@ -11,10 +10,10 @@ ghost use Rattle.sip_context_places.specs.RouteFacts as Facts;
 
 use sip_header::{AnyUri, bracketed_place, route_of};
 use sip_message_fields::FieldName;
-use sip_message_form::{View, ViewStart};
-use sip_route::{Own, RoutesKept};
+use sip_message_form::View;
+use sip_route::{Own, RoutesKept, has_lr, loose_routing, request_uri};
 use sip_text::{Bytes, Items, split_once};
-use sip_uri::{Parameter, Scheme, Uri, UriError, parse_uri};
+use sip_uri::{Scheme, Uri, UriError, parse_uri};
 use sip_uri_equality::{same, says_same_no_case};
 use std::alloc::{AllocError, Global};
 
@@ -109,16 +108,6 @@ fn can_replace(alloc: Global, routes: &[&[u8]]) -> Result<bool, AllocError>
     }
 }
 
-/// The parameter `lr`, alone.
-fn loose_routing(alloc: Global) -> Result<Items<Parameter>, AllocError>
-    ensures { IfOk result (λ parameters. parameters ≡ record { name = codes "lr"; value = None } ∷ []) }
-{
-    let mut parameters = Items::new(alloc);
-    let name = Bytes::copy(alloc, b"lr")?;
-    parameters.push(Parameter { name, value: None })?;
-    Ok(parameters)
-}
-
 /// The URI that a server at the host and the port of another puts into Record-Route.
 fn route_at(alloc: Global, uri: &Uri) -> Result<Uri, AllocError>
     ensures { IfOk result (λ route. route ≡ Facts.route_at uri.now.host uri.now.port) }
@@ -136,16 +125,6 @@ fn route_at(alloc: Global, uri: &Uri) -> Result<Uri, AllocError>
     })
 }
 
-/// Whether a URI has `lr` (RFC 3261 19.1.1), escapes resolved.
-fn has_lr(uri: &Uri) -> bool
-    ensures { result ≡ Ways.has_lr uri.now }
-{
-    uri.parameters.as_slice().iter().any(|parameter| says_same_no_case(
-        parameter.name.as_slice(),
-        b"lr",
-    ))
-}
-
 /// Whether a URI is the one that the server at its own host and port puts into Record-Route.
 fn is_recorded(alloc: Global, uri: &Uri) -> Result<bool, AllocError>
     ensures { IfOk result (λ t. t ≡ Facts.is_recorded uri.now) }
@@ -159,7 +138,13 @@ fn is_recorded(alloc: Global, uri: &Uri) -> Result<bool, AllocError>
 
 /// Where a URI leads, and where the first Route but the last one does.
 fn recorded_place(alloc: Global, uri: &Uri, routes: &[&[u8]]) -> Result<RecordedPlace, AllocError>
-    ensures { IfOk result (λ place. place ≡ record { host = uri.now.host; port = uri.now.port; first = Facts.first_place (all_but_last (map (λ x. x.now) routes.now)) }) }
+    ensures { IfOk result
+        (λ place. place ≡ record {
+          host = uri.now.host;
+          port = uri.now.port;
+          first = Facts.first_place
+              (all_but_last (map (λ x. x.now) routes.now));
+        }) }
 {
     let host = uri.host.clone()?;
     let port = uri.port.clone()?;
@@ -175,7 +160,8 @@ fn recorded_in(
     uri: &Uri,
     routes: &[&[u8]],
 ) -> Result<Option<RecordedPlace>, AllocError>
-    ensures { IfOk result (λ place. place ≡ if is_some (Ways.last_route (map (λ x. x.now) routes.now)) then Facts.recorded_in (map (λ x. x.now) routes.now) uri.now else None) }
+    ensures { IfOk result (λ place. place ≡ if is_some (Ways.last_route (map (λ x. x.now) routes.now))
+        then Facts.recorded_in (map (λ x. x.now) routes.now) uri.now else None) }
 {
     if !is_recorded(alloc, uri)? {
         return Ok(None);
@@ -226,16 +212,6 @@ fn facts_of(alloc: Global, uri: &[u8], routes: &[&[u8]]) -> Result<RouteFacts, A
         first,
         count: routes.len(),
     })
-}
-
-/// The Request-URI as it came; a response has none.
-fn request_uri<'v>(start: &ViewStart<'v>) -> &'v [u8]
-    ensures { result.now ≡ Ways.request_uri (start_seen start.now) }
-{
-    match start {
-        ViewStart::Request { uri, .. } => uri,
-        ViewStart::Status { .. } => b"",
-    }
 }
 
 /// Whether some digits of a port are those of a number.

@@ -3,3 +3,5 @@ pub mod ByMethod
 pub mod Going
 pub mod Checking
 pub mod Deciding
+pub mod OneCSeq
+pub mod DecidingKeys

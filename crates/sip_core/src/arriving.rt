@@ -8,7 +8,7 @@ ghost use Rattle.sip_header.specs.CoreFields.{core_of};
 ghost use Rattle.sip_transaction_table.specs.declared.key.Key.{Key};
 ghost use Rattle.sip_location.specs.declared.binding.Binding.{Binding};
 ghost use Rattle.model_verdict.specs.state.Arrival.{Arrival};
-ghost use Rattle.model_verdict.specs.context_request.Names.{AreNames};
+ghost use Rattle.model_verdict.specs.state.Names.{AreNames};
 ghost use Rattle.model_verdict.specs.state.declared.open_request.OpenRequest.{OpenRequest};
 ghost use Rattle.model_verdict.specs.state.declared.proxy_state.ProxyState.{ProxyState};
 ghost use Rattle.model_verdict.specs.state.declared.server.Server.{Server};
@@ -18,14 +18,15 @@ ghost use Rattle.model_verdict.specs.Verdict as Definition;
 ghost use Rattle.sip_core.specs.Verdict as Spec;
 ghost use Rattle.sip_core.specs.Verdict.{Is, IsRequestOf, Knows, HasRoom, goes_on};
 
+use crate::Judge;
 use crate::acknowledging::ack_verdict;
 use crate::cancelling::cancel_verdict;
 use crate::checks::check;
 use crate::policy::policy_verdict;
+use crate::question::is_register;
 use crate::verdict::{Outcome, Verdict};
 use crate::within::within;
-use crate::{Judge, is_register};
-use model_verdict::context_request::Names;
+use model_verdict::state::Names;
 use sip_dialog::Dialogs;
 use sip_digest::Nonces;
 use sip_edit_response::unsupported_field;
@@ -241,7 +242,7 @@ fn checked_verdict<'v, R: Rules>(
 }
 
 /// Whether a method is ACK.
-fn is_ack(method: &[u8]) -> bool
+pub fn is_ack(method: &[u8]) -> bool
     ensures { result ≡ bytes_eq method.now (codes "ACK") }
 {
     method == b"ACK".as_slice()

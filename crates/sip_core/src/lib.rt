@@ -1,10 +1,17 @@
-//! What is to be done with a request that no open one is found for, of all that a server knows: the first case that applies
-//! (RFC 3261 9.2, 10.3, 16.3 to 16.5); and what the configured server judges of it: what policy is asked and decides, what a
-//! REGISTER asks for and comes to, and where a request goes (`Judge`). It decides, and changes nothing.
+//! What a datagram is, of all that finds what it belongs to: a response, with the branch and the method that find the
+//! branch of an open request, or a request, with the key that finds an open one; or nothing (RFC 3261 16.7 step 1,
+//! 17.1.3, 17.2.3). And what is to be done with a request that no open one is found for, of all that a server knows: the
+//! first case that applies (9.2, 10.3, 16.3 to 16.5), with what the configured server judges of it: what policy is asked
+//! and decides, what a REGISTER asks for and comes to, and where a request goes (`Judge`). It decides, looks nothing up
+//! among the open requests, and changes nothing.
 //!
-//! - Used: `sip_engine` asks it about each new request and each ACK (`Judge`).
-//! - Not here: the carrying out of a verdict: `sip_uas`, `sip_forwarding`.
+//! - Used: `sip_engine`, first of all, and then about each new request and each ACK.
+//! - Not here: the tables that it gives keys for; the carrying out of a verdict: `sip_uas`, `sip_forwarding`.
 //! - Tried: `test_server` by its stored runs.
+//!
+//! ```text
+//! let incoming = incoming_of(alloc, &own, &message, short)?;
+//! ```
 #![tactic(auto)]
 
 mod acknowledging;
@@ -12,30 +19,34 @@ mod arriving;
 mod cancelling;
 mod checks;
 mod copies;
+mod datagram;
+mod incoming;
 mod judge;
+mod key_reading;
+pub mod laws;
 mod policy;
 mod question;
+mod reading;
 mod registering;
 mod registration;
+mod requesting;
+mod responding;
 mod targeting;
 mod verdict;
 mod within;
 
 pub use acknowledging::ack_verdict;
-pub use arriving::new_verdict;
+pub use arriving::{is_ack, new_verdict};
+pub use datagram::read_datagram;
+pub use incoming::Incoming;
 pub use judge::Judge;
-pub use question::is_register;
+pub use reading::incoming_of;
 pub use registering::Registering;
 pub use verdict::{Judged, Outcome, Verdict};
 
-/// Of `sip_context_request`.
-pub mod context_request {
-    pub use model_verdict::context_request::{Heard, Names};
-}
-
 /// Of `sip_state`.
 pub mod state {
-    pub use model_verdict::state::{OpenRequest, Server};
+    pub use model_verdict::state::{Heard, Names, OpenRequest, Server};
 }
 
 /// Of `model_verdict`.

@@ -4,8 +4,9 @@ ghost use Rattle.sip_route.specs.Way.{request_uri_of};
 ghost use Rattle.model_verdict.specs.Verdict as Definition;
 ghost use Rattle.sip_core.specs.Verdict.{IsOutcome, HasRoomFor};
 
+use crate::Judge;
+use crate::question::is_register;
 use crate::verdict::{Judged, Outcome};
-use crate::{Judge, is_register};
 use model_verdict::Question;
 use sip_digest::Nonces;
 use sip_location::Locations;

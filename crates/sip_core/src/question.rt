@@ -18,7 +18,7 @@ use sip_uri::{Aor, Uri, aor_of};
 use std::alloc::{AllocError, Global};
 
 /// Whether a method is REGISTER. Takes no memory.
-pub fn is_register(method: &[u8]) -> bool
+pub(crate) fn is_register(method: &[u8]) -> bool
     ensures { result ≡ Verdict.is_register method.now }
 {
     method == b"REGISTER".as_slice()

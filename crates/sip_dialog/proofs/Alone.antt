@@ -1,115 +1,128 @@
--- A table has one row of a name at most.
-use Rattle.std.proofs.Common.{◌≡◌, ℕ, zero, suc, is_some, ◌+◌, ◌≤◌, ◌<◌, List, [], ◌∷◌, length, cond, Bool, true, false, refl, sym, ◌∙◌, ap, arith, slice_get, position, Option, None, Some, option_map}
-use Rattle.std.specs.Prelude.{◌&&◌, count_by, IfSome, MatchOption}
-use Rattle.std.specs.List.{IsDistinct, AllByRecursion}
-use Rattle.std.specs.Map.{keys_of, lookup}
-use Rattle.std.proofs.lemmas.Map.Keys.{IsDistinct-head, IsDistinct-tail}
+-- A table has one row of a name at most, and its digest leads to it.
+use Rattle.std.proofs.Common.{◌≡◌, ℕ, zero, suc, ◌+◌, ◌≤◌, ◌<◌, List, [], ◌∷◌, length, map, cond, Bool, true, false, refl, sym, ◌∙◌, ap, ap₂, subst, arith, slice_get, get_or, position, Option, None, Some, option_map, eq-eqb}
+use Rattle.std.specs.List.{position_or_len}
+use Rattle.std.specs.Prelude.{◌&&◌, not, count_by, nat_eq, nat_lt, fold, MatchOption}
+use Rattle.std.proofs.lemmas.Bool.Decides.{nat_tests}
+use Rattle.std.proofs.lemmas.List.{length-map}
 use Rattle.std.proofs.lemmas.List.Quantifiers.{position-Some}
-use Rattle.std.proofs.lemmas.Option.{slice_get_within, slice_get-map, get_or_from_slice_get}
+use Rattle.std.proofs.lemmas.List.Sums.{fails_before_first}
+use Rattle.std.proofs.lemmas.Option.{slice_get_within, slice_get-map, slice_get-get_or, same_Some}
+use Rattle.sip_base.specs.WordHasher as sip
+use Rattle.sip_base.specs.declared.word_hasher.WordHasher.{WordHasher}
 use Rattle.sip_dialog.specs.declared.dialog.DialogId.{DialogId}
 use Rattle.sip_dialog.specs.declared.standing.Standing.{Standing}
-use Rattle.sip_dialog.specs.DialogId.{is_same_dialog}
-use Rattle.sip_dialog.specs.SameNames.{alike}
-use Rattle.sip_dialog.specs.Rows.{names, StandsAt, StandsNowhere}
-use Rattle.sip_dialog.proofs.Sameness.{count_first}
+use Rattle.sip_dialog.specs.Digests.{StandsOnce, IsPlace}
+use Rattle.sip_dialog.specs.Naming.{digest_of}
+use Rattle.sip_dialog.specs.SameNames.{fed_alike}
+use Rattle.sip_dialog.specs.Rows.{names, AreNamed, StandsAt, StandsNowhere}
+use Rattle.sip_dialog.proofs.Sameness.{count_first, count_map, count_alike, split_by, counted_at}
 
 abbrev pub Row : Type 0
 Row = DialogId × Standing
 
--- rows of other names
-others : (id : DialogId) (stored : DialogId) (rows : List Row) → names id stored ≡ true → AllByRecursion (λ k. is_same_dialog k stored ≡ false) (keys_of rows)
-    → (test : Row → Bool) → count_by (λ r. names id r.0 && test r) rows ≡ 0
-others id stored [] h differ test = refl
-others id stored (r ∷ rows) h differ test =
-    let other : names id r.0 ≡ false = alike.congr id stored r.0 h ∙ differ.0 in
-    let rest = others id stored rows h differ.1 test in
-    let here : cond (names id r.0 && test r) 1 0 ≡ 0 = ap (λ (b : Bool). cond {A = ℕ} (b && test r) 1 0) other in
-    omega (arith, count_first (λ r. names id r.0 && test r) r rows, rest, here)
+pub and_turned : (x y : Bool) → (x && y) ≡ (y && x)
+and_turned true true = refl
+and_turned true false = refl
+and_turned false true = refl
+and_turned false false = refl
 
--- where no row is found, none stands
-nowhere : (id : DialogId) (rows : List Row) → lookup (names id) rows ≡ None → (test : Row → Bool) → count_by (λ r. names id r.0 && test r) rows ≡ 0
-nowhere id [] h test = refl
-nowhere id (r ∷ rows) h test = count_first (λ r. names id r.0 && test r) r rows ∙ by_test (names id r.0) h (λ e. nowhere id rows e test) where
-  by_test : (named : Bool) → cond named (Some r.1) (lookup (names id) rows) ≡ None → (lookup (names id) rows ≡ None → count_by (λ r. names id r.0 && test r) rows ≡ 0)
-      → cond (named && test r) 1 0 + count_by (λ r. names id r.0 && test r) rows ≡ 0
-  by_test true e rest = absurd (cc)
-  by_test false e rest = let none = rest e in omega (arith, none)
+none_there : (p : Row → Bool) (rows : List Row) → ((k : ℕ) (d : Row) → k < length rows → p (get_or rows k d) ≡ false) → count_by p rows ≡ 0
+none_there p [] h = refl
+none_there p (r ∷ rows) h =
+    let here : cond {A = ℕ} (p r) 1 0 ≡ 0 = ap (λ (b : Bool). cond {A = ℕ} b 1 0) (h zero r (omega arith)) in
+    omega (arith, count_first p r rows, here, none_there p rows (λ k d lt. h (suc k) d (omega (arith, lt))))
 
-pub stands_nowhere : (id : DialogId) (rows : List Row) → lookup (names id) rows ≡ None → StandsNowhere id rows
-stands_nowhere id rows h = record { none = nowhere id rows h }
+place_read : (p : Row → Bool) (rows : List Row) (at : ℕ) → position p rows ≡ Some at → (row : Row) × (slice_get rows at ≡ Some row) × (p row ≡ true)
+place_read p [] at e = absurd (cc)
+place_read p (r ∷ rows) at e = let is = position-Some p (r ∷ rows) at r e in (get_or (r ∷ rows) at r, slice_get-get_or (r ∷ rows) at r is.0, is.1)
 
--- where none stands, none is found
-not_found : (id : DialogId) (rows : List Row) → count_by (λ r. names id r.0 && true) rows ≡ 0 → lookup (names id) rows ≡ None
-not_found id [] e = refl
-not_found id (r ∷ rows) e = by_test (names id r.0) refl (not_found id rows) where
-  by_test : (named : Bool) → names id r.0 ≡ named → (count_by (λ r. names id r.0 && true) rows ≡ 0 → lookup (names id) rows ≡ None) → cond named (Some r.1) (lookup (names id) rows) ≡ None
-  by_test true is rest =
-      let here : cond (names id r.0 && true) 1 0 ≡ 1 = ap (λ (b : Bool). cond {A = ℕ} (b && true) 1 0) is in
-      absurd (omega (arith, count_first (λ r. names id r.0 && true) r rows, e, here))
-  by_test false is rest = rest (omega (arith, count_first (λ r. names id r.0 && true) r rows, e))
+module _ (id : DialogId) (rows : List Row) where
+  -- the rows of a name, by a further test
+  split : (test : Row → Bool) → count_by (λ r. names id r.0) rows ≡ count_by (λ r. names id r.0 && test r) rows + count_by (λ r. names id r.0 && not (test r)) rows
+  split test =
+      let one = count_alike (λ (r : Row). test r && names id r.0) (λ r. names id r.0 && test r) rows (λ r. and_turned (test r) (names id r.0)) in
+      let other = count_alike (λ (r : Row). not (test r) && names id r.0) (λ r. names id r.0 && not (test r)) rows (λ r. and_turned (not (test r)) (names id r.0)) in
+      omega (arith, split_by test (λ r. names id r.0) rows, one, other)
 
-pub found_nowhere : (id : DialogId) (rows : List Row) → StandsNowhere id rows → lookup (names id) rows ≡ None
-found_nowhere id rows h = not_found id rows (h.none (λ r. true))
+  stands_nowhere : count_by (λ r. names id r.0) rows ≡ 0 → StandsNowhere id rows
+  stands_nowhere h = record { none = λ test. omega (arith, split test, h) }
 
--- rows that stand at an index, counted
-pub counted_at : (test : Row → Bool) (rows : List Row) (at : ℕ) (row : Row) → slice_get rows at ≡ Some row → cond (test row) 1 0 ≤ count_by test rows
-counted_at test [] at row h = absurd (cc)
-counted_at test (r ∷ rows) zero row h = let is : r ≡ row = cc in let here : cond (test r) 1 0 ≡ cond (test row) 1 0 = ap (λ (x : Row). cond {A = ℕ} (test x) 1 0) is in omega (arith, count_first test r rows, here)
-counted_at test (r ∷ rows) (suc at) row h = let rest = counted_at test rows at row h in omega (arith, count_first test r rows, rest)
+  stands_at : count_by (λ r. names id r.0) rows ≤ 1 → (at : ℕ) (row : Row) → slice_get rows at ≡ Some row → names id row.0 ≡ true → StandsAt id rows at
+  stands_at once at row there named = record { row = row; there = there; named = named; alone = λ test. by_test test (test row) refl } where
+    by_test : (test : Row → Bool) (t : Bool) → test row ≡ t → count_by (λ r. names id r.0 && test r) rows ≡ cond (test row) 1 0
+    by_test test true is =
+        let here : cond {A = ℕ} (names id row.0 && test row) 1 0 ≡ 1 = rw (named, is) refl in
+        let one : cond {A = ℕ} (test row) 1 0 ≡ 1 = rw is refl in
+        omega (arith, split test, once, counted_at (λ r. names id r.0 && test r) rows at row there, here, one)
+    by_test test false is =
+        let here : cond {A = ℕ} (names id row.0 && not (test row)) 1 0 ≡ 1 = rw (named, is) refl in
+        let none : cond {A = ℕ} (test row) 1 0 ≡ 0 = rw is refl in
+        omega (arith, split test, once, counted_at (λ r. names id r.0 && not (test r)) rows at row there, here, none)
 
--- the row at an index is the only one of its name
-alone_at : (id : DialogId) (rows : List Row) (at : ℕ) (row : Row) → IsDistinct (λ a b. is_same_dialog b a) (keys_of rows) → slice_get rows at ≡ Some row → names id row.0 ≡ true
-    → (test : Row → Bool) → count_by (λ r. names id r.0 && test r) rows ≡ cond (test row) 1 0
-alone_at id [] at row distinct h named test = absurd (cc)
-alone_at id (r ∷ rows) zero row distinct h named test =
-    let is : r ≡ row = cc in
-    let this : names id r.0 ≡ true = ap (λ (x : Row). names id x.0) is ∙ named in
-    let rest = others id r.0 rows this (IsDistinct-head (λ a b. is_same_dialog b a) r.0 (keys_of rows) distinct) test in
-    let here : cond (names id r.0 && test r) 1 0 ≡ cond (test row) 1 0 = ap (λ (b : Bool). cond {A = ℕ} (b && test r) 1 0) this ∙ ap (λ (x : Row). cond {A = ℕ} (test x) 1 0) is in
-    omega (arith, count_first (λ r. names id r.0 && test r) r rows, rest, here)
-alone_at id (r ∷ rows) (suc at) row distinct h named test =
-    let rest = alone_at id rows at row (IsDistinct-tail (λ a b. is_same_dialog b a) r.0 (keys_of rows) distinct) h named test in
-    let other = not_first (names id r.0) refl in
-    let here : cond (names id r.0 && test r) 1 0 ≡ 0 = ap (λ (b : Bool). cond {A = ℕ} (b && test r) 1 0) other in
-    omega (arith, count_first (λ r. names id r.0 && test r) r rows, rest, here)
-  where
-    not_first : (b : Bool) → names id r.0 ≡ b → names id r.0 ≡ false
-    not_first false is = is
-    not_first true is =
-        let none = others id r.0 rows is (IsDistinct-head (λ a b. is_same_dialog b a) r.0 (keys_of rows) distinct) (λ r. true) in
-        let one = counted_at (λ r. names id r.0 && true) rows at row h in
-        let passes : cond (names id row.0 && true) 1 0 ≡ 1 = ap (λ (b : Bool). cond {A = ℕ} (b && true) 1 0) named in
-        absurd (omega (arith, none, one, passes))
+  -- what a search among all finds
+  pub searched : count_by (λ r. names id r.0) rows ≤ 1 → MatchOption (position (λ r. names id r.0) rows) (StandsNowhere id rows) (StandsAt id rows)
+  searched once = by_place (position (λ (r : Row). names id r.0) rows) refl where
+    past_all : (n len : ℕ) → cond (nat_lt n len) (Some n) None ≡ None → len ≤ n
+    past_all n len e = grind (arith, nat_tests)
 
-pub past : (xs : List Row) (i : ℕ) → i < length xs → slice_get xs i ≡ None → ⊥
-past [] i lt e = omega arith
-past (x ∷ xs) zero lt e = cc
-past (x ∷ xs) (suc i) lt e = past xs i (omega arith) e
-
-stands_at : (id : DialogId) (rows : List Row) (at : ℕ) → IsDistinct (λ a b. is_same_dialog b a) (keys_of rows) → position (names id) (keys_of rows) ≡ Some at → at < length rows → StandsAt id rows at
-stands_at id rows at distinct found within = by_row (slice_get rows at) refl where
-  by_row : (row : Option Row) → slice_get rows at ≡ row → StandsAt id rows at
-  by_row None e = absurd (past rows at within e)
-  by_row (Some row) e =
-      let key : slice_get (keys_of rows) at ≡ Some row.0 = slice_get-map (λ (r : Row). r.0) rows at ∙ ap (λ (o : Option Row). option_map (λ (r : Row). r.0) o) e in
-      let passes = (position-Some (names id) (keys_of rows) at row.0 found).1 in
-      let named : names id row.0 ≡ true = ap (names id) (sym (get_or_from_slice_get (keys_of rows) at row.0 row.0 key)) ∙ passes in
-      record { row = row; there = e; named = named; alone = alone_at id rows at row distinct e named }
-
--- what a search by name found
-pub found_by : (id : DialogId) (rows : List Row) (r : Option ℕ) → r ≡ position (names id) (keys_of rows) → is_some r ≡ is_some (lookup (names id) rows) → IfSome r (λ at. at < length rows)
-    → IsDistinct (λ a b. is_same_dialog b a) (keys_of rows) → MatchOption r (StandsNowhere id rows) (StandsAt id rows)
-found_by id rows None index found within distinct = stands_nowhere id rows (nothing (lookup (names id) rows) found) where
-  nothing : (o : Option Standing) → false ≡ is_some o → o ≡ None
-  nothing None e = refl
-  nothing (Some s) e = absurd (cc)
-found_by id rows (Some at) index found within distinct = stands_at id rows at distinct (sym index) within
+    by_place : (o : Option ℕ) → position (λ (r : Row). names id r.0) rows ≡ o → MatchOption o (StandsNowhere id rows) (StandsAt id rows)
+    by_place None e =
+        let all = past_all (position_or_len (λ (r : Row). names id r.0) rows) (length rows) e in
+        stands_nowhere (none_there (λ r. names id r.0) rows (λ k d lt. fails_before_first (λ (r : Row). names id r.0) rows k d (omega (arith, all, lt))))
+    by_place (Some at) e = let read = place_read (λ (r : Row). names id r.0) rows at e in stands_at once at read.0 read.1 read.2
 
 -- what stands at an index stands within
 pub within : {id : DialogId} {rows : List Row} {at : ℕ} → StandsAt id rows at → at < length rows
 within {id} {rows} {at} h = slice_get_within rows at h.row h.there
 
--- what is no `Some`
-pub is_none : (o : Option ℕ) → ((at : ℕ) → o ≡ Some at → ⊥) → is_some o ≡ false
-is_none None h = refl
-is_none (Some at) h = absurd (h at refl)
+-- ---- by its digest
+
+alike_digests : (secret : WordHasher) (id stored : DialogId) → names id stored ≡ true → nat_eq (digest_of secret id) (digest_of secret stored) ≡ true
+unfolding digest_of
+alike_digests secret id stored e = eq-eqb _ _ (ap (λ (fed : List (List ℕ)). sip.finish (fold sip.write secret fed)) (fed_alike id stored e))
+
+module _ (secret : WordHasher) (id : DialogId) (rows : List Row) where
+  -- the rows of a name's digest: those of the name, and others
+  digest_counts : count_by (nat_eq (digest_of secret id)) (map (λ (r : Row). digest_of secret r.0) rows)
+      ≡ count_by (λ r. names id r.0) rows + count_by (λ r. not (names id r.0) && nat_eq (digest_of secret id) (digest_of secret r.0)) rows
+  digest_counts =
+      let own = count_alike (λ (r : Row). names id r.0 && nat_eq (digest_of secret id) (digest_of secret r.0)) (λ r. names id r.0) rows
+      (λ r. both (names id r.0) _ (alike_digests secret id r.0)) in
+      omega (
+        arith,
+        count_map (nat_eq (digest_of secret id)) (λ (r : Row). digest_of secret r.0) rows,
+        split_by (λ r. names id r.0) (λ r. nat_eq (digest_of secret id) (digest_of secret r.0)) rows,
+        own,
+      )
+    where
+      both : (a b : Bool) → (a ≡ true → b ≡ true) → (a && b) ≡ a
+      both true b h = h refl
+      both false b h = refl
+
+  -- what the digests say of it
+  module _ (digests : List ℕ) (d : ℕ) (named : AreNamed secret digests rows) (is_digest : d ≡ digest_of secret id) where
+    once : (o : Option ℕ) → IsPlace d digests o → IsPlace (digest_of secret id) (map (λ (r : Row). digest_of secret r.0) rows) o
+    once o is = subst (λ (l : List ℕ). IsPlace (digest_of secret id) l o) named.digested (subst (λ (n : ℕ). IsPlace n digests o) is_digest is)
+
+    -- where it is nowhere
+    pub digest_nowhere : count_by (nat_eq d) digests ≡ 0 → StandsNowhere id rows
+    digest_nowhere none = stands_nowhere id rows (omega (arith, digest_counts, once None none))
+
+    module _ (at : ℕ) (is : StandsOnce d digests at) where
+      pub digest_within : at < length rows
+      digest_within = omega (arith, slice_get_within digests at d is.there, ap (λ (l : List ℕ). length l) named.digested, length-map rows (λ (r : Row). digest_of secret r.0))
+
+      -- where the row of this digest has the name
+      pub digest_there : (row : Row) → slice_get rows at ≡ Some row → names id row.0 ≡ true → StandsAt id rows at
+      digest_there row there own = stands_at id rows (omega (arith, digest_counts, (once (Some at) is).once)) at row there own
+
+      -- and where it has another
+      pub digest_of_another : (row : Row) → slice_get rows at ≡ Some row → names id row.0 ≡ false → StandsNowhere id rows
+      digest_of_another row there other =
+          let digest : Some (digest_of secret row.0) ≡ Some (digest_of secret id) =
+          sym (slice_get-map (λ (r : Row). digest_of secret r.0) rows at ∙ ap (λ (o : Option Row). option_map (λ (r : Row). digest_of secret r.0) o) there) ∙ (once (Some at) is).there in
+          let same : nat_eq (digest_of secret id) (digest_of secret row.0) ≡ true = eq-eqb _ _ (sym (same_Some _ _ digest)) in
+          let here : cond {A = ℕ} (not (names id row.0) && nat_eq (digest_of secret id) (digest_of secret row.0)) 1 0 ≡ 1 =
+          ap₂ (λ (a b : Bool). cond {A = ℕ} (not a && b) 1 0) other same in
+          stands_nowhere id rows
+          (omega (arith, digest_counts, (once (Some at) is).once, counted_at (λ (r : Row). not (names id r.0) && nat_eq (digest_of secret id) (digest_of secret r.0)) rows at row there, here))

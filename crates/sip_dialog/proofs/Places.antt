@@ -1,16 +1,14 @@
 -- Which rows stand in front, and what moves where one is taken out, put in or set.
-use Rattle.std.proofs.Common.{◌≡◌, ◌≢◌, ℕ, zero, suc, ◌+◌, ◌-◌, ◌<◌, ◌≤◌, ◌⊎◌, inl, inr, min, List, [], ◌∷◌, ◌++◌, length, map, cond, Bool, true, false, refl, sym, subst, ◌∙◌, ap, arith, slice_get, get_or, Option, Some, None, is_some, swap, swap_remove, length-append}
-use Rattle.std.specs.Prelude.{◌==◌, count_by, filter, IfSome}
+use Rattle.std.proofs.Common.{◌≡◌, ◌≢◌, ℕ, zero, suc, ◌+◌, ◌-◌, ◌<◌, ◌≤◌, ◌⊎◌, inl, inr, List, [], ◌∷◌, ◌++◌, length, cond, Bool, true, false, refl, sym, subst, ◌∙◌, ap, arith, slice_get, get_or, Some, swap, swap_remove, set, length-append, length-set}
+use Rattle.std.specs.Prelude.{◌==◌, count_by}
 use Rattle.std.proofs.lemmas.Bool.Decides.{nat_tests}
 use Rattle.std.proofs.lemmas.List.{get_or-take, get_or-set_same, get_or-set_other, get_or_append_left, get_or_at}
 use Rattle.std.proofs.lemmas.List.Edits.{swapped_from_swap, length-swap}
 use Rattle.std.proofs.lemmas.List.Sorted.{IsPermutation-swap, sum_by-IsPermutation}
 use Rattle.std.proofs.lemmas.List.Sums.{sum_by-swap_remove}
-use Rattle.std.proofs.lemmas.Option.{get_or_from_slice_get}
-use Rattle.indexmap.specs.IndexMap.{set_value_at}
-use Rattle.sip_dialog.specs.declared.standing.Standing.{Standing}
-use Rattle.sip_dialog.specs.Rows.{HaveSuccessFrom, IsFront, IsTakenOut, StoodBehind}
-use Rattle.sip_dialog.proofs.Alone.{Row, past as nothing_past}
+use Rattle.std.proofs.lemmas.Option.{get_or_from_slice_get, slice_get_within}
+use Rattle.sip_dialog.specs.Rows.{IsFront, IsTakenOut, StoodBehind}
+use Rattle.sip_dialog.proofs.Alone.{Row}
 
 pub either : (a b : ℕ) → (a ≡ b) ⊎ (a ≢ b)
 either a b = by_test (a == b) refl where
@@ -26,35 +24,35 @@ under a b lt apart = grind (arith, nat_tests)
 
 -- ---- two rows that change places
 
-module _ (rows : List Row) (a b : ℕ) (inside_a : a < length rows) (inside_b : b < length rows) where
-  pub count_swapped : (test : Row → Bool) → count_by test (swap rows a b) ≡ count_by test rows
+module _ {X : Type 0} (rows : List X) (a b : ℕ) (inside_a : a < length rows) (inside_b : b < length rows) where
+  pub count_swapped : (test : X → Bool) → count_by test (swap rows a b) ≡ count_by test rows
   count_swapped test = sum_by-IsPermutation (λ r. cond (test r) 1 0) rows (swap rows a b) (IsPermutation-swap rows (swap rows a b) a b inside_a inside_b refl)
 
-  pub swapped_first : (d : Row) → get_or (swap rows a b) a d ≡ get_or rows b d
+  pub swapped_first : (d : X) → get_or (swap rows a b) a d ≡ get_or rows b d
   swapped_first d = (swapped_from_swap rows (swap rows a b) a b d inside_a inside_b refl).0
 
-  pub swapped_second : (d : Row) → get_or (swap rows a b) b d ≡ get_or rows a d
+  pub swapped_second : (d : X) → get_or (swap rows a b) b d ≡ get_or rows a d
   swapped_second d = (swapped_from_swap rows (swap rows a b) a b d inside_a inside_b refl).1
 
-  pub swapped_other : (k : ℕ) (d : Row) → k ≢ a → k ≢ b → get_or (swap rows a b) k d ≡ get_or rows k d
+  pub swapped_other : (k : ℕ) (d : X) → k ≢ a → k ≢ b → get_or (swap rows a b) k d ≡ get_or rows k d
   swapped_other k d not_a not_b = (swapped_from_swap rows (swap rows a b) a b d inside_a inside_b refl).2 k not_a not_b
 
 -- ---- a row that is taken out
 
-module _ (rows : List Row) (at : ℕ) (other : Row) (inside : at < length rows) where
+module _ {X : Type 0} (rows : List X) (at : ℕ) (other : X) (inside : at < length rows) where
   -- the last takes its place
-  pub last_there : (d : Row) → at < length rows - 1 → get_or (swap_remove rows at other) at d ≡ get_or rows (length rows - 1) d
+  pub last_there : (d : X) → at < length rows - 1 → get_or (swap_remove rows at other) at d ≡ get_or rows (length rows - 1) d
   last_there d lt =
       get_or-take (length rows - 1) _ at d lt
       ∙ get_or-set_same rows at (get_or rows (length rows - 1) other) d inside
       ∙ same_default rows (length rows - 1) other d (omega arith)
     where
-      same_default : (xs : List Row) (i : ℕ) (x y : Row) → i < length xs → get_or xs i x ≡ get_or xs i y
+      same_default : (xs : List X) (i : ℕ) (x y : X) → i < length xs → get_or xs i x ≡ get_or xs i y
       same_default [] i x y lt = absurd (omega arith)
       same_default (z ∷ xs) zero x y lt = refl
       same_default (z ∷ xs) (suc i) x y lt = same_default xs i x y (omega arith)
 
-  pub others_stay : (k : ℕ) (d : Row) → k ≢ at → k < length rows - 1 → get_or (swap_remove rows at other) k d ≡ get_or rows k d
+  pub others_stay : (k : ℕ) (d : X) → k ≢ at → k < length rows - 1 → get_or (swap_remove rows at other) k d ≡ get_or rows k d
   others_stay k d apart lt = get_or-take (length rows - 1) _ k d lt ∙ get_or-set_other rows at k (get_or rows (length rows - 1) other) d apart
 
 -- tests count all of the others as before
@@ -127,10 +125,6 @@ pub record Removal (rows : List Row) (at : ℕ) (new : List Row) : Type 0 where
   pub is : new ≡ swap_remove rows at other
   pub long : length new + 1 ≡ length rows
 
-pub removal : (rows new : List Row) (at : ℕ) (r : Option Row) → at < length rows → r ≡ slice_get rows at → IfSome r (λ p. new ≡ swap_remove rows at p) → length new + cond (is_some r) 1 0 ≡ length rows → Removal rows at new
-removal rows new at None inside there is size = absurd (nothing_past rows at inside (sym there))
-removal rows new at (Some other) inside there is size = record { other = other; is = is; long = size }
-
 pub removal_from : (rows swapped new : List Row) (at place : ℕ) → swapped ≡ swap rows at place → Removal swapped place new → Removal (swap rows at place) place new
 removal_from rows swapped new at place is r = subst (λ (l : List Row). Removal l place new) is r
 
@@ -152,12 +146,6 @@ module _ (rows new : List Row) (at place : ℕ) (order : at ≤ place) (inside :
   swapped_behind k le lt = subst (λ (l : List Row). StoodBehind rows at l k) (sym r.is) (behind_swapped rows at place r.other order inside k le (omega (arith, lt, swapped_len)))
 
 -- ---- what stands in front
-
--- what is read at an index that is within
-pub value_there : (rows : List Row) (at : ℕ) (s : Standing) → slice_get (map (λ (r : Row). r.1) rows) at ≡ Some s → (d : Row) → (get_or rows at d).1 ≡ s
-value_there [] at s e d = absurd (cc)
-value_there (r ∷ rows) zero s e d = cc
-value_there (r ∷ rows) (suc at) s e d = value_there rows at s e d
 
 module _ (early : ℕ) (rows : List Row) (front : IsFront early rows) where
   -- where a row behind them is taken out
@@ -185,7 +173,7 @@ module _ (early : ℕ) (rows : List Row) (front : IsFront early rows) where
         ∙ front.success k d (omega (arith, past place k from apart, one)) (omega (arith, lt))
 
   -- where one of them has a 2xx now, and goes behind them
-  pub front_settled : (at place : ℕ) (s : Standing) → at < early → early ≡ place + 1 → slice_get (map (λ (r : Row). r.1) rows) at ≡ Some s → s.has_success ≡ true → IsFront place (swap rows at place)
+  pub front_settled : (at place : ℕ) (s : Row) → at < early → early ≡ place + 1 → slice_get rows at ≡ Some s → s.1.has_success ≡ true → IsFront place (swap rows at place)
   front_settled at place s below one there success = record {
     within = omega (arith, front.within, one, length-swap rows at place);
     success = λ k d from lt. by_place k d from (omega (arith, lt, length-swap rows at place)) (either k place);
@@ -199,7 +187,7 @@ module _ (early : ℕ) (rows : List Row) (front : IsFront early rows) where
     by_place : (k : ℕ) (d : Row) → place ≤ k → k < length rows → (k ≡ place) ⊎ (k ≢ place) → (get_or (swap rows at place) k d).1.has_success ≡ true
     by_place k d from lt (inl e) =
         ap (λ (r : Row). r.1.has_success) (ap (λ (n : ℕ). get_or (swap rows at place) n d) e ∙ swapped_second rows at place inside_at inside d)
-        ∙ ap (λ (v : Standing). v.has_success) (value_there rows at s there d) ∙ success
+        ∙ ap (λ (r : Row). r.1.has_success) (get_or_from_slice_get rows at s d there) ∙ success
     by_place k d from lt (inr apart) =
         ap (λ (r : Row). r.1.has_success) (swapped_other rows at place inside_at inside k d (λ e. absurd (omega (arith, past place k from apart, e, below, one))) apart)
         ∙ front.success k d (omega (arith, past place k from apart, one)) lt
@@ -238,44 +226,14 @@ module _ (early : ℕ) (rows : List Row) (front : IsFront early rows) where
         (swapped_other pushed early (length rows) (omega (arith, front.within, long)) (omega (arith, long)) k d (λ e. absurd (omega (arith, e, from))) apart ∙ before k d (under k (length rows) lt apart))
         ∙ front.success k d (omega (arith, from)) (under k (length rows) lt apart)
 
--- where some leave
-one_kept : (early : ℕ) (r : Row) (rest : List Row) (b : Bool) → ((d : Row) → early ≤ 0 → r.1.has_success ≡ true) → HaveSuccessFrom (early - 1) rest → HaveSuccessFrom early (cond b (r ∷ rest) rest)
-one_kept early r rest true first h zero d from lt = first d from
-one_kept early r rest true first h (suc k) d from lt = h k d (omega (arith, from)) (omega (arith, lt))
-one_kept early r rest false first h k d from lt = h k d (omega (arith, from)) lt
-
-success_kept : (keep : Row → Bool) (early : ℕ) (rows : List Row) → HaveSuccessFrom early rows → HaveSuccessFrom early (filter keep rows)
-success_kept keep early [] h = λ k d from lt. absurd (omega (arith, lt))
-success_kept keep early (r ∷ rows) h =
-    one_kept early r (filter keep rows) (keep r) (λ d from. h zero d from (omega arith))
-    (success_kept keep (early - 1) rows (λ k d from lt. h (suc k) d (omega (arith, from)) (omega (arith, lt))))
-
-pub front_kept : (keep : Row → Bool) (early : ℕ) (rows new : List Row) → IsFront early rows → new ≡ filter keep rows → IsFront (min early (length new)) new
-front_kept keep early rows new front is = record {
-  within = omega arith;
-  success = λ k d from lt. subst (λ (l : List Row). HaveSuccessFrom early l) (sym is) (success_kept keep early rows front.success) k d (omega (arith, from, lt)) lt;
-}
-
 -- where a row is set, which has a 2xx where it had one
-one_set : (early : ℕ) (r : Row) (rest : List Row) → (early ≤ 0 → r.1.has_success ≡ true) → HaveSuccessFrom (early - 1) rest → HaveSuccessFrom early (r ∷ rest)
-one_set early r rest first h zero d from lt = first from
-one_set early r rest first h (suc k) d from lt = h k d (omega (arith, from)) (omega (arith, lt))
-
-success_set : (early : ℕ) (rows : List Row) (at : ℕ) (w : Standing) → ((d : Row) → at < length rows → (get_or rows at d).1.has_success ≡ true → w.has_success ≡ true) → HaveSuccessFrom early rows → HaveSuccessFrom early (set_value_at rows at w)
-success_set early [] at w keeps h = h
-success_set early (r ∷ rows) zero w keeps h =
-    one_set early (r.0, w) rows (λ from. keeps r (omega arith) (h zero r from (omega arith))) (λ k d from lt. h (suc k) d (omega (arith, from)) (omega (arith, lt)))
-success_set early (r ∷ rows) (suc at) w keeps h =
-    one_set early r (set_value_at rows at w) (λ from. h zero r from (omega arith))
-    (success_set (early - 1) rows at w (λ d lt. keeps d (omega (arith, lt))) (λ k d from lt. h (suc k) d (omega (arith, from)) (omega (arith, lt))))
-
-set_long : (rows : List Row) (at : ℕ) (w : Standing) → length (set_value_at rows at w) ≡ length rows
-set_long [] at w = refl
-set_long (r ∷ rows) zero w = refl
-set_long (r ∷ rows) (suc at) w = omega (arith, set_long rows at w)
-
-pub front_set : (early : ℕ) (rows : List Row) (at : ℕ) (s w : Standing) → IsFront early rows → slice_get (map (λ (r : Row). r.1) rows) at ≡ Some s → (s.has_success ≡ true → w.has_success ≡ true) → IsFront early (set_value_at rows at w)
-front_set early rows at s w front there keeps = record {
-  within = omega (arith, front.within, set_long rows at w);
-  success = success_set early rows at w (λ d lt e. keeps (ap (λ (v : Standing). v.has_success) (sym (value_there rows at s there d)) ∙ e)) front.success;
-}
+pub front_set : (early : ℕ) (rows : List Row) (at : ℕ) (x y : Row) → IsFront early rows → slice_get rows at ≡ Some x → (x.1.has_success ≡ true → y.1.has_success ≡ true) → IsFront early (set rows at y)
+front_set early rows at x y front there keeps = record {
+  within = omega (arith, front.within, length-set rows at y);
+  success = λ k d from lt. by_place k d from (omega (arith, lt, length-set rows at y)) (either k at);
+} where
+  by_place : (k : ℕ) (d : Row) → early ≤ k → k < length rows → (k ≡ at) ⊎ (k ≢ at) → (get_or (set rows at y) k d).1.has_success ≡ true
+  by_place k d from lt (inl e) =
+      ap (λ (r : Row). r.1.has_success) (ap (λ (n : ℕ). get_or (set rows at y) n d) e ∙ get_or-set_same rows at y d (slice_get_within rows at x there))
+      ∙ keeps (ap (λ (r : Row). r.1.has_success) (sym (ap (λ (n : ℕ). get_or rows n d) e ∙ get_or_from_slice_get rows at x d there)) ∙ front.success k d from lt)
+  by_place k d from lt (inr apart) = ap (λ (r : Row). r.1.has_success) (get_or-set_other rows at k y d apart) ∙ front.success k d from lt

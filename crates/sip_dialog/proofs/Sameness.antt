@@ -1,5 +1,5 @@
 -- What is known of dialogs, and what is made of them, doesn't depend on their order.
-use Rattle.std.proofs.Common.{◌≡◌, ℕ, ◌≤◌, ◌+◌, List, [], ◌∷◌, ◌++◌, length, cond, ltb, Bool, true, false, refl, sym, ◌∙◌, ap, ap₂, arith, map}
+use Rattle.std.proofs.Common.{◌≡◌, ℕ, zero, suc, slice_get, Some, ◌≤◌, ◌+◌, List, [], ◌∷◌, ◌++◌, length, cond, ltb, Bool, true, false, refl, sym, ◌∙◌, ap, ap₂, arith, map}
 use Rattle.std.specs.Prelude.{◌&&◌, ◌||◌, not, filter, count_by, nat_le}
 use Rattle.std.specs.List.{list_any}
 use Rattle.std.proofs.lemmas.Bool.Decides.{nat_tests}
@@ -46,6 +46,28 @@ count_joined p xs ys = sum_by-append (λ y. cond (p y) 1 0) xs ys
 pub count_alike : {X : Type 0} (p q : X → Bool) (xs : List X) → ((x : X) → p x ≡ q x) → count_by p xs ≡ count_by q xs
 count_alike p q [] h = refl
 count_alike p q (x ∷ xs) h = count_first p x xs ∙ ap₂ (λ (b : Bool) (n : ℕ). cond b 1 0 + n) (h x) (count_alike p q xs h) ∙ sym (count_first q x xs)
+
+-- what passes a test, and what doesn't
+pub split_by : {X : Type 0} (p test : X → Bool) (xs : List X) → count_by test xs ≡ count_by (λ x. p x && test x) xs + count_by (λ x. not (p x) && test x) xs
+split_by p test [] = refl
+split_by p test (x ∷ xs) =
+    let rest = split_by p test xs in
+    omega (arith, count_first test x xs, count_first (λ y. p y && test y) x xs, count_first (λ y. not (p y) && test y) x xs, rest, by_tests (p x) (test x))
+  where
+    by_tests : (a b : Bool) → cond b 1 0 ≡ cond (a && b) 1 0 + cond (not a && b) 1 0
+    by_tests true true = refl
+    by_tests true false = refl
+    by_tests false true = refl
+    by_tests false false = refl
+
+-- one that stands at an index
+pub counted_at : {X : Type 0} (test : X → Bool) (xs : List X) (at : ℕ) (x : X) → slice_get xs at ≡ Some x → cond (test x) 1 0 ≤ count_by test xs
+counted_at test [] at x h = absurd (cc)
+counted_at {X} test (y ∷ ys) zero x h =
+    let is : y ≡ x = cc in
+    let here : cond (test y) 1 0 ≡ cond (test x) 1 0 = ap (λ (z : X). cond {A = ℕ} (test z) 1 0) is in
+    omega (arith, count_first test y ys, here)
+counted_at test (y ∷ ys) (suc at) x h = let rest = counted_at test ys at x h in omega (arith, count_first test y ys, rest)
 
 and_moves : (x y z : Bool) → (x && y && z) ≡ (x && (y && z))
 and_moves true y z = refl

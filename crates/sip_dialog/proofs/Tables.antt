@@ -1,11 +1,10 @@
 -- What the rows of a table say of the dialogs that are known.
-use Rattle.std.proofs.Common.{◌≡◌, ℕ, zero, suc, ◌+◌, ◌≤◌, ◌<◌, List, [], ◌∷◌, ◌++◌, length, cond, ltb, Bool, true, false, refl, sym, subst, ◌∙◌, ap, ap₂, arith, map, slice_get, Option, Some, option_map, swap, length-append}
-use Rattle.std.specs.Prelude.{◌&&◌, not, count_by, filter, nat_le, nat_lt, if◌then◌else◌, IfErr, OnOk, Result, Ok, Err, ◌↔◌}
+use Rattle.std.proofs.Common.{◌≡◌, ℕ, ◌+◌, ◌≤◌, ◌<◌, List, [], ◌∷◌, ◌++◌, length, cond, ltb, Bool, true, false, refl, sym, subst, ◌∙◌, ap, ap₂, arith, map, slice_get, get_or, Some, swap, set, length-append}
+use Rattle.std.specs.Prelude.{◌&&◌, not, count_by, nat_le, nat_lt, if◌then◌else◌, IfErr, OnOk, Result, Ok, Err, ◌↔◌}
 use Rattle.std.specs.List.{list_any}
-use Rattle.std.specs.Map.{values_of}
 use Rattle.std.proofs.lemmas.Bool.Decides.{nat_tests}
-use Rattle.std.proofs.lemmas.Option.{slice_get-map}
-use Rattle.indexmap.specs.IndexMap.{set_value_at}
+use Rattle.std.proofs.lemmas.List.Sums.{sum_by-set}
+use Rattle.std.proofs.lemmas.Option.{slice_get_within, slice_get-get_or, get_or_from_slice_get}
 use Rattle.sip_uri.specs.declared.addr.Addr.{Addr}
 use Rattle.sip_dialog.specs.declared.dialog.DialogId.{DialogId}
 use Rattle.sip_dialog.specs.declared.dialog.Dialog.{Dialog}
@@ -17,9 +16,9 @@ use Rattle.sip_dialog.specs.Addresses.{is_same_addr}
 use Rattle.sip_dialog.specs.Dialogs.{is_known, known, is_named, holds, is_in_dialog, edited, learnt, knows, is_full_for, answered_again, begun, without_dialog}
 use Rattle.sip_dialog.specs.Rows.{names, dialog_of, dialogs_in, is_recent, StandsAt, StandsNowhere, IsKnownAt, IsTakenOut}
 use Rattle.sip_dialog.specs.Sameness.{SameDialogs}
-use Rattle.sip_dialog.proofs.Alone.{Row}
+use Rattle.sip_dialog.proofs.Alone.{Row, and_turned}
 use Rattle.sip_dialog.proofs.Places.{count_swapped}
-use Rattle.sip_dialog.proofs.Sameness.{count_first, count_filter, count_map, any_counts, count_joined, count_alike, length_same, dialogs_joined, edited_same}
+use Rattle.sip_dialog.proofs.Sameness.{count_first, count_filter, count_map, any_counts, count_joined, count_alike, length_same, length_counts, split_by, dialogs_joined, edited_same}
 
 -- the dialog of a row
 abbrev pub dialog : Row → Dialog
@@ -30,20 +29,19 @@ pub counted : (now : ℕ) (q : Dialog → Bool) (rows : List Row) → count_by q
 counted now q rows = count_filter q (is_known now) (dialogs_in rows) ∙ count_map (λ d. is_known now d && q d) dialog rows
 
 -- what stands at an index
-standing_is : {id : DialogId} {rows : List Row} {at : ℕ} (h : StandsAt id rows at) (s : Standing) → slice_get (values_of rows) at ≡ Some s → h.row.1 ≡ s
-standing_is {id} {rows} {at} h s e =
-    let row : Some h.row.1 ≡ Some s = sym (slice_get-map (λ (r : Row). r.1) rows at ∙ ap (λ (o : Option Row). option_map (λ (r : Row). r.1) o) h.there) ∙ e in
-    cc
+row_is : {id : DialogId} {rows : List Row} {at : ℕ} (h : StandsAt id rows at) (x : Row) → slice_get rows at ≡ Some x → h.row ≡ x
+row_is {id} {rows} {at} h x e = let row : Some h.row ≡ Some x = sym h.there ∙ e in cc
+
+-- what is read at an index
+pub read_at : (rows all : List Row) (at : ℕ) (x : Row) → rows ≡ all → at < length all → x ≡ get_or rows at x → slice_get all at ≡ Some x
+read_at rows all at x same lt e = slice_get-get_or all at x lt ∙ ap Some (ap (λ (l : List Row). get_or l at x) (sym same) ∙ sym e)
+
+pub read_there : {id : DialogId} {all : List Row} {at : ℕ} (rows : List Row) (x : Row) → StandsAt id all at → rows ≡ all → x ≡ get_or rows at x → slice_get all at ≡ Some x
+read_there {id} {all} {at} rows x h same e = read_at rows all at x same (slice_get_within all at h.row h.there) e
 
 one_or_none : (b : Bool) → ltb 0 (cond b 1 0) ≡ b
 one_or_none true = refl
 one_or_none false = refl
-
-and_turned : (x y : Bool) → (x && y) ≡ (y && x)
-and_turned true true = refl
-and_turned true false = refl
-and_turned false true = refl
-and_turned false false = refl
 
 and_between : (x y z : Bool) → (x && y && z) ≡ (y && (x && z))
 and_between true y z = refl
@@ -67,10 +65,10 @@ in_dialog_counts now rows id address =
     ∙ ap (ltb 0) (count_map (λ d. is_known now d && is_named id d && holds address d) dialog rows
     ∙ count_alike _ _ rows (λ r. and_between (is_recent now r.1) (names id r.0) (holds address (dialog r))))
 
-pub in_dialog_at : (now : ℕ) (rows : List Row) (id : DialogId) (address : Addr) (at : ℕ) (s : Standing) → StandsAt id rows at → slice_get (values_of rows) at ≡ Some s
-    → (is_recent now s && list_any (is_same_addr address) s.addresses) ≡ is_in_dialog now (dialogs_in rows) id address
-in_dialog_at now rows id address at s h e =
-    ap (λ (v : Standing). is_recent now v && list_any (is_same_addr address) v.addresses) (sym (standing_is h s e))
+pub in_dialog_at : (now : ℕ) (rows : List Row) (id : DialogId) (address : Addr) (at : ℕ) (x : Row) → StandsAt id rows at → slice_get rows at ≡ Some x
+    → (is_recent now x.1 && list_any (is_same_addr address) x.1.addresses) ≡ is_in_dialog now (dialogs_in rows) id address
+in_dialog_at now rows id address at x h e =
+    ap (λ (r : Row). is_recent now r.1 && list_any (is_same_addr address) r.1.addresses) (sym (row_is h x e))
     ∙ sym (one_or_none (is_recent now h.row.1 && holds address (dialog h.row)))
     ∙ sym (ap (ltb 0) (h.alone (λ r. is_recent now r.1 && holds address (dialog r))))
     ∙ sym (in_dialog_counts now rows id address)
@@ -85,9 +83,9 @@ knows_counts now rows id =
     any_counts (is_named id) (known now (dialogs_in rows))
     ∙ ap (ltb 0) (counted now (is_named id) rows ∙ count_alike _ _ rows (λ r. and_turned (is_recent now r.1) (names id r.0)))
 
-pub knows_at : (now : ℕ) (rows : List Row) (id : DialogId) (at : ℕ) (s : Standing) → StandsAt id rows at → slice_get (values_of rows) at ≡ Some s → is_recent now s ≡ knows now id (dialogs_in rows)
-knows_at now rows id at s h e =
-    ap (is_recent now) (sym (standing_is h s e))
+pub knows_at : (now : ℕ) (rows : List Row) (id : DialogId) (at : ℕ) (x : Row) → StandsAt id rows at → slice_get rows at ≡ Some x → is_recent now x.1 ≡ knows now id (dialogs_in rows)
+knows_at now rows id at x h e =
+    ap (λ (r : Row). is_recent now r.1) (sym (row_is h x e))
     ∙ sym (one_or_none (is_recent now h.row.1))
     ∙ sym (ap (ltb 0) (h.alone (λ r. is_recent now r.1)))
     ∙ sym (knows_counts now rows id)
@@ -95,29 +93,17 @@ knows_at now rows id at s h e =
 pub knows_none : (now : ℕ) (rows : List Row) (id : DialogId) → StandsNowhere id rows → false ≡ knows now id (dialogs_in rows)
 knows_none now rows id h = sym (knows_counts now rows id ∙ ap (ltb 0) (h.none (λ r. is_recent now r.1)))
 
-pub recent_there : (now : ℕ) (rows : List Row) (id : DialogId) (at : ℕ) (s : Standing) → StandsAt id rows at → slice_get (values_of rows) at ≡ Some s → is_recent now s ≡ true → IsKnownAt now id rows at
-recent_there now rows id at s h e recent = record { stands = h; recent = ap (is_recent now) (standing_is h s e) ∙ recent }
+pub recent_there : (now : ℕ) (rows : List Row) (id : DialogId) (at : ℕ) (x : Row) → StandsAt id rows at → slice_get rows at ≡ Some x → is_recent now x.1 ≡ true → IsKnownAt now id rows at
+recent_there now rows id at x h e recent = record { stands = h; recent = ap (λ (r : Row). is_recent now r.1) (row_is h x e) ∙ recent }
 
 -- ---- rows that are taken out
 
-split_by : (p test : Row → Bool) (rows : List Row) → count_by test rows ≡ count_by (λ r. p r && test r) rows + count_by (λ r. not (p r) && test r) rows
-split_by p test [] = refl
-split_by p test (r ∷ rows) =
-    let rest = split_by p test rows in
-    omega (arith, count_first test r rows, count_first (λ r. p r && test r) r rows, count_first (λ r. not (p r) && test r) r rows, rest, by_tests (p r) (test r))
-  where
-    by_tests : (x y : Bool) → cond y 1 0 ≡ cond (x && y) 1 0 + cond (not x && y) 1 0
-    by_tests true true = refl
-    by_tests true false = refl
-    by_tests false true = refl
-    by_tests false false = refl
-
 -- one that isn't known any more
-pub forgotten_same : (now : ℕ) (rows new : List Row) (id : DialogId) (at : ℕ) (s : Standing) → StandsAt id rows at → slice_get (values_of rows) at ≡ Some s → is_recent now s ≡ false → IsTakenOut rows at new
+pub forgotten_same : (now : ℕ) (rows new : List Row) (id : DialogId) (at : ℕ) (x : Row) → StandsAt id rows at → slice_get rows at ≡ Some x → is_recent now x.1 ≡ false → IsTakenOut rows at new
     → SameDialogs now (dialogs_in new) (dialogs_in rows)
-forgotten_same now rows new id at s h e past taken = λ p.
+forgotten_same now rows new id at x h e past taken = λ p.
     let test : Row → Bool = λ r. is_recent now r.1 && p (dialog r) in
-    let old : is_recent now h.row.1 ≡ false = ap (is_recent now) (standing_is h s e) ∙ past in
+    let old : is_recent now h.row.1 ≡ false = ap (λ (r : Row). is_recent now r.1) (row_is h x e) ∙ past in
     let here : cond (test h.row) 1 0 ≡ 0 = ap (λ (b : Bool). cond {A = ℕ} (b && p (dialog h.row)) 1 0) old in
     omega (arith, counted now p new, counted now p rows, taken h.row h.there test, here)
 
@@ -128,6 +114,11 @@ forgotten_there rows new id at h taken = record {
       let here : cond (names id h.row.0 && test h.row) 1 0 ≡ cond (test h.row) 1 0 = ap (λ (b : Bool). cond {A = ℕ} (b && test h.row) 1 0) h.named in
       omega (arith, taken h.row h.there (λ r. names id r.0 && test r), h.alone test, here);
 }
+
+pub moved : (x y z : Bool) → (x && (y && z)) ≡ (y && (x && z))
+moved true y z = refl
+moved false true z = refl
+moved false false z = refl
 
 again : (x y : Bool) → (x && (x && y)) ≡ (x && y)
 again true y = refl
@@ -158,37 +149,12 @@ ended_none now rows id h = λ p.
     let test : Row → Bool = λ r. is_recent now r.1 && p (dialog r) in
     omega (arith, counted now p rows, without_counts now rows id p, split_by (λ r. names id r.0) test rows, h.none test)
 
--- ---- a pass over all
-
-pub forgotten : (now : ℕ) (rows : List Row) → dialogs_in (filter (λ r. is_recent now r.1) rows) ≡ known now (dialogs_in rows)
-forgotten now [] = refl
-forgotten now (r ∷ rows) = by_test (is_recent now r.1) (forgotten now rows) where
-  by_test : (b : Bool) → dialogs_in (filter (λ r. is_recent now r.1) rows) ≡ known now (dialogs_in rows)
-      → dialogs_in (cond b (r ∷ filter (λ r. is_recent now r.1) rows) (filter (λ r. is_recent now r.1) rows)) ≡ cond b (dialog r ∷ known now (dialogs_in rows)) (known now (dialogs_in rows))
-  by_test true e = ap (λ rest. dialog r ∷ rest) e
-  by_test false e = e
-
-moved : (x y z : Bool) → (x && (y && z)) ≡ (y && (x && z))
-moved true y z = refl
-moved false true z = refl
-moved false false z = refl
-
-pub nowhere_kept : (keep : Row → Bool) (rows : List Row) (id : DialogId) → StandsNowhere id rows → StandsNowhere id (filter keep rows)
-nowhere_kept keep rows id h = record {
-  none = λ test. count_filter (λ r. names id r.0 && test r) keep rows ∙ count_alike _ _ rows (λ r. moved (keep r) (names id r.0) (test r)) ∙ h.none (λ r. keep r && test r);
-}
-
 -- ---- an edit
 
-put_in : (test : Row → Bool) (rows : List Row) (at : ℕ) (row : Row) (w : Standing) → slice_get rows at ≡ Some row
-    → count_by test (set_value_at rows at w) + cond (test row) 1 0 ≡ count_by test rows + cond (test (row.0, w)) 1 0
-put_in test [] at row w h = absurd (cc)
-put_in test (r ∷ rows) zero row w h =
-    let is : r ≡ row = cc in
-    let here : cond (test r) 1 0 ≡ cond (test row) 1 0 = ap (λ (x : Row). cond {A = ℕ} (test x) 1 0) is in
-    let there : cond (test (r.0, w)) 1 0 ≡ cond (test (row.0, w)) 1 0 = ap (λ (x : Row). cond {A = ℕ} (test (x.0, w)) 1 0) is in
-    omega (arith, count_first test r rows, count_first test (r.0, w) rows, here, there)
-put_in test (r ∷ rows) (suc at) row w h = omega (arith, count_first test r rows, count_first test r (set_value_at rows at w), put_in test rows at row w h)
+put_in : (test : Row → Bool) (rows : List Row) (at : ℕ) (x y : Row) → slice_get rows at ≡ Some x → count_by test (set rows at y) + cond (test x) 1 0 ≡ count_by test rows + cond (test y) 1 0
+put_in test rows at x y there =
+    let is : cond {A = ℕ} (test (get_or rows at x)) 1 0 ≡ cond {A = ℕ} (test x) 1 0 = ap (λ (r : Row). cond {A = ℕ} (test r) 1 0) (get_or_from_slice_get rows at x x there) in
+    omega (arith, sum_by-set (λ r. cond {A = ℕ} (test r) 1 0) rows at y x (slice_get_within rows at x there), is)
 
 module _ (now : ℕ) (id : DialogId) (edit : Dialog → Dialog) where
   -- a dialog after the edit
@@ -209,19 +175,19 @@ module _ (now : ℕ) (id : DialogId) (edit : Dialog → Dialog) where
     by_test true = refl
     by_test false = again (is_recent now r.1) (p (dialog r))
 
-  pub edited_at : (rows : List Row) (at : ℕ) (s w : Standing) → StandsAt id rows at → slice_get (values_of rows) at ≡ Some s → is_recent now s ≡ true → ((k : DialogId) → dialog_of k w ≡ edit (dialog_of k s))
-      → SameDialogs now (dialogs_in (set_value_at rows at w)) (edited now id edit (dialogs_in rows))
-  edited_at rows at s w h e recent makes = λ p.
+  pub edited_at : (rows : List Row) (at : ℕ) (x : Row) (w : Standing) → StandsAt id rows at → slice_get rows at ≡ Some x → is_recent now x.1 ≡ true → ((k : DialogId) → dialog_of k w ≡ edit (dialog_of k x.1))
+      → SameDialogs now (dialogs_in (set rows at (x.0, w))) (edited now id edit (dialogs_in rows))
+  edited_at rows at x w h e recent makes = λ p.
       let before : Row → Bool = λ r. is_recent now r.1 && p (dialog r) in
       let after : Row → Bool = λ r. is_recent now r.1 && (is_known now (one (dialog r)) && p (one (dialog r))) in
       let rest = count_alike (λ r. not (names id r.0) && after r) (λ r. not (names id r.0) && before r) rows (others_stay p) in
-      let old : is_recent now h.row.1 ≡ true = ap (is_recent now) (standing_is h s e) ∙ recent in
-      let made : one (dialog h.row) ≡ dialog_of h.row.0 w =
-      ap (λ (b : Bool). if b then edit (dialog h.row) else dialog h.row) h.named ∙ ap (λ (v : Standing). edit (dialog_of h.row.0 v)) (standing_is h s e) ∙ sym (makes h.row.0) in
-      let same : after h.row ≡ before (h.row.0, w) =
-      ap (λ (b : Bool). b && (is_known now (one (dialog h.row)) && p (one (dialog h.row)))) old ∙ ap (λ (d : Dialog). is_known now d && p d) made in
-      let here : cond (after h.row) 1 0 ≡ cond (before (h.row.0, w)) 1 0 = ap (λ (b : Bool). cond {A = ℕ} b 1 0) same in
-      omega (arith, counted now p (set_value_at rows at w), edited_counts rows p, put_in before rows at h.row w h.there, split_by (λ r. names id r.0) before rows, split_by (λ r. names id r.0) after rows, h.alone before, h.alone after, rest, here)
+      let named : names id x.0 ≡ true = ap (λ (r : Row). names id r.0) (sym (row_is h x e)) ∙ h.named in
+      let made : one (dialog x) ≡ dialog_of x.0 w = ap (λ (b : Bool). if b then edit (dialog x) else dialog x) named ∙ sym (makes x.0) in
+      let same : after x ≡ before (x.0, w) =
+      ap (λ (b : Bool). b && (is_known now (one (dialog x)) && p (one (dialog x)))) recent ∙ ap (λ (d : Dialog). is_known now d && p d) made in
+      let here : cond {A = ℕ} (after h.row) 1 0 ≡ cond {A = ℕ} (before (x.0, w)) 1 0 = ap (λ (r : Row). cond {A = ℕ} (after r) 1 0) (row_is h x e) ∙ ap (λ (b : Bool). cond {A = ℕ} b 1 0) same in
+      let was : cond {A = ℕ} (before h.row) 1 0 ≡ cond {A = ℕ} (before x) 1 0 = ap (λ (r : Row). cond {A = ℕ} (before r) 1 0) (row_is h x e) in
+      omega (arith, counted now p (set rows at (x.0, w)), edited_counts rows p, put_in before rows at x (x.0, w) e, split_by (λ r. names id r.0) before rows, split_by (λ r. names id r.0) after rows, h.alone before, h.alone after, rest, here, was)
 
   -- where the dialog isn't known nothing changes
   unknown_stay : (ds : List Dialog) (p : Dialog → Bool) → count_by (is_named id) ds ≡ 0 → count_by (λ d. p (one d)) ds ≡ count_by p ds
@@ -250,19 +216,14 @@ module _ (now : ℕ) (id : DialogId) (edit : Dialog → Dialog) where
       ∙ sym (count_filter p (is_known now) (map one (known now ds)))
 
 -- an edit of the row that was met, and none where none was
-pub edit_met : (now : ℕ) (id : DialogId) (edit : Dialog → Dialog) (old rows : List Row) (at : ℕ) (s w : Standing) → SameDialogs now (dialogs_in rows) (dialogs_in old) → IsKnownAt now id rows at
-    → slice_get (values_of rows) at ≡ Some s → ((k : DialogId) → dialog_of k w ≡ edit (dialog_of k s)) → SameDialogs now (dialogs_in (set_value_at rows at w)) (edited now id edit (dialogs_in old))
-edit_met now id edit old rows at s w same h e makes =
-    dialogs_joined now _ _ _ (edited_at now id edit rows at s w h.stands e (sym (ap (is_recent now) (standing_is h.stands s e)) ∙ h.recent) makes) (edited_same now id edit (dialogs_in rows) (dialogs_in old) same)
+pub edit_met : (now : ℕ) (id : DialogId) (edit : Dialog → Dialog) (old rows : List Row) (at : ℕ) (x : Row) (w : Standing) → SameDialogs now (dialogs_in rows) (dialogs_in old) → IsKnownAt now id rows at
+    → slice_get rows at ≡ Some x → ((k : DialogId) → dialog_of k w ≡ edit (dialog_of k x.1)) → SameDialogs now (dialogs_in (set rows at (x.0, w))) (edited now id edit (dialogs_in old))
+edit_met now id edit old rows at x w same h e makes =
+    dialogs_joined now _ _ _ (edited_at now id edit rows at x w h.stands e (sym (ap (λ (r : Row). is_recent now r.1) (row_is h.stands x e)) ∙ h.recent) makes) (edited_same now id edit (dialogs_in rows) (dialogs_in old) same)
 
 pub edit_missed : (now : ℕ) (id : DialogId) (edit : Dialog → Dialog) (old rows : List Row) → SameDialogs now (dialogs_in rows) (dialogs_in old) → false ≡ knows now id (dialogs_in old)
     → SameDialogs now (dialogs_in rows) (edited now id edit (dialogs_in old))
 edit_missed now id edit old rows same unknown = dialogs_joined now _ _ _ same (edited_unknown now id edit (dialogs_in old) unknown)
-
-pub set_len : (rows : List Row) (at : ℕ) (w : Standing) → length (set_value_at rows at w) ≡ length rows
-set_len [] at w = refl
-set_len (r ∷ rows) zero w = refl
-set_len (r ∷ rows) (suc at) w = omega (arith, set_len rows at w)
 
 -- ---- a dialog that becomes known
 
@@ -288,13 +249,15 @@ pub place_free : (now : ℕ) (rows : List Row) → length rows < 4096 → true �
 place_free now rows lt = below (length (known now (dialogs_in rows))) (omega (arith, known_le now (dialogs_in rows), rows_len rows, lt))
 
 -- and where none is left that isn't known
-pub place_after : (now : ℕ) (old rows : List Row) → dialogs_in rows ≡ known now (dialogs_in old) → nat_lt (length rows) 4096 ≡ not (nat_le 4096 (length (known now (dialogs_in old))))
-place_after now old rows e = ap (λ (n : ℕ). nat_lt n 4096) (sym (rows_len rows) ∙ ap (λ (ds : List Dialog). length ds) e) ∙ turned_limit (length (known now (dialogs_in old)))
+pub place_after : (now : ℕ) (old rows : List Row) → ((p : Dialog → Bool) → count_by p (dialogs_in rows) ≡ count_by p (known now (dialogs_in old))) → nat_lt (length rows) 4096 ≡ not (nat_le 4096 (length (known now (dialogs_in old))))
+place_after now old rows h =
+    let long : length rows ≡ length (known now (dialogs_in old)) = sym (rows_len rows) ∙ length_counts (dialogs_in rows) ∙ h (λ d. true) ∙ sym (length_counts (known now (dialogs_in old))) in
+    ap (λ (n : ℕ). nat_lt n 4096) long ∙ turned_limit (length (known now (dialogs_in old)))
 
-pub known_same : (now : ℕ) (old rows : List Dialog) → rows ≡ known now old → SameDialogs now rows old
-known_same now old rows e = λ p.
-    ap (λ (ds : List Dialog). count_by p (known now ds)) e
-    ∙ count_filter p (is_known now) (known now old)
+pub known_same : (now : ℕ) (old rows : List Dialog) → ((p : Dialog → Bool) → count_by p rows ≡ count_by p (known now old)) → SameDialogs now rows old
+known_same now old rows h = λ p.
+    count_filter p (is_known now) rows
+    ∙ h (λ d. is_known now d && p d)
     ∙ count_filter (λ d. is_known now d && p d) (is_known now) old
     ∙ count_alike _ _ old (λ d. again (is_known now d) (p d))
     ∙ sym (count_filter p (is_known now) old)

@@ -26,6 +26,7 @@ id_with call_id from to =
 abbrev pub id_of : CoreFields → Option DialogId
 id_of core = id_with core.call_id core.from core.to
 
--- the dialog that an answer with these fields names for an INVITE: the INVITE's Call-ID and From, and the answer's To, if there is one and it has a tag (RFC 3261 12.1.1)
+-- the dialog that an answer with these fields names for an INVITE: the INVITE's Call-ID and From, and the answer's To, if there is
+-- one and it has a tag (RFC 3261 12.1.1)
 abbrev pub answer_id : CoreFields → List Field → Option DialogId
 answer_id invite answer = option_and_then (id_with invite.call_id invite.from) (result_ok (name_addr_in Name.To answer))

@@ -1,5 +1,6 @@
 -- The dialogs that a proxy knows: how they are learnt, renewed and ended (this project's profile of RFC 3261 12).
-use Rattle.std.specs.Prelude.{◌≡◌, ◌<◌, ℕ, ◌-◌, Bool, true, ◌&&◌, ◌||◌, ◌==◌, not, nat_lt, nat_le, List, [], ◌∷◌, ◌++◌, length, map, filter, Contains, if◌then◌else◌}
+use Rattle.std.specs.Prelude.{◌≡◌, ◌<◌, ℕ, ◌-◌, Bool, true, ◌&&◌, ◌||◌, ◌==◌, not, nat_lt, nat_le, List, [], ◌∷◌, ◌++◌, length, map, filter}
+use Rattle.std.specs.Prelude.{Contains, if◌then◌else◌}
 use Rattle.std.specs.List.{list_any}
 use Rattle.sip_uri.specs.declared.addr.Addr.{Addr}
 use Rattle.sip_dialog.specs.declared.dialog.DialogId.{DialogId}
@@ -72,7 +73,8 @@ knows now id dialogs = list_any (is_named id) (known now dialogs)
 abbrev pub is_full_for : ℕ → DialogId → List Dialog → Bool
 is_full_for now id dialogs = not (knows now id dialogs) && nat_le 4096 (length (known now dialogs))
 
--- The dialogs after an answer of 101 to 299 with a To tag to an INVITE was forwarded: the one of its name learns from it, or it becomes known unless 4,096 are (RFC 3261 12.1).
+-- The dialogs after an answer of 101 to 299 with a To tag to an INVITE was forwarded: the one of its name learns from it, or it
+-- becomes known unless 4,096 are (RFC 3261 12.1).
 abbrev pub learnt : ℕ → InviteAnswer → List Dialog → List Dialog
 learnt now a dialogs =
     if knows now a.id dialogs then edited now a.id (answered_again a) dialogs

@@ -16,7 +16,13 @@ call_of from to = record { call_id = codes "k1"; from_tag = from; to_tag = to }
 
 -- the 200 with To tag t1 to an INVITE that came from port 5070 at 62,000 and went to port 5082
 abbrev pub success : InviteAnswer
-success = record { id = call_of (codes "f1") (codes "t1"); number = 4; arrived_at = 62000; is_success = true; addresses = at_port 5070 ∷ at_port 5082 ∷ at_port 5070 ∷ at_port 5082 ∷ [] }
+success = record {
+  id = call_of (codes "f1") (codes "t1");
+  number = 4;
+  arrived_at = 62000;
+  is_success = true;
+  addresses = at_port 5070 ∷ at_port 5082 ∷ at_port 5070 ∷ at_port 5082 ∷ [];
+}
 
 -- a 180 with another To tag to the same INVITE
 abbrev pub ringing : InviteAnswer

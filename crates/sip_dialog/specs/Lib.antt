@@ -7,4 +7,5 @@ pub mod Sameness
 pub mod Naming
 pub mod SameNames
 pub mod Table
+pub mod Digests
 pub mod Rows

@@ -1,10 +1,12 @@
 -- The rows of a table of dialogs.
-use Rattle.std.specs.Prelude.{◌≡◌, ℕ, ◌+◌, ◌-◌, ◌<◌, ◌≤◌, Bool, true, false, ◌&&◌, nat_lt, List, length, map, count_by, get_or, slice_get, Some, if◌then◌else◌}
+use Rattle.std.specs.Prelude.{◌≡◌, ℕ, ◌+◌, ◌-◌, ◌<◌, ◌≤◌, Bool, true, ◌&&◌, nat_lt, List, length, map, count_by, get_or, slice_get}
+use Rattle.std.specs.Prelude.{Some, if◌then◌else◌}
 use Rattle.sip_dialog.specs.declared.dialog.DialogId.{DialogId}
 use Rattle.sip_dialog.specs.declared.dialog.Dialog.{Dialog}
 use Rattle.sip_dialog.specs.declared.standing.Standing.{Standing}
 use Rattle.sip_dialog.specs.DialogId.{is_same_dialog}
-use Rattle.sip_dialog.specs.Dialogs.{is_unconfirmed}
+use Rattle.sip_dialog.specs.Naming.{digest_of}
+use Rattle.sip_base.specs.declared.word_hasher.WordHasher.{WordHasher}
 
 -- the dialog of a name and what is known of it
 abbrev pub dialog_of : DialogId → Standing → Dialog
@@ -52,13 +54,15 @@ pub record IsFront (early : ℕ) (rows : List (DialogId × Standing)) : Type 0 w
   pub within : early ≤ length rows
   pub success : HaveSuccessFrom early rows
 
--- at an index and behind it no row is of a dialog of an INVITE without a 2xx
-abbrev pub NoneUnconfirmedFrom : ℕ → ℕ → List (DialogId × Standing) → Type 0
-NoneUnconfirmedFrom number start rows = (at : ℕ) (d : DialogId × Standing) → start ≤ at → at < length rows → is_unconfirmed number (dialog_of d.0 (get_or rows at d).1) ≡ false
+-- no two rows have one name, and the digests are those of their names
+pub record AreNamed (secret : WordHasher) (digests : List ℕ) (rows : List (DialogId × Standing)) : Type 0 where
+  pub digested : digests ≡ map (λ row. digest_of secret row.0) rows
+  pub alone : (id : DialogId) → count_by (λ row. names id row.0) rows ≤ 1
 
 -- the row at an index was taken out, and no other: tests count all of the others as before
 abbrev pub IsTakenOut : List (DialogId × Standing) → ℕ → List (DialogId × Standing) → Type 0
-IsTakenOut old at new = (row : DialogId × Standing) → slice_get old at ≡ Some row → (test : DialogId × Standing → Bool) → count_by test new + (if test row then 1 else 0) ≡ count_by test old
+IsTakenOut old at new = (row : DialogId × Standing) → slice_get old at ≡ Some row → (test : DialogId × Standing → Bool) → count_by test new
+    + (if test row then 1 else 0) ≡ count_by test old
 
 -- what stands at an index now stood behind another
 pub record StoodBehind (old : List (DialogId × Standing)) (at : ℕ) (new : List (DialogId × Standing)) (k : ℕ) : Type 0 where

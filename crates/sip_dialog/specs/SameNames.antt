@@ -58,20 +58,25 @@ true_or true = refl
 true_or false = refl
 
 same-names : (a b : DialogId) → is_same_dialog a b ≡ true → name a ≡ name b
-same-names a b e = by_tags (one_true (bytes_eq a.from_tag b.from_tag && bytes_eq a.to_tag b.to_tag) (bytes_eq a.from_tag b.to_tag && bytes_eq a.to_tag b.from_tag) parts.1) where
-  parts : (bytes_eq a.call_id b.call_id ≡ true) × (((bytes_eq a.from_tag b.from_tag && bytes_eq a.to_tag b.to_tag) || (bytes_eq a.from_tag b.to_tag && bytes_eq a.to_tag b.from_tag)) ≡ true)
-  parts = both_true (bytes_eq a.call_id b.call_id) _ e
+same-names a b e = by_tags (one_true (bytes_eq a.from_tag b.from_tag && bytes_eq a.to_tag b.to_tag)
+    (bytes_eq a.from_tag b.to_tag && bytes_eq a.to_tag b.from_tag) parts.1) where
+      parts : (bytes_eq a.call_id b.call_id ≡ true)
+          × (((bytes_eq a.from_tag b.from_tag && bytes_eq a.to_tag b.to_tag) || (bytes_eq a.from_tag b.to_tag && bytes_eq a.to_tag b.from_tag)) ≡ true)
+      parts = both_true (bytes_eq a.call_id b.call_id) _ e
 
-  with_tags : in_order a.from_tag a.to_tag ≡ in_order b.from_tag b.to_tag → name a ≡ name b
-  with_tags tags = ap₂ (λ (call_id : List ℕ) (tags : List ℕ × List ℕ). (call_id, tags.0, tags.1)) ((bytes_eq-Decides a.call_id b.call_id).0 parts.0) tags
+      with_tags : in_order a.from_tag a.to_tag ≡ in_order b.from_tag b.to_tag → name a ≡ name b
+      with_tags tags = ap₂ (λ (call_id : List ℕ) (tags : List ℕ × List ℕ). (call_id, tags.0, tags.1))
+          ((bytes_eq-Decides a.call_id b.call_id).0 parts.0) tags
 
-  by_tags : ((bytes_eq a.from_tag b.from_tag && bytes_eq a.to_tag b.to_tag) ≡ true) ⊎ ((bytes_eq a.from_tag b.to_tag && bytes_eq a.to_tag b.from_tag) ≡ true) → name a ≡ name b
-  by_tags (inl h) =
-      let both = both_true (bytes_eq a.from_tag b.from_tag) (bytes_eq a.to_tag b.to_tag) h in
-      with_tags (ap₂ in_order ((bytes_eq-Decides a.from_tag b.from_tag).0 both.0) ((bytes_eq-Decides a.to_tag b.to_tag).0 both.1))
-  by_tags (inr h) =
-      let both = both_true (bytes_eq a.from_tag b.to_tag) (bytes_eq a.to_tag b.from_tag) h in
-      with_tags (ap₂ in_order ((bytes_eq-Decides a.from_tag b.to_tag).0 both.0) ((bytes_eq-Decides a.to_tag b.from_tag).0 both.1) ∙ in_order-swap b.to_tag b.from_tag)
+      by_tags : ((bytes_eq a.from_tag b.from_tag && bytes_eq a.to_tag b.to_tag) ≡ true)
+          ⊎ ((bytes_eq a.from_tag b.to_tag && bytes_eq a.to_tag b.from_tag) ≡ true) → name a ≡ name b
+      by_tags (inl h) =
+          let both = both_true (bytes_eq a.from_tag b.from_tag) (bytes_eq a.to_tag b.to_tag) h in
+          with_tags (ap₂ in_order ((bytes_eq-Decides a.from_tag b.from_tag).0 both.0) ((bytes_eq-Decides a.to_tag b.to_tag).0 both.1))
+      by_tags (inr h) =
+          let both = both_true (bytes_eq a.from_tag b.to_tag) (bytes_eq a.to_tag b.from_tag) h in
+          with_tags (ap₂ in_order ((bytes_eq-Decides a.from_tag b.to_tag).0 both.0) ((bytes_eq-Decides a.to_tag b.from_tag).0 both.1)
+          ∙ in_order-swap b.to_tag b.from_tag)
 
 named-same : (a b : DialogId) → name a ≡ name b → is_same_dialog a b ≡ true
 named-same a b e = by_tags (either_order a.from_tag a.to_tag b.from_tag b.to_tag (ap (λ (n : List ℕ × List ℕ × List ℕ). (n.1, n.2)) e)) where
@@ -86,7 +91,8 @@ named-same a b e = by_tags (either_order a.from_tag a.to_tag b.from_tag b.to_tag
 pub alike : IsEquivalence (λ (a b : DialogId). is_same_dialog b a)
 alike = record {
   refl = λ a. named-same a a refl;
-  symm = λ a b. both_ways (is_same_dialog b a) (is_same_dialog a b) (λ e. named-same a b (sym (same-names b a e))) (λ e. named-same b a (sym (same-names a b e)));
+  symm = λ a b. both_ways (is_same_dialog b a) (is_same_dialog a b) (λ e. named-same a b (sym (same-names b a e)))
+      (λ e. named-same b a (sym (same-names a b e)));
   congr = λ a b c e. both_ways (is_same_dialog c a) (is_same_dialog c b)
       (λ h. named-same c b (same-names c a h ∙ sym (same-names b a e)))
       (λ h. named-same c a (same-names c b h ∙ same-names b a e));

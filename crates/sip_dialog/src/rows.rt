@@ -1,29 +1,37 @@
-ghost use Rattle.std.specs.Prelude.{◌≡◌, ◌≤◌, ◌<◌, ◌+◌, ◌++◌, ◌∷◌, [], Bool, true, not, length, count_by, MatchOption, ℕ, ◌==◌, is_some, IfSome, IfNone, IfErr, Err, nat_le, ◌↔◌, ◌≢◌, OnOk, OnErr, IsOk};
+ghost use Rattle.std.specs.Prelude.{◌≡◌, ◌≤◌, ◌<◌, ◌+◌, ◌++◌, ◌∷◌, [], Bool, true, not, length, count_by, position, MatchOption, ℕ, ◌==◌, is_some};
+ghost use Rattle.std.specs.Prelude.{IfSome, IfNone, IfErr, Err, nat_le, ◌↔◌, ◌≢◌, OnOk, OnErr, IsOk};
 ghost use Rattle.sip_dialog.specs.declared.error.DialogError.TheVariants.{NoMemory, Full};
 ghost use Rattle.sip_dialog.specs.Dialogs.{known, knows, is_in_dialog, learnt, taught, renewed, is_full_for, begun, after_invite, without_dialog};
 ghost use Rattle.sip_dialog.specs.declared.dialog.DialogId.{DialogId};
 ghost use Rattle.sip_dialog.specs.declared.dialog.Dialog.{Dialog};
-ghost use Rattle.sip_dialog.specs.Rows.{dialogs_in, is_recent, StandsAt, StandsNowhere, IsKnownAt, IsTakenOut, StoodBehind};
+ghost use Rattle.sip_dialog.specs.declared.dialog.InviteAnswer.{InviteAnswer};
+ghost use Rattle.sip_dialog.specs.Naming.{digest_of};
+ghost use Rattle.sip_dialog.specs.Rows.{dialogs_in, names, StandsAt, StandsNowhere, IsKnownAt, IsTakenOut, StoodBehind};
 ghost use Rattle.sip_dialog.specs.Sameness.{SameDialogs};
 
 use crate::dialog::{DialogId, InviteAnswer};
+use crate::digests::Digests;
 use crate::error::DialogError;
+use crate::naming::is_same_dialog;
 use crate::standing::Standing;
-use indexmap::IndexMap;
 use sip_base::Keyed;
 use sip_uri::Addr;
 use std::alloc::{AllocError, Global};
+use std::hash::{BuildHasher, Hash, Hasher};
 use std::marker::Model;
 
 /// How many dialogs are known at most.
 const KNOWN: usize = 4096;
 
 /// The dialogs that stand in a table, by their names: those without a 2xx in front, so that these alone are
-/// looked at where an INVITE leaves the open requests. Seen as all of them, in any order, and how many more can
-/// be put in with no memory.
+/// looked at where an INVITE leaves the open requests. A name is found by its digest under a secret. Seen as all
+/// of them, in any order, and how many more can be put in with no memory.
 #[derive(Drop)]
 pub(crate) struct Rows {
-    map: IndexMap<DialogId, Standing, Keyed>,
+    rows: Vec<(DialogId, Standing)>,
+    /// Of each row the digest of its name.
+    digests: Digests,
+    keyed: Keyed,
     /// How many stand in front: behind them all have a 2xx.
     early: usize,
 }
@@ -33,12 +41,29 @@ impl Model for Rows {
 
     ghost Value = { Entries };
 
-    ghost use Rattle.indexmap.specs.IndexMap.{spare};
-    ghost use Rattle.sip_dialog.specs.Rows.{IsFront};
+    ghost use Rattle.std.specs.Prelude.{◌-◌, min, vec_len, vec_capacity};
+    ghost use Rattle.sip_dialog.specs.Rows.{AreNamed, IsFront};
 
-    ghost view = { λ r. record { entries = r.map.entries; room = spare r.map } };
+    ghost view = { λ r. record { entries = r.rows.items; room = min (vec_capacity r.rows - vec_len r.rows) r.digests.room } };
 
-    ghost invariant = { λ r. IsFront r.early r.map.entries };
+    ghost invariant = { λ r. AreNamed r.keyed r.digests.list r.rows.items × IsFront r.early r.rows.items };
+}
+
+/// The digest of a name, alike for both sides of a call.
+#[tactic(auto, unfolding(crate::specs::Naming::digest_of))]
+fn digest_of(keyed: &Keyed, id: &DialogId) -> u64
+    ensures { result ≡ digest_of keyed.now id.now }
+{
+    let mut state = keyed.build_hasher();
+    id.hash(&mut state);
+    state.finish()
+}
+
+/// Where the row of a name stands, row by row.
+fn search(rows: &[(DialogId, Standing)], id: &DialogId) -> Option<usize>
+    ensures { result ≡ position (λ row. names id.now row.0) rows.now }
+{
+    rows.iter().position(|row| is_same_dialog(&row.0, id))
 }
 
 impl Rows {
@@ -47,7 +72,9 @@ impl Rows {
         ensures { result.entries ≡ [] }
     {
         Rows {
-            map: IndexMap::with_hasher(alloc, Keyed::new(keys)),
+            rows: Vec::new(alloc),
+            digests: Digests::new(alloc),
+            keyed: Keyed::new(keys),
             early: 0,
         }
     }
@@ -58,14 +85,23 @@ impl Rows {
         ensures ok { OnOk result (1 ≤ self.new.room) }
         ensures room { self.old.room ≤ self.new.room }
     {
-        self.map.reserve(1)
+        self.rows.reserve(1)?;
+        self.digests.reserve()
     }
 
     /// Where the row of a name stands.
     fn find(&self, id: &DialogId) -> Option<usize>
         ensures { MatchOption result (StandsNowhere id.now self.now.entries) (StandsAt id.now self.now.entries) }
     {
-        self.map.get_index_of(id)
+        if self.digests.is_shared() {
+            return search(self.rows.as_slice(), id);
+        }
+        let at = self.digests.find(digest_of(&self.keyed, id))?;
+        if is_same_dialog(&self.rows[at].0, id) {
+            Some(at)
+        } else {
+            None
+        }
     }
 
     /// Takes a row out. The last of those in front takes the place of one of them, and the last of all the place
@@ -78,13 +114,16 @@ impl Rows {
         ensures room { self.old.room ≤ self.new.room }
     {
         if at >= self.early {
-            let _taken = self.map.swap_remove_index(at);
+            let _taken = self.rows.swap_remove(at);
+            self.digests.swap_remove(at);
             return;
         }
         self.early -= 1;
         let last = self.early;
-        self.map.swap_indices(at, last);
-        let _early = self.map.swap_remove_index(last);
+        self.rows.swap(at, last);
+        self.digests.swap(at, last);
+        let _early = self.rows.swap_remove(last);
+        self.digests.swap_remove(last);
     }
 
     /// Puts a row that has a 2xx behind those without.
@@ -94,9 +133,10 @@ impl Rows {
         ensures len { length self.new.entries ≡ length self.old.entries }
         ensures room { self.old.room ≤ self.new.room }
     {
-        if at < self.early && self.map[at].has_success {
+        if at < self.early && self.rows[at].1.has_success {
             self.early -= 1;
-            self.map.swap_indices(at, self.early);
+            self.rows.swap(at, self.early);
+            self.digests.swap(at, self.early);
         }
     }
 
@@ -105,7 +145,7 @@ impl Rows {
         ensures { result ≡ is_in_dialog now (dialogs_in self.now.entries) id.now address }
     {
         match self.find(id) {
-            Some(at) => self.map[at].allows(address, now),
+            Some(at) => self.rows[at].1.allows(address, now),
             None => false,
         }
     }
@@ -124,7 +164,7 @@ impl Rows {
             Some(at) => at,
             None => return None,
         };
-        if self.map[at].is_recent(now) {
+        if self.rows[at].1.is_recent(now) {
             return Some(at);
         }
         self.take_out(at);
@@ -138,7 +178,7 @@ impl Rows {
         ensures room { self.old.room ≤ self.new.room }
     {
         if let Some(at) = self.meet(id, now) {
-            self.map[at].tell(addresses);
+            self.rows[at].1.tell(addresses);
         }
     }
 
@@ -149,7 +189,7 @@ impl Rows {
         ensures room { self.old.room ≤ self.new.room }
     {
         if let Some(at) = self.meet(id, now) {
-            self.map[at].renew(addresses, now);
+            self.rows[at].1.renew(addresses, now);
         }
     }
 
@@ -173,7 +213,7 @@ impl Rows {
         let mut at = self.early;
         while at > 0 {
             at -= 1;
-            if self.map[at].is_unconfirmed(number) {
+            if self.rows[at].1.is_unconfirmed(number) {
                 self.take_out(at);
             }
         }
@@ -181,17 +221,18 @@ impl Rows {
 
     /// Forgets the dialogs that aren't known any more.
     fn forget(&mut self, now: u64)
-        ensures known { dialogs_in self.new.entries ≡ known now (dialogs_in self.old.entries) }
+        ensures known { (p : Dialog → Bool) → count_by p (dialogs_in self.new.entries) ≡ count_by p (known now (dialogs_in self.old.entries)) }
         ensures absent { (id : DialogId) → StandsNowhere id self.old.entries → StandsNowhere id self.new.entries }
         ensures len { length self.new.entries ≤ length self.old.entries }
         ensures room { self.old.room ≤ self.new.room }
     {
-        self.map.retain(
-            |_id: &DialogId, row: &mut Standing| -> bool
-                ensures { (result ≡ is_recent now row.old) × (row.new ≡ row.old) }
-            { row.is_recent(now) },
-        );
-        self.early = self.early.min(self.map.len());
+        let mut place = self.rows.len();
+        while place > 0 {
+            place -= 1;
+            if !self.rows[place].1.is_recent(now) {
+                self.take_out(place);
+            }
+        }
     }
 
     /// Whether one more dialog may become known. Only where as many rows stand as may be known, a pass over all
@@ -205,36 +246,35 @@ impl Rows {
         ensures len { length self.new.entries ≤ length self.old.entries }
         ensures room { self.old.room ≤ self.new.room }
     {
-        if self.map.len() < KNOWN {
+        if self.rows.len() < KNOWN {
             return true;
         }
         self.forget(now);
-        self.map.len() < KNOWN
+        self.rows.len() < KNOWN
     }
 
     /// Makes a dialog known that no row has. Of want of memory it says `NoMemory`, and leaves the rows.
     fn begin(&mut self, answer: InviteAnswer) -> Result<(), DialogError>
         requires { StandsNowhere answer.id self.old.entries }
-        ensures ok { OnOk result ((p : Dialog → Bool) → count_by p (dialogs_in self.new.entries) ≡ count_by p (dialogs_in self.old.entries ++ begun answer ∷ [])) }
+        ensures ok { OnOk result ((p : Dialog → Bool) → count_by p (dialogs_in self.new.entries)
+            ≡ count_by p (dialogs_in self.old.entries ++ begun answer ∷ [])) }
         ensures len { OnOk result (length self.new.entries ≡ length self.old.entries + 1) }
         ensures err { OnErr result (self.new.entries ≡ self.old.entries) }
         ensures memory { IfErr result (λ e. e ≡ NoMemory) }
         ensures room { 1 ≤ self.old.room → IsOk result }
         ensures left { self.old.room ≤ self.new.room + 1 }
     {
-        let last = self.map.len();
+        self.rows.reserve(1)?;
+        self.digests.push(digest_of(&self.keyed, &answer.id))?;
+        let last = self.rows.len();
         let is_success = answer.is_success;
-        let (id, standing) = Standing::begin(answer);
-        match self.map.insert(id, standing) {
-            Ok(_none) => {
-                if !is_success {
-                    self.map.swap_indices(self.early, last);
-                    self.early += 1;
-                }
-                Ok(())
-            }
-            Err(_refused) => Err(DialogError::NoMemory),
+        self.rows.push_reserved(Standing::begin(answer));
+        if !is_success {
+            self.rows.swap(self.early, last);
+            self.digests.swap(self.early, last);
+            self.early += 1;
         }
+        Ok(())
     }
 
     /// Learns from an answer to an INVITE: of the dialog of its name, or that there is one more.
@@ -248,7 +288,7 @@ impl Rows {
         ensures len { length self.new.entries ≤ 4096 }
     {
         if let Some(at) = self.meet(&answer.id, now) {
-            self.map[at].answer_again(&answer);
+            self.rows[at].1.answer_again(&answer);
             self.settle(at);
             return Ok(());
         }

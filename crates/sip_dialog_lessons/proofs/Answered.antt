@@ -12,7 +12,7 @@ use Rattle.sip_dialog.specs.declared.dialog.DialogId.{DialogId}
 use Rattle.sip_dialog.specs.DialogId.{id_with}
 use Rattle.sip_state.specs.declared.open_request.OpenRequest.{OpenRequest}
 use Rattle.sip_state.specs.Dialogs.{answered_dialog}
-use Rattle.sip_state.specs.context_request.Names.{names_in, names_of, dialog_to}
+use Rattle.sip_state.specs.Names.{names_in, names_of, dialog_to}
 
 -- by the core fields of the request, and the answer's To
 abbrev named : Option NameAddr → Option CoreFields → Option DialogId

@@ -9,16 +9,19 @@ use Rattle.sip_dialog_lessons.specs.Lessons.{after_lesson, after_one, after_less
 
 -- A lesson does what a server with this table of addresses makes of the dialogs, at each moment.
 abbrev pub Does : List HostAddress → Lesson → (Server → ℕ → List Dialog → List Dialog) → Type 0
-Does rows lesson edit = (server : Server) (now : ℕ) (dialogs : List Dialog) → server.config.addresses ≡ rows → after_lesson now lesson dialogs ≡ edit server now dialogs
+Does rows lesson edit = (server : Server) (now : ℕ) (dialogs : List Dialog) → server.config.addresses ≡ rows
+    → after_lesson now lesson dialogs ≡ edit server now dialogs
 
 -- So does one, or there is none and nothing is made of them.
 abbrev pub DoesOr : List HostAddress → Option Lesson → (Server → ℕ → List Dialog → List Dialog) → Type 0
-DoesOr rows lesson edit = (server : Server) (now : ℕ) (dialogs : List Dialog) → server.config.addresses ≡ rows → after_one now lesson dialogs ≡ edit server now dialogs
+DoesOr rows lesson edit = (server : Server) (now : ℕ) (dialogs : List Dialog) → server.config.addresses ≡ rows
+    → after_one now lesson dialogs ≡ edit server now dialogs
 
 -- Lessons with further ones behind them do this after what they did.
 abbrev pub Adds : List HostAddress → List Lesson → List Lesson → (Server → ℕ → List Dialog → List Dialog) → Type 0
 Adds rows old new edit =
-    (server : Server) (now : ℕ) (dialogs : List Dialog) → server.config.addresses ≡ rows → after_lessons now new dialogs ≡ edit server now (after_lessons now old dialogs)
+    (server : Server) (now : ℕ) (dialogs : List Dialog) → server.config.addresses ≡ rows → after_lessons now new dialogs
+    ≡ edit server now (after_lessons now old dialogs)
 
 -- whether an answer may make a dialog known: one of 101 to 299 (RFC 3261 12.1)
 abbrev pub is_early_or_success : Upward → Bool

@@ -9,7 +9,7 @@ ghost use Rattle.sip_state.specs.Dialogs as Dialogs;
 ghost use Rattle.sip_dialog_lessons.specs.Lessons.{may_begin, begins};
 ghost use Rattle.sip_dialog_lessons.specs.Telling.{Does, DoesOr, is_early_or_success};
 
-use crate::calls::{is_bye, is_invite, is_success};
+use crate::calls::is_bye;
 use crate::given::{addresses_of, given_by, put_addresses};
 use crate::lesson::Lesson;
 use crate::naming::answered_dialog;
@@ -17,7 +17,7 @@ use sip_dialog::{DialogId, InviteAnswer};
 use sip_hops::Hops;
 use sip_message_fields::ViewField;
 use sip_message_form::View;
-use sip_state::{OpenRequest, Upward};
+use sip_state::{OpenRequest, Upward, is_invite, is_success};
 use sip_text::Items;
 use sip_uri::Addr;
 use std::alloc::{AllocError, Global};
@@ -37,7 +37,8 @@ fn lesson_within(
     up: &Upward,
     id: DialogId,
 ) -> Result<Lesson, AllocError>
-    ensures does { IfOk result (λ lesson. Does hops.now.addresses lesson (λ server now dialogs. Dialogs.after_answer_within server now request.now up.now id dialogs)) }
+    ensures does { IfOk result (λ lesson. Does hops.now.addresses lesson
+        (λ server now dialogs. Dialogs.after_answer_within server now request.now up.now id dialogs)) }
     ensures room { IfOk result (λ lesson. may_begin lesson ≡ false) }
 {
     if ends_dialog(request, up) {
@@ -89,7 +90,8 @@ fn invite_answer(
     id: DialogId,
 ) -> Result<InviteAnswer, AllocError>
     requires { answer.now ≡ up.now.message }
-    ensures { IfOk result (λ answer. (server : Server) → server.config.addresses ≡ hops.now.addresses → answer ≡ Dialogs.invite_answer server request.now up.now id) }
+    ensures { IfOk result (λ answer. (server : Server) → server.config.addresses ≡ hops.now.addresses → answer
+        ≡ Dialogs.invite_answer server request.now up.now id) }
 {
     let fields = answer.fields().as_slice();
     let addresses = invite_addresses(alloc, hops, request, up, fields)?;
@@ -112,7 +114,8 @@ fn invite_lesson(
     id: DialogId,
 ) -> Result<Lesson, AllocError>
     requires { answer.now ≡ up.now.message }
-    ensures does { IfOk result (λ lesson. Does hops.now.addresses lesson (λ server now dialogs. Dialogs.after_invite_answer server now request.now up.now id dialogs)) }
+    ensures does { IfOk result (λ lesson. Does hops.now.addresses lesson
+        (λ server now dialogs. Dialogs.after_invite_answer server now request.now up.now id dialogs)) }
     ensures room { IfOk result (λ lesson. may_begin lesson ≡ true → nat_le up.now.status 299 ≡ true) }
 {
     if up.status <= 299 {
@@ -133,7 +136,8 @@ fn first_invite_lesson(
 ) -> Result<Option<Lesson>, AllocError>
     requires invite { States.is_invite request.now ≡ true }
     requires view { answer.now ≡ up.now.message }
-    ensures does { IfOk result (λ lesson. DoesOr hops.now.addresses lesson (λ server now dialogs. Dialogs.after_first_answer server now request.now up.now dialogs)) }
+    ensures does { IfOk result (λ lesson. DoesOr hops.now.addresses lesson
+        (λ server now dialogs. Dialogs.after_first_answer server now request.now up.now dialogs)) }
     ensures room { IfOk result (λ lesson. begins lesson ≡ true → nat_le up.now.status 299 ≡ true) }
 {
     match answered_dialog(alloc, request, answer)? {
@@ -149,7 +153,8 @@ fn first_lesson(
     request: &OpenRequest,
     up: &Upward,
 ) -> Result<Option<Lesson>, AllocError>
-    ensures does { IfOk result (λ lesson. DoesOr hops.now.addresses lesson (λ server now dialogs. Dialogs.after_first_answer server now request.now up.now dialogs)) }
+    ensures does { IfOk result (λ lesson. DoesOr hops.now.addresses lesson
+        (λ server now dialogs. Dialogs.after_first_answer server now request.now up.now dialogs)) }
     ensures room { IfOk result (λ lesson. begins lesson ≡ true → nat_le up.now.status 299 ≡ true) }
 {
     if !is_invite(request) {
@@ -173,7 +178,8 @@ pub(crate) fn lesson_of(
     request: &OpenRequest,
     up: &Upward,
 ) -> Result<Option<Lesson>, AllocError>
-    ensures does { IfOk result (λ lesson. DoesOr hops.now.addresses lesson (λ server now dialogs. Dialogs.after_answer server now request.now up.now dialogs)) }
+    ensures does { IfOk result (λ lesson. DoesOr hops.now.addresses lesson
+        (λ server now dialogs. Dialogs.after_answer server now request.now up.now dialogs)) }
     ensures room { IfOk result (λ lesson. begins lesson ≡ true → is_early_or_success up.now ≡ true) }
 {
     if up.status <= 100 {

@@ -4,27 +4,13 @@ ghost use Rattle.std.specs.Str.{bytes_eq};
 ghost use Rattle.sip_state.specs.declared.branch.Branch.{Branch};
 ghost use Rattle.sip_state.specs.State as States;
 
-use sip_state::{Branch, OpenRequest, Phase, Side};
-
-/// Whether a request is an INVITE.
-pub(crate) fn is_invite(request: &OpenRequest) -> bool
-    ensures { result ≡ States.is_invite request.now }
-{
-    request.key.get().is_method(b"INVITE")
-}
+use sip_state::{Branch, OpenRequest, Phase, Side, is_invite};
 
 /// Whether a request is a BYE.
 pub(crate) fn is_bye(request: &OpenRequest) -> bool
     ensures { result ≡ bytes_eq request.now.key.method (codes "BYE") }
 {
     request.key.get().is_method(b"BYE")
-}
-
-/// 2xx.
-pub(crate) fn is_success(status: u16) -> bool
-    ensures { result ≡ States.is_success status }
-{
-    200 <= status && status <= 299
 }
 
 /// Whether the answering side of a request has ended.

@@ -4,7 +4,8 @@ ghost use Rattle.sip_message_fields.specs.declared.field_name.FieldName.TheVaria
 ghost use Rattle.sip_hops.specs.HostAddress.{address_of};
 ghost use Rattle.sip_dialog.specs.Addresses as Given;
 
-use sip_header::{AnyUri, NameAddr, bracketed_place, name_addr_of, route_of};
+use sip_dialog::item_in;
+use sip_header::{AnyUri, bracketed_place};
 use sip_hops::Hops;
 use sip_message_fields::{FieldName, ViewField};
 use sip_message_form::{Kept, View};
@@ -20,19 +21,6 @@ fn address_by(hops: &Hops, uri: &AnyUri<'_>) -> Option<Addr>
         AnyUri::Sip(uri) => hops.address_of(uri),
         AnyUri::Other(_) => None,
     }
-}
-
-/// What a Contact or a Record-Route says.
-fn item_in<'v>(alloc: Global, field: &'v ViewField<'_>) -> Result<Option<NameAddr<'v>>, AllocError>
-    ensures { IfOk result (λ item. item ≡ Given.item_in field.now) }
-{
-    if field.name().is_same(&FieldName::Contact) {
-        return name_addr_of(alloc, field.value().as_slice());
-    }
-    if field.name().is_same(&FieldName::RecordRoute) {
-        return route_of(alloc, field.value().as_slice());
-    }
-    Ok(None)
 }
 
 /// Whether a field is a Contact or a Record-Route.

@@ -45,7 +45,8 @@ fn put_answer(
     request: &OpenRequest,
     up: &Upward,
 ) -> Result<(), AllocError>
-    ensures told { OnOk result (Adds hops.now.addresses list.old.items list.new.items (λ server now dialogs. Definitions.after_answer server now request.now up.now dialogs)) }
+    ensures told { OnOk result (Adds hops.now.addresses list.old.items list.new.items
+        (λ server now dialogs. Definitions.after_answer server now request.now up.now dialogs)) }
     ensures room { OnOk result (beginnings list.new.items ≤ beginnings list.old.items + (if is_early_or_success up.now then 1 else 0)) }
 {
     match lesson_of(alloc, hops, request, up)? {
@@ -65,7 +66,8 @@ fn put_answers(
     request: &OpenRequest,
     upward: &[Upward],
 ) -> Result<(), AllocError>
-    ensures told { OnOk result (Adds hops.now.addresses list.old.items list.new.items (λ server now dialogs. Definitions.after_answers server now request.now upward.now dialogs)) }
+    ensures told { OnOk result (Adds hops.now.addresses list.old.items list.new.items
+        (λ server now dialogs. Definitions.after_answers server now request.now upward.now dialogs)) }
     ensures room { OnOk result (beginnings list.new.items ≤ beginnings list.old.items + count_by is_early_or_success upward.now) }
 {
     for up in upward {
@@ -76,7 +78,8 @@ fn put_answers(
 
 /// Adds that an INVITE left the open requests, if it did.
 fn put_leaving(list: &mut Vec<Lesson>, request: &OpenRequest) -> Result<(), AllocError>
-    ensures told { OnOk result ((now : ℕ) (dialogs : List Dialog) → after_lessons now list.new.items dialogs ≡ Definitions.after_leaving now request.now (after_lessons now list.old.items dialogs)) }
+    ensures told { OnOk result ((now : ℕ) (dialogs : List Dialog) → after_lessons now list.new.items dialogs
+        ≡ Definitions.after_leaving now request.now (after_lessons now list.old.items dialogs)) }
     ensures room { OnOk result (beginnings list.new.items ≡ beginnings list.old.items) }
 {
     if is_left_invite(request) {
@@ -103,7 +106,8 @@ impl Lessons {
         id: DialogId,
         request: &View<'_>,
     ) -> Result<(), AllocError>
-        ensures told { OnOk result (Adds hops.now.addresses self.old self.new (λ server now dialogs. Definitions.after_request server now id request.now dialogs)) }
+        ensures told { OnOk result (Adds hops.now.addresses self.old self.new
+            (λ server now dialogs. Definitions.after_request server now id request.now dialogs)) }
         ensures room { OnOk result (beginnings self.new ≡ beginnings self.old) }
     {
         let addresses = addresses_of(alloc, hops, request)?;

@@ -6,11 +6,10 @@ use Rattle.std.specs.List.{list_any}
 use Rattle.std.proofs.lemmas.Bool.{and_parts, and_from, ltb-true, lt-ltb}
 use Rattle.std.proofs.lemmas.List.{reverse-append}
 use Rattle.std.proofs.lemmas.List.Sums.{sum_by-cons, sum_by_push, sum_by-take-drop}
-use Rattle.circular_buffer.specs.Buffer.{keep_last}
 use Rattle.sip_digest.specs.declared.nonces.Nonce.{Nonce}
 use Rattle.sip_digest.specs.Credential.{Credential, count_of}
 use Rattle.sip_digest.specs.NonceText.{word_of}
-use Rattle.sip_digest.specs.Nonces.{is_live, is_this, issued, counted, spent_by, HasOneLive}
+use Rattle.sip_digest.specs.Nonces.{keep_last, is_live, is_this, issued, counted, spent_by, HasOneLive}
 use Rattle.sip_digest.proofs.Counting.{with_count}
 
 -- ---- counts

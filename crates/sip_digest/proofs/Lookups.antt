@@ -7,7 +7,7 @@ use Rattle.std.proofs.lemmas.Bool.Decides.{nat_tests}
 use Rattle.std.proofs.lemmas.List.{get_or_read, get_or-map, length-map, length_push, take_more, take_all, length-take-le}
 use Rattle.std.proofs.lemmas.List.Folds.{position_or_len_push, find_at}
 use Rattle.std.specs.Option.{option_map}
-use Rattle.std.proofs.lemmas.Option.{cond_some, slice_get-map, slice_get_past, slice_get-get_or, get_or_from_slice_get}
+use Rattle.std.proofs.lemmas.Option.{cond_some, slice_get-map, slice_get_past, slice_get-get_or, slice_get_read, get_or_from_slice_get}
 use Rattle.sip_digest.specs.declared.nonces.Nonce.{Nonce}
 use Rattle.sip_digest.specs.declared.nonces.Row.{Row}
 use Rattle.sip_digest.specs.Nonces.{is_live, is_this}
@@ -154,9 +154,9 @@ found_none test xs e = find_at test xs ∙ slice_get_past xs (position_or_len te
 found_some : {X : Type 0} (test : X → Bool) (xs : List X) (i : ℕ) → position test xs ≡ Some i → find test xs ≡ slice_get xs i
 found_some test xs i e = find_at test xs ∙ ap (slice_get xs) (cond_some (nat_lt (position_or_len test xs) (length xs)) _ _ e).1
 
-pub found_nonce : (rows : List Row) (nonces : List Nonce) (test : Nonce → Bool) (i : ℕ) (row : Row) → nonces_in rows ≡ nonces → position test nonces ≡ Some i → slice_get rows i ≡ Some row → find test nonces ≡ Some row.nonce
-found_nonce rows nonces test i row is found got =
-    found_some test nonces i found ∙ ap (λ (ns : List Nonce). slice_get ns i) (sym is) ∙ nonce_at rows i row got
+pub found_nonce : (rows : List Row) (nonces : List Nonce) (test : Nonce → Bool) (i : ℕ) (row : Row) → nonces_in rows ≡ nonces → position test nonces ≡ Some i → i < length rows → row ≡ get_or rows i row → find test nonces ≡ Some row.nonce
+found_nonce rows nonces test i row is found within read =
+    found_some test nonces i found ∙ ap (λ (ns : List Nonce). slice_get ns i) (sym is) ∙ nonce_at rows i row (slice_get_read rows (length rows) i row refl within read)
 
 -- the bucket of a row that was read
 bucket_at : (rows : List Row) (i : ℕ) (row : Row) → slice_get rows i ≡ Some row → get_or (buckets_of (nonces_in rows)) i 0 ≡ bucket_of row.nonce.word

@@ -5,10 +5,9 @@ use Rattle.std.proofs.lemmas.Bool.{cases_lt, cases_eq}
 use Rattle.std.proofs.lemmas.List.{get_or_append_left, get_or_push, get_or-set_same, get_or-set_other, length-set, length-map, length_push, drop-map, map-set, map_push}
 use Rattle.std.specs.Option.{option_map}
 use Rattle.std.proofs.lemmas.Option.{slice_get-map}
-use Rattle.circular_buffer.specs.Buffer.{Buffer, buffer, keep_last}
 use Rattle.sip_digest.specs.declared.nonces.Nonce.{Nonce}
 use Rattle.sip_digest.specs.declared.nonces.Row.{Row}
-use Rattle.sip_digest.specs.Nonces.{is_this, counted}
+use Rattle.sip_digest.specs.Nonces.{keep_last, is_this, counted}
 use Rattle.sip_digest.specs.Rows.{bucket_of, nonces_in, buckets_of, gaps_in, passed_since, IsNewest, AreLinked, AreKept}
 use Rattle.sip_digest.proofs.Counting.{with_count, counted_at, is_there}
 
@@ -214,24 +213,19 @@ rows_kept rows row turn marks is k =
     (subst (λ (gs : List ℕ). AreKept (keep_last 4096 (buckets_of (nonces_in rows) ++ bucket ∷ [])) gs after (set marks bucket after)) (sym f)
     (kept_on bucket row.gap (buckets_of (nonces_in rows)) (gaps_in rows) turn marks (omega arith) is k))
 
--- the same after `push_back`
-pub kept_behind : (before after : Buffer Row) (row : Row) (bucket turn : ℕ) (marks : List ℕ) → after ≡ buffer (keep_last before.capacity (before.items ++ row ∷ [])) before.capacity
-    → before.capacity ≡ 4096 → bucket ≡ bucket_of row.nonce.word → row.gap ≡ passed_since (get_or marks bucket 0) turn
-    → AreKept (buckets_of (nonces_in before.items)) (gaps_in before.items) turn marks
-    → (after.capacity ≡ 4096) × AreKept (buckets_of (nonces_in after.items)) (gaps_in after.items) ((turn + 1) % 65536) (slice_set marks bucket ((turn + 1) % 65536))
-kept_behind before after row bucket turn marks e size b is k =
-    let whole : after ≡ buffer (keep_last 4096 (before.items ++ row ∷ [])) 4096 = e ∙ ap (λ (n : ℕ). buffer (keep_last n (before.items ++ row ∷ [])) n) size in
-    subst (λ (z : Buffer Row). (z.capacity ≡ 4096) × AreKept (buckets_of (nonces_in z.items)) (gaps_in z.items) ((turn + 1) % 65536) (slice_set marks bucket ((turn + 1) % 65536))) (sym whole) (
-      refl,
-      subst (λ (m : ℕ). AreKept (buckets_of (nonces_in (keep_last 4096 (before.items ++ row ∷ [])))) (gaps_in (keep_last 4096 (before.items ++ row ∷ []))) ((turn + 1) % 65536) (slice_set marks m ((turn + 1) % 65536))) (sym b)
-          (rows_kept before.items row turn marks (is ∙ ap (λ (m : ℕ). passed_since (get_or marks m 0) turn) b) k),
-    )
+-- the same of a row that is put behind the others
+pub kept_behind : (before after : List Row) (row : Row) (bucket turn : ℕ) (marks : List ℕ) → after ≡ keep_last 4096 (before ++ row ∷ [])
+    → bucket ≡ bucket_of row.nonce.word → row.gap ≡ passed_since (get_or marks bucket 0) turn → AreKept (buckets_of (nonces_in before)) (gaps_in before) turn marks
+    → AreKept (buckets_of (nonces_in after)) (gaps_in after) ((turn + 1) % 65536) (slice_set marks bucket ((turn + 1) % 65536))
+kept_behind before after row bucket turn marks e b is k =
+    subst (λ (rows : List Row). AreKept (buckets_of (nonces_in rows)) (gaps_in rows) ((turn + 1) % 65536) (slice_set marks bucket ((turn + 1) % 65536))) (sym e)
+    (subst (λ (m : ℕ). AreKept (buckets_of (nonces_in (keep_last 4096 (before ++ row ∷ [])))) (gaps_in (keep_last 4096 (before ++ row ∷ []))) ((turn + 1) % 65536) (slice_set marks m ((turn + 1) % 65536))) (sym b)
+    (rows_kept before row turn marks (is ∙ ap (λ (m : ℕ). passed_since (get_or marks m 0) turn) b) k))
 
-pub nonces_behind : (before after : Buffer Row) (row : Row) (was : List Nonce) → after ≡ buffer (keep_last before.capacity (before.items ++ row ∷ [])) before.capacity
-    → before.capacity ≡ 4096 → nonces_in before.items ≡ was → nonces_in after.items ≡ keep_last 4096 (was ++ row.nonce ∷ [])
-nonces_behind before after row was e size is =
-    ap (λ (z : Buffer Row). nonces_in z.items) e ∙ ap (λ (n : ℕ). nonces_in (keep_last n (before.items ++ row ∷ []))) size
-    ∙ nonces_kept before.items row ∙ ap (λ (ns : List Nonce). keep_last 4096 (ns ++ row.nonce ∷ [])) is
+pub nonces_behind : (before after : List Row) (row : Row) (was : List Nonce) → after ≡ keep_last 4096 (before ++ row ∷ []) → nonces_in before ≡ was
+    → nonces_in after ≡ keep_last 4096 (was ++ row.nonce ∷ [])
+nonces_behind before after row was e is =
+    ap nonces_in e ∙ nonces_kept before row ∙ ap (λ (ns : List Nonce). keep_last 4096 (ns ++ row.nonce ∷ [])) is
 
 -- ---- a count is written
 

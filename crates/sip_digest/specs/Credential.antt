@@ -18,7 +18,14 @@ pub record Credential : Type 0 where
 
 -- the bytes of a credential that a call is given
 abbrev pub shown : Given → Credential
-shown c = record { algorithm = c.algorithm; method = c.method.now; uri = c.uri.now; nonce = c.nonce.now; protection = seen c.protection; response = c.response.now }
+shown c = record {
+  algorithm = c.algorithm;
+  method = c.method.now;
+  uri = c.uri.now;
+  nonce = c.nonce.now;
+  protection = seen c.protection;
+  response = c.response.now;
+}
 
 -- whether the response is, byte by byte, the answer of the user of this H(A1), which is of the same algorithm
 abbrev pub is_answer : List ℕ → Credential → Bool

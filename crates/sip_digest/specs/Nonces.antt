@@ -1,14 +1,17 @@
 -- The nonces that were issued (RFC 2617 3.2.1; their life and number are this project's profile).
 -- Rows of nonces stand in the order in which they were issued, the oldest first.
-use Rattle.std.specs.Prelude.{◌≡◌, ℕ, ◌-◌, ◌<◌, ◌≤◌, Bool, ◌&&◌, ◌==◌, nat_lt, if◌then◌else◌, List, [], ◌∷◌, ◌++◌, Option, Some, None, find, count_by}
+use Rattle.std.specs.Prelude.{◌≡◌, ℕ, ◌-◌, ◌<◌, ◌≤◌, Bool, ◌&&◌, ◌==◌, nat_lt, if◌then◌else◌, List, [], ◌∷◌, ◌++◌, length, drop, Option, Some, None, find, count_by}
 use Rattle.std.specs.List.{list_any}
 use Rattle.std.specs.Option.{option_and_then, option_map_or}
-use Rattle.circular_buffer.specs.Buffer.{keep_last}
 use Rattle.sip_digest.specs.Credential.{Credential, is_answer, count_of}
 use Rattle.sip_digest.specs.NonceText.{word_of}
 use Rattle.sip_digest.specs.declared.nonces.Nonce.{Nonce}
 use Rattle.sip_digest.specs.declared.nonces.Worth.{Worth}
 use Rattle.sip_digest.specs.declared.nonces.Worth.TheVariants.{Right, Stale, Wrong}
+
+-- the last n of a list
+abbrev pub keep_last : {X : Type 0} → ℕ → List X → List X
+keep_last n xs = drop (length xs - n) xs
 
 -- a nonce lives for 300,000 ms
 abbrev pub is_live : ℕ → Nonce → Bool

@@ -18,7 +18,8 @@ fn add_part<H: Hashing>(hasher: &mut H, part: &[u8])
 
 /// Adds the parts of a protection.
 fn add_protection<H: Hashing>(hasher: &mut H, protection: Protection<'_>)
-    ensures { (m : List ℕ) → H.holds hasher.old m → H.holds hasher.new (m ++ byte ":" ∷ (protection.entry.nc.now ++ byte ":" ∷ (protection.entry.cnonce.now ++ byte ":" ∷ codes "auth"))) }
+    ensures { (m : List ℕ) → H.holds hasher.old m → H.holds hasher.new
+        (m ++ byte ":" ∷ (protection.entry.nc.now ++ byte ":" ∷ (protection.entry.cnonce.now ++ byte ":" ∷ codes "auth"))) }
 {
     add_part(hasher, protection.nc);
     add_part(hasher, protection.cnonce);

@@ -22,7 +22,8 @@ pub fn live_word_stays()
 
 /// A credential that was right and spent is stale.
 pub fn spent_credential_is_stale()
-    ensures { (rows : List Nonce) (a1 : List ℕ) (c : Credential) (now : ℕ) → worth_of rows a1 c now ≡ Right → worth_of (spent_by rows c now) a1 c now ≡ Stale }
+    ensures { (rows : List Nonce) (a1 : List ℕ) (c : Credential) (now : ℕ) → worth_of rows a1 c now ≡ Right
+        → worth_of (spent_by rows c now) a1 c now ≡ Stale }
 {}
 
 /// A count that was accepted for a nonce isn't accepted again, by whichever algorithm and of whichever user it
@@ -35,10 +36,19 @@ pub fn one_count_for_both()
 /// What is answered by MD5 is what RFC 2617 3.2.2.1 says, and nothing else proves a user by it.
 pub fn md5_is_unchanged()
     ensures without_qop { (rows : List Nonce) (a1 method uri nonce response : List ℕ) (now : ℕ)
-        → (worth_of rows a1 (record { algorithm = Md5; method = method; uri = uri; nonce = nonce; protection = None; response = response }) now ≢ Wrong)
+        → (worth_of rows a1 (record { algorithm = Md5; method = method; uri = uri; nonce = nonce; protection = None; response = response })
+        now ≢ Wrong)
         ↔ (response ≡ encode_lower (md5 (a1 ++ byte ":" ∷ (nonce ++ byte ":" ∷ encode_lower (md5 (method ++ byte ":" ∷ uri)))))) }
     ensures with_qop { (rows : List Nonce) (a1 method uri nonce count client response : List ℕ) (now : ℕ)
-        → (worth_of rows a1 (record { algorithm = Md5; method = method; uri = uri; nonce = nonce; protection = Some (record { nc = count; cnonce = client }); response = response }) now ≢ Wrong)
+        → (worth_of rows a1 (record {
+          algorithm = Md5;
+          method = method;
+          uri = uri;
+          nonce = nonce;
+          protection = Some
+              (record { nc = count; cnonce = client });
+          response = response;
+        }) now ≢ Wrong)
         ↔ (response ≡ encode_lower (md5 (a1 ++ byte ":" ∷ (nonce ++ byte ":" ∷ (count ++ byte ":" ∷ (client ++ (codes ":auth:" ++ encode_lower (md5 (method ++ byte ":" ∷ uri))))))))) }
 {}
 
@@ -49,5 +59,6 @@ pub fn one_live_row()
     ensures later { (rows : List Nonce) (now later : ℕ) → now ≤ later → HasOneLive now rows → HasOneLive later rows }
     ensures issued { (rows : List Nonce) (word now : ℕ) → HasOneLive now rows → HasOneLive now (issued rows word now) }
     ensures used { (rows : List Nonce) (c : Credential) (now : ℕ) → HasOneLive now rows → HasOneLive now (spent_by rows c now) }
-    ensures newest { (rows : List Nonce) (word now : ℕ) → HasOneLive now rows → find (is_this word now) (reverse rows) ≡ find (is_this word now) rows }
+    ensures newest { (rows : List Nonce) (word now : ℕ) → HasOneLive now rows → find (is_this word now) (reverse rows)
+        ≡ find (is_this word now) rows }
 {}

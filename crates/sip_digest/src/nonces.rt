@@ -1,13 +1,13 @@
-ghost use Rattle.std.specs.Prelude.{◌≡◌, [], ◌∷◌, ◌++◌, length, IfOk, find, position};
-ghost use Rattle.circular_buffer.specs.Buffer.{keep_last};
+ghost use Rattle.std.specs.Prelude.{◌≡◌, ◌≤◌, [], ◌∷◌, ◌++◌, length, IfOk, find, position};
+ghost use Rattle.std.specs.VecDeque.{deque_capacity};
 ghost use Rattle.sip_digest.specs.Credential.{shown};
-ghost use Rattle.sip_digest.specs.Nonces.{issued, spent_by, counted, worth_of, standing, is_this};
+ghost use Rattle.sip_digest.specs.Nonces.{keep_last, issued, spent_by, counted, worth_of, standing, is_this};
 ghost use Rattle.sip_digest.specs.Rows.{bucket_of, nonces_in, buckets_of, gaps_in, IsNewest, AreLinked};
 
 use crate::Credential;
 use crate::nonce_texts::word_of;
-use circular_buffer::HeapCircularBuffer;
 use std::alloc::{AllocError, Global};
+use std::collections::VecDeque;
 use std::marker::Model;
 
 /// How long a nonce lives, in milliseconds.
@@ -49,7 +49,7 @@ struct Row {
 /// rows of one bucket alone, from the newest to the oldest: one or two, since words are random.
 #[derive(Drop)]
 pub struct Nonces {
-    rows: HeapCircularBuffer<Row>,
+    rows: VecDeque<Row>,
     /// How many nonces were issued, round 2^16.
     turn: u16,
     /// What `turn` was when the newest row of each bucket had come.
@@ -57,7 +57,8 @@ pub struct Nonces {
 }
 
 impl Model for Nonces {
-    ghost use Rattle.std.specs.Prelude.{◌≡◌, List};
+    ghost use Rattle.std.specs.Prelude.{◌≤◌, List};
+    ghost use Rattle.std.specs.VecDeque.{deque_capacity};
     ghost use Rattle.sip_digest.specs.declared.nonces.Nonce.{Nonce};
 
     ghost Value = { List Nonce };
@@ -66,7 +67,7 @@ impl Model for Nonces {
 
     ghost view = { λ n. nonces_in n.rows.items };
 
-    ghost invariant = { λ n. (n.rows.capacity ≡ 4096) × AreKept (buckets_of (nonces_in n.rows.items)) (gaps_in n.rows.items) n.turn n.marks.items };
+    ghost invariant = { λ n. (4096 ≤ deque_capacity n.rows) × AreKept (buckets_of (nonces_in n.rows.items)) (gaps_in n.rows.items) n.turn n.marks.items };
 }
 
 impl Nonces {
@@ -74,7 +75,7 @@ impl Nonces {
     pub fn new(alloc: Global) -> Result<Self, AllocError>
         ensures { IfOk result (λ nonces. nonces ≡ []) }
     {
-        let rows = HeapCircularBuffer::with_capacity(alloc, KEPT)?;
+        let rows = VecDeque::with_capacity(alloc, KEPT)?;
         let marks = zeros(alloc, BUCKETS)?;
         Ok(Nonces {
             rows,
@@ -140,7 +141,7 @@ impl Nonces {
     {
         let bucket = bucket_of(nonce.word);
         let gap = self.turn.wrapping_sub(self.marks[bucket]);
-        self.rows.push_back(Row { nonce, gap });
+        put_behind(&mut self.rows, Row { nonce, gap });
         self.turn = self.turn.wrapping_add(1);
         self.marks[bucket] = self.turn;
     }
@@ -167,12 +168,7 @@ impl Nonces {
 
 /// Where the live nonce of a word stands, where the newest row of its bucket, if there is one, is the last of the
 /// first `front`.
-fn place_among(
-    rows: &HeapCircularBuffer<Row>,
-    mut front: usize,
-    word: u128,
-    now: u64,
-) -> Option<usize>
+fn place_among(rows: &VecDeque<Row>, mut front: usize, word: u128, now: u64) -> Option<usize>
     requires linked { AreLinked (buckets_of (nonces_in rows.now.items)) (gaps_in rows.now.items) }
     requires newest { IsNewest (bucket_of word) (buckets_of (nonces_in rows.now.items)) (length (nonces_in rows.now.items)) front }
     ensures { result ≡ position (is_this word now) (nonces_in rows.now.items) }
@@ -193,6 +189,19 @@ fn place_among(
         front = at.saturating_sub(usize::from(row.gap));
     }
     place
+}
+
+/// Puts a row behind the others, where there is room for 4,096. The oldest of so many gives way.
+fn put_behind(rows: &mut VecDeque<Row>, row: Row)
+    requires few { length rows.old.items ≤ 4096 }
+    requires room { 4096 ≤ deque_capacity rows.old }
+    ensures items { rows.new.items ≡ keep_last 4096 (rows.old.items ++ row ∷ []) }
+    ensures room { deque_capacity rows.new ≡ deque_capacity rows.old }
+{
+    if rows.len() >= KEPT {
+        rows.pop_front();
+    }
+    rows.push_back_reserved(row);
 }
 
 /// The bucket of a word: its low bits.

@@ -21,4 +21,5 @@ id_from number target =
 
 -- what a branch names: the numbers before and behind the dot that follows its front, if it is a branch of this server
 abbrev pub branch_id_of : ℕ → List ℕ → Option BranchId
-branch_id_of boot text = option_and_then (λ parts. id_from parts.0 parts.1) (option_and_then (split_at_byte (byte ".")) (behind (branch_front boot) text))
+branch_id_of boot text = option_and_then (λ parts. id_from parts.0 parts.1)
+    (option_and_then (split_at_byte (byte ".")) (behind (branch_front boot) text))

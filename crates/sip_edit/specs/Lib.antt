@@ -4,3 +4,7 @@ pub mod Examples
 pub mod OwnVia
 pub mod BranchId
 pub mod OwnRequests
+pub mod Lowering
+pub mod Tail
+pub mod Onward
+pub mod OnwardExamples

@@ -20,10 +20,12 @@ abbrev pub cseq_with : List ℕ → Option CSeq → List Field
 cseq_with method None = []
 cseq_with method (Some cseq) = record { name = Name.CSeq; value = decimal cseq.number ++ codes " " ++ method } ∷ []
 
--- The fields of a request that belongs to one that was sent: its top Via, From, Call-ID, the number of its CSeq and its Routes, with Max-Forwards 70 and this To.
+-- The fields of a request that belongs to one that was sent: its top Via, From, Call-ID, the number of its CSeq and its Routes, with
+-- Max-Forwards 70 and this To.
 abbrev pub fields_like : List ℕ → List Field → List Field → List Field
 fields_like method to sent =
-    first_of Name.Via sent ++ seventy ∷ (first_of Name.From sent ++ to ++ first_of Name.CallId sent ++ cseq_with method (option_and_then cseq_of (first_value Name.CSeq sent))
+    first_of Name.Via sent ++ seventy ∷ (first_of Name.From sent ++ to ++ first_of Name.CallId sent
+    ++ cseq_with method (option_and_then cseq_of (first_value Name.CSeq sent))
     ++ all_named Name.Route sent)
 
 -- the request that these fields belong to

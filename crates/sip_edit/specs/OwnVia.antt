@@ -7,7 +7,8 @@ use Rattle.sip_message_form.specs.declared.message.Message.{Message}
 use Rattle.sip_route.specs.declared.own.Own.{Own}
 use Rattle.sip_message_fields.specs.Values.{without_first}
 
--- The branch to a target: the magic cookie, the boot word in sixteen small hexadecimal digits, the number of the datagram that brought the request, and the
+-- The branch to a target: the magic cookie, the boot word in sixteen small hexadecimal digits, the number of the datagram that
+-- brought the request, and the
 -- target's number from 1 (RFC 3261 8.1.1.7, 16.6 step 8, in this project's profile).
 abbrev pub branch_text : ℕ → ℕ → ℕ → List ℕ
 branch_text boot number target =

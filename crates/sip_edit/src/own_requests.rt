@@ -3,14 +3,13 @@ ghost use Rattle.std.specs.Option.{option_and_then, option_to_list};
 ghost use Rattle.sip_message_fields.specs.declared.field_name.FieldName.TheVariants as Name;
 ghost use Rattle.sip_message_fields.specs.Named.{all_named, first_of};
 ghost use Rattle.sip_message_fields.specs.Values.{first_value};
-ghost use Rattle.sip_message_form.specs.ViewStart.{start_seen};
 ghost use Rattle.sip_header.specs.CSeq as CSeqs;
-ghost use Rattle.sip_route.specs.Way as Ways;
 ghost use Rattle.sip_edit.specs.OwnRequests;
 
 use sip_header::cseq_of;
 use sip_message_fields::{FieldName, KnownName, Value, ViewField, ViewFields, ViewName};
 use sip_message_form::{View, ViewStart};
+use sip_route::request_uri;
 use sip_text::Bytes;
 use std::alloc::{AllocError, Global};
 
@@ -19,20 +18,6 @@ const SINGLE_FIELDS: usize = 6;
 
 /// The most bytes of a CSeq besides its method: its number and a space.
 const REST_OF_CSEQ: usize = 11;
-
-/// Adds the first field of a name, if there is one.
-fn put_first<'v>(
-    out: &mut ViewFields<'v>,
-    name: &FieldName,
-    fields: &'v ViewFields<'_>,
-) -> Result<(), AllocError>
-    ensures { OnOk result (out.new ≡ out.old ++ first_of name.now fields.now) }
-{
-    let Some(field) = fields.first_field(name) else {
-        return Ok(());
-    };
-    out.push(field.lent()?)
-}
 
 /// Adds a field, if there is one.
 fn put_given<'v>(out: &mut ViewFields<'v>, field: Option<ViewField<'v>>) -> Result<(), AllocError>
@@ -94,28 +79,14 @@ fn fields_like<'v>(
 {
     let room = sent.count(&FieldName::Route).saturating_add(SINGLE_FIELDS);
     let mut fields = ViewFields::with_room(alloc, room)?;
-    put_first(&mut fields, &FieldName::Via, sent)?;
+    fields.push_first(&FieldName::Via, sent)?;
     put_seventy(&mut fields)?;
-    put_first(&mut fields, &FieldName::From, sent)?;
+    fields.push_first(&FieldName::From, sent)?;
     put_given(&mut fields, to)?;
-    put_first(&mut fields, &FieldName::CallId, sent)?;
+    fields.push_first(&FieldName::CallId, sent)?;
     put_cseq(alloc, &mut fields, method, sent)?;
     fields.extend_named(&FieldName::Route, sent)?;
     Ok(fields)
-}
-
-/// The Request-URI of a request; a response has none.
-fn request_uri<'v>(start: &'v ViewStart<'_>) -> &'v [u8]
-    ensures { result.now ≡ Ways.request_uri (start_seen start.now) }
-{
-    match start {
-        ViewStart::Request {
-            method: _,
-            uri,
-            version: _,
-        } => uri,
-        ViewStart::Status { code: _, reason: _ } => b"",
-    }
 }
 
 /// The request of a method that belongs to one that was sent, with a To.

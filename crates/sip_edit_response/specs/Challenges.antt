@@ -16,7 +16,8 @@ algorithm_part algorithm = codes "\", algorithm=" ++ name_of algorithm ++ codes 
 
 -- the value of WWW-Authenticate and of Proxy-Authenticate by an algorithm (RFC 2617 3.2.1)
 abbrev pub challenge : Algorithm → List ℕ → List ℕ → Bool → List ℕ
-challenge algorithm realm nonce stale = codes "Digest realm=\"" ++ realm ++ codes "\", nonce=\"" ++ nonce ++ algorithm_part algorithm ++ stale_part stale
+challenge algorithm realm nonce stale = codes "Digest realm=\"" ++ realm ++ codes "\", nonce=\"" ++ nonce ++ algorithm_part algorithm
+    ++ stale_part stale
 
 -- the algorithms that are offered, with SHA-256 or without: the one that is to be preferred comes first (RFC 8760 2.3)
 abbrev pub offered : Bool → List Algorithm

@@ -41,7 +41,8 @@ timed_invite = record {
 
 -- the fields that challenge with the first nonce, with SHA-256 or without
 abbrev pub first_challenge : Bool → List Field
-first_challenge with_sha256 = challenge_fields Name.WwwAuthenticate with_sha256 (codes "testrealm@host.com") (codes "00000000000000000000000000000001") false
+first_challenge with_sha256 = challenge_fields Name.WwwAuthenticate with_sha256 (codes "testrealm@host.com")
+    (codes "00000000000000000000000000000001") false
 
 -- the REGISTER challenged by the first datagram's answer
 abbrev pub challenged_by : List Field → Message
@@ -65,7 +66,8 @@ challenged_with lines =
 
 -- by MD5 alone
 abbrev pub challenged_text : List ℕ
-challenged_text = challenged_with (codes "WWW-Authenticate: Digest realm=\"testrealm@host.com\", nonce=\"00000000000000000000000000000001\", algorithm=MD5, qop=\"auth\"\r\n")
+challenged_text = challenged_with
+    (codes "WWW-Authenticate: Digest realm=\"testrealm@host.com\", nonce=\"00000000000000000000000000000001\", algorithm=MD5, qop=\"auth\"\r\n")
 
 -- by SHA-256 and by MD5
 abbrev pub challenged_twice_text : List ℕ

@@ -35,7 +35,8 @@ to_help = invite_of first_via (codes "<sip:help@host.com>") (codes "k1") (codes 
 
 -- one that needs extensions
 abbrev pub extended : Message
-extended = invite_of (codes "SIP/2.0/UDP 127.0.0.1:5070;branch=z9hG4bKa2;rport=5070;received=127.0.0.1") (codes "<sip:help@host.com>") (codes "k9") (codes "1 INVITE")
+extended = invite_of (codes "SIP/2.0/UDP 127.0.0.1:5070;branch=z9hG4bKa2;rport=5070;received=127.0.0.1") (codes "<sip:help@host.com>")
+    (codes "k9") (codes "1 INVITE")
 
 -- the text of the answer to the request of a datagram
 abbrev pub answer_text : Message → ℕ → ℕ → List Field → List ℕ

@@ -27,11 +27,13 @@ answered_field status tag to = record to { value = answered_to status tag to.val
 abbrev pub timestamp_for : ℕ → List Field → List Field
 timestamp_for status fields = if status == 100 then first_of Timestamp fields else []
 
--- The fields of a response: all the Via items in their order; the first From, To, Call-ID and CSeq that are there, of these To with a tag; the Timestamp of
+-- The fields of a response: all the Via items in their order; the first From, To, Call-ID and CSeq that are there, of these To with
+-- a tag; the Timestamp of
 -- a 100; and further fields (RFC 3261 8.2.6.1, 8.2.6.2).
 abbrev pub reply_fields : ℕ → List ℕ → List Field → List Field → List Field
 reply_fields status tag fields extras =
-    all_named Via fields ++ first_of From fields ++ map (answered_field status tag) (first_of To fields) ++ first_of CallId fields ++ first_of CSeq fields
+    all_named Via fields ++ first_of From fields ++ map (answered_field status tag) (first_of To fields) ++ first_of CallId fields
+    ++ first_of CSeq fields
     ++ timestamp_for status fields ++ extras
 
 -- the response to a request with this status, To tag and further fields (RFC 3261 8.2.6)

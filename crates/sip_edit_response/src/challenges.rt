@@ -59,7 +59,8 @@ fn add_challenge(
     nonce: &[u8],
     stale: bool,
 ) -> Result<(), AllocError>
-    ensures { OnOk result (fields.new ≡ fields.old ++ record { name = name.now; value = Challenges.challenge algorithm realm.now nonce.now stale } ∷ []) }
+    ensures { OnOk result
+        (fields.new ≡ fields.old ++ record { name = name.now; value = Challenges.challenge algorithm realm.now nonce.now stale } ∷ []) }
 {
     let name = name.clone()?;
     let value = challenge(alloc, algorithm, realm, nonce, stale)?;

@@ -15,20 +15,6 @@ use std::alloc::{AllocError, Global};
 /// The most fields of a response that stand once: From, To, Call-ID, CSeq and Timestamp.
 const SINGLE_FIELDS: usize = 5;
 
-/// Adds the first field of a name, if there is one.
-fn put_first<'v>(
-    out: &mut ViewFields<'v>,
-    name: &FieldName,
-    fields: &'v ViewFields<'_>,
-) -> Result<(), AllocError>
-    ensures { OnOk result (out.new ≡ out.old ++ first_of name.now fields.now) }
-{
-    let Some(field) = fields.first_field(name) else {
-        return Ok(());
-    };
-    out.push(field.lent()?)
-}
-
 /// Whether the value of a To is an address in brackets and nothing else, which has no tag, as most are. `false` says
 /// nothing.
 fn is_plain_to(to: &[u8]) -> bool
@@ -102,7 +88,7 @@ fn put_timestamp<'v>(
     if status != 100 {
         return Ok(());
     }
-    put_first(out, &FieldName::Timestamp, fields)
+    out.push_first(&FieldName::Timestamp, fields)
 }
 
 /// The fields of a response.
@@ -120,10 +106,10 @@ fn reply_fields<'v>(
         .saturating_add(extras.as_slice().len());
     let mut fields = ViewFields::with_room(alloc, many.saturating_add(SINGLE_FIELDS))?;
     fields.extend_named(&FieldName::Via, copied)?;
-    put_first(&mut fields, &FieldName::From, copied)?;
+    fields.push_first(&FieldName::From, copied)?;
     put_to(alloc, &mut fields, status, to_tag, copied)?;
-    put_first(&mut fields, &FieldName::CallId, copied)?;
-    put_first(&mut fields, &FieldName::CSeq, copied)?;
+    fields.push_first(&FieldName::CallId, copied)?;
+    fields.push_first(&FieldName::CSeq, copied)?;
     put_timestamp(&mut fields, status, copied)?;
     fields.extend(extras)?;
     Ok(fields)

@@ -8,7 +8,7 @@ use Rattle.sip_model.specs.steps_model.Step.{Act, Does, Passing, IsDeadline, IsD
 use Rattle.sip_core.specs.state.declared.proxy_state.ProxyState.{ProxyState}
 use Rattle.sip_core.specs.state.declared.server.Server.{Server}
 use Rattle.sip_timers.specs.declared.timer.Timer.{Timer}
-use Rattle.sip_engine_time.specs.Timers.{IsFiredFirst, IsOfTimer}
+use Rattle.sip_engine_open.specs.Timers.{IsFiredFirst, IsOfTimer}
 use Rattle.sip_engine.specs.Engine.{IsReached}
 use Rattle.sip_engine.specs.declared.error.StepError.{StepError}
 

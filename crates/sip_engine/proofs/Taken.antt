@@ -7,8 +7,8 @@ use Rattle.sip_event.specs.declared.event.StepOut.{StepOut}
 use Rattle.sip_message_form.specs.declared.message.Message.{Message}
 use Rattle.sip_model.specs.steps_model.Effect.{counted, datagram_effect, effect_of, nothing}
 use Rattle.sip_model.specs.steps_model.Step.{Does}
-use Rattle.sip_engine_time.specs.context_opening.Arrivals.{arrival_of}
-use Rattle.sip_engine_time.specs.context_opening.declared.arrival.Arrival.{Arrival}
+use Rattle.sip_engine_open.specs.forwarding.Arrivals.{arrival_of}
+use Rattle.sip_engine_open.specs.forwarding.declared.arrival.Arrival.{Arrival}
 use Rattle.sip_core.specs.state.declared.proxy_state.ProxyState.{ProxyState}
 use Rattle.sip_core.specs.state.declared.server.Server.{Server}
 use Rattle.sip_core.specs.verdict_model.Verdict as Definition
@@ -19,7 +19,7 @@ use Rattle.sip_core.specs.declared.verdict.Outcome.TheVariants as Decided
 use Rattle.sip_core.specs.declared.verdict.Verdict.{Verdict}
 use Rattle.sip_core.specs.declared.verdict.Verdict.TheVariants as Arrived
 use Rattle.sip_dialog.specs.declared.dialog.DialogId.{DialogId}
-use Rattle.sip_engine_time.specs.fork.Places.{branch_at}
+use Rattle.sip_engine_open.specs.fork.Places.{branch_at}
 use Rattle.sip_uri.specs.declared.addr.Addr.{Addr}
 use Rattle.sip_transaction_table.specs.declared.key.Key.{Key}
 use Rattle.sip_location.specs.declared.binding.Binding.{Binding}
@@ -28,7 +28,7 @@ use Rattle.sip_core.specs.state.State.{has_key}
 use Rattle.sip_core.specs.state.declared.branch.Branch.{Branch}
 use Rattle.sip_core.specs.state.declared.open_request.OpenRequest.{OpenRequest}
 use Rattle.sip_core.specs.verdict_model.declared.question.Question.{Question}
-use Rattle.sip_engine_forward.specs.uas.Asking.{AnswersFinally}
+use Rattle.sip_engine_request.specs.uas.Asking.{AnswersFinally}
 use Rattle.sip_engine.specs.Delivery.{IsDroppedOrOn, IsServed, NeedsRoom, Takes, way_on}
 use Rattle.sip_engine.proofs.Places.{position_within, stands_at}
 

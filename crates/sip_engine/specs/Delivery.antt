@@ -10,12 +10,12 @@ use Rattle.sip_uri.specs.declared.addr.Addr.{Addr}
 use Rattle.sip_transaction_table.specs.declared.key.Key.{Key}
 use Rattle.sip_model.specs.steps_model.Effect.{counted, effect_of}
 use Rattle.sip_model.specs.steps_model.Step.{Does}
-use Rattle.sip_engine_time.specs.context_opening.Arrivals.{arrival_of}
-use Rattle.sip_engine_time.specs.context_opening.declared.arrival.Arrival.{Arrival}
+use Rattle.sip_engine_open.specs.forwarding.Arrivals.{arrival_of}
+use Rattle.sip_engine_open.specs.forwarding.declared.arrival.Arrival.{Arrival}
 use Rattle.sip_core.specs.state.declared.proxy_state.ProxyState.{ProxyState}
 use Rattle.sip_core.specs.state.declared.server.Server.{Server}
 use Rattle.sip_core.specs.verdict_model.Verdict as Definition
-use Rattle.sip_engine_forward.specs.uas.Asking.{AnswersFinally}
+use Rattle.sip_engine_request.specs.uas.Asking.{AnswersFinally}
 
 -- A step does what a verdict on the message of a datagram says.
 abbrev pub Takes : Server → ProxyState → Arrival → Message → Definition.Verdict → StepOut → ProxyState → Type 0

@@ -2,7 +2,7 @@ pub mod Delivery
 pub mod Engine
 pub mod StepError
 pub use Rattle.sip_core.specs.context_model
-pub use Rattle.sip_engine_time.specs as engine_time
+pub use Rattle.sip_engine_open.specs as engine_time
 pub use Rattle.sip_model.specs as model
 pub use Rattle.sip_core.specs.state
 pub use Rattle.sip_model.specs.steps_model

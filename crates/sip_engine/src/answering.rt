@@ -1,18 +1,18 @@
 ghost use Rattle.std.specs.Prelude.{◌≡◌, position, false, None, Some, IfOk, OnErr};
-ghost use Rattle.sip_engine_time.specs.proxy.Proxy.{IsComing};
+ghost use Rattle.sip_engine_open.specs.proxy.Proxy.{IsComing};
 ghost use Rattle.sip_edit.specs.ReceivedRequest.{top_via};
-ghost use Rattle.sip_engine_time.specs.transactions_model.Fits.{IsFinalAnswer};
+ghost use Rattle.sip_engine_open.specs.transactions_model.Fits.{IsFinalAnswer};
 ghost use Rattle.sip_transaction_table.specs.Key.{key_of};
-ghost use Rattle.sip_engine_time.specs.context_opening.Arrivals.{arrival_of};
+ghost use Rattle.sip_engine_open.specs.forwarding.Arrivals.{arrival_of};
 ghost use Rattle.sip_core.specs.state.State.{has_key};
 ghost use Rattle.sip_core.specs.verdict_model.Verdict as Definition;
 ghost use Rattle.sip_engine.specs.Delivery.{Takes};
 
 use crate::keeping::{NewRequest, keep};
 use sip_core::state::Server;
-use sip_engine_answer::{take_answered, take_cancel};
-use sip_engine_time::context_opening::Arrival;
-use sip_engine_time::proxy::Proxy;
+use sip_engine_open::forwarding::Arrival;
+use sip_engine_open::proxy::Proxy;
+use sip_engine_request::{take_answered, take_cancel};
 use sip_event::StepOut;
 use sip_header::Via;
 use sip_hops::Hops;

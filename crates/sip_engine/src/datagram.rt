@@ -1,22 +1,21 @@
 ghost use Rattle.std.specs.Prelude.{◌≡◌, IfOk, OnErr};
-ghost use Rattle.sip_matching.specs.Incoming.{IsRequest};
-ghost use Rattle.sip_engine_time.specs.proxy.Proxy.{IsComing};
+ghost use Rattle.sip_core.specs.Incoming.{IsRequest};
+ghost use Rattle.sip_engine_open.specs.proxy.Proxy.{IsComing};
 ghost use Rattle.sip_model.specs.steps_model.Effect.{datagram_effect};
 ghost use Rattle.sip_model.specs.steps_model.Step.{Does};
-ghost use Rattle.sip_engine_time.specs.context_opening.Arrivals.{arrival_of};
+ghost use Rattle.sip_engine_open.specs.forwarding.Arrivals.{arrival_of};
 ghost use Rattle.sip_core.specs.verdict_model.Verdict as Definition;
 ghost use Rattle.sip_engine.specs.Delivery.{Takes};
 
 use crate::known::take_known;
 use crate::new::take_new;
 use crate::responses::take_reply;
-use sip_core::Judge;
+use sip_core::{Incoming, Judge, incoming_of, laws, read_datagram};
+use sip_engine_open::forwarding::Arrival;
+use sip_engine_open::proxy::Proxy;
 use sip_engine_open::take_dropped;
-use sip_engine_time::context_opening::Arrival;
-use sip_engine_time::proxy::Proxy;
 use sip_event::StepOut;
 use sip_header::Via;
-use sip_matching::{Incoming, incoming_of, laws, read_datagram};
 use sip_message_form::View;
 use sip_policy::Rules;
 use sip_timers::Timers;

@@ -1,9 +1,9 @@
 ghost use Rattle.std.specs.Prelude.{◌≡◌, ◌≤◌, ◌<◌, ◌^◌, ◌⊎◌, ℕ, [], max, None, Some, Err, MatchOption, IsOk, IfOk, IfErr, IfSome, OnErr};
 ghost use Rattle.sip_event.specs.declared.event.Event.TheVariants.{Datagram, Fault};
-ghost use Rattle.sip_engine_time.specs.Faults.{failed_of};
-ghost use Rattle.sip_engine_time.specs.Next.{IsNext};
-ghost use Rattle.sip_engine_time.specs.Timers.{IsFiredFirst};
-ghost use Rattle.sip_engine_time.specs.fork.Due.{IsNothingDue};
+ghost use Rattle.sip_engine_open.specs.Faults.{failed_of};
+ghost use Rattle.sip_engine_open.specs.Next.{IsNext};
+ghost use Rattle.sip_engine_open.specs.Timers.{IsFiredFirst};
+ghost use Rattle.sip_engine_open.specs.fork.Due.{IsNothingDue};
 ghost use Rattle.sip_location.specs.Binding.{live};
 ghost use Rattle.sip_model.specs.steps_model.Step.{Given, Passing, IsDeadline, IsResend, IsStep, IsTime, NoneAgainBefore, NoneAgainBy};
 ghost use Rattle.sip_model.specs.steps_model.Step.{NoneBefore, NoneBy, moment_of};
@@ -18,8 +18,8 @@ use crate::stepping;
 use sip_config_types::Config;
 use sip_core::Judge;
 use sip_core::state::Server;
-use sip_engine_time as firing;
-use sip_engine_time::proxy::Proxy;
+use sip_engine_open as firing;
+use sip_engine_open::proxy::Proxy;
 use sip_event::{Boot, StepOut, Ticket};
 use sip_location::LiveBindings;
 use sip_policy::Rules;
@@ -101,7 +101,7 @@ impl<T: Timers, R: Rules> Engine<T, R> {
             × NoneAgainBy m self.now.state.requests }
     {
         reached_states_are_sound();
-        firing::laws::next_moment_is_first();
+        firing::time_laws::next_moment_is_first();
         let _judge = &self.judge;
         firing::next_due(&self.proxy)
     }

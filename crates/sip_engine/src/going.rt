@@ -1,21 +1,20 @@
 ghost use Rattle.std.specs.Prelude.{◌≡◌, position, true, false, None, Some, IfOk, OnErr};
-ghost use Rattle.sip_engine_time.specs.proxy.Proxy.{IsComing};
+ghost use Rattle.sip_engine_open.specs.proxy.Proxy.{IsComing};
 ghost use Rattle.sip_edit.specs.ReceivedRequest.{top_via};
-ghost use Rattle.sip_core.specs.context_request.Names.{AreNames};
+ghost use Rattle.sip_core.specs.state.Names.{AreNames};
 ghost use Rattle.sip_transaction_table.specs.Key.{key_of};
 ghost use Rattle.sip_core.specs.state.State.{has_key};
 ghost use Rattle.sip_core.specs.verdict_model.Verdict as Definition;
-ghost use Rattle.sip_engine_forward.specs.Routing.{are_somebody};
+ghost use Rattle.sip_engine_request.specs.Routing.{are_somebody};
 ghost use Rattle.sip_engine.specs.Delivery.{Takes};
 
 use crate::keeping::{NewRequest, keep_onward};
 use sip_core::Judged;
-use sip_core::context_request::Names;
-use sip_core::state::Server;
+use sip_core::state::{Names, Server};
 use sip_dialog::DialogId;
-use sip_engine_forward::{send_to, send_within};
-use sip_engine_time::context_opening::Arrival;
-use sip_engine_time::proxy::Proxy;
+use sip_engine_open::forwarding::Arrival;
+use sip_engine_open::proxy::Proxy;
+use sip_engine_request::{send_to, send_within};
 use sip_event::StepOut;
 use sip_header::Via;
 use sip_hops::Hops;

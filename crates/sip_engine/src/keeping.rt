@@ -1,10 +1,9 @@
 ghost use Rattle.std.specs.Prelude.{◌≡◌, Some, IfOk};
 ghost use Rattle.sip_edit.specs.ReceivedRequest.{top_via};
-ghost use Rattle.sip_core.specs.context_request.Names.{AreNames};
+ghost use Rattle.sip_core.specs.state.Names.{AreNames};
 
 use sip_base::Shared;
-use sip_core::context_request::{Heard, Names};
-use sip_core::state::Server;
+use sip_core::state::{Heard, Names, Server};
 use sip_header::Via;
 use sip_message_form::View;
 use sip_transaction_table::Key;

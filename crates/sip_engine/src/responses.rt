@@ -1,20 +1,20 @@
 ghost use Rattle.std.specs.Prelude.{◌≡◌, ◌||◌, if◌then◌else◌, Some, IsSome, IfOk, OnErr};
-ghost use Rattle.sip_matching.specs.Incoming.{IsResponse};
-ghost use Rattle.sip_engine_time.specs.proxy.Proxy.{IsComing};
-ghost use Rattle.sip_engine_time.specs.fork.Places.{branch_at};
-ghost use Rattle.sip_engine_time.specs.context_opening.Arrivals.{arrival_of};
+ghost use Rattle.sip_core.specs.Incoming.{IsResponse};
+ghost use Rattle.sip_engine_open.specs.proxy.Proxy.{IsComing};
+ghost use Rattle.sip_engine_open.specs.fork.Places.{branch_at};
+ghost use Rattle.sip_engine_open.specs.forwarding.Arrivals.{arrival_of};
 ghost use Rattle.sip_core.specs.state.declared.branch.Branch.{Branch};
 ghost use Rattle.sip_core.specs.state.declared.open_request.OpenRequest.{OpenRequest};
 ghost use Rattle.sip_core.specs.verdict_model.Verdict as Definition;
 ghost use Rattle.sip_engine.specs.Delivery.{Takes};
 
+use sip_core::laws;
 use sip_core::state::Server;
+use sip_engine_open::forwarding::Arrival;
+use sip_engine_open::proxy::Proxy;
 use sip_engine_open::{take_dropped, take_response};
-use sip_engine_time::context_opening::Arrival;
-use sip_engine_time::proxy::Proxy;
 use sip_event::StepOut;
 use sip_hops::Hops;
-use sip_matching::laws;
 use sip_message_form::View;
 use sip_timers::Timers;
 use std::alloc::{AllocError, Global};

@@ -12,8 +12,8 @@ use Rattle.sip_location.specs.Binding.{live}
 use Rattle.sip_location.specs.Sameness.{SameBindings}
 use Rattle.sip_location.specs.declared.binding.Binding.{Binding}
 use Rattle.sip_proxy.specs.steps_model.Effect.{changed, counted, dialogs_after, replaced}
-use Rattle.sip_proxy.specs.context_opening.Arrivals.{arrival_of}
-use Rattle.sip_proxy.specs.context_opening.declared.arrival.Arrival.{Arrival}
+use Rattle.sip_proxy.specs.forwarding.Arrivals.{arrival_of}
+use Rattle.sip_proxy.specs.forwarding.declared.arrival.Arrival.{Arrival}
 use Rattle.sip_dialog_lessons.specs.state.SameState.{SameState}
 use Rattle.sip_dialog_lessons.specs.state.declared.open_request.OpenRequest.{OpenRequest}
 use Rattle.sip_dialog_lessons.specs.state.declared.proxy_state.ProxyState.{ProxyState}

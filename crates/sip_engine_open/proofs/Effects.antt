@@ -17,8 +17,8 @@ use Rattle.sip_dialog_lessons.specs.Lessons.{after_lessons}
 use Rattle.sip_dialog_lessons.specs.declared.lesson.Lesson.{Lesson}
 use Rattle.sip_proxy.specs.steps_model.Effect.{Effect, changed, copied, counted, effect_of, method_of, nothing, replaced}
 use Rattle.sip_proxy.specs.steps_model.Step.{Does, originals, retransmissions}
-use Rattle.sip_proxy.specs.context_opening.Arrivals.{arrival_of}
-use Rattle.sip_proxy.specs.context_opening.declared.arrival.Arrival.{Arrival}
+use Rattle.sip_proxy.specs.forwarding.Arrivals.{arrival_of}
+use Rattle.sip_proxy.specs.forwarding.declared.arrival.Arrival.{Arrival}
 use Rattle.sip_core.specs.context_model.Retransmission.{acked_again, answers_again, is_lasting}
 use Rattle.sip_dialog_lessons.specs.state.SameState.{SameState}
 use Rattle.sip_dialog_lessons.specs.state.State.{is_invite, is_success}

@@ -1,3 +1,9 @@
 mod Counted
 mod Effects
 mod Found
+mod Drafts
+mod Failed
+mod Lists
+mod Moments
+mod Results
+mod Steps

@@ -10,8 +10,8 @@ use Rattle.sip_proxy.specs.forwarding.Forwarding.{AreSent, Teach}
 use Rattle.sip_hops.specs.declared.host_address.HostAddress.{HostAddress}
 use Rattle.sip_dialog_lessons.specs.Lessons.{beginnings}
 use Rattle.sip_proxy.specs.steps_model.Effect.{change_packets, counted, dialogs_after}
-use Rattle.sip_proxy.specs.context_opening.Arrivals.{arrival_of}
-use Rattle.sip_proxy.specs.context_opening.declared.arrival.Arrival.{Arrival}
+use Rattle.sip_proxy.specs.forwarding.Arrivals.{arrival_of}
+use Rattle.sip_proxy.specs.forwarding.declared.arrival.Arrival.{Arrival}
 use Rattle.sip_dialog_lessons.specs.state.SameState.{SameState}
 use Rattle.sip_dialog_lessons.specs.state.declared.open_request.OpenRequest.{OpenRequest}
 use Rattle.sip_dialog_lessons.specs.state.declared.proxy_state.ProxyState.{ProxyState}

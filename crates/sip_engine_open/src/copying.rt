@@ -7,31 +7,24 @@ ghost use Rattle.sip_proxy.specs.fork.Keeping.{IsKeptAs};
 ghost use Rattle.sip_message_form.specs.declared.message.Message.{Message};
 ghost use Rattle.sip_proxy.specs.steps_model.Effect.{counted, effect_of, method_of};
 ghost use Rattle.sip_proxy.specs.steps_model.Step.{Does};
-ghost use Rattle.sip_proxy.specs.context_opening.Arrivals.{arrival_of};
+ghost use Rattle.sip_proxy.specs.forwarding.Arrivals.{arrival_of};
 ghost use Rattle.sip_dialog_lessons.specs.state.declared.open_request.OpenRequest.{OpenRequest};
 ghost use Rattle.sip_dialog_lessons.specs.state.declared.server.Server.{Server};
 ghost use Rattle.sip_core.specs.verdict_model.Verdict.{Copy};
 
 use crate::counting::{change, pass};
+use sip_core::is_ack;
 use sip_dialog_lessons::Lessons;
 use sip_dialog_lessons::state::Server;
 use sip_event::StepOut;
 use sip_hops::Hops;
 use sip_message_form::View;
 use sip_proxy::context::Input;
-use sip_proxy::context_opening::{Arrival, copy_packets};
-use sip_proxy::forwarding::Drafted;
+use sip_proxy::forwarding::{Arrival, Drafted, copy_packets};
 use sip_proxy::{Draft, Proxy};
 use sip_text::Items;
 use sip_timers::Timers;
 use std::alloc::{AllocError, Global};
-
-/// Whether a method is ACK.
-fn is_ack(method: &[u8]) -> bool
-    ensures { result ≡ bytes_eq method.now (codes "ACK") }
-{
-    method == b"ACK".as_slice()
-}
 
 /// Drafts what an ACK makes of the open request at a place: nothing is sent, and the dialogs learn nothing. `AllocError`
 /// is the only refusal.

@@ -7,7 +7,7 @@ ghost use Rattle.sip_dialog_lessons.specs.state.declared.open_request.OpenReques
 ghost use Rattle.sip_engine_open.specs.Steps.{Leaves};
 
 use sip_event::{Packet, StepOut};
-use sip_proxy::context_opening::Arrival;
+use sip_proxy::forwarding::Arrival;
 use sip_proxy::{Draft, Proxy};
 use sip_text::Items;
 use sip_timers::Timers;

@@ -3,14 +3,14 @@ ghost use Rattle.sip_proxy.specs.Proxy.{IsComing};
 ghost use Rattle.sip_message_form.specs.declared.message.Message.{Message};
 ghost use Rattle.sip_proxy.specs.steps_model.Effect.{counted, effect_of, nothing};
 ghost use Rattle.sip_proxy.specs.steps_model.Step.{Does};
-ghost use Rattle.sip_proxy.specs.context_opening.Arrivals.{arrival_of};
+ghost use Rattle.sip_proxy.specs.forwarding.Arrivals.{arrival_of};
 ghost use Rattle.sip_dialog_lessons.specs.state.declared.server.Server.{Server};
 ghost use Rattle.sip_core.specs.verdict_model.Verdict.{Drop};
 
 use crate::counting::pass;
 use sip_event::StepOut;
 use sip_proxy::Proxy;
-use sip_proxy::context_opening::Arrival;
+use sip_proxy::forwarding::Arrival;
 use sip_text::Items;
 use sip_timers::Timers;
 use std::alloc::Global;

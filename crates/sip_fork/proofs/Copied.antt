@@ -3,10 +3,10 @@ use Rattle.std.proofs.Common.{◌≡◌, ℕ, ap, ◌∙◌}
 use Rattle.sip_dialog_lessons.specs.state.declared.open_request.OpenRequest.{OpenRequest}
 use Rattle.sip_dialog_lessons.specs.state.declared.server.Server.{Server}
 use Rattle.sip_context.specs.declared.input.Input.{Input}
-use Rattle.sip_context.specs.declared.sending.Sending.{Sending}
+use Rattle.sip_context.specs.declared.sent.Sent.{Sent}
 use Rattle.sip_context.specs.Inputs.{outcome, outcome_of}
 
-pub planned : (server : Server) (now : ℕ) (input : Input) (sending : Sending) (was copy after next : OpenRequest)
-    → copy ≡ was → outcome after sending ≡ outcome_of server now copy input → next ≡ after → outcome next sending ≡ outcome_of server now was input
-planned server now input sending was copy after next same taken is =
-    ap (λ (r : OpenRequest). outcome r sending) is ∙ taken ∙ ap (λ (r : OpenRequest). outcome_of server now r input) same
+pub planned : (server : Server) (now : ℕ) (input : Input) (sent : Sent) (was copy after next : OpenRequest)
+    → copy ≡ was → outcome after sent ≡ outcome_of server now copy input → next ≡ after → outcome next sent ≡ outcome_of server now was input
+planned server now input sent was copy after next same taken is =
+    ap (λ (r : OpenRequest). outcome r sent) is ∙ taken ∙ ap (λ (r : OpenRequest). outcome_of server now r input) same

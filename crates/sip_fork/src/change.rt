@@ -8,7 +8,7 @@ ghost use Rattle.sip_request.specs.Near.{most_timers};
 ghost use Rattle.sip_timers.specs.declared.error.TimerError.TheVariants.{NoMemory};
 
 use crate::row::Standing;
-use sip_context::Sending;
+use sip_context::Sent;
 use sip_dialog_lessons::state::{Branch, OpenRequest, Phase, Side};
 use sip_request::transactions_model::TimerKeys;
 use sip_request::{Plan, Request};
@@ -56,7 +56,7 @@ impl Model for Opening {
 #[derive(Drop)]
 pub struct Prepared {
     pub change: Change,
-    pub sending: Sending,
+    pub sent: Sent,
 }
 
 /// Keys that mean nothing.

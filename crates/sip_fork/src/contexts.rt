@@ -19,12 +19,12 @@ ghost use Rattle.sip_fork.specs.Contexts.{IsFitting, IsSame};
 ghost use Rattle.sip_fork.specs.Due.{IsFirst, IsNothingDue, IsOfFirst};
 ghost use Rattle.sip_fork.specs.Places.{branch_at};
 
-use crate::Planned;
 use crate::change::{Change, Opening, Prepared};
 use crate::due::{First, what_at};
 use crate::keeping::{inputs_fit, inputs_keep};
 use crate::lookup::place_of_sent;
 use crate::moving::{change_row, close_row, open_row};
+use crate::planning::prepared;
 use crate::queue::Queue;
 use crate::row::Standing;
 use crate::timing::timers_stand_for_moments;
@@ -212,19 +212,15 @@ impl<T: Timers> Contexts<T> {
         requires small { now < 2 ^ 62 }
         requires about { (r : OpenRequest) → slice_get self.now.requests place ≡ Some r → IsOf r now input }
         ensures outcome { IfOk result (λ prepared. (r : OpenRequest) → slice_get self.now.requests place ≡ Some r
-            → outcome prepared.change prepared.sending ≡ outcome_of server.now now r input.entry) }
+            → outcome prepared.change prepared.sent ≡ outcome_of server.now now r input.entry) }
         ensures kept { IfOk result (λ prepared. (r : OpenRequest) → slice_get self.now.requests place ≡ Some r → IsKeptAs now r prepared.change) }
     {
         inputs_fit();
         inputs_keep();
         let _moment = self.moment;
         let row = self.table.get(place);
-        let planned = Planned::of(alloc, server, now, &row.request.open_request, input)?;
-        let change = Change::of_plan(planned.plan);
-        Ok(Prepared {
-            change,
-            sending: planned.sending,
-        })
+        let prepared = prepared(alloc, server, now, &row.request.open_request, input)?;
+        Ok(prepared)
     }
 
     /// Makes room for the timers of a request as it is to be. `NoMemory` is the only refusal; room that was there stays.

@@ -4,7 +4,7 @@ ghost use Rattle.model_steps.specs.context_model.Retransmission.{answer_due, bra
 ghost use Rattle.sip_fork.specs.Due.{IsDue, IsNotDue, IsOfOwner, is_at, is_branch_due, is_either, is_of};
 ghost use Rattle.sip_timers.specs.declared.timer.Owner.TheVariants.{Server};
 
-use sip_context::context_resend::{answer_due, branch_due};
+use sip_context::context_branches::{answer_due, branch_due};
 use sip_dialog_lessons::state::{Branch, OpenRequest, Phase, Side};
 use sip_timers::Owner;
 

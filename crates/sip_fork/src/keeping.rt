@@ -3,7 +3,7 @@ ghost use Rattle.sip_dialog_lessons.specs.state.declared.branch.Branch.{Branch};
 ghost use Rattle.sip_dialog_lessons.specs.state.declared.open_request.OpenRequest.{OpenRequest};
 ghost use Rattle.sip_dialog_lessons.specs.state.declared.server.Server.{Server};
 ghost use Rattle.sip_context.specs.declared.input.Input.{Input};
-ghost use Rattle.sip_context.specs.declared.sending.Sending.{Sending};
+ghost use Rattle.sip_context.specs.declared.sent.Sent.{Sent};
 ghost use Rattle.sip_context.specs.Inputs.{IsFit, outcome, outcome_of};
 ghost use Rattle.sip_request.specs.transactions_model.Fits.{Fits};
 ghost use Rattle.sip_request.specs.transactions_model.Near.{IsWithin};
@@ -34,9 +34,9 @@ pub fn inputs_fit()
 pub fn inputs_keep()
     ensures change { (server : Server) (bound now : ℕ) (r : OpenRequest) (input : Input) → Fits r → IsWithin bound r → bound ≤ now → IsOf r now input
         → IsKeptAs now r (outcome_of server now r input).request }
-    ensures planned { (server : Server) (bound now : ℕ) (r x : OpenRequest) (sending : Sending) (input : Input) → Fits r → IsWithin bound r
+    ensures planned { (server : Server) (bound now : ℕ) (r x : OpenRequest) (sent : Sent) (input : Input) → Fits r → IsWithin bound r
         → bound ≤ now → IsOf r now input
-        → outcome x sending ≡ outcome_of server now r input → IsKeptAs now r x }
+        → outcome x sent ≡ outcome_of server now r input → IsKeptAs now r x }
 {
     branches_are_within();
     stays_fitting();

@@ -6,7 +6,7 @@
 //! plans reserves before. No moment is read here; who reaches one says so.
 //!
 //! - Used: `sip_proxy`.
-//! - Not here: the choice of targets: a call is forked by `sip_targets` and `sip_context_opening`.
+//! - Not here: the choice of targets: a call is forked by `sip_targets` and `sip_forwarding`.
 //! - Tried: `test_server` by its stored runs.
 #![tactic(auto)]
 
@@ -27,14 +27,8 @@ mod timing;
 pub use change::{Change, Opening, Prepared};
 pub use contexts::Contexts;
 pub use due::{Due, First};
-pub use planning::Planned;
 
 /// Of `sip_context`.
 pub mod context {
-    pub use sip_context::Input;
-}
-
-/// Of `sip_context_events`.
-pub mod context_events {
-    pub use sip_context::context_events::{Sent, is_accepted};
+    pub use sip_context::{Input, Sent, is_accepted};
 }

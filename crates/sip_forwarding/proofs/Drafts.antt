@@ -14,13 +14,13 @@ use Rattle.sip_dialog_lessons.specs.state.declared.branch.Branch.{Branch}
 use Rattle.sip_dialog_lessons.specs.state.declared.open_request.OpenRequest.{OpenRequest}
 use Rattle.sip_dialog_lessons.specs.state.declared.open_request.Upward.{Upward}
 use Rattle.sip_dialog_lessons.specs.state.Dialogs.{after_request, after_answers, after_leaving}
-use Rattle.sip_context_opening.specs.context_model.Opening.{forking, opening}
-use Rattle.sip_context_opening.specs.steps_model.Effect.{change_packets, opening_packets, dialogs_after}
+use Rattle.sip_forwarding.specs.context_model.Opening.{forking, opening}
+use Rattle.model_steps.specs.Effect.{change_packets, opening_packets, dialogs_after}
 use Rattle.sip_dialog_lessons.specs.declared.lesson.Lesson.{Lesson}
 use Rattle.sip_dialog_lessons.specs.Lessons.{after_lessons, beginnings}
 use Rattle.sip_dialog_lessons.specs.Telling.{Adds, is_early_or_success}
 use Rattle.sip_context.specs.declared.input.Input.{Input}
-use Rattle.sip_context.specs.declared.sending.Sending.{Sending}
+use Rattle.sip_context.specs.declared.sent.Sent.{Sent}
 use Rattle.sip_context.specs.Inputs.{Outcome, outcome, outcome_of}
 use Rattle.sip_forwarding.specs.declared.changing.Drafted.{Drafted}
 use Rattle.sip_forwarding.specs.Forwarding.{AreSent, IsDraft, IsInputTo, IsOpenable, Teach, change_of}
@@ -110,11 +110,11 @@ few_alone first lessons upward sent none same few =
       by_counts : (all before more most : ℕ) → before ≡ 0 → more ≡ most → all ≤ before + more → all ≤ most
       by_counts all before more most b m few = omega arith
 
-pub draft_is : (rows : List HostAddress) (server : Server) (now : ℕ) (before : OpenRequest) (input : Input) (r : OpenRequest) (sending : Sending) (d : Drafted) → IsInputTo before input
-    → outcome r sending ≡ outcome_of server now before input → d.packets ≡ change_packets (change_of (outcome r sending)) ++ sending.copies
-    → Teach rows server now d.lessons (λ dialogs. dialogs_after server now (change_of (outcome r sending)) dialogs) → beginnings d.lessons ≤ count_by is_early_or_success sending.upward
+pub draft_is : (rows : List HostAddress) (server : Server) (now : ℕ) (before : OpenRequest) (input : Input) (r : OpenRequest) (sent : Sent) (d : Drafted) → IsInputTo before input
+    → outcome r sent ≡ outcome_of server now before input → d.packets ≡ change_packets (change_of (outcome r sent)) ++ sent.copies
+    → Teach rows server now d.lessons (λ dialogs. dialogs_after server now (change_of (outcome r sent)) dialogs) → beginnings d.lessons ≤ count_by is_early_or_success sent.upward
     → IsDraft rows server now (outcome_of server now before input) d
-draft_is rows server now before input r sending d there e packets taught few =
+draft_is rows server now before input r sent d there e packets taught few =
     record {
       sent =
           subst (AreSent (change_packets (change_of (outcome_of server now before input))) (outcome_of server now before input).copies)

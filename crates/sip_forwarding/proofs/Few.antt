@@ -17,9 +17,9 @@ use Rattle.sip_dialog_lessons.specs.state.declared.open_request.Side.TheVariants
 use Rattle.sip_dialog_lessons.specs.state.declared.open_request.OpenRequest.{OpenRequest}
 use Rattle.sip_dialog_lessons.specs.state.declared.open_request.Upward.{Upward}
 use Rattle.sip_dialog_lessons.specs.state.State.{is_invite, is_answering, is_final, is_provisional, is_success}
-use Rattle.sip_context_opening.specs.context_model.Branches.{Change, settled, answered, upward_list, upward_of, best_upward, all_final, turned, phased, with_phase, invite_heard, other_heard, heard, relayed_from, relayed_provisional, relayed_success, is_accepted, further, with_answer, acks_of, responded, target_responded, cancel_responded, branch_overdue, given_up, marked}
-use Rattle.sip_context_opening.specs.context_model.Sending.{made_answer}
-use Rattle.sip_context_opening.specs.context_model.Opening.{unsent, forking, trying, tried, opening, is_tried}
+use Rattle.sip_forwarding.specs.context_model.Branches.{Change, settled, answered, upward_list, upward_of, best_upward, all_final, turned, phased, with_phase, invite_heard, other_heard, heard, relayed_from, relayed_provisional, relayed_success, is_accepted, further, with_answer, acks_of, responded, target_responded, cancel_responded, branch_overdue, given_up, marked}
+use Rattle.sip_forwarding.specs.context_model.Sending.{made_answer}
+use Rattle.sip_forwarding.specs.context_model.Opening.{unsent, forking, trying, tried, opening, is_tried}
 use Rattle.sip_dialog_lessons.specs.Telling.{is_early_or_success}
 use Rattle.sip_context.specs.declared.input.Input.{Input}
 use Rattle.sip_context.specs.declared.input.Input.TheVariants.{Response, BranchDeadline, SideDeadline, SendFault, Cancel, Ack, BranchAgain, AnswerAgain}

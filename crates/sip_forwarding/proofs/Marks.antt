@@ -18,12 +18,12 @@ use Rattle.sip_dialog_lessons.specs.state.declared.open_request.Side.TheVariants
 use Rattle.sip_dialog_lessons.specs.state.declared.open_request.OpenRequest.{OpenRequest}
 use Rattle.sip_dialog_lessons.specs.state.declared.open_request.Upward.{Upward}
 use Rattle.sip_dialog_lessons.specs.state.State.{is_invite, is_answering, is_failure, is_final, is_provisional, is_success}
-use Rattle.sip_context_opening.specs.context_model.Sending.{answer_to, to_branch, branch_packets, ack_packets, sent_of, ticket_branch, request_of}
-use Rattle.sip_context_opening.specs.context_model.Branches.{Change, settled, after_upward, best_upward, new_cancels, responded, target_responded, cancel_responded, acks_of, relayed_provisional, relayed_success, further, with_phase, with_answer, heard, other_heard, marked, given_up, branch_overdue}
-use Rattle.sip_context_opening.specs.context_model.Opening.{opening, tried, trying}
-use Rattle.sip_context_opening.specs.context_model.Retransmission.{answers_again, is_lasting, acks_again}
-use Rattle.sip_context_opening.specs.steps_model.Effect.{upward_packets, change_packets, opening_packets}
-use Rattle.sip_context_opening.specs.steps_model.Step.{originals, retransmissions}
+use Rattle.sip_forwarding.specs.context_model.Sending.{answer_to, to_branch, branch_packets, ack_packets, sent_of, ticket_branch, request_of}
+use Rattle.sip_forwarding.specs.context_model.Branches.{Change, settled, after_upward, best_upward, new_cancels, responded, target_responded, cancel_responded, acks_of, relayed_provisional, relayed_success, further, with_phase, with_answer, heard, other_heard, marked, given_up, branch_overdue}
+use Rattle.sip_forwarding.specs.context_model.Opening.{opening, tried, trying}
+use Rattle.sip_forwarding.specs.context_model.Retransmission.{answers_again, is_lasting, acks_again}
+use Rattle.model_steps.specs.Effect.{upward_packets, change_packets, opening_packets}
+use Rattle.model_steps.specs.Step.{originals, retransmissions}
 use Rattle.sip_context.specs.declared.input.Input.{Input}
 use Rattle.sip_context.specs.declared.input.Input.TheVariants.{Response, BranchDeadline, SideDeadline, SendFault, Cancel, Ack, BranchAgain, AnswerAgain}
 use Rattle.sip_context.specs.Inputs.{outcome_of}

@@ -9,8 +9,8 @@ use Rattle.sip_dialog_lessons.specs.state.declared.server.Server.{Server}
 use Rattle.sip_dialog_lessons.specs.state.declared.branch.Branch.{Branch}
 use Rattle.sip_dialog_lessons.specs.state.declared.open_request.OpenRequest.{OpenRequest}
 use Rattle.sip_dialog_lessons.specs.state.declared.open_request.Upward.{Upward}
-use Rattle.sip_context_opening.specs.context_model.Branches.{answered, after_upward, best_upward}
-use Rattle.sip_context_opening.specs.context_model.Opening.{request_key, forking, trying, tried, opening}
+use Rattle.sip_forwarding.specs.context_model.Branches.{answered, after_upward, best_upward}
+use Rattle.sip_forwarding.specs.context_model.Opening.{request_key, forking, trying, tried, opening}
 use Rattle.model_transactions.specs.Fits.{Fits}
 use Rattle.model_transactions.specs.Near.{IsWithin}
 use Rattle.sip_forwarding.specs.Forwarding.{IsOpenable}

@@ -11,10 +11,10 @@ use Rattle.sip_targets.specs.Targets.{target_list}
 use Rattle.sip_dialog_lessons.specs.state.Arrival.{Arrival}
 use Rattle.sip_dialog_lessons.specs.state.declared.server.Server.{Server}
 use Rattle.sip_dialog_lessons.specs.state.declared.open_request.OpenRequest.{OpenRequest}
-use Rattle.sip_context_opening.specs.context_model.Branches.{Change}
-use Rattle.sip_context_opening.specs.context_model.Opening.{branches_from, dialog_branch, forking}
-use Rattle.sip_context_opening.specs.steps_model.Effect.{change_packets, dialogs_after}
-use Rattle.sip_context_opening.specs.steps_model.Step.{originals, retransmissions}
+use Rattle.sip_forwarding.specs.context_model.Branches.{Change}
+use Rattle.sip_forwarding.specs.context_model.Opening.{branches_from, dialog_branch, forking}
+use Rattle.model_steps.specs.Effect.{change_packets, dialogs_after}
+use Rattle.model_steps.specs.Step.{originals, retransmissions}
 use Rattle.sip_dialog_lessons.specs.declared.lesson.Lesson.{Lesson}
 use Rattle.sip_dialog_lessons.specs.Lessons.{after_lessons, beginnings}
 use Rattle.sip_context.specs.declared.input.Input.{Input}

@@ -1,16 +1,15 @@
 ghost use Rattle.std.specs.Prelude.{◌≡◌, ◌≤◌, ◌++◌, ℕ, count_by, IfOk, OnOk};
 ghost use Rattle.sip_dialog_lessons.specs.state.declared.server.Server.{Server};
 ghost use Rattle.sip_dialog_lessons.specs.state.declared.open_request.OpenRequest.{OpenRequest};
-ghost use Rattle.sip_context_opening.specs.steps_model.Effect as Effects;
+ghost use Rattle.model_steps.specs.Effect as Effects;
 ghost use Rattle.sip_dialog_lessons.specs.Lessons.{beginnings};
 ghost use Rattle.sip_dialog_lessons.specs.Telling.{is_early_or_success};
 ghost use Rattle.sip_context.specs.declared.input.Input.{Input};
 ghost use Rattle.sip_context.specs.Inputs.{outcome, outcome_of};
 ghost use Rattle.sip_forwarding.specs.Forwarding.{IsDraft, IsInputTo, Teach, change_of};
 
-use sip_context::Sending;
-use sip_context_opening::change_packets;
-use sip_context_opening::context_events::Sent;
+use crate::change_packets;
+use sip_context::Sent;
 use sip_dialog_lessons::Lessons;
 use sip_dialog_lessons::state::{OpenRequest, Upward};
 use sip_event::Packet;
@@ -39,33 +38,35 @@ fn put_copies(
         acks: copies,
         upward: Items::new(alloc),
         cancels: Items::new(alloc),
+        copies: Items::new(alloc),
     };
     let _none = change_packets(alloc, out, request, sent)?;
     Ok(())
 }
 
 /// Adds what an event makes a request send, and behind it what goes again. Gives what goes to the caller.
-fn put_sending(
+fn put_sent(
     alloc: Global,
     out: &mut Items<Packet>,
     request: &OpenRequest,
-    sending: Sending,
+    sent: Sent,
 ) -> Result<Items<Upward>, AllocError>
-    ensures packets { OnOk result (out.new ≡ out.old ++ (Effects.change_packets (change_of (outcome request.now sending)) ++ sending.copies)) }
-    ensures upward { IfOk result (λ upward. upward ≡ sending.upward) }
+    ensures packets { OnOk result (out.new ≡ out.old ++ (Effects.change_packets (change_of (outcome request.now sent)) ++ sent.copies)) }
+    ensures upward { IfOk result (λ upward. upward ≡ sent.upward) }
 {
-    let Sending {
+    let Sent {
         acks,
         upward,
         cancels,
         copies,
-    } = sending;
-    let sent = Sent {
+    } = sent;
+    let first = Sent {
         acks,
         upward,
         cancels,
+        copies: Items::new(alloc),
     };
-    let upward = change_packets(alloc, out, request, sent)?;
+    let upward = change_packets(alloc, out, request, first)?;
     put_copies(alloc, out, request, copies)?;
     Ok(upward)
 }
@@ -77,20 +78,20 @@ pub fn draft_change(
     alloc: Global,
     hops: &Hops,
     request: &OpenRequest,
-    sending: Sending,
+    sent: Sent,
 ) -> Result<Drafted, AllocError>
-    ensures packets { IfOk result (λ drafted. drafted.packets ≡ Effects.change_packets (change_of (outcome request.now sending)) ++ sending.copies) }
+    ensures packets { IfOk result (λ drafted. drafted.packets ≡ Effects.change_packets (change_of (outcome request.now sent)) ++ sent.copies) }
     ensures lessons { IfOk result (λ drafted. (server : Server) (now : ℕ)
         → Teach hops.now.addresses server now drafted.lessons
-        (λ dialogs. Effects.dialogs_after server now (change_of (outcome request.now sending)) dialogs)) }
-    ensures beginnings { IfOk result (λ drafted. beginnings drafted.lessons ≤ count_by is_early_or_success sending.upward) }
+        (λ dialogs. Effects.dialogs_after server now (change_of (outcome request.now sent)) dialogs)) }
+    ensures beginnings { IfOk result (λ drafted. beginnings drafted.lessons ≤ count_by is_early_or_success sent.upward) }
     ensures event { (server : Server) (now : ℕ) (before : OpenRequest) (input : Input) → IsInputTo before input
-        → outcome request.now sending ≡ outcome_of server now before input
+        → outcome request.now sent ≡ outcome_of server now before input
         → IfOk result (IsDraft hops.now.addresses server now (outcome_of server now before input)) }
 {
     let mut packets = Items::new(alloc);
     let mut lessons = Lessons::new(alloc);
-    let upward = put_sending(alloc, &mut packets, request, sending)?;
+    let upward = put_sent(alloc, &mut packets, request, sent)?;
     lessons.add_change(alloc, hops, request, upward.as_slice())?;
     Ok(Drafted { packets, lessons })
 }

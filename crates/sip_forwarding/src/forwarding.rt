@@ -1,19 +1,21 @@
 ghost use Rattle.std.specs.Prelude.{◌≡◌, ◌≤◌, ◌<◌, ◌+◌, ◌^◌, [], length, nat_lt, count_by, Some, IfOk};
 ghost use Rattle.sip_transaction_table.specs.Key.{key_of};
 ghost use Rattle.sip_targets.specs.Targets.{target_list};
-ghost use Rattle.sip_context_opening.specs.Arrivals.{arrival_of};
+ghost use Rattle.sip_forwarding.specs.Arrivals.{arrival_of};
 ghost use Rattle.sip_dialog_lessons.specs.state.Dialogs.{after_request};
-ghost use Rattle.sip_context_opening.specs.context_model.Opening as Openings;
-ghost use Rattle.sip_context_opening.specs.steps_model.Effect.{opening_packets, dialogs_after};
+ghost use Rattle.sip_forwarding.specs.context_model.Opening as Openings;
+ghost use Rattle.model_steps.specs.Effect.{opening_packets, dialogs_after};
 ghost use Rattle.sip_dialog_lessons.specs.Lessons.{beginnings};
 ghost use Rattle.sip_dialog_lessons.specs.Telling.{Adds, is_early_or_success};
 ghost use Rattle.sip_forwarding.specs.Forwarding.{AreSent, IsOpenable, Teach, call_to, call_within};
 
+use crate::Arrival;
+use crate::forks::{fork_to, fork_within};
 use crate::laws::opens;
+use crate::opening::take_opening;
 use crate::renewing::renewing;
+use crate::state::Heard;
 use sip_base::Shared;
-use sip_context_opening::context_request::Heard;
-use sip_context_opening::{Arrival, fork_to, fork_within, take_opening};
 use sip_dialog::DialogId;
 use sip_dialog_lessons::Lessons;
 use sip_dialog_lessons::state::{OpenRequest, Server};

@@ -6,7 +6,7 @@ ghost use Rattle.sip_transaction_table.specs.Key.{key_of};
 ghost use Rattle.sip_targets.specs.declared.targets.Targets.{Targets};
 ghost use Rattle.sip_dialog_lessons.specs.state.Arrival.{Arrival};
 ghost use Rattle.sip_dialog_lessons.specs.state.declared.server.Server.{Server};
-ghost use Rattle.sip_context_opening.specs.context_model.Opening.{opening};
+ghost use Rattle.sip_forwarding.specs.context_model.Opening.{opening};
 ghost use Rattle.sip_forwarding.specs.Forwarding.{IsOpenable, call_to, call_within};
 
 use model_transactions::fitting_events::opens_fitting;

@@ -1,12 +1,13 @@
 ghost use Rattle.std.specs.Prelude.{◌≡◌, [], IfOk};
-ghost use Rattle.sip_context_opening.specs.Arrivals.{arrival_of};
+ghost use Rattle.sip_forwarding.specs.Arrivals.{arrival_of};
 ghost use Rattle.sip_dialog_lessons.specs.state.Dialogs.{after_request};
-ghost use Rattle.sip_context_opening.specs.steps_model.Effect as Effects;
+ghost use Rattle.model_steps.specs.Effect as Effects;
 ghost use Rattle.sip_dialog_lessons.specs.Lessons.{beginnings};
 ghost use Rattle.sip_dialog_lessons.specs.Telling.{Adds};
 ghost use Rattle.sip_forwarding.specs.Forwarding.{Teach};
 
-use sip_context_opening::{Arrival, ack_packet};
+use crate::Arrival;
+use crate::acking::ack_packet;
 use sip_dialog::DialogId;
 use sip_dialog_lessons::Lessons;
 use sip_dialog_lessons::state::Server;

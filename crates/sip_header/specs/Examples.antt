@@ -12,7 +12,14 @@ use Rattle.sip_header.specs.declared.name_addr.NameAddr.{NameAddr}
 
 -- `sip:Mufasa@host.com`
 abbrev pub mufasa : Uri
-mufasa = record { scheme = Scheme.Sip; userinfo = Some (record { user = codes "Mufasa"; password = None }); host = codes "host.com"; port = None; parameters = []; headers = [] }
+mufasa = record {
+  scheme = Scheme.Sip;
+  userinfo = Some (record { user = codes "Mufasa"; password = None });
+  host = codes "host.com";
+  port = None;
+  parameters = [];
+  headers = [];
+}
 
 -- the address of that URI with some parameters
 abbrev pub address_with : List Parameter → NameAddr

@@ -1,5 +1,6 @@
 -- Name-addr and addr-spec with header parameters, as From, To, Contact and Route have them (RFC 3261 20.10 and 25.1).
-use Rattle.std.specs.Prelude.{◌≡◌, ◌≢◌, ◌⊎◌, ℕ, Bool, true, false, not, ◌&&◌, ◌||◌, ◌==◌, nat_le, is_some, if◌then◌else◌, List, [], ◌∷◌, ◌++◌, codes, Option, Some, None, option_map, Result, Ok, Err}
+use Rattle.std.specs.Prelude.{◌≡◌, ◌≢◌, ◌⊎◌, ℕ, Bool, true, false, not, ◌&&◌, ◌||◌, ◌==◌, nat_le, is_some, if◌then◌else◌, List, [], ◌∷◌}
+use Rattle.std.specs.Prelude.{◌++◌, codes, Option, Some, None, option_map, Result, Ok, Err}
 use Rattle.std.specs.Option.{option_and_then}
 use Rattle.std.specs.List.{AllByRecursion, AllZip, list_all, list_any}
 use Rattle.std.specs.Str.{byte}
@@ -95,7 +96,8 @@ name_addr_of value = name_addr_by value (split_outside (byte "<") value)
 
 -- ---- what a value writes
 
--- A text is a URI of another scheme: the name of a scheme other than `sip` and `sips` in any case, `:`, and one or more bytes that a URI may have (RFC 3261 25.1: absoluteURI).
+-- A text is a URI of another scheme: the name of a scheme other than `sip` and `sips` in any case, `:`, and one or more bytes that a
+-- URI may have (RFC 3261 25.1: absoluteURI).
 pub record IsOtherUri (text : List ℕ) : Type 0 where
   pub scheme : List ℕ
   pub rest : List ℕ
@@ -112,7 +114,8 @@ IsAnyUri text (Sip uri) = IsWritten text uri
 IsAnyUri text (Other kept) = IsOtherUri text × (kept ≡ text)
 
 -- A value writes an address in brackets (RFC 3261 20.10 and 25.1: name-addr): a display name, `<`, a URI and `>`, both cut outside quoted text,
--- and behind them parts at `;`, of which the first is blank and each other writes a parameter. Blanks round the URI are read, too (this project's profile).
+-- and behind them parts at `;`, of which the first is blank and each other writes a parameter. Blanks round the URI are read, too
+-- (this project's profile).
 pub record IsBracketed (value : List ℕ) (address : NameAddr) : Type 0 where
   pub display : List ℕ
   pub rest : List ℕ

@@ -15,7 +15,8 @@ use Rattle.sip_header.specs.declared.via.Via.{Via}
 -- a transport, one or more blanks, a host with its port
 abbrev pub sender_behind : List ℕ → Option Sender
 sender_behind text =
-    if is_token_text (word_at text) then option_map (λ place. record { transport = word_at text; host = place.0; port = place.1 }) (host_port_of (behind_word text))
+    if is_token_text (word_at text) then option_map (λ place. record { transport = word_at text; host = place.0; port = place.1 })
+    (host_port_of (behind_word text))
     else None
 
 -- the same behind `SIP` `/` and `2.0` `/`
@@ -25,7 +26,8 @@ versioned protocol version text =
 
 -- `SIP/2.0/transport`, one or more blanks, a host with its port
 abbrev pub sender_of : List ℕ → Option Sender
-sender_of text = option_and_then (λ first. option_and_then (λ second. versioned (trimmed first.0) (trimmed second.0) (trimmed second.1)) (split_outside (byte "/") first.1)) (split_outside (byte "/") text)
+sender_of text = option_and_then (λ first. option_and_then (λ second. versioned (trimmed first.0) (trimmed second.0) (trimmed second.1))
+    (split_outside (byte "/") first.1)) (split_outside (byte "/") text)
 
 -- a Via of its parts
 abbrev pub via_from : Sender → List Parameter → Via

@@ -21,8 +21,10 @@ pub fn cseq_law()
 
 /// Texts are read as parameters exactly where they write them, one by one (RFC 3261 25.1, generic-param).
 pub fn parameters_law()
-    ensures read { (texts : List (List ℕ)) (parameters : List Parameter) → AllZip IsParameter texts parameters → parameters_in texts ≡ Some parameters }
-    ensures written { (texts : List (List ℕ)) (parameters : List Parameter) → parameters_in texts ≡ Some parameters → AllZip IsParameter texts parameters }
+    ensures read { (texts : List (List ℕ)) (parameters : List Parameter) → AllZip IsParameter texts parameters → parameters_in texts
+        ≡ Some parameters }
+    ensures written { (texts : List (List ℕ)) (parameters : List Parameter) → parameters_in texts ≡ Some parameters
+        → AllZip IsParameter texts parameters }
 {}
 
 /// A value is read as a Via exactly where it writes that (RFC 3261 20.42).

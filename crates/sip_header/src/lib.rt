@@ -1,6 +1,14 @@
 //! The typed header fields of SIP messages (RFC 3261 20 and 25.1; RFC 2617 3.2.2): one reader for each
 //! field, which takes the bytes of a value and gives its meaning or says that it is malformed, and the
 //! readers over whole messages that look a field up by its name.
+//!
+//! - Used: whoever asks what a field says: the checks, the keys, the registrar, the edits.
+//! - Not here: which fields a request needs (`sip_validate`).
+//! - Tried: worked examples in `src/examples.rt`, as contracts that compute; `test_parts`.
+//!
+//! ```text
+//! let core = core_of(alloc, &message)?;
+//! ```
 #![tactic(auto)]
 
 mod contact_item;

@@ -1,7 +1,8 @@
 ghost use Rattle.std.specs.Prelude.{◌≡◌, IfOk, option_map, if◌then◌else◌, Some, None};
 ghost use Rattle.std.specs.List.{list_all};
 ghost use Rattle.sip_text.specs.Cuts.{parts_at, split_outside};
-ghost use Rattle.sip_header.specs.NameAddr.{is_opaque_byte, is_opaque, other_of, any_uri_of, with_parameters, is_bare_byte, bare_in, is_word_byte, is_display, behind_bracket, bracketed_by, name_addr_of};
+ghost use Rattle.sip_header.specs.NameAddr.{is_opaque_byte, is_opaque, other_of, any_uri_of, with_parameters, is_bare_byte, bare_in};
+ghost use Rattle.sip_header.specs.NameAddr.{is_word_byte, is_display, behind_bracket, bracketed_by, name_addr_of};
 
 use crate::parameters::{Parameters, parameters_from};
 use sip_message_fields::Value;

@@ -3,7 +3,8 @@ ghost use Rattle.std.specs.Str.{byte};
 ghost use Rattle.sip_text.specs.Words.{is_token_text};
 ghost use Rattle.sip_text.specs.Cuts.{parts_at, parts_behind};
 ghost use Rattle.sip_text.specs.Escapes.{unquoted};
-ghost use Rattle.sip_header.specs.Parameters.{is_value, needs_value, bare_parameter, valued_parameter, parameter_in, parameters_in, said_in, closing, Begins, GoesOn, parameter_of, value_of, tag_of, branch_of};
+ghost use Rattle.sip_header.specs.Parameters.{is_value, needs_value, bare_parameter, valued_parameter, parameter_in, parameters_in};
+ghost use Rattle.sip_header.specs.Parameters.{said_in, closing, Begins, GoesOn, parameter_of, value_of, tag_of, branch_of};
 
 use sip_text::{
     Text, first_part, is_quoted, is_token, same_no_case, split_outside, split_token, without_blanks,
@@ -35,7 +36,8 @@ impl<'a> Model for Parameters<'a> {
 
     ghost view = { λ p. said_in (parts_behind 59 (option_map (λ x. x.now) p.behind)) };
 
-    ghost invariant = { λ p. parameters_in (parts_behind 59 (option_map (λ x. x.now) p.behind)) ≡ Some (said_in (parts_behind 59 (option_map (λ x. x.now) p.behind))) };
+    ghost invariant = { λ p. parameters_in (parts_behind 59 (option_map (λ x. x.now) p.behind))
+        ≡ Some (said_in (parts_behind 59 (option_map (λ x. x.now) p.behind))) };
 }
 
 /// The parameter that a text of one writes.

@@ -15,5 +15,6 @@ comma_and (Some rest) = byte "," ∷ rest
 -- A text begins with a value, which says this, and goes on so behind a comma: behind a name and `=` they are its first item and what follows it.
 pub record IsValueFirst (text said : List ℕ) (rest : Option (List ℕ)) : Type 0 where
   pub items : (left : List ℕ) → is_token_text (trimmed left) ≡ true
-      → items_in (parts_at (byte ",") (left ++ byte "=" ∷ text)) ≡ option_map (λ (others : List Item). record { name = trimmed left; value = said } ∷ others) (items_in (parts_behind (byte ",") rest))
+      → items_in (parts_at (byte ",") (left ++ byte "=" ∷ text))
+      ≡ option_map (λ (others : List Item). record { name = trimmed left; value = said } ∷ others) (items_in (parts_behind (byte ",") rest))
   pub shorter : length (comma_and rest) ≤ length text

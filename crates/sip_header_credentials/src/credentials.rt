@@ -1,7 +1,8 @@
 ghost use Rattle.std.specs.Prelude.{◌≡◌, ◌≤◌, ◌∷◌, ◌++◌, None, IfOk, IfSome, OnOk, MatchOption, is_some, length, map, option_map};
 ghost use Rattle.sip_text.specs.Cuts.{parts_at, parts_behind};
 ghost use Rattle.sip_text.specs.Escapes.{plain_front};
-ghost use Rattle.sip_header_credentials.specs.Credentials.{value_said, item_from, item_in, items_in, item_value, names_differ, credentials_from, from_items, credentials_of};
+ghost use Rattle.sip_header_credentials.specs.Credentials.{value_said, item_from, item_in, items_in, item_value, names_differ};
+ghost use Rattle.sip_header_credentials.specs.Credentials.{credentials_from, from_items, credentials_of};
 ghost use Rattle.sip_header_credentials.specs.UsualItems.{comma_and, IsValueFirst};
 
 use sip_message_fields::Value;
@@ -170,7 +171,8 @@ fn plain_item<'v>(name: &'v [u8], value: &'v [u8]) -> Item<'v>
 
 /// The first item of a list, and what follows its comma, if the item is in its usual form: then one pass reads it.
 fn usual_item(text: &[u8]) -> Option<(Item<'_>, Option<&[u8]>)>
-    ensures items { IfSome result (λ x. items_in (parts_at 44 text.now) ≡ option_map (λ others. x.0 ∷ others) (items_in (parts_behind 44 (option_map (λ y. y.now) x.1)))) }
+    ensures items { IfSome result (λ x. items_in (parts_at 44 text.now)
+        ≡ option_map (λ others. x.0 ∷ others) (items_in (parts_behind 44 (option_map (λ y. y.now) x.1)))) }
     ensures shorter { IfSome result (λ x. length (comma_and (option_map (λ y. y.now) x.1)) ≤ length text.now) }
 {
     let (left, right) = split_once(text, b'=')?;
@@ -184,7 +186,8 @@ fn usual_item(text: &[u8]) -> Option<(Item<'_>, Option<&[u8]>)>
 
 /// The first item of a list, if it is well-formed, and what follows its comma.
 fn first_item(alloc: Global, text: &[u8]) -> Result<Option<(Item<'_>, Option<&[u8]>)>, AllocError>
-    ensures items { IfOk result (λ first. MatchOption first (items_in (parts_at 44 text.now) ≡ None) (λ x. items_in (parts_at 44 text.now) ≡ option_map (λ others. x.0 ∷ others) (items_in (parts_behind 44 (option_map (λ y. y.now) x.1))))) }
+    ensures items { IfOk result (λ first. MatchOption first (items_in (parts_at 44 text.now) ≡ None)
+        (λ x. items_in (parts_at 44 text.now) ≡ option_map (λ others. x.0 ∷ others) (items_in (parts_behind 44 (option_map (λ y. y.now) x.1))))) }
     ensures shorter { IfOk result (λ first. IfSome first (λ x. length (comma_and (option_map (λ y. y.now) x.1)) ≤ length text.now)) }
 {
     if let Some(usual) = usual_item(text) {

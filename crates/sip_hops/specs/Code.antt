@@ -1,11 +1,9 @@
 -- The codes by which rows are found. No address depends on them.
-use Rattle.std.specs.Prelude.{◌≡◌, ◌≤◌, ℕ, ◌+◌, ◌*◌, ◌%◌, ◌^◌, ◌==◌, bit_xor, if◌then◌else◌, List, [], ◌∷◌, length, fold, drop, slice_index_or, Option, Some, None}
+use Rattle.std.specs.Prelude.{◌≡◌, ◌≤◌, ℕ, ◌+◌, ◌==◌, if◌then◌else◌, List, [], ◌∷◌, length, fold, drop}
+use Rattle.std.specs.Prelude.{slice_index_or, Option, Some, None}
+use Rattle.sip_base.specs.Code.{mixed}
 use Rattle.sip_text.specs.Words.{without_case}
 use Rattle.sip_hops.specs.declared.host_address.HostAddress.{HostAddress}
-
--- a code with one part more (FNV-1a, 64 bits)
-abbrev pub mixed : ℕ → ℕ → ℕ
-mixed code part = (bit_xor code part * 1099511628211) % 2 ^ 64
 
 -- the code of a host, without case, and a port
 unfoldable pub code_of : List ℕ → ℕ → ℕ
@@ -21,7 +19,8 @@ place_of code at (row ∷ rows) = if row_code row == code then Some at else plac
 
 -- each row from a place on leads to the next row with its code
 abbrev pub LeadOn : List HostAddress → List (Option ℕ) → ℕ → Type 0
-LeadOn rows nexts start = (at : ℕ) (row : HostAddress) → start ≤ at → drop at rows ≡ row ∷ drop (at + 1) rows → slice_index_or nexts at None ≡ place_of (row_code row) (at + 1) (drop (at + 1) rows)
+LeadOn rows nexts start = (at : ℕ) (row : HostAddress) → start ≤ at → drop at rows ≡ row ∷ drop (at + 1) rows → slice_index_or nexts at None
+    ≡ place_of (row_code row) (at + 1) (drop (at + 1) rows)
 
 -- Each code leads to the first row with it, and each row to the next.
 pub record AreChained (rows : List HostAddress) (first : ℕ → Option ℕ) (nexts : List (Option ℕ)) : Type 0 where

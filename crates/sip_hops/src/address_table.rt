@@ -1,14 +1,14 @@
 ghost use Rattle.std.specs.Prelude.{◌≡◌, length, find, option_map, nat_eq, IfOk, OnOk};
-ghost use Rattle.indexmap.specs.IndexMap.{get, IsEmpty};
+ghost use Rattle.std.specs.HashMap.{get, IsEmpty};
 ghost use Rattle.sip_hops.specs.Code as Codes;
 ghost use Rattle.sip_hops.specs.HostAddress.{is_row_for};
 
 use crate::code::code_of;
 use crate::host_address::HostAddress;
-use indexmap::IndexMap;
 use sip_text::{Items, same_no_case};
 use sip_uri::Addr;
 use std::alloc::{AllocError, Global};
+use std::collections::HashMap;
 use std::marker::Model;
 
 /// Rows in their order, found by a code of their host and port: the code leads to the first row with it, and each
@@ -16,13 +16,13 @@ use std::marker::Model;
 #[derive(Drop)]
 pub(crate) struct AddressTable {
     rows: Items<HostAddress>,
-    firsts: IndexMap<u64, usize>,
+    firsts: HashMap<u64, usize>,
     nexts: Vec<Option<usize>>,
 }
 
 impl Model for AddressTable {
     ghost use Rattle.std.specs.Prelude.{List, nat_eq};
-    ghost use Rattle.indexmap.specs.IndexMap.{get};
+    ghost use Rattle.std.specs.HashMap.{get};
     ghost use Rattle.sip_hops.specs.declared.host_address.HostAddress.{HostAddress};
     ghost use Rattle.sip_hops.specs.Code.{AreChained};
 
@@ -36,7 +36,7 @@ impl Model for AddressTable {
 /// Chains rows by their codes, from the last to the first, so that each leads on to one that is chained.
 fn chain(
     rows: &[HostAddress],
-    firsts: &mut IndexMap<u64, usize>,
+    firsts: &mut HashMap<u64, usize>,
     nexts: &mut [Option<usize>],
 ) -> Result<(), AllocError>
     requires none { IsEmpty firsts.old }
@@ -65,7 +65,7 @@ impl AddressTable {
         ensures { IfOk result (λ table. table ≡ rows) }
     {
         let count = rows.as_slice().len();
-        let mut firsts = IndexMap::new(alloc);
+        let mut firsts = HashMap::new(alloc);
         let mut nexts = vec![in alloc; None; count]?;
         chain(rows.as_slice(), &mut firsts, nexts.as_mut_slice())?;
         Ok(AddressTable {

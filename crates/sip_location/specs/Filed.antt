@@ -1,32 +1,54 @@
 -- Bindings that are filed under their addresses of record.
-use Rattle.std.specs.Prelude.{◌≡◌, false, List, [], map}
-use Rattle.std.specs.Option.{unwrap_or}
-use Rattle.std.specs.List.{flat_map, IsDistinct}
-use Rattle.std.specs.Map.{keys_of, lookup}
+use Rattle.std.specs.Prelude.{◌≡◌, ◌≤◌, ◌==◌, ℕ, zero, suc, Bool, false, List, [], ◌∷◌, ◌++◌, map, filter, flat_map, length, if◌then◌else◌}
+use Rattle.std.specs.Prelude.{Option, None, Some, IfSome, option_to_list}
 use Rattle.sip_uri.specs.declared.aor.Aor.{Aor}
 use Rattle.sip_uri.specs.Aor.{is_same_aor}
 use Rattle.sip_location.specs.declared.binding.Binding.{Binding}
+use Rattle.sip_location.specs.declared.filed.Filed.{Filed}
 use Rattle.sip_location.specs.KeptBinding.{KeptBinding, binding_of}
+use Rattle.sip_location.specs.Code.{code_of, code_count}
 use Rattle.sip_location.specs.Locations.{of_aor}
 
 -- the bindings of an address that are kept so
 abbrev pub bindings_of : Aor → List KeptBinding → List Binding
 bindings_of aor kept = map (binding_of aor) kept
 
--- the bindings of all addresses, one after another
-abbrev pub rows_in : List (Aor × List KeptBinding) → List Binding
-rows_in entries = flat_map (λ e. bindings_of e.0 e.1) entries
+-- the bindings of all that is filed, one after another
+abbrev pub all_bindings : List Filed → List Binding
+all_bindings filed = flat_map (λ f. bindings_of f.aor f.rows) filed
 
--- what is filed under an address
-abbrev pub filed : Aor → List (Aor × List KeptBinding) → List KeptBinding
-filed aor entries = unwrap_or (lookup (is_same_aor aor) entries) []
+-- what stands under the codes below a number, in their order
+abbrev pub filed_below : ℕ → (ℕ → Option Filed) → List Filed
+filed_below zero by_code = []
+filed_below (suc code) by_code = filed_below code by_code ++ option_to_list (by_code code)
 
--- Each address stands once.
-abbrev pub AreFiled : List (Aor × List KeptBinding) → Type 0
-AreFiled entries = IsDistinct is_same_aor (keys_of entries)
+-- the bindings of what stands under a code, in the order of the codes, then of a crowd
+abbrev pub rows_in : (ℕ → Option Filed) → List Filed → List Binding
+rows_in by_code crowd = all_bindings (filed_below code_count by_code ++ crowd)
 
--- What is filed under an address is replaced: it has this, and every other its own.
-pub record IsReplaced (old : List (Aor × List KeptBinding)) (aor : Aor) (kept : List KeptBinding) (new : List (Aor × List KeptBinding)) : Type 0 where
-  pub are_filed : AreFiled new
-  pub own : of_aor aor (rows_in new) ≡ bindings_of aor kept
-  pub others : (other : Aor) → is_same_aor other aor ≡ false → of_aor other (rows_in new) ≡ of_aor other (rows_in old)
+-- whether an address is that of what is filed
+abbrev pub is_filed_of : Aor → Filed → Bool
+is_filed_of aor filed = is_same_aor filed.aor aor
+
+-- what is filed of an address, under its code or in a crowd
+abbrev pub filed_of : Aor → (ℕ → Option Filed) → List Filed → List Filed
+filed_of aor by_code crowd = filter (is_filed_of aor) (option_to_list (by_code (code_of aor)) ++ crowd)
+
+-- the rows of the first that is filed
+abbrev pub first_rows : List Filed → List KeptBinding
+first_rows [] = []
+first_rows (filed ∷ others) = filed.rows
+
+-- what is to be filed, which is nothing without rows
+abbrev pub with_rows : Filed → Option Filed
+with_rows filed = if length filed.rows == 0 then None else Some filed
+
+-- What stands under a code is of an address with that code, and each address is filed once at most.
+pub record AreFiled (by_code : ℕ → Option Filed) (crowd : List Filed) : Type 0 where
+  pub coded : (code : ℕ) → IfSome (by_code code) (λ filed. code_of filed.aor ≡ code)
+  pub once : (aor : Aor) → length (filed_of aor by_code crowd) ≤ 1
+
+-- What is kept of an address is replaced: it has this, and every other its own.
+pub record IsReplaced (old : List Binding) (aor : Aor) (kept : List KeptBinding) (new : List Binding) : Type 0 where
+  pub own : of_aor aor new ≡ bindings_of aor kept
+  pub others : (other : Aor) → is_same_aor other aor ≡ false → of_aor other new ≡ of_aor other old

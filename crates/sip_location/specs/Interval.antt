@@ -9,7 +9,8 @@ own_or Absent expires = expires
 own_or Malformed expires = Malformed
 own_or (Seconds seconds) expires = Seconds seconds
 
--- the seconds that are granted: an hour where none are said or what says them is malformed (RFC 3261 10.3 step 7, 20.19), and at most a day (this project's profile)
+-- the seconds that are granted: an hour where none are said or what says them is malformed (RFC 3261 10.3 step 7, 20.19), and at
+-- most a day (this project's profile)
 abbrev pub granted : Expires → ℕ
 granted Absent = 3600
 granted Malformed = 3600

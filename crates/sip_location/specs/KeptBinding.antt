@@ -39,7 +39,12 @@ pub record IsUriText (text : List ℕ) : Type 0 where
 
 -- what a block says: the text of a URI, so many bytes long, and a Call-ID behind it
 abbrev pub kept_in : List ℕ → ℕ → ℕ → ℕ → KeptBinding
-kept_in block uri_length cseq expires_at = record { uri = uri_in (take uri_length block); call_id = drop uri_length block; cseq = cseq; expires_at = expires_at }
+kept_in block uri_length cseq expires_at = record {
+  uri = uri_in (take uri_length block);
+  call_id = drop uri_length block;
+  cseq = cseq;
+  expires_at = expires_at;
+}
 
 -- A URI of the grammar, and its text, where that is at hand.
 pub record IsWithText (uri : Uri) (text : Option (List ℕ)) : Type 0 where

@@ -9,4 +9,5 @@ pub mod LocationError
 pub mod Registering
 pub mod Sameness
 pub mod Locations
+pub mod Code
 pub mod Filed

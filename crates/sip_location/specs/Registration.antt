@@ -1,5 +1,6 @@
 -- What a REGISTER makes of the bindings (RFC 3261 10.3 steps 6 to 8).
-use Rattle.std.specs.Prelude.{ℕ, ◌+◌, ◌*◌, Bool, true, false, ◌&&◌, ◌==◌, not, nat_lt, nat_le, is_some, List, [], ◌∷◌, ◌++◌, length, Result, Ok, Err, if◌then◌else◌}
+use Rattle.std.specs.Prelude.{ℕ, ◌+◌, ◌*◌, Bool, true, false, ◌&&◌, ◌==◌, not, nat_lt, nat_le, is_some, List, [], ◌∷◌, ◌++◌, length, Result}
+use Rattle.std.specs.Prelude.{Ok, Err, if◌then◌else◌}
 use Rattle.std.specs.Option.{option_map_or}
 use Rattle.std.specs.List.{list_any}
 use Rattle.std.specs.Str.{bytes_eq}
@@ -99,7 +100,8 @@ abbrev pub asks_nothing : List ContactItem → Bool
 asks_nothing [] = true
 asks_nothing (contact ∷ others) = false
 
--- The rows after a REGISTER whose address of record is served here: as they are after a query; else those in which this address has its edited list and every other its own;
+-- The rows after a REGISTER whose address of record is served here: as they are after a query; else those in which this address has
+-- its edited list and every other its own;
 -- or the first refusal that applies (RFC 3261 10.3).
 abbrev pub registered : List Binding → Registration → ℕ → Result (List Binding) LocationError
 registered rows r now = if asks_nothing r.contacts then Ok rows else updated rows r now

@@ -5,7 +5,8 @@ use Rattle.sip_location.specs.declared.binding.Binding.{Binding}
 use Rattle.sip_location.specs.declared.error.LocationError.{LocationError}
 use Rattle.sip_location.specs.Binding.{live}
 
--- Rows say the same from a moment on: then and later each address of record has the same live bindings, in the same order. Where another address's rows stand, and expired ones, say
+-- Rows say the same from a moment on: then and later each address of record has the same live bindings, in the same order. Where
+-- another address's rows stand, and expired ones, say
 -- nothing.
 abbrev pub SameBindings : ℕ → List Binding → List Binding → Type 0
 SameBindings from left right = (aor : Aor) (moment : ℕ) → from ≤ moment → live aor moment left ≡ live aor moment right

@@ -13,7 +13,8 @@ pub fn star_and_old_cseq()
     ensures removed { Examples.contacts_after Examples.two_bindings (Examples.removing_all 3) ≡ Ok [] }
     ensures without_expires { registered Examples.two_bindings (record (Examples.removing_all 3) { expires = Absent }) 1000 ≡ Err BadStar }
     ensures repeated_expires { registered Examples.two_bindings (record (Examples.removing_all 3) { expires = Malformed }) 1000 ≡ Err BadStar }
-    ensures beside_another { registered Examples.two_bindings (record (Examples.removing_all 3) { contacts = Star ∷ Examples.contact_alone Examples.first_contact ∷ [] }) 1000 ≡ Err BadStar }
+    ensures beside_another { registered Examples.two_bindings
+        (record (Examples.removing_all 3) { contacts = Star ∷ Examples.contact_alone Examples.first_contact ∷ [] }) 1000 ≡ Err BadStar }
     ensures not_alone { registered Examples.two_bindings (record (Examples.removing_all 3) { contacts = Star ∷ Star ∷ [] }) 1000 ≡ Err BadStar }
 {}
 
@@ -23,11 +24,16 @@ pub fn star_and_old_cseq()
 pub fn contact_intervals()
     ensures brief { registered Examples.two_bindings (Examples.asking (codes "c1") 3 (Examples.contact_for (codes "30") ∷ [])) 1000 ≡ Err TooBrief }
     ensures minute { Examples.seconds_after [] (Examples.asking (codes "c1") 3 (Examples.contact_for (codes "60") ∷ [])) ≡ Ok (60 ∷ []) }
-    ensures removed { Examples.contacts_after Examples.two_bindings (Examples.asking (codes "c1") 3 (Examples.contact_for (codes "0") ∷ [])) ≡ Ok (Examples.second_contact ∷ []) }
-    ensures malformed { Examples.seconds_after [] (record (Examples.asking (codes "c1") 3 (Examples.contact_for (codes "soon") ∷ [])) { expires = Seconds 60 }) ≡ Ok (3600 ∷ []) }
-    ensures field { Examples.seconds_after [] (record (Examples.asking (codes "c1") 3 (Examples.contact_alone Examples.first_contact ∷ [])) { expires = Seconds 120 }) ≡ Ok (120 ∷ []) }
-    ensures neither { Examples.seconds_after [] (Examples.asking (codes "c1") 3 (Examples.contact_alone Examples.first_contact ∷ [])) ≡ Ok (3600 ∷ []) }
-    ensures other_scheme { Examples.seconds_after [] (Examples.asking (codes "c1") 3 (Examples.other_contact ∷ Examples.contact_for (codes "60") ∷ [])) ≡ Ok (60 ∷ []) }
+    ensures removed { Examples.contacts_after Examples.two_bindings (Examples.asking (codes "c1") 3 (Examples.contact_for (codes "0") ∷ []))
+        ≡ Ok (Examples.second_contact ∷ []) }
+    ensures malformed { Examples.seconds_after [] (record (Examples.asking (codes "c1") 3 (Examples.contact_for (codes "soon") ∷ []))
+        { expires = Seconds 60 }) ≡ Ok (3600 ∷ []) }
+    ensures field { Examples.seconds_after [] (record (Examples.asking (codes "c1") 3 (Examples.contact_alone Examples.first_contact ∷ []))
+        { expires = Seconds 120 }) ≡ Ok (120 ∷ []) }
+    ensures neither { Examples.seconds_after [] (Examples.asking (codes "c1") 3 (Examples.contact_alone Examples.first_contact ∷ []))
+        ≡ Ok (3600 ∷ []) }
+    ensures other_scheme { Examples.seconds_after [] (Examples.asking (codes "c1") 3
+        (Examples.other_contact ∷ Examples.contact_for (codes "60") ∷ [])) ≡ Ok (60 ∷ []) }
     ensures a_day { Examples.seconds_after [] (Examples.asking (codes "c1") 3 (Examples.contact_for (codes "90000") ∷ [])) ≡ Ok (86400 ∷ []) }
 {}
 
@@ -35,23 +41,33 @@ pub fn contact_intervals()
 /// `sip:bob@biloxi.com`, the contact `sip:carol@chicago.com` equals the first two: it replaces both, in the
 /// place of the first.
 pub fn replaces_each_equal_contact()
-    ensures { Examples.contacts_after Examples.carols_bindings (Examples.asking (codes "c2") 1 (Examples.contact_alone Uris.carol ∷ [])) ≡ Ok (Uris.carol ∷ Uris.bob ∷ []) }
+    ensures { Examples.contacts_after Examples.carols_bindings (Examples.asking (codes "c2") 1 (Examples.contact_alone Uris.carol ∷ []))
+        ≡ Ok (Uris.carol ∷ Uris.bob ∷ []) }
 {}
 
 /// A contact that is too brief, or older, leaves the bindings of all contacts as they were. A seventeenth
 /// binding is too many.
 pub fn all_or_none()
-    ensures brief { registered Examples.two_bindings (Examples.asking (codes "c2") 1 (Examples.contact_alone Uris.bob ∷ Examples.contact_for (codes "59") ∷ [])) 1000 ≡ Err TooBrief }
-    ensures old { registered Examples.two_bindings (Examples.asking (codes "c1") 2 (Examples.contact_alone Uris.bob ∷ Examples.contact_for (codes "60") ∷ [])) 1000 ≡ Err OldCSeq }
-    ensures other_call { Examples.contacts_after Examples.two_bindings (Examples.asking (codes "c9") 5 (Examples.contact_for (codes "60") ∷ [])) ≡ Ok (Examples.first_contact ∷ Examples.second_contact ∷ []) }
-    ensures seventeenth { registered Examples.sixteen_bindings (Examples.asking (codes "c2") 1 (Examples.contact_alone Uris.bob ∷ [])) 1000 ≡ Err TooMany }
-    ensures expired { Examples.contacts_after (Examples.sixteen_bindings ++ record (Examples.binding_by (codes "c1") 1 Uris.bob) { expires_at = 1000 } ∷ []) (Examples.asking (codes "c2") 1 []) ≡ Ok (Examples.sixteen_contacts) }
+    ensures brief { registered Examples.two_bindings (Examples.asking (codes "c2") 1
+        (Examples.contact_alone Uris.bob ∷ Examples.contact_for (codes "59") ∷ [])) 1000 ≡ Err TooBrief }
+    ensures old { registered Examples.two_bindings (Examples.asking (codes "c1") 2
+        (Examples.contact_alone Uris.bob ∷ Examples.contact_for (codes "60") ∷ [])) 1000 ≡ Err OldCSeq }
+    ensures other_call { Examples.contacts_after Examples.two_bindings
+        (Examples.asking (codes "c9") 5 (Examples.contact_for (codes "60") ∷ [])) ≡ Ok (Examples.first_contact ∷ Examples.second_contact ∷ []) }
+    ensures seventeenth { registered Examples.sixteen_bindings (Examples.asking (codes "c2") 1 (Examples.contact_alone Uris.bob ∷ [])) 1000
+        ≡ Err TooMany }
+    ensures expired { Examples.contacts_after (Examples.sixteen_bindings
+        ++ record (Examples.binding_by (codes "c1") 1 Uris.bob) { expires_at = 1000 } ∷ []) (Examples.asking (codes "c2") 1 [])
+        ≡ Ok (Examples.sixteen_contacts) }
 {}
 
 /// In the same Call-ID a contact is bound anew by a higher CSeq, in its place and with the new expiry; by an equal
 /// one it is refused, and so is one that is lower (RFC 3261 10.3 step 7).
 pub fn refreshed_contact()
-    ensures higher { Examples.live_after Examples.mufasa 1000 Examples.two_bindings (Examples.asking (codes "c1") 3 (Examples.contact_for (codes "60") ∷ [])) ≡ Ok (record (Examples.binding_by (codes "c1") 3 Examples.first_contact) { expires_at = 61000 } ∷ Examples.binding_by (codes "c9") 5 Examples.second_contact ∷ []) }
+    ensures higher { Examples.live_after Examples.mufasa 1000 Examples.two_bindings
+        (Examples.asking (codes "c1") 3 (Examples.contact_for (codes "60") ∷ []))
+        ≡ Ok (record (Examples.binding_by (codes "c1") 3 Examples.first_contact) { expires_at = 61000 }
+        ∷ Examples.binding_by (codes "c9") 5 Examples.second_contact ∷ []) }
     ensures equal { registered Examples.two_bindings (Examples.asking (codes "c1") 2 (Examples.contact_for (codes "60") ∷ [])) 1000 ≡ Err OldCSeq }
     ensures lower { registered Examples.two_bindings (Examples.asking (codes "c1") 1 (Examples.contact_for (codes "60") ∷ [])) 1000 ≡ Err OldCSeq }
     ensures removed { registered Examples.two_bindings (Examples.asking (codes "c1") 2 (Examples.contact_for (codes "0") ∷ [])) 1000 ≡ Err OldCSeq }
@@ -60,8 +76,12 @@ pub fn refreshed_contact()
 /// A REGISTER of one address of record leaves another its bindings at every moment, one that has expired, too; also
 /// a `*` that removes all (RFC 3261 10.3).
 pub fn other_address_is_untouched()
-    ensures bound { Examples.live_after Examples.alice 1000 Examples.beside_alice (Examples.asking (codes "c1") 3 (Examples.contact_for (codes "60") ∷ [])) ≡ Ok (Examples.alices_binding Examples.first_contact 3601000 ∷ []) }
-    ensures earlier { Examples.live_after Examples.alice 999 Examples.beside_alice (Examples.asking (codes "c1") 3 (Examples.contact_for (codes "60") ∷ [])) ≡ Ok (Examples.alices_binding Examples.second_contact 1000 ∷ Examples.alices_binding Examples.first_contact 3601000 ∷ []) }
-    ensures removed { Examples.live_after Examples.alice 999 Examples.beside_alice (Examples.removing_all 3) ≡ Ok (Examples.alices_binding Examples.second_contact 1000 ∷ Examples.alices_binding Examples.first_contact 3601000 ∷ []) }
+    ensures bound { Examples.live_after Examples.alice 1000 Examples.beside_alice
+        (Examples.asking (codes "c1") 3 (Examples.contact_for (codes "60") ∷ [])) ≡ Ok (Examples.alices_binding Examples.first_contact 3601000 ∷ []) }
+    ensures earlier { Examples.live_after Examples.alice 999 Examples.beside_alice
+        (Examples.asking (codes "c1") 3 (Examples.contact_for (codes "60") ∷ []))
+        ≡ Ok (Examples.alices_binding Examples.second_contact 1000 ∷ Examples.alices_binding Examples.first_contact 3601000 ∷ []) }
+    ensures removed { Examples.live_after Examples.alice 999 Examples.beside_alice (Examples.removing_all 3)
+        ≡ Ok (Examples.alices_binding Examples.second_contact 1000 ∷ Examples.alices_binding Examples.first_contact 3601000 ∷ []) }
     ensures none_left { Examples.live_after Examples.mufasa 1000 Examples.beside_alice (Examples.removing_all 3) ≡ Ok [] }
 {}

@@ -1,17 +1,12 @@
-ghost use Rattle.std.specs.Prelude.{◌≡◌, ◌++◌, IfOk};
-ghost use Rattle.std.specs.Hash as fed;
-ghost use Rattle.std.specs.Cmp.Rules.{comparing, hashing};
-ghost use Rattle.std.proofs.Common.{rules};
+ghost use Rattle.std.specs.Prelude.{◌≡◌, IfOk};
 ghost use Rattle.sip_uri.specs.Aor.{is_same_aor};
 
 use crate::aor_ref::AorRef;
 use crate::block::joined;
-use indexmap::Equivalent;
 use sip_text::same_bytes;
 use sip_uri::Aor;
 use std::alloc::{AllocError, Global};
 use std::boxed::BoxedSlice;
-use std::hash::{Hash, Hasher};
 use std::marker::Model;
 
 /// An address of record as bindings are filed under it: its user and its host in one block of memory.
@@ -64,44 +59,11 @@ impl FiledAor {
     {
         AorRef::new(self.user(), self.host())
     }
-}
 
-/// Byte by byte.
-impl PartialEq for FiledAor {
-    ghost eq = { is_same_aor };
-
-    ghost laws = { Prim.search (comparing, rules) };
-
-    fn eq(&self, other: &FiledAor) -> bool {
-        same_bytes(self.user(), other.user()) && same_bytes(self.host(), other.host())
-    }
-}
-
-impl Eq for FiledAor {
-    ghost laws = { Prim.search (comparing, rules) };
-}
-
-/// As an [`Aor`] is, so that one is found by it.
-impl Hash for FiledAor {
-    ghost hash_input = { λ aor. fed.slice fed.u8 aor.user ++ fed.slice fed.u8 aor.host };
-
-    ghost respects_eq = { Prim.search (hashing, rules) };
-
-    fn hash<H: Hasher>(&self, state: &mut H) {
-        self.user().hash(state);
-        self.host().hash(state);
-    }
-}
-
-/// So that nothing is made for a search.
-impl Equivalent<FiledAor> for &Aor {
-    ghost equivalent = { λ q. is_same_aor q.now };
-
-    ghost respects_hash = { Prim.search (hashing, rules) };
-
-    ghost respects_eq = { Prim.search (comparing, rules) };
-
-    fn equivalent(&self, key: &FiledAor) -> bool {
-        same_bytes(self.user.as_slice(), key.user()) && same_bytes(self.host.as_slice(), key.host())
+    /// Whether it is this one, byte by byte.
+    pub(crate) fn is_same(&self, aor: &AorRef<'_>) -> bool
+        ensures { result ≡ is_same_aor self.now aor.now }
+    {
+        same_bytes(self.user(), aor.user()) && same_bytes(self.host(), aor.host())
     }
 }

@@ -14,7 +14,8 @@ pub fn live_bindings_have_not_expired()
 
 /// A REGISTER leaves every other address of record its bindings, at every moment (RFC 3261 10.3).
 pub fn other_addresses_are_untouched()
-    ensures { (rows after : List Binding) (r : Registration) (now moment : ℕ) (other : Aor) → registered rows r now ≡ Ok after → other ≢ r.aor → live other moment after ≡ live other moment rows }
+    ensures { (rows after : List Binding) (r : Registration) (now moment : ℕ) (other : Aor) → registered rows r now ≡ Ok after
+        → other ≢ r.aor → live other moment after ≡ live other moment rows }
 {}
 
 /// After a REGISTER the live bindings of its address of record are those that it had, edited by the
@@ -25,7 +26,8 @@ pub fn live_bindings_are_edited()
 
 /// An address of record with at most 16 live bindings has no more after a REGISTER.
 pub fn at_most_sixteen()
-    ensures { (rows after : List Binding) (r : Registration) (now : ℕ) → registered rows r now ≡ Ok after → length (live r.aor now rows) ≤ 16 → length (live r.aor now after) ≤ 16 }
+    ensures { (rows after : List Binding) (r : Registration) (now : ℕ) → registered rows r now ≡ Ok after → length (live r.aor now rows)
+        ≤ 16 → length (live r.aor now after) ≤ 16 }
 {}
 
 /// Where no address of record has more than 16 bindings that live at a moment, none has after a REGISTER,
@@ -39,7 +41,8 @@ pub fn none_above_sixteen()
 pub fn same_bindings()
     ensures itself { (from : ℕ) (rows : List Binding) → SameBindings from rows rows }
     ensures turned { (from : ℕ) (left right : List Binding) → SameBindings from left right → SameBindings from right left }
-    ensures joined { (from : ℕ) (left middle right : List Binding) → SameBindings from left middle → SameBindings from middle right → SameBindings from left right }
+    ensures joined { (from : ℕ) (left middle right : List Binding) → SameBindings from left middle → SameBindings from middle right
+        → SameBindings from left right }
     ensures later { (from later : ℕ) (left right : List Binding) → from ≤ later → SameBindings from left right → SameBindings later left right }
 {}
 
@@ -50,12 +53,14 @@ pub fn same_at_once()
 
 /// A REGISTER has the same outcome over rows that say the same from its moment on.
 pub fn registered_same()
-    ensures { (left right : List Binding) (r : Registration) (now : ℕ) → SameBindings now left right → SameOutcome now (registered left r now) (registered right r now) }
+    ensures { (left right : List Binding) (r : Registration) (now : ℕ) → SameBindings now left right
+        → SameOutcome now (registered left r now) (registered right r now) }
 {}
 
 /// Rows say the same as those after a REGISTER where its address of record has the edited bindings, and
 /// every other those that it had.
 pub fn same_as_registered()
     ensures { (rows new after : List Binding) (r : Registration) (now : ℕ) → registered rows r now ≡ Ok after
-        → ((other : Aor) → is_same_aor other r.aor ≡ false → live other now new ≡ live other now rows) → live r.aor now new ≡ edited rows r now → SameBindings now new after }
+        → ((other : Aor) → is_same_aor other r.aor ≡ false → live other now new ≡ live other now rows) → live r.aor now new
+        ≡ edited rows r now → SameBindings now new after }
 {}

@@ -1,5 +1,13 @@
 //! The location service of a registrar (RFC 3261 10.3): the bindings of addresses of record, which of
 //! them are live, what a REGISTER asks for, and what it makes of them.
+//!
+//! - Used: `sip_core` plans what a REGISTER asks for, `sip_targets` takes the live bindings, `sip_proxy` keeps them.
+//! - Not here: who may register (`sip_policy`).
+//! - Tried: `test_parts`.
+//!
+//! ```text
+//! let plan = locations.plan(&registration, now)?;
+//! ```
 #![tactic(auto)]
 
 mod aor_ref;
@@ -7,11 +15,14 @@ mod binding;
 mod block;
 mod candidate;
 mod candidates;
+mod code;
 mod contacts;
 mod edits;
 mod error;
 pub mod examples;
+mod filed;
 mod filed_aor;
+mod filing;
 mod interval;
 pub mod laws;
 mod live;

@@ -1,12 +1,11 @@
-ghost use Rattle.std.specs.Prelude.{◌≡◌, ◌≤◌, ◌<◌, ◌^◌, ℕ, List, [], true, false, nat_lt, length, filter, Ok, IsOk, IfOk, IfErr, OnOk, OnErr};
-ghost use Rattle.indexmap.specs.IndexMap.{spare};
+ghost use Rattle.std.specs.Prelude.{◌≡◌, ◌≤◌, ◌<◌, ◌^◌, ℕ, List, [], false, nat_lt, length, filter, Ok, IsOk, IfOk, IfErr, OnOk, OnErr};
 ghost use Rattle.sip_uri.specs.declared.aor.Aor.{Aor};
 ghost use Rattle.sip_uri.specs.Aor.{is_same_aor};
 ghost use Rattle.sip_location.specs.declared.binding.Binding.{Binding};
 ghost use Rattle.sip_location.specs.declared.error.LocationError.TheVariants.{NoMemory};
 ghost use Rattle.sip_location.specs.declared.registration.Registration.{Registration};
 ghost use Rattle.sip_location.specs.Binding.{is_live, live};
-ghost use Rattle.sip_location.specs.Filed.{AreFiled, IsReplaced, bindings_of};
+ghost use Rattle.sip_location.specs.Filed.{bindings_of};
 ghost use Rattle.sip_location.specs.Locations.{of_aor, IsPlan, IsRefusal};
 ghost use Rattle.sip_location.specs.Registration.{edited, registered};
 ghost use Rattle.sip_location.specs.Sameness.{SameOutcome};
@@ -15,7 +14,9 @@ use crate::aor_ref::AorRef;
 use crate::candidates::Candidates;
 use crate::edits::apply_contacts;
 use crate::error::LocationError;
+use crate::filed::Filed;
 use crate::filed_aor::FiledAor;
+use crate::filing::Filing;
 use crate::live::{Bindings, LiveBindings};
 use crate::plan::Plan;
 use crate::refusals::{has_bad_star, has_old_cseq, is_too_brief};
@@ -23,7 +24,6 @@ use crate::registration::Registration;
 use crate::row::Row;
 use crate::rows::Rows;
 use crate::standing::{Standing, is_live_row, standing_of};
-use indexmap::IndexMap;
 use sip_uri::Aor;
 use std::alloc::Global;
 use std::marker::Model;
@@ -36,19 +36,15 @@ const MOST: usize = 16;
 /// handed in, in milliseconds.
 #[derive(Drop)]
 pub struct Locations {
-    rows: IndexMap<FiledAor, Rows>,
+    filing: Filing,
 }
 
 impl Model for Locations {
-    ghost use Rattle.indexmap.specs.IndexMap.{spare};
     ghost use Rattle.sip_location.specs.Locations.{LocationService};
-    ghost use Rattle.sip_location.specs.Filed.{rows_in, AreFiled};
 
     ghost Value = { LocationService };
 
-    ghost view = { λ l. record { rows = rows_in l.rows.entries; room = spare l.rows } };
-
-    ghost invariant = { λ l. AreFiled l.rows.entries };
+    ghost view = { λ l. l.filing };
 }
 
 impl Locations {
@@ -57,32 +53,25 @@ impl Locations {
         ensures ok { IfOk result (λ locations. locations.rows ≡ []) }
         ensures refused { IfErr result (λ e. e ≡ NoMemory) }
     {
-        let rows = IndexMap::new(alloc);
-        Ok(Locations { rows })
-    }
-
-    /// What is kept of an address of record, expired bindings, too.
-    fn rows_of(&self, aor: &Aor) -> &[Row]
-        ensures { bindings_of aor.now result.now ≡ of_aor aor.now self.now.rows }
-    {
-        match self.rows.get(aor) {
-            Some(rows) => rows.as_slice(),
-            None => &[],
-        }
+        let filing = Filing::new(alloc);
+        Ok(Locations { filing })
     }
 
     /// The live bindings of an address of record, in their order, lent. Takes no memory.
     pub fn live<'a>(&'a self, aor: &'a Aor, now: u64) -> LiveBindings<'a>
         ensures { result ≡ live aor.now now self.now.rows }
     {
-        LiveBindings::new(Bindings::new(AorRef::of(aor), self.rows_of(aor)), now)
+        LiveBindings::new(
+            Bindings::new(AorRef::of(aor), self.filing.rows_of(aor)),
+            now,
+        )
     }
 
     /// How many live bindings an address of record has. Takes no memory.
     pub fn count(&self, aor: &Aor, now: u64) -> usize
         ensures { result ≡ length (live aor.now now self.now.rows) }
     {
-        live_count(self.rows_of(aor), now)
+        live_count(self.filing.rows_of(aor), now)
     }
 
     /// What a REGISTER is to make of the bindings of its address of record (RFC 3261 10.3). It changes no binding, and
@@ -95,12 +84,14 @@ impl Locations {
         ensures unchanged { self.new.rows ≡ self.old.rows }
         ensures room { OnOk result (1 ≤ self.new.room) }
     {
-        let alloc = *self.rows.allocator();
-        let kept = self.rows_of(&request.aor);
+        let alloc = self.filing.alloc();
+        let kept = self.filing.rows_of(&request.aor);
         let rows = planned(alloc, kept, &*request, now)?;
         let aor = FiledAor::of(alloc, &request.aor)?;
-        self.rows.reserve(1)?;
-        Ok(Plan { aor, rows })
+        self.filing.reserve_one()?;
+        Ok(Plan {
+            filed: Filed { aor, rows },
+        })
     }
 
     /// Gives the address of record of a plan its bindings, in place of all that it has. Takes no memory: `plan` made the
@@ -109,10 +100,11 @@ impl Locations {
         requires { 1 ≤ self.old.room }
         ensures own { of_aor plan.aor self.new.rows ≡ plan.bindings }
         ensures others { (other : Aor) → is_same_aor other plan.aor ≡ false → of_aor other self.new.rows ≡ of_aor other self.old.rows }
-        ensures registered { (r : Registration) (now : ℕ) → IsPlan self.old.rows r now plan → SameOutcome now (Ok self.new.rows) (registered self.old.rows r now) }
+        ensures registered { (r : Registration) (now : ℕ) → IsPlan self.old.rows r now plan
+            → SameOutcome now (Ok self.new.rows) (registered self.old.rows r now) }
     {
-        let Plan { aor, rows } = plan;
-        file(&mut self.rows, aor, rows);
+        let Plan { filed } = plan;
+        self.filing.file(filed);
     }
 
     /// `plan`, then `apply`.
@@ -125,19 +117,6 @@ impl Locations {
         let plan = self.plan(request, now)?;
         self.apply(plan);
         Ok(())
-    }
-}
-
-/// Files rows under an address of record, in place of what is filed there. An address without rows leaves the map.
-fn file(map: &mut IndexMap<FiledAor, Rows>, aor: FiledAor, rows: Rows)
-    requires room { 1 ≤ spare map.old }
-    requires filed { AreFiled map.old.entries }
-    ensures { IsReplaced map.old.entries aor rows map.new.entries }
-{
-    if rows.as_slice().is_empty() {
-        let _old = map.swap_remove(&aor);
-    } else {
-        let _old = map.insert(aor, rows).unwrap();
     }
 }
 
@@ -156,7 +135,8 @@ fn edited<'a>(
     now: u64,
 ) -> Result<Candidates<'a>, LocationError>
     requires { now < 2 ^ 62 }
-    ensures plan { IfOk result (λ bindings. (rows : List Binding) → standing.now ≡ live request.now.aor now rows → IsOk (registered rows request.now now) × (bindings ≡ edited rows request.now now)) }
+    ensures plan { IfOk result (λ bindings. (rows : List Binding) → standing.now ≡ live request.now.aor now rows
+        → IsOk (registered rows request.now now) × (bindings ≡ edited rows request.now now)) }
     ensures refused { IfErr result (λ e. (rows : List Binding) → standing.now ≡ live request.now.aor now rows → IsRefusal rows request.now now e) }
 {
     let mut bindings = Candidates::of(alloc, standing)?;
@@ -187,7 +167,8 @@ fn planned<'a>(
     now: u64,
 ) -> Result<Rows, LocationError>
     requires { now < 2 ^ 62 }
-    ensures plan { IfOk result (λ planned. IsOk (registered (bindings_of request.now.aor rows.now) request.now now) × (bindings_of request.now.aor planned ≡ edited (bindings_of request.now.aor rows.now) request.now now)) }
+    ensures plan { IfOk result (λ planned. IsOk (registered (bindings_of request.now.aor rows.now) request.now now)
+        × (bindings_of request.now.aor planned ≡ edited (bindings_of request.now.aor rows.now) request.now now)) }
     ensures refused { IfErr result (IsRefusal (bindings_of request.now.aor rows.now) request.now now) }
 {
     let standing = standing_of(alloc, &request.aor, rows, now)?;

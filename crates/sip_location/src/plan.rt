@@ -1,16 +1,14 @@
 ghost use Rattle.std.specs.Prelude.{◌≡◌};
 
-use crate::filed_aor::FiledAor;
+use crate::filed::Filed;
 use crate::live::Bindings;
-use crate::rows::Rows;
 use std::marker::Model;
 
 /// The bindings that an address of record is to have, as [`Locations::plan`](crate::Locations::plan) makes it
 /// for [`Locations::apply`](crate::Locations::apply).
 #[derive(Drop)]
 pub struct Plan {
-    pub(crate) aor: FiledAor,
-    pub(crate) rows: Rows,
+    pub(crate) filed: Filed,
 }
 
 impl Model for Plan {
@@ -19,7 +17,7 @@ impl Model for Plan {
 
     ghost Value = { Planned };
 
-    ghost view = { λ p. record { aor = p.aor; bindings = bindings_of p.aor p.rows } };
+    ghost view = { λ p. record { aor = p.filed.aor; bindings = bindings_of p.filed.aor p.filed.rows } };
 }
 
 impl Plan {
@@ -28,6 +26,6 @@ impl Plan {
     pub fn bindings(&self) -> Bindings<'_>
         ensures { result ≡ self.now.bindings }
     {
-        Bindings::new(self.aor.lent(), self.rows.as_slice())
+        Bindings::new(self.filed.aor.lent(), self.filed.rows.as_slice())
     }
 }

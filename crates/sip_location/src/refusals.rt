@@ -128,7 +128,8 @@ fn any_speaks_of_newer(
     request: &Registration<'_>,
     bindings: &[Candidate<'_>],
 ) -> Result<bool, AllocError>
-    ensures { IfOk result (λ speaks. speaks ≡ list_any (λ c. list_any (λ b. is_of_call request.now b && Definitions.speaks_of b c) bindings.now) contacts.now) }
+    ensures { IfOk result
+        (λ speaks. speaks ≡ list_any (λ c. list_any (λ b. is_of_call request.now b && Definitions.speaks_of b c) bindings.now) contacts.now) }
 {
     for contact in contacts {
         if speaks_of_newer(alloc, contact, request, bindings)? {

@@ -1,5 +1,6 @@
 -- A link over memory: what it hears, what it was given, and at which calls it fails.
-use Rattle.std.specs.Prelude.{ℕ, ◌+◌, zero, suc, nat_eq, nat_lt, Bool, ◌||◌, not, List, [], ◌∷◌, ◌++◌, length, Option, None, Some, Result, Ok, Err, if◌then◌else◌}
+use Rattle.std.specs.Prelude.{ℕ, ◌+◌, zero, suc, nat_eq, nat_lt, Bool, ◌||◌, not, List, [], ◌∷◌, ◌++◌, length, Option, None, Some, Result}
+use Rattle.std.specs.Prelude.{Ok, Err, if◌then◌else◌}
 use Rattle.std.specs.List.{list_any}
 use Rattle.sip_loop_link.specs.Told.{most, counted}
 use Rattle.sip_loop_link.specs.declared.datagram.Heard.{Heard}

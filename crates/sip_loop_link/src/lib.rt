@@ -1,5 +1,9 @@
 //! What hears and sends datagrams, and what tells the moment: two traits, a link and a clock over memory, and those of
 //! the system, over a UDP socket and over the runtime's clock.
+//!
+//! - Used: `sip_loop` asks the link and the clock, `sipd_command` opens the socket.
+//! - Not here: what is done with a datagram.
+//! - Tried: worked examples in `src/examples.rt`, as contracts that compute; `test_serve`, on memory and on loopback.
 #![tactic(auto)]
 
 mod clock;

@@ -60,7 +60,8 @@ fn is_among(numbers: &[u64], number: u64) -> bool
 fn note_silence(inbox: &mut Vec<Posted>, place: usize, silent: u64) -> Addr
     requires { place < length inbox.old.items }
     ensures from { (d : Posted) → result ≡ (slice_index_or inbox.old.items place d).datagram.from }
-    ensures noted { (d : Posted) → inbox.new.items ≡ slice_set inbox.old.items place (record (slice_index_or inbox.old.items place d) { silent = silent }) }
+    ensures noted { (d : Posted) → inbox.new.items ≡ slice_set inbox.old.items place
+        (record (slice_index_or inbox.old.items place d) { silent = silent }) }
 {
     inbox[place].silent = silent;
     inbox[place].datagram.from
@@ -69,7 +70,17 @@ fn note_silence(inbox: &mut Vec<Posted>, place: usize, silent: u64) -> Addr
 impl MemoryLink {
     /// A link that hears nothing, and fails at the receives and sends of these numbers.
     pub fn new(alloc: Global, receive_fails: Vec<u64>, send_fails: Vec<u64>) -> Self
-        ensures { result ≡ record { waiting = []; heard = []; given = []; held = []; receives = 0; failures = 0; receive_fails = receive_fails.items; send_fails = send_fails.items } }
+        ensures { result ≡ record {
+          waiting = [];
+          heard = [];
+          given = [];
+          held = [];
+          receives = 0;
+          failures = 0;
+          receive_fails =
+              receive_fails.items;
+          send_fails = send_fails.items;
+        } }
     {
         MemoryLink {
             alloc,
@@ -169,7 +180,8 @@ impl Link for MemoryLink {
         ensures counted { self.new.receives ≡ self.old.receives }
         ensures failures { self.new.failures ≡ self.old.failures }
         ensures heard { Some self.new.heard ≡ Some self.old.heard }
-        ensures ok { IfOk result (λ sending. Some self.new.given ≡ and_then (Some self.old.given) (record { to = to; bytes = bytes.now; sending = sending })) }
+        ensures ok { IfOk result (λ sending. Some self.new.given
+            ≡ and_then (Some self.old.given) (record { to = to; bytes = bytes.now; sending = sending })) }
         ensures err { OnErr result (Some self.new.given ≡ Some self.old.given) }
         ensures sending { IfOk result (λ sending. sending ≡ next_sending self.old) }
         ensures taken { OnOk result (self.new ≡ record self.old { given = self.new.given }) }

@@ -42,7 +42,8 @@ folds_kept (field ∷ fields) (fold ∷ folds) = map (λ item. fold) (unwrap_or 
 
 -- whether the line of each field that a head says has a fold
 abbrev pub folds_of_head : List ℕ → Option (List Bool)
-folds_of_head head = option_and_then (λ lines. option_map (λ entries. folds_kept entries (folds_of lines.0)) (entries_of (unfolded lines.0))) (lines_at false head)
+folds_of_head head = option_and_then (λ lines. option_map (λ entries. folds_kept entries (folds_of lines.0))
+    (entries_of (unfolded lines.0))) (lines_at false head)
 
 -- whether the line of each field that bytes say has a fold (RFC 3261 7.3.1)
 abbrev pub folds_said : List ℕ → Option (List Bool)

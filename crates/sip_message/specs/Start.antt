@@ -1,5 +1,6 @@
 -- The start line: a request line or a status line (RFC 3261 7.1, 7.2, 25.1).
-use Rattle.std.specs.Prelude.{◌≡◌, ℕ, ◌<◌, ◌≤◌, Bool, true, false, ◌||◌, ◌&&◌, ◌==◌, not, nat_le, nat_lt, List, ◌∷◌, ◌++◌, length, take, drop, codes, Option, Some, None, option_map, if◌then◌else◌}
+use Rattle.std.specs.Prelude.{◌≡◌, ℕ, ◌<◌, ◌≤◌, Bool, true, false, ◌||◌, ◌&&◌, ◌==◌, not, nat_le, nat_lt, List, ◌∷◌, ◌++◌, length, take}
+use Rattle.std.specs.Prelude.{drop, codes, Option, Some, None, option_map, if◌then◌else◌}
 use Rattle.std.specs.Option.{option_and_then}
 use Rattle.std.specs.List.{list_all}
 use Rattle.std.specs.Str.{byte}
@@ -86,7 +87,8 @@ is_code code = nat_le 100 code && nat_lt code 700
 abbrev pub status_of : List ℕ → List ℕ → Option Start
 status_of digits reason =
     if length digits == 3 then
-    (if list_all is_unbroken reason then option_and_then (λ code. if is_code code then Some (Status code reason) else None) (decimal_of digits) else None)
+    (if list_all is_unbroken reason then option_and_then (λ code. if is_code code then Some (Status code reason) else None)
+    (decimal_of digits) else None)
     else None
 
 -- a request line from its three parts

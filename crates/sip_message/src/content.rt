@@ -1,5 +1,6 @@
 ghost use Rattle.std.specs.Prelude.{◌≡◌, ◌⊎◌, MatchResult, MatchOption, IfOk, Some, None};
-ghost use Rattle.sip_message.specs.HeadContent.{IsFault, next_length, part_field, IsFieldTaken, IsLineTaken, IsLineRefused, IsContentOf, content_seen, field_taken};
+ghost use Rattle.sip_message.specs.HeadContent.{IsFault, next_length, part_field, IsFieldTaken, IsLineTaken, IsLineRefused, IsContentOf};
+ghost use Rattle.sip_message.specs.HeadContent.{content_seen, field_taken};
 ghost use Rattle.sip_message.specs.Lines.{head_at};
 ghost use Rattle.sip_message.specs.Parts.{field_seen};
 ghost use Rattle.sip_message.specs.Reading.{Gives, head_said};
@@ -29,7 +30,8 @@ impl<'a> Content<'a> {
     /// Takes the value of a Content-Length behind the others.
     fn take_length(&mut self, value: &[u8]) -> Result<(), LineFault>
         ensures fields { self.new.fields ≡ self.old.fields }
-        ensures length { MatchResult result (λ _. next_length self.old.length value.now ≡ Some self.new.length) (λ _. next_length self.old.length value.now ≡ None) }
+        ensures length { MatchResult result (λ _. next_length self.old.length value.now ≡ Some self.new.length)
+            (λ _. next_length self.old.length value.now ≡ None) }
     {
         if self.length.is_some() {
             return Err(LineFault::BadField);
@@ -49,7 +51,8 @@ impl<'a> Content<'a> {
         name: ViewName<'a>,
         value: &'a [u8],
     ) -> Result<(), LineFault>
-        ensures { MatchResult result (λ _. IsFieldTaken self.old (part_field name.entry value.entry) self.new) (λ e. IsFault e (field_taken self.old.length (field_seen (part_field name.entry value.entry)))) }
+        ensures { MatchResult result (λ _. IsFieldTaken self.old (part_field name.entry value.entry) self.new)
+            (λ e. IsFault e (field_taken self.old.length (field_seen (part_field name.entry value.entry)))) }
     {
         if name.is_content_length() {
             return self.take_length(value);
@@ -65,7 +68,8 @@ impl<'a> Content<'a> {
 
     /// Takes a field behind the others.
     fn take(&mut self, alloc: Global, field: PartField<'a>) -> Result<(), LineFault>
-        ensures { MatchResult result (λ _. IsFieldTaken self.old field.entry self.new) (λ e. IsFault e (field_taken self.old.length (field_seen field.entry))) }
+        ensures { MatchResult result (λ _. IsFieldTaken self.old field.entry self.new)
+            (λ e. IsFault e (field_taken self.old.length (field_seen field.entry))) }
     {
         if !field.name.is_content_length() {
             return keep(alloc, &mut self.fields, field);
@@ -80,7 +84,8 @@ impl<'a> Content<'a> {
         line: &'a [u8],
         after: &'a [u8],
     ) -> Result<&'a [u8], LineFault>
-        ensures { MatchResult result (λ rest. IsLineTaken self.old line.entry after.entry self.new rest) (λ e. (e ≡ LineFault.NoMemory) ⊎ IsLineRefused self.old.length line.now after.now) }
+        ensures { MatchResult result (λ rest. IsLineTaken self.old line.entry after.entry self.new rest)
+            (λ e. (e ≡ LineFault.NoMemory) ⊎ IsLineRefused self.old.length line.now after.now) }
     {
         let (whole, rest) = whole_line(alloc, line, after)?;
         let field = field_of_line(alloc, &whole)?;
@@ -95,7 +100,8 @@ impl<'a> Content<'a> {
         line: &'a [u8],
         after: &'a [u8],
     ) -> Result<&'a [u8], LineFault>
-        ensures { MatchResult result (λ rest. IsLineTaken self.old line.entry after.entry self.new rest) (λ e. (e ≡ LineFault.NoMemory) ⊎ IsLineRefused self.old.length line.now after.now) }
+        ensures { MatchResult result (λ rest. IsLineTaken self.old line.entry after.entry self.new rest)
+            (λ e. (e ≡ LineFault.NoMemory) ⊎ IsLineRefused self.old.length line.now after.now) }
     {
         if is_fold_line(after) {
             return self.take_folded(alloc, line, after);

@@ -135,7 +135,8 @@ fn field_of_part<'a>(line: &'a [u8]) -> Option<PartField<'a>>
 
 /// The field that a line with folds writes: of its value alone, bytes are copied.
 fn field_of_joined<'a>(alloc: Global, line: &JoinedLine<'a>) -> Result<PartField<'a>, LineFault>
-    ensures field { MatchResult result (λ field. field_of line.now.bytes.items ≡ Some (field_seen field)) (λ e. IsFault e (field_of line.now.bytes.items)) }
+    ensures field { MatchResult result (λ field. field_of line.now.bytes.items ≡ Some (field_seen field))
+        (λ e. IsFault e (field_of line.now.bytes.items)) }
     ensures joined { IfOk result (λ field. IsPieceCutFrom (Joined line.now.bytes.items) field.value) }
 {
     match parts_of_line(line.as_slice()) {
@@ -146,7 +147,8 @@ fn field_of_joined<'a>(alloc: Global, line: &JoinedLine<'a>) -> Result<PartField
 
 /// The field that a line writes.
 pub(crate) fn field_of_line<'a>(alloc: Global, line: &Line<'a>) -> Result<PartField<'a>, LineFault>
-    ensures field { MatchResult result (λ field. field_of (line_bytes line.now) ≡ Some (field_seen field)) (λ e. IsFault e (field_of (line_bytes line.now))) }
+    ensures field { MatchResult result (λ field. field_of (line_bytes line.now) ≡ Some (field_seen field))
+        (λ e. IsFault e (field_of (line_bytes line.now))) }
     ensures cut { IfOk result (λ field. IsPieceCutFrom (line_piece line.now) field.value) }
 {
     match line {

@@ -24,9 +24,13 @@ pub fn written_again()
 pub fn refusals()
     ensures none { (bytes : List ℕ) → (fault_of bytes ≡ None) ↔ ((m : Message) × Says bytes m × IsWithinLimits bytes m) }
     ensures too_long { (bytes : List ℕ) → 65507 < length bytes → fault_of bytes ≡ Some TooLong }
-    ensures not_sip { (bytes : List ℕ) → length bytes ≤ 65507 → (fault_of bytes ≡ Some NotSip) ↔ ((start : Start) (lines : List (List ℕ)) (rest : List ℕ) → ¬ IsHead bytes start lines rest) }
-    ensures bad_field { (bytes : List ℕ) (start : Start) (lines : List (List ℕ)) (rest : List ℕ) → length bytes ≤ 65507 → IsHead bytes start lines rest → (fault_of bytes ≡ Some BadField) ↔ ((fields : List Field) (n : Option ℕ) → ¬ IsContent lines fields n) }
-    ensures limits { (bytes : List ℕ) (start : Start) (lines : List (List ℕ)) (rest : List ℕ) (fields : List Field) (n : Option ℕ) → length bytes ≤ 65507 → IsHead bytes start lines rest → IsContent lines fields n → reading_of bytes ≡ limited (is_short n rest) (with_body start fields n rest) }
+    ensures not_sip { (bytes : List ℕ) → length bytes ≤ 65507
+        → (fault_of bytes ≡ Some NotSip) ↔ ((start : Start) (lines : List (List ℕ)) (rest : List ℕ) → ¬ IsHead bytes start lines rest) }
+    ensures bad_field { (bytes : List ℕ) (start : Start) (lines : List (List ℕ)) (rest : List ℕ) → length bytes ≤ 65507
+        → IsHead bytes start lines rest → (fault_of bytes ≡ Some BadField) ↔ ((fields : List Field) (n : Option ℕ) → ¬ IsContent lines fields n) }
+    ensures limits { (bytes : List ℕ) (start : Start) (lines : List (List ℕ)) (rest : List ℕ) (fields : List Field) (n : Option ℕ)
+        → length bytes ≤ 65507 → IsHead bytes start lines rest → IsContent lines fields n → reading_of bytes
+        ≡ limited (is_short n rest) (with_body start fields n rest) }
 {}
 
 /// What is read of bytes is what their parts say, within the last limits.

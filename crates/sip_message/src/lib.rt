@@ -1,6 +1,14 @@
 //! SIP messages: `view` takes a datagram apart by the grammar of RFC 3261 7 and 25.1, in this project's
 //! profile, as parts of itself; `read` gives the same message with bytes of its own, and `write` the written
 //! form of a message. A text that is read says one message, and what is written of it says it again.
+//!
+//! - Used: `sip_core` reads each datagram once.
+//! - Not here: the meaning of a value (`sip_header`), and which messages are refused (`sip_validate`).
+//! - Tried: worked examples in `src/examples.rt`, as contracts that compute; `test_parts`.
+//!
+//! ```text
+//! let message = view(alloc, datagram)?;
+//! ```
 #![tactic(auto)]
 
 mod body;

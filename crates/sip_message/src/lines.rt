@@ -19,7 +19,8 @@ pub(crate) struct Slice<'a> {
 
 /// What follows a CRLF at the front.
 fn after_crlf(bytes: &[u8]) -> Option<&[u8]>
-    ensures rest { MatchOption result (after_blanks bytes.now ≡ bytes.now) (λ rest. (after_blanks bytes.now ≡ after_blanks rest.now) × (length rest.now < length bytes.now)) }
+    ensures rest { MatchOption result (after_blanks bytes.now ≡ bytes.now)
+        (λ rest. (after_blanks bytes.now ≡ after_blanks rest.now) × (length rest.now < length bytes.now)) }
     ensures cut { IfSome result (λ rest. IsCutFrom bytes.entry rest) }
 {
     let (first, rest) = bytes.split_first()?;
@@ -48,7 +49,8 @@ pub(crate) fn without_blank_lines(bytes: &[u8]) -> &[u8]
 fn crlf_ending(bytes: &[u8], end: usize) -> Option<usize>
     requires inside { end < length bytes.now }
     requires lf { slice_index bytes.now end ≡ 10 }
-    ensures { MatchOption result ((k : ℕ) → k + 1 ≡ end → ¬ OccursAt bytes.now (13 ∷ 10 ∷ []) k) (λ at. (at + 1 ≡ end) × OccursAt bytes.now (13 ∷ 10 ∷ []) at) }
+    ensures { MatchOption result ((k : ℕ) → k + 1 ≡ end → ¬ OccursAt bytes.now (13 ∷ 10 ∷ []) k)
+        (λ at. (at + 1 ≡ end) × OccursAt bytes.now (13 ∷ 10 ∷ []) at) }
 {
     if end == 0 {
         return None;

@@ -2,7 +2,12 @@
 use Rattle.std.specs.Prelude.{ℕ, Bool, true, false, ◌||◌, List, [], ◌∷◌, ◌++◌, codes, if◌then◌else◌}
 use Rattle.sip_text.specs.Words.{is_same_text}
 use Rattle.sip_message_fields.specs.declared.field_name.FieldName.{FieldName}
-use Rattle.sip_message_fields.specs.declared.field_name.FieldName.TheVariants.{Via, From, To, CallId, CSeq, Contact, MaxForwards, ContentLength, ContentType, ContentEncoding, Subject, Supported, Route, RecordRoute, Expires, Require, ProxyRequire, Unsupported, Authorization, ProxyAuthorization, WwwAuthenticate, ProxyAuthenticate, Warning, MinExpires, Timestamp, Other}
+use Rattle.sip_message_fields.specs.declared.field_name.FieldName.TheVariants.{Via, From, To, CallId, CSeq, Contact, MaxForwards}
+use Rattle.sip_message_fields.specs.declared.field_name.FieldName.TheVariants.{ContentLength, ContentType, ContentEncoding, Subject}
+use Rattle.sip_message_fields.specs.declared.field_name.FieldName.TheVariants.{Supported, Route, RecordRoute, Expires, Require}
+use Rattle.sip_message_fields.specs.declared.field_name.FieldName.TheVariants.{ProxyRequire, Unsupported, Authorization, ProxyAuthorization}
+use Rattle.sip_message_fields.specs.declared.field_name.FieldName.TheVariants.{WwwAuthenticate, ProxyAuthenticate, Warning, MinExpires}
+use Rattle.sip_message_fields.specs.declared.field_name.FieldName.TheVariants.{Timestamp, Other}
 
 -- a name in its full spelling (RFC 3261 20); another name as it was written
 abbrev pub spelling : FieldName → List ℕ

@@ -48,7 +48,8 @@ fn is_spelled(name: &[u8], spelling: &[u8]) -> bool
 /// The name whose compact form is this letter (RFC 3261 7.3.3).
 #[tactic(auto, unfolding(crate::specs::Spellings::name_of_length, crate::specs::Spellings::is_spelled))]
 fn name_of_letter(letter: u8) -> Option<KnownName>
-    ensures { MatchOption result (name_of_length 1 (letter ∷ []) ≡ Other (letter ∷ [])) (λ known. field_name_of known ≡ name_of_length 1 (letter ∷ [])) }
+    ensures { MatchOption result (name_of_length 1 (letter ∷ []) ≡ Other (letter ∷ []))
+        (λ known. field_name_of known ≡ name_of_length 1 (letter ∷ [])) }
 {
     match letter.to_ascii_lowercase() {
         b'v' => Some(KnownName::Via),
@@ -246,7 +247,8 @@ fn name_of_nineteen(name: &[u8]) -> Option<KnownName>
 /// The name that is written so, compared with those of its length alone.
 #[tactic(auto, using(crate::proofs::Spelled::no_such_length))]
 fn name_of_its_length(name: &[u8]) -> Option<KnownName>
-    ensures { MatchOption result (name_of_length (length name.now) name.now ≡ Other name.now) (λ known. field_name_of known ≡ name_of_length (length name.now) name.now) }
+    ensures { MatchOption result (name_of_length (length name.now) name.now ≡ Other name.now)
+        (λ known. field_name_of known ≡ name_of_length (length name.now) name.now) }
 {
     match name.len() {
         // No compact form is written as an empty one, and this is the first name without one.

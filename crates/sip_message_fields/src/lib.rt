@@ -1,6 +1,14 @@
 //! The fields of SIP messages (RFC 3261 7.3): the names that this project knows and their compact forms, a field, and a list
 //! of fields with what is looked up, copied and edited in it by name. The same as parts of what was read, which copy no byte
 //! where none was joined (`ViewField`, `ViewFields`), and put into a store, where their bytes stand once.
+//!
+//! - Used: `sip_message` fills views, the edits change them, a kept request stores them.
+//! - Not here: what a value says (`sip_header`), and the start line and the body (`sip_message_form`).
+//! - Tried: `test_parts`.
+//!
+//! ```text
+//! let via = view.fields.first(FieldName::Via);
+//! ```
 #![tactic(auto)]
 
 mod field;

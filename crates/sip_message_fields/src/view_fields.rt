@@ -23,7 +23,7 @@ impl<'a> Model for ViewFields<'a> {
 }
 
 impl<'a> ViewFields<'a> {
-    ghost use Rattle.sip_message_fields.specs.Named.{first_named, all_named};
+    ghost use Rattle.sip_message_fields.specs.Named.{first_named, first_of, all_named};
     ghost use Rattle.sip_message_fields.specs.Values;
     ghost use Rattle.sip_message_fields.specs.Values.{values_of, first_value};
 
@@ -63,6 +63,20 @@ impl<'a> ViewFields<'a> {
             return Ok(());
         }
         self.append(field)
+    }
+
+    /// Adds the first of some fields that has a name, if there is one, at the end. No byte is copied.
+    pub fn push_first(
+        &mut self,
+        name: &FieldName,
+        fields: &'a ViewFields<'_>,
+    ) -> Result<(), AllocError>
+        ensures { OnOk result (self.new ≡ self.old ++ first_of name.now fields.now) }
+    {
+        let Some(field) = fields.first_field(name) else {
+            return Ok(());
+        };
+        self.push(field.lent()?)
     }
 
     /// Adds a field at the end, for which room may have to be made. It stands apart, so that where there is room a field

@@ -9,7 +9,8 @@ use Rattle.sip_message_form.specs.declared.kept_start.KeptStart.{KeptStart}
 
 -- the first line that is kept so in a store (RFC 3261 7.1, 7.2)
 abbrev pub start_kept : List ℕ → KeptStart → Start
-start_kept store kept = option_map_or (λ code. Status code (part store kept.first)) kept.code (Request (part store kept.first) (part store kept.uri) (part store kept.version))
+start_kept store kept = option_map_or (λ code. Status code (part store kept.first)) kept.code
+    (Request (part store kept.first) (part store kept.uri) (part store kept.version))
 
 -- its bytes lie in the store
 pub record IsStartStored (store : List ℕ) (kept : KeptStart) : Type 0 where

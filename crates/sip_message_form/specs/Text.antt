@@ -22,4 +22,5 @@ field_text f = field_line f ++ codes "\r\n"
 
 -- start line, fields, the length of the body, the empty line, the body (RFC 3261 7; Content-Length last: this project's profile)
 abbrev pub text_of : Message → List ℕ
-text_of m = start_text m.start ++ codes "\r\n" ++ flat_map field_text m.fields ++ codes "Content-Length: " ++ decimal (length m.body) ++ codes "\r\n\r\n" ++ m.body
+text_of m = start_text m.start ++ codes "\r\n" ++ flat_map field_text m.fields ++ codes "Content-Length: " ++ decimal (length m.body)
+    ++ codes "\r\n\r\n" ++ m.body

@@ -1,5 +1,13 @@
 //! A SIP message in its forms: with bytes of its own (`Message`), as parts of what was read (`View`), kept in one
 //! store (`Kept`), and written (`write`, RFC 3261 7); and why bytes are none.
+//!
+//! - Used: every room that holds a message.
+//! - Not here: the reader of datagrams (`sip_message`).
+//! - Tried: `test_parts`.
+//!
+//! ```text
+//! let bytes = write_view(alloc, &view)?;
+//! ```
 #![tactic(auto)]
 
 mod error;

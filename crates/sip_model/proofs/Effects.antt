@@ -8,7 +8,7 @@ use Rattle.sip_message_form.specs.Text.{text_of}
 use Rattle.sip_header.specs.declared.core_fields.CoreFields.{CoreFields}
 use Rattle.sip_uri.specs.declared.addr.Addr.{Addr}
 use Rattle.sip_edit_response.specs.Extras.{denial_warning}
-use Rattle.model_steps.specs.edit_onward.Onward.{onward_uri, with_record_route}
+use Rattle.sip_edit.specs.Onward.{onward_uri, with_record_route}
 use Rattle.sip_policy.specs.declared.decision.Decision.{Decision}
 use Rattle.sip_policy.specs.declared.operation.Operation.{Operation}
 use Rattle.sip_best.specs.declared.final_answer.Final.{Final}

@@ -17,7 +17,7 @@ use Rattle.sip_transaction_table.specs.Key.{key_of}
 use Rattle.sip_header.specs.CoreFields.{core_of}
 use Rattle.sip_uri.specs.declared.addr.Addr.{Addr}
 use Rattle.sip_edit_response.specs.Extras.{denial_warning}
-use Rattle.model_steps.specs.edit_onward.Onward.{onward_uri}
+use Rattle.sip_edit.specs.Onward.{onward_uri}
 use Rattle.sip_edit.specs.OwnRequests.{cancel_of}
 use Rattle.sip_edit.specs.OwnVia.{without_top_via}
 use Rattle.sip_policy.specs.declared.decision.Decision.{Decision}

@@ -8,7 +8,6 @@ pub mod Lives
 pub mod Histories
 pub mod Listed
 pub use Rattle.model_steps.specs.context_model
-pub use Rattle.model_steps.specs.edit_onward
 pub use Rattle.model_steps.specs.state
 pub use Rattle.model_steps.specs as steps_model
 pub use Rattle.model_steps.specs.verdict_model

@@ -1,9 +1,10 @@
 -- The parts of a step: what each makes of the open requests, and what it sends. A request is opened or turned away; an open one
 -- changes, goes again, gets its copy or is acknowledged; an ACK
 -- passes; or nothing happens. A CANCEL alone is two parts: it is answered, and then cancels (RFC 3261 9.2, 16, 17).
-use Rattle.std.specs.Prelude.{◌≡◌, ℕ, ◌+◌, Bool, true, false, List, [], ◌∷◌, ◌++◌, find, codes, Contains, Some, None, is_some}
+use Rattle.std.specs.Prelude.{◌*◌, ◌≡◌, ℕ, ◌+◌, Bool, true, false, List, [], ◌∷◌, ◌++◌, find, codes, Contains, Some, None, is_some}
 use Rattle.std.specs.Prelude.{if◌then◌else◌, count_by}
 use Rattle.std.specs.Str.{bytes_eq}
+use Rattle.sip_timers.specs.Intervals.{T1}
 use Rattle.sip_message_fields.specs.declared.field.Field.{Field}
 use Rattle.sip_message_form.specs.declared.message.Start.TheVariants.{Status}
 use Rattle.sip_message_form.specs.declared.message.Message.{Message}
@@ -39,7 +40,7 @@ pub record IsBegun (now number : ℕ) (b : Branch) : Type 0 where
   pub is_numbered : b.number ≡ number
   pub is_target : b.is_cancel ≡ false
   pub is_wanted : b.wants_cancel ≡ false
-  pub is_due : b.phase ≡ (if is_some b.address then Unheard (now + 32000) else Ended)
+  pub is_due : b.phase ≡ (if is_some b.address then Unheard (now + 64 * T1) else Ended)
   pub goes_next : b.again ≡ first_resend now
   pub has_no_final : b.final_to ≡ None
 

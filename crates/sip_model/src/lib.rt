@@ -3,7 +3,7 @@
 //!
 //! - Used: `sip_engine` and the laws above.
 //! - Not here: a body.
-//! - Tried: other laws, by other means, in `model_meanings` and `model_access_examples`.
+//! - Tried: other laws, by other means, in `model_meanings`.
 #![tactic(auto)]
 
 pub mod histories;

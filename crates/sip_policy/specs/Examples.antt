@@ -89,9 +89,11 @@ by_night = record { from = 1080; until = 480 }
 -- what these rules decide of an INVITE to help@host.com at a moment, an hour ahead of UTC
 abbrev pub call_to_help : Window → Option (List ℕ) → ℕ → Decision
 call_to_help window proven now =
-    decision_of (rules_with window) sample_users sample_domains proven (Operation.Send (codes "INVITE")) (user_at (codes "help") (codes "host.com")) (minute_of now (pos 60))
+    decision_of (rules_with window) sample_users sample_domains proven (Operation.Send (codes "INVITE"))
+    (user_at (codes "help") (codes "host.com")) (minute_of now (pos 60))
 
 -- the minute that is recorded of it
 abbrev pub recorded_call : Window → Option (List ℕ) → ℕ → Option ℕ
 recorded_call window proven now =
-    recorded_minute (rules_with window) sample_users sample_domains proven (Operation.Send (codes "INVITE")) (user_at (codes "help") (codes "host.com")) (minute_of now (pos 60))
+    recorded_minute (rules_with window) sample_users sample_domains proven (Operation.Send (codes "INVITE"))
+    (user_at (codes "help") (codes "host.com")) (minute_of now (pos 60))

@@ -5,7 +5,8 @@ use Rattle.sip_policy.specs.declared.operation.Operation.{Operation}
 use Rattle.sip_policy.specs.declared.operation.OperationPattern.{OperationPattern}
 use Rattle.sip_policy.specs.declared.operation.OperationPattern.TheVariants as Pattern
 
--- what a request of a method asks for: a REGISTER with a Contact registers, one without lists the bindings (RFC 3261 10.2), any other is to be sent on
+-- what a request of a method asks for: a REGISTER with a Contact registers, one without lists the bindings (RFC 3261 10.2), any
+-- other is to be sent on
 abbrev pub operation_of : List ℕ → Bool → Operation
 operation_of method has_contact =
     if bytes_eq method (codes "REGISTER") then (if has_contact then Operation.Register else Operation.List)

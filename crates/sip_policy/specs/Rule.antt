@@ -19,7 +19,8 @@ abbrev pub matches : List User → List (List ℕ) → Option (List ℕ) → Ope
 matches users domains proven operation aor rule =
     matches_operation operation rule.operation && (matches_target users domains proven aor rule.target && matches_who users proven rule.who)
 
--- whether a rule decides about a request that comes at a minute of the day, unless one before it does: it holds then, whoever is proven, and it matches
+-- whether a rule decides about a request that comes at a minute of the day, unless one before it does: it holds then, whoever is
+-- proven, and it matches
 abbrev pub applies : List User → List (List ℕ) → Option (List ℕ) → Operation → Aor → ℕ → Rule → Bool
 applies users domains proven operation aor minute rule = holds minute rule.window && matches users domains proven operation aor rule
 

@@ -1,4 +1,5 @@
--- Target patterns (this project's profile). An address is compared unescaped, its user byte by byte and its host without case; a pattern is the text itself.
+-- Target patterns (this project's profile). An address is compared unescaped, its user byte by byte and its host without case; a
+-- pattern is the text itself.
 use Rattle.std.specs.Prelude.{ℕ, Bool, true, ◌&&◌, nat_eq, List, Option, Some, None}
 use Rattle.std.specs.List.{starts_with}
 use Rattle.std.specs.Str.{bytes_eq}

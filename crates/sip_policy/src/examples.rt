@@ -66,10 +66,14 @@ pub fn registration()
 /// empty one; a prefix is no more than a prefix. A REGISTER registers or lists, a method is compared with
 /// case.
 pub fn patterns()
-    ensures domain { matches_target sample_users sample_domains None (user_at (codes "vault") (codes "host.com")) (TargetPattern.Exact (codes "vault") (codes "Host.COM")) ≡ true }
-    ensures user { matches_target sample_users sample_domains None (user_at (codes "vault") (codes "host.com")) (TargetPattern.Exact (codes "Vault") (codes "host.com")) ≡ false }
-    ensures empty_user { matches_target sample_users sample_domains None (user_at [] (codes "host.com")) (TargetPattern.Prefix [] (codes "host.com")) ≡ true }
-    ensures prefix { matches_target sample_users sample_domains None (user_at (codes "9") (codes "host.com")) (TargetPattern.Prefix (codes "91") (codes "host.com")) ≡ false }
+    ensures domain { matches_target sample_users sample_domains None (user_at (codes "vault") (codes "host.com"))
+        (TargetPattern.Exact (codes "vault") (codes "Host.COM")) ≡ true }
+    ensures user { matches_target sample_users sample_domains None (user_at (codes "vault") (codes "host.com"))
+        (TargetPattern.Exact (codes "Vault") (codes "host.com")) ≡ false }
+    ensures empty_user { matches_target sample_users sample_domains None (user_at [] (codes "host.com"))
+        (TargetPattern.Prefix [] (codes "host.com")) ≡ true }
+    ensures prefix { matches_target sample_users sample_domains None (user_at (codes "9") (codes "host.com"))
+        (TargetPattern.Prefix (codes "91") (codes "host.com")) ≡ false }
     ensures register { operation_of (codes "REGISTER") true ≡ Operation.Register }
     ensures query { operation_of (codes "REGISTER") false ≡ Operation.List }
     ensures other { operation_of (codes "register") true ≡ Operation.Send (codes "register") }

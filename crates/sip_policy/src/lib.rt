@@ -1,5 +1,9 @@
 //! Call policy: configured users, by their names, and rules in the order of the file, of which the first that holds at the
 //! minute of a request and matches it decides.
+//!
+//! - Used: `sip_core` asks it about each request outside a dialog; the configuration fills it.
+//! - Not here: who proved to ask (`sip_auth`), and where an allowed request goes (`sip_targets`).
+//! - Tried: worked examples in `src/examples.rt`, as contracts that compute; `test_parts`, `test_kinds`.
 #![tactic(auto)]
 
 mod decision;
@@ -28,7 +32,7 @@ pub use operation::{Operation, OperationPattern};
 pub use rule::Rule;
 pub use rule_verdict::RuleVerdict;
 pub use rules::Rules;
-pub use ruling::Ruling;
+pub use ruling::{Ruling, ruling_by};
 pub use target_pattern::TargetPattern;
 pub use texts::copy_texts;
 pub use user::User;

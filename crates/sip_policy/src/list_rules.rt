@@ -73,8 +73,10 @@ impl Rules for ListRules {
 
 impl ListRules {
     fn ruling(&self, proven: Option<&[u8]>, operation: &Operation, aor: &Aor, minute: u16) -> Ruling
-        ensures decision { result.decision ≡ decision_of self.now.rules self.now.users self.now.domains (option_copied proven.entry) operation.now aor.now minute }
-        ensures minute { result.minute ≡ recorded_minute self.now.rules self.now.users self.now.domains (option_copied proven.entry) operation.now aor.now minute }
+        ensures decision { result.decision ≡ decision_of self.now.rules self.now.users self.now.domains (option_copied proven.entry)
+            operation.now aor.now minute }
+        ensures minute { result.minute ≡ recorded_minute self.now.rules self.now.users self.now.domains (option_copied proven.entry)
+            operation.now aor.now minute }
     {
         let rule = deciding_rule(
             self.rules.as_slice(),
@@ -99,7 +101,8 @@ fn deciding_rule<'a>(
     aor: &Aor,
     minute: u16,
 ) -> Option<&'a Rule>
-    ensures { option_copied result ≡ Definitions.deciding_rule rules.now users.now domains.now (option_copied proven.entry) operation.now aor.now minute }
+    ensures { option_copied result ≡ Definitions.deciding_rule rules.now users.now domains.now (option_copied proven.entry) operation.now
+        aor.now minute }
 {
     for rule in rules {
         if rule.applies(users, domains, proven, operation, aor, minute) {

@@ -41,11 +41,15 @@ pub trait Rules: Drop {
     /// What is decided about a request of the proven user of this name, at a minute of the day. Takes no
     /// memory.
     fn decide(&self, name: &[u8], operation: &Operation, aor: &Aor, minute: u16) -> Ruling
-        ensures decision { result.decision ≡ decision_of (rules_of self.now) (users_of self.now) (domains_of self.now) (Some name.now) operation.now aor.now minute }
-        ensures minute { result.minute ≡ recorded_minute (rules_of self.now) (users_of self.now) (domains_of self.now) (Some name.now) operation.now aor.now minute };
+        ensures decision { result.decision ≡ decision_of (rules_of self.now) (users_of self.now) (domains_of self.now) (Some name.now)
+            operation.now aor.now minute }
+        ensures minute { result.minute ≡ recorded_minute (rules_of self.now) (users_of self.now) (domains_of self.now) (Some name.now)
+            operation.now aor.now minute };
 
     /// What is decided about a request with nobody proven, at a minute of the day. Takes no memory.
     fn decide_unproven(&self, operation: &Operation, aor: &Aor, minute: u16) -> Ruling
-        ensures decision { result.decision ≡ decision_of (rules_of self.now) (users_of self.now) (domains_of self.now) None operation.now aor.now minute }
-        ensures minute { result.minute ≡ recorded_minute (rules_of self.now) (users_of self.now) (domains_of self.now) None operation.now aor.now minute };
+        ensures decision { result.decision ≡ decision_of (rules_of self.now) (users_of self.now) (domains_of self.now) None operation.now
+            aor.now minute }
+        ensures minute { result.minute ≡ recorded_minute (rules_of self.now) (users_of self.now) (domains_of self.now) None operation.now
+            aor.now minute };
 }

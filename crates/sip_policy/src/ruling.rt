@@ -14,9 +14,10 @@ pub struct Ruling {
 }
 
 /// What a rule, the first that applies at a minute, decides. Where there is none, rule 0 denies.
-pub(crate) fn ruling_by(rule: Option<&Rule>, proven: Option<&[u8]>, minute: u16) -> Ruling
+pub fn ruling_by(rule: Option<&Rule>, proven: Option<&[u8]>, minute: u16) -> Ruling
     ensures decision { result.decision ≡ decision_with (option_copied proven.entry) (option_copied rule.entry) }
-    ensures minute { result.minute ≡ minute_for (decision_with (option_copied proven.entry) (option_copied rule.entry)) minute (option_copied rule.entry) }
+    ensures minute { result.minute ≡ minute_for (decision_with (option_copied proven.entry) (option_copied rule.entry)) minute
+        (option_copied rule.entry) }
 {
     match rule {
         Some(rule) => {

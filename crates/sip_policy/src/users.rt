@@ -1,25 +1,26 @@
-ghost use Rattle.std.specs.Prelude.{◌≡◌, ◌⊎◌, ◌++◌, [], ◌∷◌, true, false, map, find, is_some, IfOk, IfErr, OnOk};
+ghost use Rattle.std.specs.Prelude.{◌≡◌, ◌⊎◌, ℕ, List, Some, None, true, false, find, is_some, if◌then◌else◌, IfOk, IfErr, OnOk};
 ghost use Rattle.std.specs.List.{list_any};
 ghost use Rattle.std.specs.Option.{option_copied};
 ghost use Rattle.std.specs.Str.{bytes_eq};
 ghost use Rattle.sip_policy.specs.User as Definitions;
 ghost use Rattle.sip_policy.specs.User.{is_named, is_users_name};
-ghost use Rattle.sip_policy.specs.Users.{names_of, have_own_names};
+ghost use Rattle.sip_policy.specs.Users.{have_own_names, place_of, AreNamed};
 ghost use Rattle.sip_policy.specs.declared.error.PolicyError.TheVariants.{NoMemory, NameTwice};
 
 use crate::error::PolicyError;
 use crate::user::User;
-use indexmap::IndexSet;
 use sip_text::Items;
 use std::alloc::{AllocError, Global};
+use std::collections::HashMap;
 use std::marker::Model;
 
 /// The configured users, no two of one name, seen as the list of them. A name is found in constant time:
 /// names are configured, so nobody who sends requests chooses where they fall.
 pub struct Users {
+    alloc: Global,
     list: Items<User>,
-    /// Their names, each at the place of its user.
-    names: IndexSet<Vec<u8>>,
+    /// Where the user of each name stands in the list.
+    places: HashMap<Vec<u8>, usize>,
     /// Whether some user has an H(A1) by SHA-256, which each challenge asks.
     has_sha256: bool,
 }
@@ -28,33 +29,34 @@ pub struct Users {
 impl Drop for Users {
     fn drop(self) {
         let Users {
+            alloc: _,
             list: _,
-            names: _,
+            places: _,
             has_sha256: _,
         } = self;
     }
 }
 
 impl Model for Users {
-    ghost use Rattle.std.specs.Prelude.{◌≡◌, List, map, is_some};
+    ghost use Rattle.std.specs.Prelude.{◌≡◌, List, is_some};
     ghost use Rattle.std.specs.List.{list_any};
     ghost use Rattle.sip_policy.specs.declared.user.User.{User};
-    ghost use Rattle.sip_policy.specs.Users.{AreNamed};
+    ghost use Rattle.sip_policy.specs.Users.{place_of, AreNamed};
 
     ghost Value = { List User };
 
     ghost view = { λ u. u.list };
 
-    ghost invariant = { λ u. AreNamed (map (λ name. name.items) u.names.keys) u.list × (u.has_sha256 ≡ list_any (λ user. is_some user.a1_sha256) u.list) };
+    ghost invariant = { λ u. AreNamed (place_of u.places) u.list
+        × (u.has_sha256 ≡ list_any (λ user. is_some user.a1_sha256) u.list) };
 }
 
 impl Clone for Users {
     ghost is_clone = { λ users copy. copy ≡ users };
 
     fn clone(&self) -> Result<Users, AllocError> {
-        let alloc = *self.names.allocator();
-        let list = copy_users(alloc, self.list.as_slice())?;
-        match Users::new(alloc, list) {
+        let list = copy_users(self.alloc, self.list.as_slice())?;
+        match Users::new(self.alloc, list) {
             Ok(users) => Ok(users),
             Err(_) => Err(AllocError),
         }
@@ -70,11 +72,12 @@ impl Users {
         ensures distinct { OnOk result (have_own_names users ≡ true) }
         ensures refused { IfErr result (λ e. (e ≡ NoMemory) ⊎ ((e ≡ NameTwice) × (have_own_names users ≡ false))) }
     {
-        let names = index_names(alloc, users.as_slice())?;
+        let places = places_of_names(alloc, users.as_slice())?;
         let has_sha256 = any_has_sha256(users.as_slice());
         Ok(Users {
+            alloc,
             list: users,
-            names,
+            places,
             has_sha256,
         })
     }
@@ -91,7 +94,7 @@ impl Users {
         ensures value { option_copied result ≡ find (is_named name.now) self.now }
         ensures distinct { have_own_names self.now ≡ true }
     {
-        user_named(&self.names, self.list.as_slice(), name)
+        user_named(&self.places, self.list.as_slice(), name)
     }
 
     /// Whether a name is a user's. Takes constant time and no memory.
@@ -119,13 +122,17 @@ impl Users {
     }
 }
 
-/// The user of a name, where each name stands at the place of its user.
-fn user_named<'a>(names: &IndexSet<Vec<u8>>, users: &'a [User], name: &[u8]) -> Option<&'a User>
-    requires { map (λ n. n.items) names.now.keys ≡ names_of users.now }
+/// The user of a name, where each name leads to the place of its user.
+fn user_named<'a>(
+    places: &HashMap<Vec<u8>, usize>,
+    users: &'a [User],
+    name: &[u8],
+) -> Option<&'a User>
+    requires { AreNamed (place_of places.now) users.now }
     ensures { option_copied result ≡ find (is_named name.now) users.now }
 {
-    let place = names.get_index_of(name)?;
-    users.get(place)
+    let place = places.get(name)?;
+    users.get(*place)
 }
 
 /// Whether some user has an H(A1) by SHA-256.
@@ -135,27 +142,33 @@ fn any_has_sha256(users: &[User]) -> bool
     users.iter().any(|user| user.a1_sha256.is_some())
 }
 
-/// The names of users, in their order.
-fn index_names(alloc: Global, users: &[User]) -> Result<IndexSet<Vec<u8>>, PolicyError>
-    ensures ok { IfOk result (λ names. map (λ n. n.items) names.keys ≡ names_of users.now) }
-    ensures distinct { OnOk result (have_own_names users.now ≡ true) }
+/// The places of users, by their names.
+fn places_of_names(alloc: Global, users: &[User]) -> Result<HashMap<Vec<u8>, usize>, PolicyError>
+    ensures ok { IfOk result (λ places. AreNamed (place_of places) users.now) }
     ensures refused { IfErr result (λ e. (e ≡ NoMemory) ⊎ ((e ≡ NameTwice) × (have_own_names users.now ≡ false))) }
 {
-    let mut names = IndexSet::with_capacity(alloc, users.len())?;
-    for user in users {
-        add_name(alloc, &mut names, user.name.as_slice())?;
+    let mut places = HashMap::with_capacity(alloc, users.len())?;
+    for (at, user) in users.iter().enumerate() {
+        add_name(alloc, &mut places, user.name.as_slice(), at)?;
     }
-    Ok(names)
+    Ok(places)
 }
 
-/// Adds a name behind those that are there.
-fn add_name(alloc: Global, names: &mut IndexSet<Vec<u8>>, name: &[u8]) -> Result<(), PolicyError>
-    ensures ok { OnOk result (map (λ n. n.items) names.new.keys ≡ map (λ n. n.items) names.old.keys ++ name.now ∷ []) }
-    ensures new { OnOk result (list_any (bytes_eq name.now) (map (λ n. n.items) names.old.keys) ≡ false) }
-    ensures refused { IfErr result (λ e. (e ≡ NoMemory) ⊎ ((e ≡ NameTwice) × (list_any (bytes_eq name.now) (map (λ n. n.items) names.old.keys) ≡ true))) }
+/// Lets a name lead to a place. A name that leads to one already is refused, and leads to this one from then on.
+fn add_name(
+    alloc: Global,
+    places: &mut HashMap<Vec<u8>, usize>,
+    name: &[u8],
+    at: usize,
+) -> Result<(), PolicyError>
+    ensures ok { OnOk result ((other : List ℕ) → place_of places.new other
+        ≡ (if bytes_eq other name.now then Some at else place_of places.old other)) }
+    ensures new { OnOk result (place_of places.old name.now ≡ None) }
+    ensures refused { IfErr result
+        (λ e. (e ≡ NoMemory) ⊎ ((e ≡ NameTwice) × (is_some (place_of places.old name.now) ≡ true))) }
 {
     let copy = Vec::from_slice(alloc, name)?;
-    if names.insert(copy)? {
+    if places.insert(copy, at)?.is_none() {
         Ok(())
     } else {
         Err(PolicyError::NameTwice)

@@ -16,7 +16,8 @@ use Rattle.sip_policy.specs.declared.who.Who.TheVariants.{Anyone, Proven, Group}
 use Rattle.sip_policy.specs.declared.rule.Rule.{Rule}
 use Rattle.sip_policy.specs.Who.{matches_who}
 use Rattle.sip_policy.specs.Operation.{matches_operation}
-use Rattle.sip_policy_index.specs.Code.{mixed, text_code, operation_code, class_code, is_of_class, is_of_classes, group_codes, class_codes}
+use Rattle.sip_base.specs.Code.{mixed}
+use Rattle.sip_policy_index.specs.Code.{text_code, operation_code, class_code, is_of_class, is_of_classes, group_codes, class_codes}
 use Rattle.sip_policy.specs.Window.{holds}
 use Rattle.sip_policy.specs.TargetPattern.{matches_target}
 use Rattle.sip_policy_index.specs.declared.asked.Asked.{Asked}

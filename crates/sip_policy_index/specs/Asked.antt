@@ -14,7 +14,8 @@ use Rattle.sip_policy_index.specs.declared.asked.Asked.{Asked}
 abbrev pub applies_to : Asked → Rule → Bool
 applies_to asked rule = applies asked.users.now asked.domains.now (option_copied asked.proven) asked.operation.now asked.aor.now asked.minute rule
 
--- whether a rule is among those that are looked at for an operation pattern's code: with nobody proven those of the operation, for a proven user those of one of the user's classes
+-- whether a rule is among those that are looked at for an operation pattern's code: with nobody proven those of the operation, for a
+-- proven user those of one of the user's classes
 abbrev pub is_looked_at : Option (List ℕ) → List (List ℕ) → ℕ → Rule → Bool
 is_looked_at None groups operation rule = is_of_operation operation rule
 is_looked_at (Some name) groups operation rule = is_of_classes (class_codes name groups operation) rule

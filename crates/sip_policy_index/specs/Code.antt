@@ -1,15 +1,12 @@
 -- The codes under which places of rules are filed. No decision depends on them.
-use Rattle.std.specs.Prelude.{ℕ, ◌*◌, ◌%◌, ◌^◌, bit_xor, Bool, nat_eq, List, ◌∷◌, map, fold}
+use Rattle.std.specs.Prelude.{ℕ, Bool, nat_eq, List, ◌∷◌, map, fold}
 use Rattle.std.specs.List.{list_any}
+use Rattle.sip_base.specs.Code.{mixed}
 use Rattle.sip_policy.specs.declared.operation.OperationPattern.{OperationPattern}
 use Rattle.sip_policy.specs.declared.operation.OperationPattern.TheVariants as Pattern
 use Rattle.sip_policy.specs.declared.who.Who.{Who}
 use Rattle.sip_policy.specs.declared.who.Who.TheVariants.{Anyone, Proven, Group}
 use Rattle.sip_policy.specs.declared.rule.Rule.{Rule}
-
--- a code with one part more (FNV-1a, 64 bits)
-unfoldable pub mixed : ℕ → ℕ → ℕ
-mixed code part = (bit_xor code part * 1099511628211) % 2 ^ 64
 
 -- a code with a text behind it
 unfoldable pub text_code : ℕ → List ℕ → ℕ

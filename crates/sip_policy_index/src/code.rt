@@ -1,9 +1,8 @@
 ghost use Rattle.std.specs.Prelude.{◌≡◌};
 ghost use Rattle.sip_policy_index.specs.Code as Definitions;
 
+use sip_base::mixed;
 use sip_policy::{OperationPattern, Who};
-
-const PRIME: u64 = 0x0000_0100_0000_01b3;
 
 /// The code of `register`.
 pub(crate) const REGISTER: u64 = 1;
@@ -25,14 +24,6 @@ pub(crate) const USER: u64 = 2;
 
 /// What stands before a group's name.
 pub(crate) const GROUP: u64 = 3;
-
-/// A code with one part more: a step of FNV-1a.
-#[tactic(auto, unfolding(crate::specs::Code::mixed))]
-pub(crate) fn mixed(code: u64, part: u64) -> u64
-    ensures { result ≡ Definitions.mixed code part }
-{
-    (code ^ part).wrapping_mul(PRIME)
-}
 
 /// A code with a text behind it.
 #[tactic(auto, unfolding(crate::specs::Code::text_code))]

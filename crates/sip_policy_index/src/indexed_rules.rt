@@ -1,12 +1,12 @@
 ghost use Rattle.std.specs.Prelude.{◌≡◌};
 ghost use Rattle.std.specs.Option.{option_copied};
-ghost use Rattle.sip_policy.specs.Decision.{decision_of, decision_with, minute_for, recorded_minute};
+ghost use Rattle.sip_policy.specs.Decision.{decision_of, recorded_minute};
 ghost use Rattle.sip_policy_index.specs.Asked.{AreGroupsOf, AreGroupsOfProven};
 
 use crate::asked::Asked;
 use crate::index::Index;
 use crate::search::first_place;
-use sip_policy::{Decision, Operation, PolicyError, Rule, Rules, Ruling, Users};
+use sip_policy::{Operation, PolicyError, Rule, Rules, Ruling, Users, ruling_by};
 use sip_text::{Bytes, Items};
 use sip_uri::Aor;
 use std::alloc::Global;
@@ -80,8 +80,10 @@ impl Rules for IndexedRules {
 
 impl IndexedRules {
     fn ruling(&self, proven: Option<&[u8]>, operation: &Operation, aor: &Aor, minute: u16) -> Ruling
-        ensures decision { result.decision ≡ decision_of self.now.rules self.now.users self.now.domains (option_copied proven.entry) operation.now aor.now minute }
-        ensures minute { result.minute ≡ recorded_minute self.now.rules self.now.users self.now.domains (option_copied proven.entry) operation.now aor.now minute }
+        ensures decision { result.decision ≡ decision_of self.now.rules self.now.users self.now.domains (option_copied proven.entry)
+            operation.now aor.now minute }
+        ensures minute { result.minute ≡ recorded_minute self.now.rules self.now.users self.now.domains (option_copied proven.entry)
+            operation.now aor.now minute }
     {
         let asked = Asked {
             rules: self.rules.as_slice(),
@@ -115,25 +117,5 @@ fn groups_of_user<'a>(users: &'a Users, name: &[u8]) -> &'a [Bytes]
     match users.find(name) {
         Some(user) => user.groups.as_slice(),
         None => &[],
-    }
-}
-
-/// What a rule, the first that applies at a minute, decides. Where there is none, rule 0 denies.
-fn ruling_by(rule: Option<&Rule>, proven: Option<&[u8]>, minute: u16) -> Ruling
-    ensures decision { result.decision ≡ decision_with (option_copied proven.entry) (option_copied rule.entry) }
-    ensures minute { result.minute ≡ minute_for (decision_with (option_copied proven.entry) (option_copied rule.entry)) minute (option_copied rule.entry) }
-{
-    match rule {
-        Some(rule) => {
-            let decision = rule.decision(proven);
-            Ruling {
-                decision,
-                minute: rule.recorded_minute(decision, minute),
-            }
-        }
-        None => Ruling {
-            decision: Decision::Deny(0),
-            minute: None,
-        },
     }
 }

@@ -3,17 +3,17 @@ ghost use Rattle.sip_policy_index.specs.Code.{is_of_operation, is_of_class};
 ghost use Rattle.sip_policy_index.specs.Places.{filed, AreFiled};
 
 use crate::code::{class_code, operation_code};
-use indexmap::IndexMap;
 use sip_policy::Rule;
 use sip_text::Items;
 use std::alloc::{AllocError, Global};
+use std::collections::HashMap;
 use std::marker::Model;
 
 /// Places of rules, rising, filed under codes. The codes come from what is configured, so nobody who sends requests
 /// chooses where they fall.
 #[derive(Drop)]
 pub(crate) struct Places {
-    by_code: IndexMap<u64, Items<usize>>,
+    by_code: HashMap<u64, Items<usize>>,
 }
 
 impl Model for Places {
@@ -30,7 +30,7 @@ impl Places {
         ensures { result ≡ [] }
     {
         Places {
-            by_code: IndexMap::new(alloc),
+            by_code: HashMap::new(alloc),
         }
     }
 
@@ -45,13 +45,14 @@ impl Places {
     }
 
     /// Files a place under a code, behind those that are there.
-    fn file(&mut self, code: u64, at: usize) -> Result<(), AllocError>
-        ensures { OnOk result ((other : ℕ) → filed other self.new ≡ (if nat_eq code other then filed other self.old ++ at ∷ [] else filed other self.old)) }
+    fn file(&mut self, alloc: Global, code: u64, at: usize) -> Result<(), AllocError>
+        ensures { OnOk result ((other : ℕ) → filed other self.new
+            ≡ (if nat_eq code other then filed other self.old ++ at ∷ [] else filed other self.old)) }
     {
         if let Some(places) = self.by_code.get_mut(&code) {
             return places.push(at);
         }
-        let mut places = Items::new(*self.by_code.allocator());
+        let mut places = Items::new(alloc);
         places.push(at)?;
         self.by_code.insert(code, places)?;
         Ok(())
@@ -63,7 +64,7 @@ impl Places {
     {
         let mut places = Places::new(alloc);
         for (at, rule) in rules.iter().enumerate() {
-            places.file(operation_code(&rule.operation), at)?;
+            places.file(alloc, operation_code(&rule.operation), at)?;
         }
         Ok(places)
     }
@@ -74,7 +75,11 @@ impl Places {
     {
         let mut places = Places::new(alloc);
         for (at, rule) in rules.iter().enumerate() {
-            places.file(class_code(operation_code(&rule.operation), &rule.who), at)?;
+            places.file(
+                alloc,
+                class_code(operation_code(&rule.operation), &rule.who),
+                at,
+            )?;
         }
         Ok(places)
     }

@@ -8,9 +8,10 @@ ghost use Rattle.sip_policy_index.specs.Asked.{applies_to, is_looked_at, AreGrou
 ghost use Rattle.sip_policy_index.specs.Index.{IsIndexOf};
 
 use crate::asked::Asked;
-use crate::code::{EACH_USER, GROUP, LIST, REGISTER, SEND, SEND_ANY, USER, mixed, text_code};
+use crate::code::{EACH_USER, GROUP, LIST, REGISTER, SEND, SEND_ANY, USER, text_code};
 use crate::index::Index;
 use crate::places::Places;
+use sip_base::mixed;
 use sip_policy::Operation;
 use sip_text::Bytes;
 
@@ -18,7 +19,8 @@ use sip_text::Bytes;
 /// Where they are the places of a class of rules, it is the first of the class that applies, if that is below `best`.
 fn first_below(asked: &Asked<'_>, places: &[usize], best: usize) -> usize
     requires { best ≤ length asked.now.rules.now }
-    ensures first { (class : Rule → Bool) → places.now ≡ places_of class asked.now.rules.now → result ≡ min best (Definitions.first_place (λ rule. class rule && applies_to asked.now rule) asked.now.rules.now) }
+    ensures first { (class : Rule → Bool) → places.now ≡ places_of class asked.now.rules.now → result
+        ≡ min best (Definitions.first_place (λ rule. class rule && applies_to asked.now rule) asked.now.rules.now) }
     ensures below { result ≤ best }
 {
     for at in places {
@@ -42,7 +44,8 @@ fn first_of_groups(
 ) -> usize
     requires filed { AreFiled is_of_class asked.now.rules.now by_class.now }
     requires within { best ≤ length asked.now.rules.now }
-    ensures { result ≡ min best (Definitions.first_place (λ rule. is_of_classes (group_codes operation groups.now) rule && applies_to asked.now rule) asked.now.rules.now) }
+    ensures { result ≡ min best
+        (Definitions.first_place (λ rule. is_of_classes (group_codes operation groups.now) rule && applies_to asked.now rule) asked.now.rules.now) }
 {
     let mut least = best;
     let start = mixed(operation, GROUP);
@@ -64,7 +67,9 @@ fn first_of_user(
 ) -> usize
     requires filed { AreFiled is_of_class asked.now.rules.now by_class.now }
     requires within { best ≤ length asked.now.rules.now }
-    ensures { result ≡ min best (Definitions.first_place (λ rule. is_of_classes (class_codes name.now asked.now.groups.now operation) rule && applies_to asked.now rule) asked.now.rules.now) }
+    ensures { result ≡ min best
+        (Definitions.first_place (λ rule. is_of_classes (class_codes name.now asked.now.groups.now operation) rule
+        && applies_to asked.now rule) asked.now.rules.now) }
 {
     let each = mixed(operation, EACH_USER);
     let own = text_code(mixed(operation, USER), name);
@@ -77,7 +82,9 @@ fn first_of_user(
 fn first_of_pattern(index: &Index, asked: &Asked<'_>, operation: u64, best: usize) -> usize
     requires index { IsIndexOf asked.now.rules.now index.now }
     requires within { best ≤ length asked.now.rules.now }
-    ensures { result ≡ min best (Definitions.first_place (λ rule. is_looked_at (option_copied asked.now.proven) asked.now.groups.now operation rule && applies_to asked.now rule) asked.now.rules.now) }
+    ensures { result ≡ min best
+        (Definitions.first_place (λ rule. is_looked_at (option_copied asked.now.proven) asked.now.groups.now operation rule
+        && applies_to asked.now rule) asked.now.rules.now) }
 {
     match asked.proven {
         Some(name) => first_of_user(&index.by_class, asked, name, operation, best),

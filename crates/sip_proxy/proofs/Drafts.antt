@@ -4,7 +4,7 @@ use Rattle.sip_forwarding.specs.Forwarding.{IsDraft, IsInputTo}
 use Rattle.sip_hops.specs.declared.host_address.HostAddress.{HostAddress}
 use Rattle.sip_fork.specs.context.declared.input.Input.{Input}
 use Rattle.sip_fork.specs.context.declared.input.Input.TheVariants.{Response, BranchDeadline, SideDeadline, SendFault, Cancel, Ack, BranchAgain, AnswerAgain}
-use Rattle.sip_fork.specs.context.declared.sending.Sending.{Sending}
+use Rattle.sip_fork.specs.context.declared.sent.Sent.{Sent}
 use Rattle.sip_fork.specs.context.Inputs.{Outcome, outcome, outcome_of}
 use Rattle.sip_dialog_lessons.specs.state.declared.open_request.OpenRequest.{OpenRequest}
 use Rattle.sip_dialog_lessons.specs.state.declared.server.Server.{Server}
@@ -24,6 +24,6 @@ input_to r now (BranchAgain branch) of = tt
 input_to r now AnswerAgain of = tt
 
 -- what was planned and drafted
-pub drafted_is : (rows : List HostAddress) (server : Server) (now : ℕ) (r : OpenRequest) (input : Input) (draft : Draft) (sending : Sending) → outcome draft.change sending ≡ outcome_of server now r input
+pub drafted_is : (rows : List HostAddress) (server : Server) (now : ℕ) (r : OpenRequest) (input : Input) (draft : Draft) (sent : Sent) → outcome draft.change sent ≡ outcome_of server now r input
     → IsKeptAs now r draft.change → IsDraft rows server now (outcome_of server now r input) draft.drafted → IsDrafted rows server now r input draft
-drafted_is rows server now r input draft sending same kept drafted = record { request = ap (λ (o : Outcome). o.request) same; kept = kept; drafted = drafted }
+drafted_is rows server now r input draft sent same kept drafted = record { request = ap (λ (o : Outcome). o.request) same; kept = kept; drafted = drafted }

@@ -2,8 +2,7 @@ pub mod Drafts
 pub mod Proxy
 pub use Rattle.sip_fork.specs.context
 pub use Rattle.sip_core.specs.context_model
-pub use Rattle.sip_forwarding.specs.context_opening
-pub use Rattle.sip_fork.specs as fork
 pub use Rattle.sip_forwarding.specs as forwarding
+pub use Rattle.sip_fork.specs as fork
 pub use Rattle.sip_fork.specs.steps_model
 pub use Rattle.sip_forwarding.specs.transactions_model

@@ -8,7 +8,7 @@ use Rattle.sip_dialog_lessons.specs.Lessons.{after_lessons}
 use Rattle.sip_location.specs.declared.binding.Binding.{Binding}
 use Rattle.sip_fork.specs.steps_model.Step.{NoneBefore, NoneAgainBefore}
 use Rattle.sip_digest.specs.declared.nonces.Nonce.{Nonce}
-use Rattle.sip_forwarding.specs.context_opening.declared.arrival.Arrival.{Arrival}
+use Rattle.sip_forwarding.specs.declared.arrival.Arrival.{Arrival}
 use Rattle.sip_dialog_lessons.specs.state.declared.open_request.OpenRequest.{OpenRequest}
 use Rattle.sip_dialog_lessons.specs.state.declared.proxy_state.ProxyState.{ProxyState}
 

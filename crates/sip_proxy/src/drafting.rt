@@ -46,8 +46,8 @@ impl<T: Timers> Proxy<T> {
             → IsDrafted hops.now.addresses server.now now r input.entry draft) }
     {
         inputs_come_to_requests();
-        let Prepared { change, sending } = self.contexts.plan(alloc, server, now, place, input)?;
-        let drafted = draft_change(alloc, hops, change.request(), sending)?;
+        let Prepared { change, sent } = self.contexts.plan(alloc, server, now, place, input)?;
+        let drafted = draft_change(alloc, hops, change.request(), sent)?;
         Ok(Draft { change, drafted })
     }
 }

@@ -1,7 +1,7 @@
 ghost use Rattle.std.specs.Prelude.{◌≡◌, ◌<◌, ◌^◌, ℕ, IfOk, is_some, List, Option, Some};
 ghost use Rattle.sip_core.specs.Verdict.{HasRoom, Is, IsRequestOf, goes_on};
 ghost use Rattle.sip_edit.specs.ReceivedRequest.{top_via};
-ghost use Rattle.sip_core.specs.context_request.Names.{AreNames};
+ghost use Rattle.sip_core.specs.state.Names.{AreNames};
 ghost use Rattle.sip_transaction_table.specs.declared.key.Key.{Key};
 ghost use Rattle.sip_location.specs.declared.binding.Binding.{Binding};
 ghost use Rattle.sip_dialog_lessons.specs.state.Arrival.{Arrival};
@@ -9,7 +9,7 @@ ghost use Rattle.sip_dialog_lessons.specs.state.declared.open_request.OpenReques
 ghost use Rattle.sip_core.specs.verdict_model.Verdict as Definition;
 
 use crate::proxy::Proxy;
-use sip_core::context_request::Names;
+use sip_core::state::Names;
 use sip_core::{Judge, Verdict, ack_verdict, new_verdict};
 use sip_header::Via;
 use sip_message_form::View;

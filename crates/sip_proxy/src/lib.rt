@@ -2,7 +2,7 @@
 //! request is opened, and what comes with it for bindings and nonces (RFC 3261 10, 16). What a step does is drafted
 //! before, with all its memory, so that no step is refused half way.
 //!
-//! - Used: the four rooms of steps: `sip_engine_open`, `sip_engine_forward`, `sip_engine_answer` and `sip_engine_time`.
+//! - Used: the two rooms of steps, `sip_engine_open` and `sip_engine_request`.
 //! - Not here: which step a datagram takes (`sip_engine`).
 //! - Tried: `test_server` by its stored runs.
 #![tactic(auto)]
@@ -19,17 +19,7 @@ pub use proxy::Proxy;
 
 /// Of `sip_context`.
 pub mod context {
-    pub use sip_fork::context::Input;
-}
-
-/// Of `sip_context_events`.
-pub mod context_events {
-    pub use sip_fork::context_events::{Sent, is_accepted};
-}
-
-/// Of `sip_context_opening`.
-pub mod context_opening {
-    pub use sip_forwarding::context_opening::{Arrival, copy_packets};
+    pub use sip_fork::context::{Input, Sent, is_accepted};
 }
 
 /// Of `sip_fork`.
@@ -39,5 +29,7 @@ pub mod fork {
 
 /// Of `sip_forwarding`.
 pub mod forwarding {
-    pub use sip_forwarding::{Drafted, Forwarded, forward_ack, forward_to, forward_within};
+    pub use sip_forwarding::{
+        Arrival, Drafted, Forwarded, copy_packets, forward_ack, forward_to, forward_within,
+    };
 }

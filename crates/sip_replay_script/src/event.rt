@@ -28,7 +28,8 @@ pub fn next_event<R: TellingReader>(
     reader: &mut R,
     line: &mut Vec<u8>,
 ) -> Result<Option<Event>, Stop>
-    ensures given { IfOk result (λ found. IfSome found (λ event. GivesEvent lines.old lines.new (R.remaining reader.old) (R.remaining reader.new) event)) }
+    ensures given { IfOk result
+        (λ found. IfSome found (λ event. GivesEvent lines.old lines.new (R.remaining reader.old) (R.remaining reader.new) event)) }
     ensures over { IfOk result (λ found. IfNone found (IsOver lines.old lines.new (R.remaining reader.old) (R.remaining reader.new))) }
     ensures stopped { IfErr result (EventStops (IsSpent (R.has_failed reader.new) lines.new.asks) (pending lines.old (R.remaining reader.old))) }
     ensures asked { later lines.new.asks (R.asked reader.new) ≡ later lines.old.asks (R.asked reader.old) }

@@ -1,5 +1,9 @@
 //! The text of a script and of what a replay prints: lines are read as events, and steps are printed, through readers and writers
 //! that may fail at any call.
+//!
+//! - Used: `sip_replay`, for each line of its script and each step that it prints.
+//! - Not here: the server.
+//! - Tried: worked examples in `src/examples.rt`, as contracts that compute; `test_engine`.
 #![tactic(auto)]
 
 mod device;

@@ -1,7 +1,9 @@
-ghost use Rattle.std.specs.Prelude.{◌≡◌, ◌≢◌, ◌≤◌, ◌<◌, ◌+◌, ◌*◌, ◌++◌, [], true, false, length, take, drop, vec_len, count_by, IfOk, IfErr, OnOk, MatchOption};
+ghost use Rattle.std.specs.Prelude.{◌≡◌, ◌≢◌, ◌≤◌, ◌<◌, ◌+◌, ◌*◌, ◌++◌, [], true, false, length, take, drop, vec_len, count_by, IfOk};
+ghost use Rattle.std.specs.Prelude.{IfErr, OnOk, MatchOption};
 ghost use Rattle.std.specs.Io.KnownBytes.{Consumes, Keeps, IsAtEnd};
 ghost use Rattle.sip_replay_script.specs.Devices.{later};
-ghost use Rattle.sip_replay_script.specs.Lines.{is_end, pending, left, BeginsWith, EndsAt, EndsLine, GoesOn, GivesLine, IsOver, IsSpent, LineStops, PartStops, PutStops};
+ghost use Rattle.sip_replay_script.specs.Lines.{is_end, pending, left, BeginsWith, EndsAt, EndsLine, GoesOn, GivesLine, IsOver, IsSpent};
+ghost use Rattle.sip_replay_script.specs.Lines.{LineStops, PartStops, PutStops};
 ghost use Rattle.sip_replay_script.specs.declared.stop.Stop.TheVariants.{Read, Script};
 
 use crate::device::TellingReader;
@@ -37,7 +39,8 @@ impl Model for Lines {
 
     ghost view = { λ l. record { unread = slice_range l.buffer.items l.start l.end; asks = l.asks; number = l.number } };
 
-    ghost invariant = { λ l. (l.start ≤ l.end) × (l.end ≤ 8192) × (vec_len l.buffer ≡ 8192) × (l.number + (l.end - l.start) + 8192 * l.asks ≤ 8192 * 4294967295) };
+    ghost invariant = { λ l. (l.start ≤ l.end) × (l.end ≤ 8192) × (vec_len l.buffer ≡ 8192)
+        × (l.number + (l.end - l.start) + 8192 * l.asks ≤ 8192 * 4294967295) };
 }
 
 impl Lines {
@@ -70,7 +73,8 @@ impl Lines {
         reader: &mut R,
         line: &mut Vec<u8>,
     ) -> Result<bool, Stop>
-        ensures given { IfOk result (λ more. more ≡ true → GivesLine self.old self.new (R.remaining reader.old) (R.remaining reader.new) line.new.items) }
+        ensures given { IfOk result (λ more. more ≡ true → GivesLine self.old self.new (R.remaining reader.old) (R.remaining reader.new)
+            line.new.items) }
         ensures over { IfOk result (λ more. more ≡ false → IsOver self.old self.new (R.remaining reader.old) (R.remaining reader.new)) }
         ensures stopped { IfErr result (LineStops (IsSpent (R.has_failed reader.new) self.new.asks) (pending self.old (R.remaining reader.old))) }
         ensures asked { later self.new.asks (R.asked reader.new) ≡ later self.old.asks (R.asked reader.old) }

@@ -1,8 +1,8 @@
 ghost use Rattle.std.specs.Prelude.{◌≡◌, true};
 ghost use Rattle.sip_request.specs.Likeness.{AreAlike, AreAsFar, AreSidesAsFar};
 
-use crate::naming::{is_invite, was_refused};
-use model_transactions::state::{Branch, OpenRequest, Phase, Resend, Side};
+use crate::naming::was_refused;
+use model_transactions::state::{Branch, OpenRequest, Phase, Resend, Side, is_invite};
 
 /// Whether two open requests give their parts timers alike: they have one number, and both are INVITEs or neither is.
 pub(crate) fn are_alike(was: &OpenRequest, next: &OpenRequest) -> bool

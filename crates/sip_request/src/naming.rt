@@ -15,25 +15,10 @@ ghost use Rattle.sip_request.specs.Near.{AreBefore};
 ghost use Rattle.sip_request.specs.Slots.{listed, part_standing, slots_standing};
 
 use crate::part::{Part, PartTimers};
-use model_transactions::state::{Branch, LastAnswer, OpenRequest, Phase, Resend, Side};
-use sip_timers::{Letter, Owner};
-
-/// How much longer Timer C is than the wait for a first response, in milliseconds (RFC 3261 16.8).
-const BEHIND_FIRST_WAIT: u64 = 153_000;
-
-/// Whether a request is an INVITE.
-pub(crate) fn is_invite(call: &OpenRequest) -> bool
-    ensures { result ≡ States.is_invite call.now }
-{
-    call.key.get().is_method(b"INVITE")
-}
-
-/// Whether a status is a 2xx (RFC 3261 7.2).
-fn is_success(status: u16) -> bool
-    ensures { result ≡ States.is_success status }
-{
-    200 <= status && status <= 299
-}
+use model_transactions::state::{
+    Branch, LastAnswer, OpenRequest, Phase, Resend, Side, is_invite, is_success,
+};
+use sip_timers::{Letter, Owner, TIMER_C_PAST_B};
 
 /// Whether the answer that was sent last is one of 300 to 699.
 pub(crate) fn was_refused(answer: &Option<LastAnswer>) -> bool
@@ -113,7 +98,7 @@ fn invite_part(phase: Phase, again: Resend) -> PartTimers
         Phase::Unheard { until } => PartTimers {
             again: Some((Letter::A, again.due)),
             last: Some((Letter::B, until)),
-            call: Some((Letter::C, until + BEHIND_FIRST_WAIT)),
+            call: Some((Letter::C, until + TIMER_C_PAST_B)),
         },
         Phase::Heard { until } => calling(Letter::C, until),
         Phase::Cancelled { until } => calling(Letter::Cancelled, until),

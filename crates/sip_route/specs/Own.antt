@@ -15,7 +15,8 @@ use Rattle.sip_route.specs.declared.own.Own.{Own}
 abbrev pub is_own_host : Own → List ℕ → Bool
 is_own_host own host = is_same_text own.host host || list_any (λ domain. is_same_text domain host) own.domains || bytes_eq (ip_text own.ip) host
 
--- Whether a URI names this server (RFC 3261 16.4, 16.12): an own host, and its port by its number, 5060 where none is written. User part, parameters, and
+-- Whether a URI names this server (RFC 3261 16.4, 16.12): an own host, and its port by its number, 5060 where none is written. User
+-- part, parameters, and
 -- whether it is `sip` or `sips` don't matter (this project's profile).
 abbrev pub is_own_place : Own → Uri → Bool
 is_own_place own uri = is_own_host own uri.host && unwrap_or (port_number uri.port) 5060 == own.port

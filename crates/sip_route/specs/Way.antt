@@ -50,7 +50,8 @@ last_route routes = first_route (reverse routes)
 abbrev pub came_strictly : Own → List ℕ → Bool
 came_strictly own uri = option_map_or (is_record_route own) (result_ok (reading_of uri)) false
 
--- Such a Request-URI is there by a strict router, which put the one that it replaced at the end of Route: the last of the values of Route is to be restored
+-- Such a Request-URI is there by a strict router, which put the one that it replaced at the end of Route: the last of the values of
+-- Route is to be restored
 -- (RFC 3261 16.4).
 abbrev pub restored_of : Own → List ℕ → List (List ℕ) → Option NameAddr
 restored_of own uri routes = if came_strictly own uri then last_route routes else None

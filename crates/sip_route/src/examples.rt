@@ -27,19 +27,30 @@ pub fn record_route_example()
 /// A first Route that names this server is taken off, and a second one isn't; one behind another place stays, and so does one of another scheme.
 #[tactic(auto, unfolding(sip_uri::specs::Reading::reading_of, sip_uri::specs::Reading::rest_of))]
 pub fn way_example()
-    ensures first { way_of own (invite_by (codes "sip:a@far.net") (codes "<sips:x@host.com>" ∷ codes "<sip:sip.host.com:5060>" ∷ [])) ≡ record { uri = codes "sip:a@far.net"; routes = codes "<sip:sip.host.com:5060>" ∷ [] } }
-    ensures behind { way_of own (invite_by (codes "sip:a@far.net") (codes "<sip:far.net>" ∷ codes "<sip:host.com>" ∷ [])) ≡ record { uri = codes "sip:a@far.net"; routes = codes "<sip:far.net>" ∷ codes "<sip:host.com>" ∷ [] } }
-    ensures other_scheme { way_of own (invite_by (codes "tel:+1") (codes "<x:host.com>" ∷ [])) ≡ record { uri = codes "tel:+1"; routes = codes "<x:host.com>" ∷ [] } }
+    ensures first { way_of own (invite_by (codes "sip:a@far.net") (codes "<sips:x@host.com>" ∷ codes "<sip:sip.host.com:5060>" ∷ []))
+        ≡ record { uri = codes "sip:a@far.net"; routes = codes "<sip:sip.host.com:5060>" ∷ [] } }
+    ensures behind { way_of own (invite_by (codes "sip:a@far.net") (codes "<sip:far.net>" ∷ codes "<sip:host.com>" ∷ []))
+        ≡ record { uri = codes "sip:a@far.net"; routes = codes "<sip:far.net>" ∷ codes "<sip:host.com>" ∷ [] } }
+    ensures other_scheme { way_of own (invite_by (codes "tel:+1") (codes "<x:host.com>" ∷ []))
+        ≡ record { uri = codes "tel:+1"; routes = codes "<x:host.com>" ∷ [] } }
 {}
 
-/// Where a strict router put this server's own Record-Route into the Request-URI, the last Route comes back there, with its scheme in lower case; then a first
-/// Route of this server is taken off. Without a Route the Request-URI stays, and so it does without `lr`. This server's own Record-Route is taken off Route.
+/// Where a strict router put this server's own Record-Route into the Request-URI, the last Route comes back there, with its scheme in
+/// lower case; then a first
+/// Route of this server is taken off. Without a Route the Request-URI stays, and so it does without `lr`. This server's own Record-
+/// Route is taken off Route.
 #[tactic(auto, unfolding(sip_uri::specs::Reading::reading_of, sip_uri::specs::Reading::rest_of))]
 pub fn restored_example()
-    ensures last { way_of own (invite_by (codes "sip:sip.host.com:5060;lr") (codes "<sip:far.net;lr>" ∷ codes "\"B\" <SIP:b@far.net;user=phone>" ∷ [])) ≡ record { uri = codes "sip:b@far.net;user=phone"; routes = codes "<sip:far.net;lr>" ∷ [] } }
-    ensures only { way_of own (invite_by (codes "sip:sip.host.com:5060;lr") (codes "<sip:help@host.com>" ∷ [])) ≡ record { uri = codes "sip:help@host.com"; routes = [] } }
-    ensures own_and_last { way_of own (invite_by (codes "sip:sip.host.com:5060;lr") (codes "<sip:host.com;lr>" ∷ codes "<sip:a@far.net>" ∷ [])) ≡ record { uri = codes "sip:a@far.net"; routes = [] } }
+    ensures last { way_of own (invite_by (codes "sip:sip.host.com:5060;lr")
+        (codes "<sip:far.net;lr>" ∷ codes "\"B\" <SIP:b@far.net;user=phone>" ∷ []))
+        ≡ record { uri = codes "sip:b@far.net;user=phone"; routes = codes "<sip:far.net;lr>" ∷ [] } }
+    ensures only { way_of own (invite_by (codes "sip:sip.host.com:5060;lr") (codes "<sip:help@host.com>" ∷ []))
+        ≡ record { uri = codes "sip:help@host.com"; routes = [] } }
+    ensures own_and_last { way_of own (invite_by (codes "sip:sip.host.com:5060;lr")
+        (codes "<sip:host.com;lr>" ∷ codes "<sip:a@far.net>" ∷ [])) ≡ record { uri = codes "sip:a@far.net"; routes = [] } }
     ensures no_route { way_of own (invite_by (codes "sip:sip.host.com:5060;lr") []) ≡ record { uri = codes "sip:sip.host.com:5060;lr"; routes = [] } }
-    ensures no_lr { way_of own (invite_by (codes "sip:sip.host.com:5060") (codes "<sip:a@far.net>" ∷ [])) ≡ record { uri = codes "sip:sip.host.com:5060"; routes = codes "<sip:a@far.net>" ∷ [] } }
-    ensures own_route { way_of own (invite_by (codes "sip:a@far.net") (codes "<sip:sip.host.com:5060;lr>" ∷ codes "<sip:far.net;lr>" ∷ [])) ≡ record { uri = codes "sip:a@far.net"; routes = codes "<sip:far.net;lr>" ∷ [] } }
+    ensures no_lr { way_of own (invite_by (codes "sip:sip.host.com:5060") (codes "<sip:a@far.net>" ∷ []))
+        ≡ record { uri = codes "sip:sip.host.com:5060"; routes = codes "<sip:a@far.net>" ∷ [] } }
+    ensures own_route { way_of own (invite_by (codes "sip:a@far.net") (codes "<sip:sip.host.com:5060;lr>" ∷ codes "<sip:far.net;lr>" ∷ []))
+        ≡ record { uri = codes "sip:a@far.net"; routes = codes "<sip:far.net;lr>" ∷ [] } }
 {}

@@ -1,5 +1,13 @@
 //! Where this server is, and where a request goes once this server's own part of its way is taken off
 //! (RFC 3261 16.4, 16.12).
+//!
+//! - Used: `sip_validate` and `sip_edit`.
+//! - Not here: the address behind a URI (`sip_hops`).
+//! - Tried: worked examples in `src/examples.rt`, as contracts that compute.
+//!
+//! ```text
+//! let way = way_of(alloc, &own, &message)?;
+//! ```
 #![tactic(auto)]
 
 pub mod examples;
@@ -9,6 +17,6 @@ mod routes;
 mod routes_kept;
 mod way;
 
-pub use own::Own;
+pub use own::{Own, loose_routing};
 pub use routes_kept::{RoutesKept, kept_routes};
-pub use way::{Way, uri_left, way_of};
+pub use way::{Way, has_lr, request_uri, uri_left, way_of};

@@ -50,8 +50,8 @@ fn is_one_of(domains: &[Bytes], host: &[u8]) -> bool
         .any(|domain| same_no_case(domain.as_slice(), host))
 }
 
-/// The parameter `lr`, alone.
-fn loose_routing(alloc: Global) -> Result<Items<Parameter>, AllocError>
+/// The parameter `lr`, alone (RFC 3261 19.1.1). `AllocError` is the only refusal.
+pub fn loose_routing(alloc: Global) -> Result<Items<Parameter>, AllocError>
     ensures { IfOk result (λ parameters. parameters ≡ record { name = codes "lr"; value = None } ∷ []) }
 {
     let mut parameters = Items::new(alloc);

@@ -99,7 +99,8 @@ fn kept_of(
 /// `AllocError` is the only refusal.
 #[tactic(auto, using(crate::proofs::Kept::kept_is))]
 pub fn kept_routes(alloc: Global, own: &Own, message: &View<'_>) -> Result<RoutesKept, AllocError>
-    ensures { IfOk result (λ kept. Kept.fields_kept kept message.now.fields ≡ Ways.fields_left own.now (Ways.request_uri message.now.start) message.now.fields) }
+    ensures { IfOk result (λ kept. Kept.fields_kept kept message.now.fields
+        ≡ Ways.fields_left own.now (Ways.request_uri message.now.start) message.now.fields) }
 {
     let routes = message.fields().values(alloc, &FieldName::Route)?;
     let uri = request_uri(message.start());

@@ -74,7 +74,7 @@ impl<'a> Way<'a> {
 }
 
 /// Whether a URI has `lr` (RFC 3261 19.1.1), escapes resolved.
-fn has_lr(uri: &Uri) -> bool
+pub fn has_lr(uri: &Uri) -> bool
     ensures { result ≡ Ways.has_lr uri.now }
 {
     uri.parameters.as_slice().iter().any(|parameter| says_same_no_case(
@@ -96,7 +96,8 @@ fn is_record_route(alloc: Global, own: &Own, uri: &Uri) -> Result<bool, AllocErr
 
 /// What stands behind a text's front, if the text begins with that, in any case.
 fn behind_front<'a>(text: &'a [u8], front: &[u8]) -> Option<&'a [u8]>
-    ensures { MatchOption result (is_same_text (take (length front.now) text.now) front.now ≡ false) (λ rest. (rest.now ≡ drop (length front.now) text.now) × (is_same_text (take (length front.now) text.now) front.now ≡ true)) }
+    ensures { MatchOption result (is_same_text (take (length front.now) text.now) front.now ≡ false)
+        (λ rest. (rest.now ≡ drop (length front.now) text.now) × (is_same_text (take (length front.now) text.now) front.now ≡ true)) }
 {
     let (begin, rest) = text.split_at_checked(front.len())?;
     if same_no_case(begin, front) {
@@ -200,7 +201,7 @@ fn way_by<'v>(
 }
 
 /// The Request-URI as it came; a response has none.
-pub(crate) fn request_uri<'v>(start: &ViewStart<'v>) -> &'v [u8]
+pub fn request_uri<'v>(start: &ViewStart<'v>) -> &'v [u8]
     ensures { result.now ≡ Ways.request_uri (start_seen start.now) }
 {
     match start {

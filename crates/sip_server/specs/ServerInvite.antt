@@ -1,6 +1,7 @@
 -- The server transaction of an INVITE: RFC 3261 17.2.1 and figure 7, with the Accepted state of RFC 6026
 -- 7.1. Times are in milliseconds.
 use Rattle.std.specs.Prelude.{ℕ, ◌*◌, min, Bool, true, false, ◌&&◌, nat_le, if◌then◌else◌, List, [], ◌∷◌, Option, Some, None}
+use Rattle.sip_timers.specs.Intervals.{T1, T2, T4}
 use Rattle.sip_timers.specs.Machine.{Machine}
 use Rattle.sip_timers.specs.declared.letter.Letter.{Letter}
 use Rattle.sip_server.specs.Action.{start_of, sends_answer}
@@ -39,11 +40,11 @@ heard (Fired letter) = fired letter
 abbrev pub row : ServerInvite → Heard → ServerInvite × List Action
 row (Proceeding true) invite = (Proceeding true, SendAgain ∷ [])
 row (Proceeding answered) provisional = (Proceeding true, Send ∷ [])
-row (Proceeding answered) success = (Accepted, Send ∷ Start L 32000 ∷ [])
-row (Proceeding answered) failure = (Completed 500, Send ∷ Start G 500 ∷ Start H 32000 ∷ [])
+row (Proceeding answered) success = (Accepted, Send ∷ Start L (64 * T1) ∷ [])
+row (Proceeding answered) failure = (Completed T1, Send ∷ Start G T1 ∷ Start H (64 * T1) ∷ [])
 row (Completed g) invite = (Completed g, SendAgain ∷ [])
-row (Completed g) (fired G) = let next = min (2 * g) 4000 in (Completed next, SendAgain ∷ Start G next ∷ [])
-row (Completed g) ack = (Confirmed, Start I 5000 ∷ [])
+row (Completed g) (fired G) = let next = min (2 * g) T2 in (Completed next, SendAgain ∷ Start G next ∷ [])
+row (Completed g) ack = (Confirmed, Start I T4 ∷ [])
 row (Completed g) (fired H) = (Terminated, [])
 row Confirmed (fired I) = (Terminated, [])
 row Accepted success = (Accepted, Send ∷ [])

@@ -1,6 +1,7 @@
 -- The server transaction of a request that isn't an INVITE: RFC 3261 17.2.2 and figure 8. Times are in
 -- milliseconds.
-use Rattle.std.specs.Prelude.{ℕ, ◌+◌, Bool, true, false, ◌&&◌, nat_le, if◌then◌else◌, List, [], ◌∷◌}
+use Rattle.std.specs.Prelude.{◌*◌, ℕ, ◌+◌, Bool, true, false, ◌&&◌, nat_le, if◌then◌else◌, List, [], ◌∷◌}
+use Rattle.sip_timers.specs.Intervals.{T1}
 use Rattle.sip_timers.specs.Machine.{Machine}
 use Rattle.sip_timers.specs.declared.letter.Letter.{Letter}
 use Rattle.sip_server.specs.Action.{start_of, sends_answer}
@@ -35,8 +36,8 @@ abbrev pub row : ServerOther → Heard → ServerOther × List Action
 row Trying provisional = (Proceeding, Send ∷ [])
 row Proceeding provisional = (Proceeding, Send ∷ [])
 row Proceeding request = (Proceeding, SendAgain ∷ [])
-row Trying final = (Completed, Send ∷ Start J 32000 ∷ [])
-row Proceeding final = (Completed, Send ∷ Start J 32000 ∷ [])
+row Trying final = (Completed, Send ∷ Start J (64 * T1) ∷ [])
+row Proceeding final = (Completed, Send ∷ Start J (64 * T1) ∷ [])
 row Completed request = (Completed, SendAgain ∷ [])
 row Completed (fired J) = (Terminated, [])
 row state _ = (state, [])

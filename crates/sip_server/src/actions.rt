@@ -11,5 +11,5 @@ pub enum Action {
     /// Hand the ACK up to the core.
     Up,
     /// Set this timer to fire after so many milliseconds.
-    Start(Letter, u32),
+    Start(Letter, u64),
 }

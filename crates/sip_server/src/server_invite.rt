@@ -45,7 +45,7 @@ pub enum ServerInvite {
     /// The core has answered 300 to 699, and no ACK came.
     Completed {
         /// What Timer G was last set to, in milliseconds.
-        interval: u32,
+        interval: u64,
     },
     /// The core has answered 300 to 699, and an ACK came.
     Confirmed,

@@ -66,7 +66,8 @@ abbrev pub answer_with : ℕ → Upward
 answer_with status =
     record {
       status = status;
-      message = record (message_with (codes "INVITE") (to_help (codes ";tag=t1") ∷ contact_at (codes "5082") ∷ [])) { start = Status status (codes "Answer") };
+      message = record (message_with (codes "INVITE") (to_help (codes ";tag=t1") ∷ contact_at (codes "5082") ∷ []))
+          { start = Status status (codes "Answer") };
       target = Some (Places.local 5082);
     }
 
@@ -97,4 +98,5 @@ moved method = message_with method (to_help (codes ";tag=t1") ∷ contact_at (co
 -- an answer to a BYE in the call goes to the caller
 abbrev pub bye_answered : ℕ → List Dialog
 bye_answered status =
-    after_answer sample 70000 (open_with (codes "BYE") (message_with (codes "BYE") (to_help (codes ";tag=t1") ∷ []))) (answer_with status) (answered_with 200)
+    after_answer sample 70000 (open_with (codes "BYE") (message_with (codes "BYE") (to_help (codes ";tag=t1") ∷ []))) (answer_with status)
+    (answered_with 200)

@@ -3,5 +3,7 @@ pub mod State
 pub mod Dialogs
 pub mod DialogExamples
 pub mod SameState
-pub use Rattle.sip_context_request.specs as context_request
-pub use Rattle.sip_context_request.specs.edit_onward
+pub mod TopVia
+pub mod Names
+pub mod Tail
+pub mod Heard

@@ -3,6 +3,7 @@ use Rattle.std.specs.Prelude.{ℕ, ◌+◌, Bool, true, false, not, ◌&&◌, Li
 use Rattle.std.specs.Option.{option_to_list}
 use Rattle.std.specs.List.{flat_map, filter_map, list_all}
 use Rattle.std.specs.Str.{bytes_eq}
+use Rattle.sip_timers.specs.Intervals.{T1}
 use Rattle.sip_transaction_table.specs.declared.key.Key.{Key}
 use Rattle.sip_transaction_table.specs.Key.{same_key}
 use Rattle.sip_state.specs.declared.branch.Phase.{Phase}
@@ -18,9 +19,9 @@ use Rattle.sip_state.specs.declared.proxy_state.ProxyState.{ProxyState}
 abbrev pub first_state : ℕ → ProxyState
 first_state first = record { moment = 0; next = first; bindings = []; nonces = []; requests = []; dialogs = [] }
 
--- what is sent at a moment goes again 500 ms later (RFC 3261 17.1.1.2, 17.1.2.2, 17.2.1: Timers A, E and G)
+-- what is sent at a moment goes again T1 later (RFC 3261 17.1.1.2, 17.1.2.2, 17.2.1: Timers A, E and G)
 abbrev pub first_resend : ℕ → Resend
-first_resend now = record { due = now + 500; wait = 500 }
+first_resend now = record { due = now + T1; wait = T1 }
 
 -- ---- deadlines
 

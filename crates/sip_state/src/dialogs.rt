@@ -18,14 +18,16 @@ pub fn early_dialogs()
 /// the callee's requests may go there (RFC 3261 12.2.1.2).
 pub fn target_refresh()
     ensures before { is_in_dialog 71000 (Call.answered_with 200) (Call.call_of (codes "t1") (codes "f1")) (Places.local 5099) ≡ false }
-    ensures after { is_in_dialog 71000 (after_request Call.sample 70000 Call.call (Call.moved (codes "INVITE")) (Call.answered_with 200)) (Call.call_of (codes "t1") (codes "f1")) (Places.local 5099) ≡ true }
+    ensures after { is_in_dialog 71000 (after_request Call.sample 70000 Call.call (Call.moved (codes "INVITE")) (Call.answered_with 200))
+        (Call.call_of (codes "t1") (codes "f1")) (Places.local 5099) ≡ true }
 {}
 
 /// A dialog is known for twelve hours after its last request, and not after its INVITE.
 pub fn renewed_dialog()
     ensures last { is_in_dialog 43261999 (Call.answered_with 200) Call.call (Places.local 5082) ≡ true }
     ensures over { is_in_dialog 43262000 (Call.answered_with 200) Call.call (Places.local 5082) ≡ false }
-    ensures renewed { is_in_dialog 43269999 (after_request Call.sample 70000 Call.call (Call.moved (codes "INVITE")) (Call.answered_with 200)) Call.call (Places.local 5082) ≡ true }
+    ensures renewed { is_in_dialog 43269999 (after_request Call.sample 70000 Call.call (Call.moved (codes "INVITE"))
+        (Call.answered_with 200)) Call.call (Places.local 5082) ≡ true }
 {}
 
 /// The callee's BYE may go to the address that the INVITE came from, also where that had no Contact, and to

@@ -29,9 +29,12 @@ pub fn same_states()
 /// address of record, what a credential is worth, which open request has a key, and whether a request is in
 /// a dialog.
 pub fn same_states_answer_alike()
-    ensures bindings { (left right : ProxyState) (aor : Aor) → SameState left right → live aor left.moment left.bindings ≡ live aor right.moment right.bindings }
-    ensures credentials { (left right : ProxyState) (a1 : List ℕ) (c : Credential) → SameState left right → worth_of left.nonces a1 c left.moment ≡ worth_of right.nonces a1 c right.moment }
-    ensures requests { (left right : ProxyState) (key : Key) → SameState left right → find (has_key key) left.requests ≡ find (has_key key) right.requests }
+    ensures bindings { (left right : ProxyState) (aor : Aor) → SameState left right → live aor left.moment left.bindings
+        ≡ live aor right.moment right.bindings }
+    ensures credentials { (left right : ProxyState) (a1 : List ℕ) (c : Credential) → SameState left right
+        → worth_of left.nonces a1 c left.moment ≡ worth_of right.nonces a1 c right.moment }
+    ensures requests { (left right : ProxyState) (key : Key) → SameState left right → find (has_key key) left.requests
+        ≡ find (has_key key) right.requests }
     ensures dialogs { (left right : ProxyState) (id : DialogId) (address : Addr) → SameState left right
         → is_in_dialog left.moment left.dialogs id address ≡ is_in_dialog right.moment right.dialogs id address }
     ensures next { (left right : ProxyState) → SameState left right → left.next ≡ right.next }
@@ -44,12 +47,15 @@ pub fn dialogs_stay_same()
         → SameDialogs now (after_request server now id m left) (after_request server now id m right) }
     ensures answers { (server : Server) (now : ℕ) (r : OpenRequest) (upward : List Upward) (left right : List Dialog) → SameDialogs now left right
         → SameDialogs now (after_answers server now r upward left) (after_answers server now r upward right) }
-    ensures leaving { (now : ℕ) (r : OpenRequest) (left right : List Dialog) → SameDialogs now left right → SameDialogs now (after_leaving now r left) (after_leaving now r right) }
+    ensures leaving { (now : ℕ) (r : OpenRequest) (left right : List Dialog) → SameDialogs now left right
+        → SameDialogs now (after_leaving now r left) (after_leaving now r right) }
 {}
 
 /// A request that is opened stands behind all others: the first open request that passes some test stays the
 /// first, and the new one is it only where none was.
 pub fn opened_stands_last()
-    ensures earlier { (test : OpenRequest → Bool) (requests : List OpenRequest) (first r : OpenRequest) → find test requests ≡ Some first → find test (with_one_more r requests) ≡ Some first }
-    ensures alone { (test : OpenRequest → Bool) (requests : List OpenRequest) (r : OpenRequest) → find test requests ≡ None → test r ≡ true → find test (with_one_more r requests) ≡ Some r }
+    ensures earlier { (test : OpenRequest → Bool) (requests : List OpenRequest) (first r : OpenRequest) → find test requests ≡ Some first
+        → find test (with_one_more r requests) ≡ Some first }
+    ensures alone { (test : OpenRequest → Bool) (requests : List OpenRequest) (r : OpenRequest) → find test requests ≡ None → test r ≡ true
+        → find test (with_one_more r requests) ≡ Some r }
 {}

@@ -1,9 +1,9 @@
+use crate::Heard;
 use crate::branch::Branch;
 use crate::resend::Resend;
 use crate::written::Written;
 use sip_base::Shared;
 use sip_best::Final;
-use sip_context_request::Heard;
 use sip_text::{Bytes, Items};
 use sip_transaction_table::Key;
 use sip_uri::Addr;

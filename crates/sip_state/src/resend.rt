@@ -1,3 +1,9 @@
+ghost use Rattle.std.specs.Prelude.{◌≡◌, ◌+◌, ◌*◌, ◌<◌, ◌^◌};
+ghost use Rattle.sip_timers.specs.Intervals.{T1};
+ghost use Rattle.sip_state.specs.State as States;
+
+use sip_timers::T1;
+
 /// When something that was sent goes again.
 #[derive(Clone, Copy)]
 pub struct Resend {
@@ -5,4 +11,15 @@ pub struct Resend {
     pub due: u64,
     /// The wait before that moment, in milliseconds.
     pub wait: u64,
+}
+
+/// When what is sent at a moment goes again for the first time: T1 later (RFC 3261 17.1.1.2, 17.1.2.2, 17.2.1).
+pub fn first_resend(now: u64) -> Resend
+    requires { now + 64 * T1 < 2 ^ 64 }
+    ensures { result ≡ States.first_resend now }
+{
+    Resend {
+        due: now + T1,
+        wait: T1,
+    }
 }

@@ -17,7 +17,8 @@ known_on_sample uri = is_users_address sample_users sample_domains (aor_of uri)
 -- the targets of a proven user's INVITE to a URI, with the live contacts of its address
 abbrev pub invite_targets : List ℕ → Uri → List Uri → Targets
 invite_targets name uri contacts =
-    targets_of (sample_decision (Some name) (Operation.Send (codes "INVITE")) (aor_of uri)) (known_on_sample uri) uri contacts sample_hops sample_addresses
+    targets_of (sample_decision (Some name) (Operation.Send (codes "INVITE")) (aor_of uri)) (known_on_sample uri) uri contacts sample_hops
+    sample_addresses
 
 -- `sip:911@host.com`
 abbrev pub to_911 : Uri
@@ -30,4 +31,7 @@ help_contact = at_port (user_at (codes "help") (codes "127.0.0.1")) (codes "5082
 -- `sip:help@127.0.0.1:5082;%6dethod=BYE;lr?Subject=x`
 abbrev pub marked_contact : Uri
 marked_contact =
-    record help_contact { parameters = valued (codes "%6dethod") (codes "BYE") ∷ (record { name = codes "lr"; value = None }) ∷ []; headers = (record { name = codes "Subject"; value = codes "x" }) ∷ [] }
+    record help_contact {
+      parameters = valued (codes "%6dethod") (codes "BYE") ∷ (record { name = codes "lr"; value = None }) ∷ [];
+      headers = (record { name = codes "Subject"; value = codes "x" }) ∷ [];
+    }

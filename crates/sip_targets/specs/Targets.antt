@@ -24,7 +24,8 @@ abbrev pub target_by : Uri → Option Addr → Targets
 target_by request_uri (Some address) = Targets.Hop request_uri address
 target_by request_uri None = Targets.NotFound
 
--- Where a request goes that policy decided about: by a hop whoever is called; else to the live contacts of the address, if it is known as a configured user's in an own domain.
+-- Where a request goes that policy decided about: by a hop whoever is called; else to the live contacts of the address, if it is
+-- known as a configured user's in an own domain.
 -- A request that is denied or challenged goes nowhere.
 abbrev pub targets_of : Decision → Bool → Uri → List Uri → List Hop → List HostAddress → Targets
 targets_of (Decision.Via id hop) known request_uri contacts hops addresses = target_by request_uri (hop_of hops hop)

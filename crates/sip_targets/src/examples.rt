@@ -22,7 +22,8 @@ pub fn no_binding_no_user()
     ensures no_binding { invite_targets (codes "alice") (user_at (codes "Mufasa") (codes "host.com")) [] ≡ Targets.Unavailable }
     ensures no_user { (contacts : List Uri) → invite_targets (codes "alice") (user_at (codes "none") (codes "host.com")) contacts ≡ Targets.NotFound }
     ensures foreign_domain { (contacts : List Uri)
-        → targets_of (Decision.Allow 6) (known_on_sample (user_at (codes "Mufasa") (codes "other.net"))) (user_at (codes "Mufasa") (codes "other.net")) contacts sample_hops sample_addresses
+        → targets_of (Decision.Allow 6) (known_on_sample (user_at (codes "Mufasa") (codes "other.net")))
+        (user_at (codes "Mufasa") (codes "other.net")) contacts sample_hops sample_addresses
         ≡ Targets.NotFound }
     ensures own_domain { known_on_sample (user_at (codes "M%75fasa") (codes "HOST.com")) ≡ true }
     ensures no_user_part { known_on_sample (record to_911 { userinfo = None }) ≡ false }
@@ -31,8 +32,10 @@ pub fn no_binding_no_user()
 /// An INVITE to `sip:help@host.com` goes to each live contact, here `sip:help@127.0.0.1:5082` at
 /// 127.0.0.1:5082 and `sip:help@far.net`, which has no address.
 pub fn call_to_help()
-    ensures { invite_targets (codes "alice") (user_at (codes "help") (codes "host.com")) (help_contact ∷ user_at (codes "help") (codes "far.net") ∷ [])
-        ≡ Targets.Bindings (record { uri = help_contact; address = Some (local 5082) } ∷ record { uri = user_at (codes "help") (codes "far.net"); address = None } ∷ []) }
+    ensures { invite_targets (codes "alice") (user_at (codes "help") (codes "host.com"))
+        (help_contact ∷ user_at (codes "help") (codes "far.net") ∷ [])
+        ≡ Targets.Bindings (record { uri = help_contact; address = Some (local 5082) }
+        ∷ record { uri = user_at (codes "help") (codes "far.net"); address = None } ∷ []) }
 {}
 
 /// `sip:help@127.0.0.1:5082;%6dethod=BYE;lr?Subject=x` as a contact gives the target URI

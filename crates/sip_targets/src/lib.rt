@@ -1,5 +1,13 @@
 //! The targets of a request that policy lets through: where it is sent on, by which hop, or why nowhere
 //! (RFC 3261 16.5).
+//!
+//! - Used: `sip_core`, once policy let a request through.
+//! - Not here: the branches to these targets (`sip_forwarding`).
+//! - Tried: worked examples in `src/examples.rt`, as contracts that compute.
+//!
+//! ```text
+//! let targets = targets_of(alloc, &decision, is_known, &uri, live, &hops)?;
+//! ```
 #![tactic(auto)]
 
 pub mod examples;

@@ -59,7 +59,8 @@ pub fn targets_of(
     bindings: LiveBindings<'_>,
     hops: &Hops,
 ) -> Result<Targets, AllocError>
-    ensures { IfOk result (λ targets. targets ≡ Definitions.targets_of decision.now is_known request_uri.now (map (λ binding. binding.uri) bindings.entry) hops.now.hops hops.now.addresses) }
+    ensures { IfOk result (λ targets. targets ≡ Definitions.targets_of decision.now is_known request_uri.now
+        (map (λ binding. binding.uri) bindings.entry) hops.now.hops hops.now.addresses) }
 {
     match decision {
         Decision::Via(_, place) => target_by(request_uri, hops.hop(*place)),

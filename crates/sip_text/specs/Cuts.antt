@@ -1,5 +1,6 @@
 -- Text cut at a byte outside quoted text, and at blanks.
-use Rattle.std.specs.Prelude.{◌≡◌, ◌≢◌, ℕ, Bool, true, false, not, ◌==◌, if◌then◌else◌, List, [], ◌∷◌, ◌++◌, length, drop, take_while, Option, Some, None}
+use Rattle.std.specs.Prelude.{◌≡◌, ◌≢◌, ℕ, Bool, true, false, not, ◌==◌, if◌then◌else◌, List, [], ◌∷◌, ◌++◌, length, drop, take_while}
+use Rattle.std.specs.Prelude.{Option, Some, None}
 use Rattle.std.specs.List.{AllByRecursion, join_with_byte}
 use Rattle.std.specs.Str.{byte}
 use Rattle.sip_text.specs.Lists.{is_blank, front_trimmed, onto}
@@ -30,7 +31,8 @@ split_outside mark text = split_from Outside mark text
 -- what stands between the bytes of one kind outside quoted text, where the text begins inside it or outside
 abbrev pub parts_from : Quoting → ℕ → List ℕ → List (List ℕ)
 parts_from quoting mark [] = [] ∷ []
-parts_from quoting mark (b ∷ bs) = if is_mark quoting mark b then [] ∷ parts_from Outside mark bs else onto (b ∷ []) (parts_from (quoting_after quoting b) mark bs)
+parts_from quoting mark (b ∷ bs) = if is_mark quoting mark b then [] ∷ parts_from Outside mark bs
+    else onto (b ∷ []) (parts_from (quoting_after quoting b) mark bs)
 
 -- what stands between the bytes of one kind outside quoted text: one part more than there are of them
 abbrev pub parts_at : ℕ → List ℕ → List (List ℕ)
@@ -54,7 +56,8 @@ pub record IsParted (mark : ℕ) (text : List ℕ) (parts : List (List ℕ)) : T
   pub uncut : AllByRecursion (λ part. split_outside mark part ≡ None) parts
   pub closed : AreClosed parts
 
--- A text is cut at the first of a byte outside quoted text: that byte between a front and a rest, where the front has none and closes the quotes that it opens (RFC 3261 25.1).
+-- A text is cut at the first of a byte outside quoted text: that byte between a front and a rest, where the front has none and
+-- closes the quotes that it opens (RFC 3261 25.1).
 pub record IsCutAt (mark : ℕ) (text front rest : List ℕ) : Type 0 where
   pub whole : text ≡ front ++ mark ∷ rest
   pub uncut : split_outside mark front ≡ None

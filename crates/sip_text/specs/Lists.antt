@@ -1,6 +1,7 @@
 -- Lists of items between commas (RFC 3261 7.3.1), in one pass from the left. What the items are is
 -- said by the grammar in ListText, and `items_are_between_commas` is the proof that it is the same.
-use Rattle.std.specs.Prelude.{ℕ, ◌-◌, Bool, true, false, ◌||◌, ◌==◌, if◌then◌else◌, List, [], ◌∷◌, ◌++◌, length, reverse, take, drop, take_while, Option, Some, None, option_map}
+use Rattle.std.specs.Prelude.{ℕ, ◌-◌, Bool, true, false, ◌||◌, ◌==◌, if◌then◌else◌, List, [], ◌∷◌, ◌++◌, length, reverse, take, drop}
+use Rattle.std.specs.Prelude.{take_while, Option, Some, None, option_map}
 use Rattle.std.specs.Option.{option_and_then}
 use Rattle.std.specs.Str.{byte}
 use Rattle.sip_text.specs.declared.lists.Place.{Place}

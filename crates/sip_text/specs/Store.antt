@@ -5,5 +5,5 @@ use Rattle.sip_text.specs.declared.store.Store.TheVariants.{Inside, Outside}
 
 -- the bytes
 abbrev pub stored : Store → List ℕ
-stored (Inside few) = few.items
+stored (Inside few) = few
 stored (Outside block) = block.items

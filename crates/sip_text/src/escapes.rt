@@ -8,8 +8,8 @@ use crate::error::TextError;
 use memchr::memchr;
 use std::alloc::Global;
 
-/// The value of a hexadecimal digit.
-fn hex_value(byte: u8) -> Option<u8>
+/// The value of a hexadecimal digit, in any case; None of any other byte.
+pub fn hex_value(byte: u8) -> Option<u8>
     ensures { MatchOption result (is_ascii_hexdigit byte ≡ false) (λ n. (n < 16) × (n ≡ digit_value byte) × (is_ascii_hexdigit byte ≡ true)) }
 {
     match byte {
@@ -23,7 +23,8 @@ fn hex_value(byte: u8) -> Option<u8>
 /// The byte that an escape at the front stands for, and what follows it.
 fn escape_at(text: &[u8]) -> Option<(u8, &[u8])>
     requires { BeginsEscape text.now }
-    ensures { MatchOption result (unescaped text.now ≡ None) (λ x. (length x.1.now < length text.now) × (unescaped text.now ≡ with_front (x.0 ∷ []) (unescaped x.1.now))) }
+    ensures { MatchOption result (unescaped text.now ≡ None)
+        (λ x. (length x.1.now < length text.now) × (unescaped text.now ≡ with_front (x.0 ∷ []) (unescaped x.1.now))) }
 {
     let [_, high, low, rest @ ..] = text else {
         return None;

@@ -1,6 +1,14 @@
 //! The smallest parts of SIP text: tokens, numbers, text compared with and without case, lists cut at
 //! their commas, text cut at a byte, escapes `%HH`, quoted text, the spans that name parts of a source,
 //! bytes that a value owns, texts that it borrows, and lists of items. Every crate that reads or writes text stands on this one.
+//!
+//! - Used: every room that reads or writes bytes.
+//! - Not here: a grammar of a header field or of a URI (`sip_header`, `sip_uri`).
+//! - Tried: worked examples in `src/examples.rt`, as contracts that compute; `test_parts`.
+//!
+//! ```text
+//! let seconds = decimal(value);
+//! ```
 #![tactic(auto)]
 
 mod buffer;
@@ -10,6 +18,7 @@ mod distinct;
 mod error;
 mod escapes;
 pub mod examples;
+mod few;
 mod items;
 pub mod laws;
 mod lists;
@@ -27,7 +36,7 @@ pub use bytes::Bytes;
 pub use cuts::{Quoting, first_part, split_outside, split_word};
 pub use distinct::{FEW_TEXTS, all_differ, compare_no_case};
 pub use error::TextError;
-pub use escapes::unescape;
+pub use escapes::{hex_value, unescape};
 pub use items::Items;
 pub use lists::{
     cut_list, is_space_or_tab, without_blanks, without_end_blanks, without_front_blanks,

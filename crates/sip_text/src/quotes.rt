@@ -8,7 +8,8 @@ use std::alloc::Global;
 
 /// The byte that stands at the front of a quoted text's rest, and what follows it. None at its end.
 fn quoted_byte(rest: &[u8]) -> Option<(u8, &[u8])>
-    ensures { MatchOption result (inside_quotes rest.now ≡ at_end rest.now) (λ x. (length x.1.now < length rest.now) × (inside_quotes rest.now ≡ with_front (x.0 ∷ []) (inside_quotes x.1.now))) }
+    ensures { MatchOption result (inside_quotes rest.now ≡ at_end rest.now)
+        (λ x. (length x.1.now < length rest.now) × (inside_quotes rest.now ≡ with_front (x.0 ∷ []) (inside_quotes x.1.now))) }
 {
     let (first, after) = rest.split_first()?;
     if *first == b'"' {

@@ -1,32 +1,17 @@
-ghost use Rattle.std.specs.Prelude.{◌≡◌, ◌+◌, ◌%◌, ◌++◌, [], ◌∷◌, IfOk, IfSome, OnOk, OnErr, decimal};
+ghost use Rattle.std.specs.Prelude.{◌≡◌, ◌+◌, ◌%◌, ◌++◌, [], ◌∷◌, IfOk, OnOk, OnErr, decimal};
 ghost use Rattle.sip_text.specs.Store.{stored};
 
-use arrayvec::ArrayVec;
+use crate::few::{Few, INSIDE};
 use itoa::Buffer as Digits;
 use std::alloc::{AllocError, Global};
-
-/// How many bytes stand in the value itself, without a block of memory: most users, hosts, ports and tags.
-const INSIDE: usize = 16;
 
 /// Where bytes of their own stand.
 #[derive(Debug, Drop)]
 pub(crate) enum Store {
     /// A few, in the value itself.
-    Inside(ArrayVec<u8, INSIDE, Global>),
+    Inside(Few),
     /// Those for which there is, or was asked, more room, in a block of memory.
     Outside(Vec<u8>),
-}
-
-/// A few bytes, copied; None of more.
-#[inline]
-fn few(alloc: Global, bytes: &[u8]) -> Option<ArrayVec<u8, INSIDE, Global>>
-    ensures { IfSome result (λ few. few.items ≡ bytes.now) }
-{
-    let mut few = ArrayVec::new_in(alloc);
-    if few.try_extend_from_slice(bytes).is_err() {
-        return None;
-    }
-    Some(few)
 }
 
 /// Bytes and more of them, in a block of memory.
@@ -102,7 +87,7 @@ impl Store {
     pub(crate) fn new(alloc: Global) -> Self
         ensures { stored result ≡ [] }
     {
-        Store::Inside(ArrayVec::new_in(alloc))
+        Store::Inside(Few::new(alloc))
     }
 
     /// No bytes, and room for so many.
@@ -121,7 +106,7 @@ impl Store {
     pub(crate) fn copy(alloc: Global, bytes: &[u8]) -> Result<Self, AllocError>
         ensures { IfOk result (λ store. stored store ≡ bytes.now) }
     {
-        match few(alloc, bytes) {
+        match Few::copy(alloc, bytes) {
             Some(few) => Ok(Store::Inside(few)),
             None => Ok(Store::Outside(Vec::from_slice(alloc, bytes)?)),
         }
@@ -135,10 +120,10 @@ impl Store {
     {
         let block = match self {
             Store::Inside(few) => {
-                if few.try_extend_from_slice(more).is_ok() {
+                if few.try_extend(more) {
                     return Ok(());
                 }
-                block_of(*few.allocator(), few.as_slice(), more)?
+                block_of(few.allocator(), few.as_slice(), more)?
             }
             Store::Outside(block) => return block.extend_from_slice(more),
         };
@@ -170,7 +155,7 @@ impl Store {
                 return Ok(());
             }
             Store::Inside(few) => {
-                if few.try_push(byte).is_ok() {
+                if few.try_push(byte) {
                     return Ok(());
                 }
             }
@@ -194,7 +179,7 @@ impl Store {
     #[inline]
     pub(crate) fn allocator(&self) -> Global {
         match self {
-            Store::Inside(few) => *few.allocator(),
+            Store::Inside(few) => few.allocator(),
             Store::Outside(block) => *block.allocator(),
         }
     }

@@ -1,3 +1,4 @@
+pub mod Intervals
 pub mod Lives
 pub mod Machine
 pub mod Resends

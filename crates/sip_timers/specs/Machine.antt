@@ -31,6 +31,8 @@ IsOneOf (first ∷ rest) letter = (first ≡ letter) ⊎ IsOneOf rest letter
 -- a timer that runs after a step ran before it, or is started by it (`kept`); one that a step starts runs
 -- after it (`started`); one that fires is started anew, or runs no more (`anew`)
 pub record KeepsTimers {State Input Action : Type 0} (m : Machine State Input Action) : Type 0 where
-  pub kept : (state : State) (input : Input) (letter : Letter) → m.runs (m.on state input).0 letter ≡ true → (m.runs state letter ≡ true) ⊎ Starts m (m.on state input).1 letter
+  pub kept : (state : State) (input : Input) (letter : Letter) → m.runs (m.on state input).0 letter ≡ true → (m.runs state letter ≡ true)
+      ⊎ Starts m (m.on state input).1 letter
   pub started : (state : State) (input : Input) (letter : Letter) → Starts m (m.on state input).1 letter → m.runs (m.on state input).0 letter ≡ true
-  pub anew : (state : State) (letter : Letter) → m.runs (m.on state (m.fired letter)).0 letter ≡ true → Starts m (m.on state (m.fired letter)).1 letter
+  pub anew : (state : State) (letter : Letter) → m.runs (m.on state (m.fired letter)).0 letter ≡ true
+      → Starts m (m.on state (m.fired letter)).1 letter

@@ -1,6 +1,7 @@
 -- What a machine sends again by time (RFC 3261 17.1.1.2, 17.1.2.2, 17.2.1).
 use Rattle.std.specs.Prelude.{ℕ, ◌*◌, min, ◌≡◌, ◌⊎◌, true, false, List, [], ◌∷◌, Option, Some, None}
 use Rattle.std.specs.List.{list_any, filter_map}
+use Rattle.sip_timers.specs.Intervals.{T1}
 use Rattle.sip_timers.specs.Machine.{Machine, Starts}
 use Rattle.sip_timers.specs.declared.letter.Letter.{Letter}
 
@@ -17,10 +18,11 @@ wait_after most None = most
 
 -- The message is sent for the first time: the timer starts with 500 ms, which the state holds (RFC 3261
 -- 17.1.1.2, 17.1.2.2, 17.2.1).
-pub record Begins {State Input Action : Type 0} (m : Machine State Input Action) (letter : Letter) (wait : State → Option ℕ) (step : State × List Action) : Type 0 where
+pub record Begins {State Input Action : Type 0} (m : Machine State Input Action) (letter : Letter) (wait : State → Option ℕ)
+    (step : State × List Action) : Type 0 where
   pub sent : list_any m.sends step.1 ≡ true
-  pub set : StartsWith m step.1 letter 500
-  pub held : wait step.0 ≡ Some 500
+  pub set : StartsWith m step.1 letter T1
+  pub held : wait step.0 ≡ Some T1
 
 -- A timer by which the transaction's own message goes again, after a wait that is at most so long, where a
 -- state holds what the timer was last set to, or nothing (RFC 3261 17.1.1.2, 17.1.2.2, 17.2.1): it first
@@ -28,14 +30,20 @@ pub record Begins {State Input Action : Type 0} (m : Machine State Input Action)
 -- this timer alone starts, with the next wait (`anew`); where it runs, nothing else starts it, so nothing
 -- moves its moment (`alone`); the wait that a state holds is what the timer is started with (`held`), or what
 -- the state before it held (`kept`); no other firing sends the message (`only`)
-pub record SendsAgainBy {State Input Action : Type 0} (m : Machine State Input Action) (letter : Letter) (wait : State → Option ℕ) (most : ℕ) : Type 0 where
-  pub first : (state : State) (input : Input) → m.runs state letter ≡ false → m.runs (m.on state input).0 letter ≡ true → Begins m letter wait (m.on state input)
+pub record SendsAgainBy {State Input Action : Type 0} (m : Machine State Input Action) (letter : Letter) (wait : State → Option ℕ)
+    (most : ℕ) : Type 0 where
+  pub first : (state : State) (input : Input) → m.runs state letter ≡ false → m.runs (m.on state input).0 letter ≡ true
+      → Begins m letter wait (m.on state input)
   pub sent : (state : State) → m.runs state letter ≡ true → list_any m.sends (m.on state (m.fired letter)).1 ≡ true
-  pub anew : (state : State) → m.runs state letter ≡ true → filter_map m.start_of (m.on state (m.fired letter)).1 ≡ (letter, wait_after most (wait state)) ∷ []
+  pub anew : (state : State) → m.runs state letter ≡ true → filter_map m.start_of (m.on state (m.fired letter)).1
+      ≡ (letter, wait_after most (wait state)) ∷ []
   pub alone : (state : State) (input : Input) → m.runs state letter ≡ true → Starts m (m.on state input).1 letter → input ≡ m.fired letter
-  pub held : (state : State) (input : Input) (ms next : ℕ) → StartsWith m (m.on state input).1 letter ms → wait (m.on state input).0 ≡ Some next → next ≡ ms
-  pub kept : (state : State) (input : Input) (next : ℕ) → wait (m.on state input).0 ≡ Some next → (wait state ≡ Some next) ⊎ Starts m (m.on state input).1 letter
-  pub only : (state : State) (other : Letter) → list_any m.sends (m.on state (m.fired other)).1 ≡ true → (other ≡ letter) × (m.runs state letter ≡ true)
+  pub held : (state : State) (input : Input) (ms next : ℕ) → StartsWith m (m.on state input).1 letter ms → wait (m.on state input).0
+      ≡ Some next → next ≡ ms
+  pub kept : (state : State) (input : Input) (next : ℕ) → wait (m.on state input).0 ≡ Some next → (wait state ≡ Some next)
+      ⊎ Starts m (m.on state input).1 letter
+  pub only : (state : State) (other : Letter) → list_any m.sends (m.on state (m.fired other)).1 ≡ true → (other ≡ letter)
+      × (m.runs state letter ≡ true)
 
 -- no timer's firing sends the message: the transaction of a request that isn't an INVITE answers only what
 -- it hears (RFC 3261 17.2.2)
@@ -44,4 +52,5 @@ NoneSendsByTime {State = State} m = (state : State) (letter : Letter) → list_a
 
 -- nothing that is heard but this timer's firing sends the message (RFC 3261 17.1.1.2, 17.1.2.2)
 abbrev pub SendsOnlyBy : {State Input Action : Type 0} → Machine State Input Action → Letter → Type 0
-SendsOnlyBy {State = State} {Input = Input} m letter = (state : State) (input : Input) → list_any m.sends (m.on state input).1 ≡ true → input ≡ m.fired letter
+SendsOnlyBy {State = State} {Input = Input} m letter = (state : State) (input : Input) → list_any m.sends (m.on state input).1 ≡ true
+    → input ≡ m.fired letter

@@ -1,20 +1,22 @@
 ghost use Rattle.std.specs.Prelude.{◌≡◌, ◌≤◌, length};
 
-use arrayvec::ArrayVec;
 use std::marker::Model;
 
 /// What is to be done, in order: at most three actions, which lie in the value itself.
 #[derive(Drop)]
 pub struct Actions<A: Copy + Default> {
-    list: ArrayVec<A, 3>,
+    room: [A; 3],
+    count: usize,
 }
 
 impl<A: Copy + Default> Model for Actions<A> {
-    ghost use Rattle.std.specs.Prelude.{List};
+    ghost use Rattle.std.specs.Prelude.{◌≤◌, List, take};
 
     ghost Value = { List A };
 
-    ghost view = { λ a. a.list.items };
+    ghost view = { λ a. take a.count a.room };
+
+    ghost invariant = { λ a. a.count ≤ 3 };
 }
 
 impl<A: Copy + Default> Actions<A> {
@@ -23,17 +25,18 @@ impl<A: Copy + Default> Actions<A> {
         requires { length actions.now ≤ 3 }
         ensures { result ≡ actions.now }
     {
-        let mut list = ArrayVec::new();
-        for action in actions {
-            list.push(*action);
+        let mut room = [A::default(); 3];
+        room[..actions.len()].copy_from_slice(actions);
+        Actions {
+            room,
+            count: actions.len(),
         }
-        Actions { list }
     }
 
     /// The actions.
     pub fn as_slice(&self) -> &[A]
         ensures { result.now ≡ self.now }
     {
-        self.list.as_slice()
+        &self.room[..self.count]
     }
 }

@@ -15,5 +15,6 @@ pub fn timer_stands()
 
 /// What is cancelled by the key of one timer alone is that timer.
 pub fn timer_taken_out()
-    ensures { (p : Timer → Bool) (t : Timer) (ts : List Timer) → keys_with t.key ts ≤ 1 → Stands t ts → count_by p ts ≡ count_by p (without t.key ts) + (if p t then 1 else 0) }
+    ensures { (p : Timer → Bool) (t : Timer) (ts : List Timer) → keys_with t.key ts ≤ 1 → Stands t ts → count_by p ts
+        ≡ count_by p (without t.key ts) + (if p t then 1 else 0) }
 {}

@@ -28,7 +28,12 @@ impl Model for ListTimers {
 
     ghost Value = { TimerQueue };
 
-    ghost view = { λ t. record { pending = t.rows.items; reached = t.reached; room = min (vec_capacity t.rows - vec_len t.rows) (2 ^ 64 - 1 - t.next_key) } };
+    ghost view = { λ t. record {
+      pending = t.rows.items;
+      reached = t.reached;
+      room = min (vec_capacity t.rows - vec_len t.rows)
+          (2 ^ 64 - 1 - t.next_key);
+    } };
 
     ghost invariant = { λ t. keys_from t.next_key t.rows.items ≡ 0 };
 }

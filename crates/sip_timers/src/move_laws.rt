@@ -6,7 +6,8 @@ ghost use Rattle.sip_timers.specs.Moves.{IsHeld, IsTied, Moves};
 /// on the way needn't be named.
 pub fn moves_join()
     ensures none { (ts : List Timer) → Moves ts [] ts [] }
-    ensures both { (ts us vs before after further later : List Timer) → Moves ts before us after → Moves us further vs later → Moves ts (before ++ further) vs (after ++ later) }
+    ensures both { (ts us vs before after further later : List Timer) → Moves ts before us after → Moves us further vs later
+        → Moves ts (before ++ further) vs (after ++ later) }
     ensures passing { (ts us before after passing : List Timer) → Moves ts (before ++ passing) us (after ++ passing) → Moves ts before us after }
 {}
 

@@ -1,4 +1,5 @@
-ghost use Rattle.std.specs.Prelude.{◌≡◌, ◌≤◌, ◌<◌, ◌+◌, ◌↔◌, ℕ, List, [], ◌∷◌, Some, Err, IfOk, IfErr, OnOk, OnErr, IfSome, IfNone, MatchOption, None, max};
+ghost use Rattle.std.specs.Prelude.{◌≡◌, ◌≤◌, ◌<◌, ◌+◌, ◌↔◌, ℕ, List, [], ◌∷◌, Some, Err, IfOk, IfErr, OnOk, OnErr, IfSome, IfNone};
+ghost use Rattle.std.specs.Prelude.{MatchOption, None, max};
 ghost use Rattle.sip_timers.specs.Timers.{placed, without, keys_with, first_due, first_named, popped, IsTooFar};
 ghost use Rattle.sip_timers.specs.declared.timer.Timer.{Timer};
 ghost use Rattle.sip_timers.specs.declared.error.TimerError.TheVariants.{NoMemory, TooFar};

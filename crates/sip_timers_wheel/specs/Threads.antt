@@ -1,5 +1,6 @@
 -- How lists of timers are threaded through the rows of one slab.
-use Rattle.std.specs.Prelude.{ℕ, ◌≡◌, ◌≢◌, ◌≤◌, ◌+◌, ◌==◌, nat_lt, zero, suc, true, List, [], ◌∷◌, Option, Some, None, MatchOption, option_map, map, length, slice_index_or, if◌then◌else◌}
+use Rattle.std.specs.Prelude.{ℕ, ◌≡◌, ◌≢◌, ◌≤◌, ◌+◌, ◌==◌, nat_lt, zero, suc, true, List, [], ◌∷◌, Option, Some, None, MatchOption}
+use Rattle.std.specs.Prelude.{option_map, map, length, slice_index_or, if◌then◌else◌}
 use Rattle.slab.specs.Slab.{Slab, get, slab_len}
 use Rattle.sip_timers.specs.declared.timer.Timer.{Timer}
 use Rattle.sip_timers.specs.Timers.{keys_with, without, AreOrdered}

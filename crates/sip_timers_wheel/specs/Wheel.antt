@@ -26,17 +26,20 @@ pub record IsFirstSlot (reached : ℕ) (lists : List (List Timer)) (slot start e
   pub spans : start < end
   pub start_is : (due : ℕ) → slot_of reached due ≡ slot → start_of reached due ≡ start
   pub own : (due : ℕ) → slot_of reached due ≡ slot → (start ≤ due) × (due < end)
-  pub others : (due : ℕ) → slot_of reached due ≢ slot → slot_of reached due < late_slot → 1 ≤ length (list_at lists (slot_of reached due)) → end ≤ start_of reached due
+  pub others : (due : ℕ) → slot_of reached due ≢ slot → slot_of reached due < late_slot → 1 ≤ length (list_at lists (slot_of reached due))
+      → end ≤ start_of reached due
 
 -- the timers of a slot, each moved behind those of the slot of its moment
 pub record AreMoved (reached slot : ℕ) (moved : List Timer) (old new : List (List Timer)) : Type 0 where
   pub left : list_at old slot ≡ moved ++ list_at new slot
-  pub others : (due other : ℕ) → other ≢ slot → due_at due (list_at new other) ≡ due_at due (list_at old other) ++ (if nat_eq other (slot_of reached due) then due_at due moved else [])
+  pub others : (due other : ℕ) → other ≢ slot → due_at due (list_at new other) ≡ due_at due (list_at old other)
+      ++ (if nat_eq other (slot_of reached due) then due_at due moved else [])
   pub slots : length new ≡ length old
 
 -- whatever of a slot is due goes to another one when a moment is reached
 abbrev pub GoesElsewhere : ℕ → ℕ → List (List Timer) → Type 0
-GoesElsewhere reached slot lists = (due : ℕ) → 1 ≤ length (due_at due (list_at lists slot)) → (slot_of reached due ≢ slot) × (slot_of reached due < length lists)
+GoesElsewhere reached slot lists = (due : ℕ) → 1 ≤ length (due_at due (list_at lists slot)) → (slot_of reached due ≢ slot)
+    × (slot_of reached due < length lists)
 
 -- ---- inside
 
@@ -52,4 +55,5 @@ pub record IsFirstFrom (lists : List (List Timer)) (level from offset : ℕ) : T
 
 -- no slot of a level begins by a moment, unless it is empty
 abbrev pub AreUnreached : ℕ → ℕ → List (List Timer) → Type 0
-AreUnreached reached now lists = (due : ℕ) → slot_of reached due < late_slot → 1 ≤ length (list_at lists (slot_of reached due)) → now < start_of reached due
+AreUnreached reached now lists = (due : ℕ) → slot_of reached due < late_slot → 1 ≤ length (list_at lists (slot_of reached due)) → now
+    < start_of reached due

@@ -1,4 +1,5 @@
-ghost use Rattle.std.specs.Prelude.{◌≡◌, ◌≢◌, ◌≤◌, ◌<◌, ◌+◌, ◌==◌, ℕ, ◌∷◌, [], ◌++◌, Some, None, IfSome, length, MatchOption, nat_lt, if◌then◌else◌, is_some, true};
+ghost use Rattle.std.specs.Prelude.{◌≡◌, ◌≢◌, ◌≤◌, ◌<◌, ◌+◌, ◌==◌, ℕ, ◌∷◌, [], ◌++◌, Some, None, IfSome, length, MatchOption, nat_lt};
+ghost use Rattle.std.specs.Prelude.{if◌then◌else◌, is_some, true};
 ghost use Rattle.slab.specs.Slab.{get, ContainsKey, slab_len};
 ghost use Rattle.sip_timers.specs.Timers.{keys_with, without, KeysDiffer};
 ghost use Rattle.sip_timers_wheel.specs.declared.row.RowNumber.{RowNumber};
@@ -49,8 +50,10 @@ impl Head {
         requires second { IfSome self.old.second (λ n. ContainsKey rows.now n.0) }
         ensures least { IsLeastWith rows.now (known_least self.old) number due self.new.least }
         ensures unknown { known_least self.old ≡ None → self.new.second ≡ None }
-        ensures sooner { (n : RowNumber) (row : Row) → known_least self.old ≡ Some n → get rows.now n.0 ≡ Some row → due < row.due → self.new.second ≡ Some n }
-        ensures later { (n : RowNumber) (row : Row) → known_least self.old ≡ Some n → get rows.now n.0 ≡ Some row → row.due ≤ due → IsLeastWith rows.now self.old.second number due self.new.second }
+        ensures sooner { (n : RowNumber) (row : Row) → known_least self.old ≡ Some n → get rows.now n.0 ≡ Some row → due < row.due
+            → self.new.second ≡ Some n }
+        ensures later { (n : RowNumber) (row : Row) → known_least self.old ≡ Some n → get rows.now n.0 ≡ Some row → row.due ≤ due
+            → IsLeastWith rows.now self.old.second number due self.new.second }
         ensures ends { (self.new.first ≡ self.old.first) × (self.new.last ≡ self.old.last) }
     {
         let known = self.known_least();
@@ -73,8 +76,10 @@ impl Head {
 
     /// Remembers a row no longer, which is taken out: the second least takes the place of the least.
     fn forget(&mut self, number: RowNumber)
-        ensures least { MatchOption self.old.least (self.new.least ≡ None) (λ n. self.new.least ≡ (if n.0 == number.0 then self.old.second else self.old.least)) }
-        ensures second { MatchOption self.old.least (self.new.second ≡ None) (λ n. self.new.second ≡ (if n.0 == number.0 then None else other_than number.0 self.old.second)) }
+        ensures least { MatchOption self.old.least (self.new.least ≡ None)
+            (λ n. self.new.least ≡ (if n.0 == number.0 then self.old.second else self.old.least)) }
+        ensures second { MatchOption self.old.least (self.new.second ≡ None)
+            (λ n. self.new.second ≡ (if n.0 == number.0 then None else other_than number.0 self.old.second)) }
         ensures ends { (self.new.first ≡ self.old.first) × (self.new.last ≡ self.old.last) }
         ensures rising { self.new.is_rising ≡ self.old.is_rising }
     {
@@ -113,7 +118,8 @@ impl Head {
         requires stands { ContainsKey rows.old number.0 }
         requires fresh { keys_with number.0 (list_of rows.old self.old) ≡ 0 }
         requires fits { length (list_of rows.old self.old) + 1 ≤ slab_len rows.old }
-        ensures put { (row : Row) → get rows.old number.0 ≡ Some row → IsHeld rows.new self.new (list_of rows.old self.old ++ timer_of number.0 row ∷ []) }
+        ensures put { (row : Row) → get rows.old number.0 ≡ Some row
+            → IsHeld rows.new self.new (list_of rows.old self.old ++ timer_of number.0 row ∷ []) }
         ensures others { (other : ℕ) → keys_with other (list_of rows.old self.old) ≡ 0 → other ≢ number.0 → get rows.new other ≡ get rows.old other }
         ensures size { SameSize rows.old rows.new }
     {

@@ -1,4 +1,5 @@
-ghost use Rattle.std.specs.Prelude.{◌≡◌, ◌≢◌, ◌≤◌, ◌<◌, ◌+◌, ◌==◌, ◌&&◌, not, ℕ, List, [], ◌∷◌, ◌++◌, length, replicate, count_by, slice_set, IfOk, OnOk, OnErr, MatchOption};
+ghost use Rattle.std.specs.Prelude.{◌≡◌, ◌≢◌, ◌≤◌, ◌<◌, ◌+◌, ◌==◌, ◌&&◌, not, ℕ, List, [], ◌∷◌, ◌++◌, length, replicate, count_by};
+ghost use Rattle.std.specs.Prelude.{slice_set, IfOk, OnOk, OnErr, MatchOption};
 ghost use Rattle.sip_timers.specs.Timers.{without, keys_with, first_due};
 ghost use Rattle.sip_timers.specs.declared.timer.Timer.{Timer};
 ghost use Rattle.sip_timers_wheel.specs.Lists.{list_at, concat, least};
@@ -57,7 +58,8 @@ impl Levels {
     /// nothing changes.
     pub fn push(&mut self, slot: usize, due: u64, name: Name) -> Result<usize, AllocError>
         requires { slot < 321 }
-        ensures pushed { IfOk result (λ key. self.new.lists ≡ slice_set self.old.lists slot (list_at self.old.lists slot ++ record { key = key; due = due; name = name } ∷ [])) }
+        ensures pushed { IfOk result (λ key. self.new.lists ≡ slice_set self.old.lists slot
+            (list_at self.old.lists slot ++ record { key = key; due = due; name = name } ∷ [])) }
         ensures fresh { IfOk result (λ key. keys_with key (concat self.old.lists) ≡ 0) }
         ensures err { OnErr result (self.new.lists ≡ self.old.lists) }
         ensures memory { OnErr result (self.old.room ≡ 0) }
@@ -87,7 +89,8 @@ impl Levels {
         requires to_within { to < 321 }
         requires differ { from ≢ to }
         requires present { 1 ≤ length (list_at self.old.lists from) }
-        ensures moved { (first : Timer) (rest : List Timer) → list_at self.old.lists from ≡ first ∷ rest → self.new.lists ≡ slice_set (slice_set self.old.lists from rest) to (list_at self.old.lists to ++ first ∷ []) }
+        ensures moved { (first : Timer) (rest : List Timer) → list_at self.old.lists from ≡ first ∷ rest → self.new.lists
+            ≡ slice_set (slice_set self.old.lists from rest) to (list_at self.old.lists to ++ first ∷ []) }
         ensures left { self.old.room ≤ self.new.room }
     {
         self.slots.move_first(from, to);

@@ -50,7 +50,8 @@ pub(crate) fn set_beside(
     next: Option<RowNumber>,
 )
     requires { ContainsKey rows.old number.0 }
-    ensures beside { (row : Row) → get rows.old number.0 ≡ Some row → Updates rows.old rows.new number.0 (Some (record row { previous = previous; next = next })) }
+    ensures beside { (row : Row) → get rows.old number.0 ≡ Some row
+        → Updates rows.old rows.new number.0 (Some (record row { previous = previous; next = next })) }
     ensures size { SameSize rows.old rows.new }
 {
     let row = &mut rows[number.0];

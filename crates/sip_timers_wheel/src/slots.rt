@@ -1,4 +1,5 @@
-ghost use Rattle.std.specs.Prelude.{◌≡◌, ◌≢◌, ◌≤◌, ◌<◌, ◌+◌, ◌==◌, ◌&&◌, not, ℕ, List, [], ◌∷◌, ◌++◌, length, replicate, count_by, slice_set, Some, IfOk, OnOk, OnErr};
+ghost use Rattle.std.specs.Prelude.{◌≡◌, ◌≢◌, ◌≤◌, ◌<◌, ◌+◌, ◌==◌, ◌&&◌, not, ℕ, List, [], ◌∷◌, ◌++◌, length, replicate, count_by};
+ghost use Rattle.std.specs.Prelude.{slice_set, Some, IfOk, OnOk, OnErr};
 ghost use Rattle.sip_timers.specs.Timers.{without, keys_with, first_due};
 ghost use Rattle.sip_timers.specs.declared.timer.Timer.{Timer};
 ghost use Rattle.sip_timers_wheel.specs.Lists.{list_at, concat, least};
@@ -60,7 +61,8 @@ impl Slots {
     /// wanted, and then nothing changes.
     pub fn push(&mut self, slot: usize, due: u64, name: Name) -> Result<usize, AllocError>
         requires { slot < length self.old.lists }
-        ensures pushed { IfOk result (λ key. self.new.lists ≡ slice_set self.old.lists slot (list_at self.old.lists slot ++ record { key = key; due = due; name = name } ∷ [])) }
+        ensures pushed { IfOk result (λ key. self.new.lists ≡ slice_set self.old.lists slot
+            (list_at self.old.lists slot ++ record { key = key; due = due; name = name } ∷ [])) }
         ensures fresh { IfOk result (λ key. keys_with key (concat self.old.lists) ≡ 0) }
         ensures err { OnErr result (self.new.lists ≡ self.old.lists) }
         ensures memory { OnErr result (self.old.room ≡ 0) }
@@ -96,7 +98,8 @@ impl Slots {
         requires to_within { to < length self.old.lists }
         requires differ { from ≢ to }
         requires present { 1 ≤ length (list_at self.old.lists from) }
-        ensures moved { (first : Timer) (rest : List Timer) → list_at self.old.lists from ≡ first ∷ rest → self.new.lists ≡ slice_set (slice_set self.old.lists from rest) to (list_at self.old.lists to ++ first ∷ []) }
+        ensures moved { (first : Timer) (rest : List Timer) → list_at self.old.lists from ≡ first ∷ rest → self.new.lists
+            ≡ slice_set (slice_set self.old.lists from rest) to (list_at self.old.lists to ++ first ∷ []) }
         ensures left { self.old.room ≤ self.new.room }
     {
         if let Some(number) = self.heads[from].first {
@@ -159,7 +162,8 @@ fn take_from(rows: &mut Slab<Row>, heads: &mut [Head], slot: usize, number: RowN
     requires within { slot < length heads.old }
     requires present { 1 ≤ keys_with number.0 (list_at (lists_of rows.old heads.old) slot) }
     ensures held { AreHeld 1 rows.new heads.new (lists_of rows.new heads.new) }
-    ensures taken { lists_of rows.new heads.new ≡ slice_set (lists_of rows.old heads.old) slot (without number.0 (list_at (lists_of rows.old heads.old) slot)) }
+    ensures taken { lists_of rows.new heads.new ≡ slice_set (lists_of rows.old heads.old) slot
+        (without number.0 (list_at (lists_of rows.old heads.old) slot)) }
     ensures gone { keys_with number.0 (concat (lists_of rows.new heads.new)) ≡ 0 }
     ensures stands { ContainsKey rows.new number.0 }
     ensures row { get rows.new number.0 ≡ get rows.old number.0 }
@@ -175,7 +179,8 @@ fn put_into(rows: &mut Slab<Row>, heads: &mut [Head], slot: usize, number: RowNu
     requires stands { ContainsKey rows.old number.0 }
     requires fresh { keys_with number.0 (concat (lists_of rows.old heads.old)) ≡ 0 }
     ensures held { AreHeld 0 rows.new heads.new (lists_of rows.new heads.new) }
-    ensures put { (row : Row) → get rows.old number.0 ≡ Some row → lists_of rows.new heads.new ≡ slice_set (lists_of rows.old heads.old) slot (list_at (lists_of rows.old heads.old) slot ++ timer_of number.0 row ∷ []) }
+    ensures put { (row : Row) → get rows.old number.0 ≡ Some row → lists_of rows.new heads.new
+        ≡ slice_set (lists_of rows.old heads.old) slot (list_at (lists_of rows.old heads.old) slot ++ timer_of number.0 row ∷ []) }
     ensures size { SameSize rows.old rows.new }
 {
     heads[slot].put_behind(rows, number);

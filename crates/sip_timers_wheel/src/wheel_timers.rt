@@ -108,7 +108,8 @@ struct FirstSlot {
 /// The first slot of the levels that has a timer.
 fn first_slot(levels: &Levels, reached: u64) -> Option<FirstSlot>
     requires { IsWheel reached levels.now.lists }
-    ensures { MatchOption result ((level : ℕ) → level < 5 → IsEmptyLevel levels.now.lists level) (λ first. (end : ℕ) × IsFirstSlot reached levels.now.lists first.slot first.start end) }
+    ensures { MatchOption result ((level : ℕ) → level < 5 → IsEmptyLevel levels.now.lists level)
+        (λ first. (end : ℕ) × IsFirstSlot reached levels.now.lists first.slot first.start end) }
 {
     for level in 0..LEVELS {
         let from = ((position(level, reached) % 64 + 1) % 64) as usize;
@@ -125,7 +126,8 @@ fn first_slot(levels: &Levels, reached: u64) -> Option<FirstSlot>
 /// The timer that fires first.
 fn first_timer(levels: &Levels, reached: u64) -> Option<Timer>
     requires { IsWheel reached levels.now.lists }
-    ensures { MatchOption result (pending_in levels.now.lists ≡ []) (λ first. pending_in levels.now.lists ≡ first ∷ drop 1 (pending_in levels.now.lists)) }
+    ensures { MatchOption result (pending_in levels.now.lists ≡ [])
+        (λ first. pending_in levels.now.lists ≡ first ∷ drop 1 (pending_in levels.now.lists)) }
 {
     earlier_fires_first();
     if let Some(late) = levels.least(LATE) {
@@ -182,7 +184,8 @@ fn reach(levels: &mut Levels, reached: u64, now: u64)
 /// Moves the timers of the first slot down, where it begins by a moment, and gives its first moment.
 fn move_down(levels: &mut Levels, reached: u64, now: u64) -> Option<u64>
     requires { IsWheel reached levels.old.lists }
-    ensures none { MatchOption result (AreUnreached reached now levels.new.lists × IsWheel reached levels.new.lists) (λ start. (reached < start) × (start ≤ now) × IsWheel start levels.new.lists) }
+    ensures none { MatchOption result (AreUnreached reached now levels.new.lists × IsWheel reached levels.new.lists)
+        (λ start. (reached < start) × (start ≤ now) × IsWheel start levels.new.lists) }
     ensures same { pending_in levels.new.lists ≡ pending_in levels.old.lists }
     ensures left { levels.old.room ≤ levels.new.room }
 {

@@ -72,6 +72,10 @@ module _ {R : Type 0} (key : R → Key) where
     counted = λ d. rw same (omega (arith, sum_by_push (λ r. cond (files old d r) 1 0) rows row, h.counted d, counts d));
   }
 
+  -- as many keys of each digest, in another order
+  pub kept : (rows : List R) (old new : Filed) → AreFiled key rows old → new.secret ≡ old.secret → ((d : ℕ) → count_in d new.entries ≡ count_in d old.entries) → AreFiled key rows new
+  kept rows old new h same counts = record { apart = h.apart; counted = λ d. rw same (h.counted d ∙ sym (counts d)) }
+
   -- another row in the place of one with its key
   pub replaced : (rows : List R) (filed : Filed) (i : ℕ) (r row : R) → AreFiled key rows filed → slice_get rows i ≡ Some r → key row ≡ key r → AreFiled key (set rows i row) filed
   replaced rows filed i r row h at same = record {

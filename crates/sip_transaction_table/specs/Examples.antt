@@ -6,4 +6,8 @@ use Rattle.sip_message_form.specs.declared.message.Message.{Message}
 
 -- a request of a method whose one field is this Via
 abbrev pub request_by : List ℕ → List ℕ → Message
-request_by method via = record { start = Request method (codes "sip:help@host.com") (codes "SIP/2.0"); fields = record { name = Name.Via; value = via } ∷ []; body = [] }
+request_by method via = record {
+  start = Request method (codes "sip:help@host.com") (codes "SIP/2.0");
+  fields = record { name = Name.Via; value = via } ∷ [];
+  body = [];
+}

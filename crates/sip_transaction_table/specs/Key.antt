@@ -26,7 +26,12 @@ key_method method = if bytes_eq method (codes "ACK") then codes "INVITE" else me
 -- the key with this branch, if it has the magic cookie
 abbrev pub key_from : List ℕ → Via → List ℕ → Option Key
 key_from method via branch =
-    if has_cookie branch then Some (record { branch = branch; host = without_case via.host; port = unwrap_or via.port 5060; method = key_method method })
+    if has_cookie branch then Some (record {
+      branch = branch;
+      host = without_case via.host;
+      port = unwrap_or via.port 5060;
+      method = key_method method;
+    })
     else None
 
 -- the key of a request with this method and this Via on top
@@ -35,7 +40,8 @@ via_key method via = option_and_then (key_from method via) (branch_of via.parame
 
 -- the key of a request line and fields; a response has none
 abbrev pub start_key : List Field → Start → Option Key
-start_key fields (Request method uri version) = option_and_then (λ value. option_and_then (via_key method) (via_of value)) (first_value Name.Via fields)
+start_key fields (Request method uri version) = option_and_then (λ value. option_and_then (via_key method) (via_of value))
+    (first_value Name.Via fields)
 start_key fields (Status code reason) = None
 
 -- branch, sent-by and method of a request whose top Via is readable and has a branch with the magic cookie
@@ -44,4 +50,5 @@ key_of m = start_key m.fields m.start
 
 -- whether two keys are one, part by part
 abbrev pub same_key : Key → Key → Bool
-same_key left right = bytes_eq left.branch right.branch && bytes_eq left.host right.host && left.port == right.port && bytes_eq left.method right.method
+same_key left right = bytes_eq left.branch right.branch && bytes_eq left.host right.host && left.port == right.port
+    && bytes_eq left.method right.method

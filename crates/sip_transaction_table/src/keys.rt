@@ -1,12 +1,12 @@
-ghost use Rattle.std.specs.Prelude.{◌≡◌, ◌≤◌, ◌<◌, ◌+◌, ◌==◌, [], ℕ, if◌then◌else◌, IfNone, IfOk, OnOk, OnErr, is_some};
+ghost use Rattle.std.specs.Prelude.{◌≡◌, ◌≤◌, ◌<◌, ◌+◌, ◌==◌, [], ℕ, if◌then◌else◌, IfNone, OnOk};
 ghost use Rattle.sip_transaction_table.specs.Digest.{digest_of};
 ghost use Rattle.sip_transaction_table.specs.Keys.{count_in};
 
 use crate::Key;
 use crate::digest::digest_of;
-use indexmap::IndexMap;
 use sip_base::Keyed;
 use std::alloc::{AllocError, Global};
+use std::collections::HashMap;
 use std::marker::Model;
 
 /// What is known of the keys of one digest.
@@ -22,11 +22,11 @@ pub(crate) struct Hint {
 #[derive(Drop)]
 pub(crate) struct Keys {
     secret: Keyed,
-    hints: IndexMap<u64, Hint>,
+    hints: HashMap<u64, Hint>,
 }
 
 impl Model for Keys {
-    ghost use Rattle.indexmap.specs.IndexMap.{spare};
+    ghost use Rattle.std.specs.HashMap.{spare};
     ghost use Rattle.sip_transaction_table.specs.Keys.{Filed};
 
     ghost Value = { Filed };
@@ -41,7 +41,7 @@ impl Keys {
     {
         Keys {
             secret: Keyed::new(keys),
-            hints: IndexMap::new(alloc),
+            hints: HashMap::new(alloc),
         }
     }
 
@@ -58,7 +58,7 @@ impl Keys {
     /// Makes room for one more key. `AllocError` is the only refusal.
     pub(crate) fn reserve(&mut self) -> Result<(), AllocError>
         ensures secret { self.new.secret ≡ self.old.secret }
-        ensures entries { self.new.entries ≡ self.old.entries }
+        ensures counts { (d : ℕ) → count_in d self.new.entries ≡ count_in d self.old.entries }
         ensures ok { OnOk result (1 ≤ self.new.room) }
         ensures room { self.old.room ≤ self.new.room }
     {
@@ -70,7 +70,8 @@ impl Keys {
         requires room { 1 ≤ self.old.room }
         requires few { count_in (digest_of self.old.secret key.now) self.old.entries < 1024 }
         ensures secret { self.new.secret ≡ self.old.secret }
-        ensures counts { (d : ℕ) → count_in d self.new.entries ≡ count_in d self.old.entries + (if digest_of self.old.secret key.now == d then 1 else 0) }
+        ensures counts { (d : ℕ) → count_in d self.new.entries ≡ count_in d self.old.entries
+            + (if digest_of self.old.secret key.now == d then 1 else 0) }
         ensures room { self.old.room ≤ self.new.room + 1 }
     {
         let digest = digest_of(&self.secret, key);
@@ -78,14 +79,16 @@ impl Keys {
             Some(hint) => hint.others + 1,
             None => 0,
         };
-        let _before = self.hints.insert(digest, Hint { number, others }).unwrap();
+        let inserted: Result<_, _> = self.hints.insert(digest, Hint { number, others });
+        let _before = inserted.unwrap();
     }
 
     /// Takes a key out. Takes no memory.
     pub(crate) fn remove(&mut self, key: &Key)
         requires { 1 ≤ count_in (digest_of self.old.secret key.now) self.old.entries }
         ensures secret { self.new.secret ≡ self.old.secret }
-        ensures counts { (d : ℕ) → count_in d self.old.entries ≡ count_in d self.new.entries + (if digest_of self.old.secret key.now == d then 1 else 0) }
+        ensures counts { (d : ℕ) → count_in d self.old.entries ≡ count_in d self.new.entries
+            + (if digest_of self.old.secret key.now == d then 1 else 0) }
         ensures room { self.old.room ≤ self.new.room }
     {
         let digest = digest_of(&self.secret, key);
@@ -95,6 +98,6 @@ impl Keys {
                 return;
             }
         }
-        let _last = self.hints.swap_remove(&digest);
+        let _last = self.hints.remove(&digest);
     }
 }

@@ -2,6 +2,14 @@
 //! top Via; and the table of open requests, at most 1,024 rows in rising order of the numbers of the datagrams that opened
 //! them, found by number by bisection, and by their key through a hash under a secret, whichever keys peers choose. A row
 //! that closes moves the addresses of those behind it, and no row.
+//!
+//! - Used: `sip_fork` keeps the open requests in it, `sip_core` reads the key.
+//! - Not here: what an open request is (`sip_state`).
+//! - Tried: `test_counts`.
+//!
+//! ```text
+//! let place = table.find(&key);
+//! ```
 #![tactic(auto)]
 
 mod digest;

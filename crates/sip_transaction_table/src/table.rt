@@ -1,4 +1,5 @@
-ghost use Rattle.std.specs.Prelude.{◌≡◌, ◌<◌, ◌≤◌, ◌++◌, ◌∷◌, ◌+◌, ◌==◌, [], ℕ, false, length, position, find, remove, slice_get, slice_set, nat_le, Option, Some, None, IfOk, OnOk};
+ghost use Rattle.std.specs.Prelude.{◌≡◌, ◌<◌, ◌≤◌, ◌++◌, ◌∷◌, ◌+◌, ◌==◌, [], ℕ, false, length, position, find, remove, slice_get};
+ghost use Rattle.std.specs.Prelude.{slice_set, nat_le, Option, Some, None, IfOk, OnOk};
 ghost use Rattle.std.specs.List.{All, AllPairs};
 ghost use Rattle.std.specs.Option.{option_and_then};
 ghost use Rattle.sip_transaction_table.specs.Key.{same_key};

@@ -1,16 +1,16 @@
 -- What follows what policy decided, as it is drafted.
 use Rattle.std.proofs.Common.{◌≡◌, ◌∙◌, ℕ, Bool, true, false, cond, List, [], ◌∷◌, Option, Result, Some, None, Ok, Err, IfSome, IfOk, IsOk, refl, sym, ap, subst, true≢false}
 use Rattle.std.specs.declared.alloc.AllocError.{AllocError}
-use Rattle.sip_context_opening.specs.declared.arrival.Arrival.{Arrival}
-use Rattle.sip_context_opening.specs.Arrivals.{arrival_of}
+use Rattle.sip_forwarding.specs.declared.arrival.Arrival.{Arrival}
+use Rattle.sip_forwarding.specs.Arrivals.{arrival_of}
 use Rattle.sip_audit.specs.declared.record.Outcome.{Outcome}
 use Rattle.sip_audit.specs.declared.record.Record.{Record}
 use Rattle.sip_auth.specs.Proof.{used}
 use Rattle.sip_message_fields.specs.declared.field.Field.{Field}
 use Rattle.sip_message_form.specs.declared.message.Message.{Message}
 use Rattle.sip_transaction_table.specs.declared.key.Key.{Key}
-use Rattle.sip_context_opening.specs.steps_model.Effect.{Effect}
-use Rattle.sip_context_opening.specs.steps_model.Effect as Effects
+use Rattle.sip_forwarding.specs.steps_model.Effect.{Effect}
+use Rattle.sip_forwarding.specs.steps_model.Effect as Effects
 use Rattle.sip_digest.specs.declared.nonces.Nonce.{Nonce}
 use Rattle.sip_digest.specs.Nonces.{issued}
 use Rattle.sip_policy.specs.declared.operation.Operation.{Operation}

@@ -9,7 +9,7 @@ use Rattle.sip_location.specs.Binding.{live}
 use Rattle.sip_location.specs.Locations.{Planned, IsPlan}
 use Rattle.sip_location.specs.Registration.{registered}
 use Rattle.sip_location.proofs.Updates.{live_edited}
-use Rattle.sip_context_opening.specs.steps_model.Effect.{contact_field, contact_fields}
+use Rattle.sip_forwarding.specs.steps_model.Effect.{contact_field, contact_fields}
 
 -- its bindings are those that live after the REGISTER
 are_live : (rows after : List Binding) (r : Registration) (now : ℕ) (plan : Planned) → IsPlan rows r now plan → registered rows r now ≡ Ok after → plan.bindings ≡ live plan.aor now after

@@ -1,8 +1,8 @@
 -- What a final answer does, as it is drafted.
 use Rattle.std.proofs.Common.{◌≡◌, ◌∙◌, ℕ, Bool, true, false, cond, List, [], ◌∷◌, Option, Result, Some, None, Ok, Err, IfSome, IfOk, refl, sym, ap, subst, unwrap_or}
 use Rattle.std.specs.declared.alloc.AllocError.{AllocError}
-use Rattle.sip_context_opening.specs.declared.arrival.Arrival.{Arrival}
-use Rattle.sip_context_opening.specs.Arrivals.{arrival_of}
+use Rattle.sip_forwarding.specs.declared.arrival.Arrival.{Arrival}
+use Rattle.sip_forwarding.specs.Arrivals.{arrival_of}
 use Rattle.sip_audit.specs.declared.record.Record.{Record}
 use Rattle.sip_core.specs.context_model.Opening.{closing}
 use Rattle.sip_core.specs.context_model.Sending.{answer_packet, made_answer}
@@ -12,7 +12,7 @@ use Rattle.sip_message_form.specs.declared.message.Message.{Message}
 use Rattle.sip_message_form.specs.Text.{text_of}
 use Rattle.sip_transaction_table.specs.declared.key.Key.{Key}
 use Rattle.sip_transaction_table.specs.Key.{key_of}
-use Rattle.sip_context_opening.specs.steps_model.Effect as Effects
+use Rattle.sip_forwarding.specs.steps_model.Effect as Effects
 use Rattle.sip_dialog_lessons.specs.state.declared.open_request.OpenRequest.{OpenRequest}
 use Rattle.sip_dialog_lessons.specs.state.declared.server.Server.{Server}
 use Rattle.sip_dialog_lessons.specs.state.State.{with_one_more}

@@ -1,13 +1,13 @@
 -- What is drafted of a verdict by policy does what the verdict does.
 use Rattle.std.proofs.Common.{◌≡◌, ℕ, Bool, List, Option, Result, Some, None, Ok, Err, IfSome, IfOk, sym, subst}
 use Rattle.std.specs.declared.alloc.AllocError.{AllocError}
-use Rattle.sip_context_opening.specs.declared.arrival.Arrival.{Arrival}
-use Rattle.sip_context_opening.specs.Arrivals.{arrival_of}
+use Rattle.sip_forwarding.specs.declared.arrival.Arrival.{Arrival}
+use Rattle.sip_forwarding.specs.Arrivals.{arrival_of}
 use Rattle.sip_auth.specs.Proof.{used}
 use Rattle.sip_message_fields.specs.declared.field.Field.{Field}
 use Rattle.sip_message_form.specs.declared.message.Message.{Message}
 use Rattle.sip_transaction_table.specs.declared.key.Key.{Key}
-use Rattle.sip_context_opening.specs.steps_model.Effect as Effects
+use Rattle.sip_forwarding.specs.steps_model.Effect as Effects
 use Rattle.sip_digest.specs.Nonces.{issued}
 use Rattle.sip_dialog_lessons.specs.state.declared.open_request.OpenRequest.{OpenRequest}
 use Rattle.sip_dialog_lessons.specs.state.declared.proxy_state.ProxyState.{ProxyState}

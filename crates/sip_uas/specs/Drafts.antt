@@ -1,8 +1,8 @@
 -- What a draft of a step does: what is sent and recorded, and what becomes of the state.
 use Rattle.std.specs.Prelude.{◌≡◌, ℕ, Bool, List, [], Option, Some, None, Ok}
-use Rattle.sip_context_opening.specs.declared.arrival.Arrival.{Arrival}
+use Rattle.sip_forwarding.specs.declared.arrival.Arrival.{Arrival}
 use Rattle.sip_transaction_table.specs.declared.key.Key.{Key}
-use Rattle.sip_context_opening.specs.steps_model.Effect.{Effect}
+use Rattle.sip_forwarding.specs.steps_model.Effect.{Effect}
 use Rattle.sip_digest.specs.declared.nonces.Nonce.{Nonce}
 use Rattle.sip_dialog_lessons.specs.state.declared.open_request.OpenRequest.{OpenRequest}
 use Rattle.sip_dialog_lessons.specs.state.declared.proxy_state.ProxyState.{ProxyState}

@@ -1,4 +1,4 @@
 pub mod Drafts
 pub mod Asking
-pub use Rattle.sip_context_opening.specs as context_opening
+pub use Rattle.sip_forwarding.specs as forwarding
 pub use Rattle.model_transactions.specs as transactions_model

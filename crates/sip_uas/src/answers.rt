@@ -1,7 +1,7 @@
 ghost use Rattle.std.specs.Prelude.{◌≡◌, ◌+◌, ◌<◌, ◌^◌, if◌then◌else◌, [], ◌∷◌, Some, None, IfOk, IfSome};
-ghost use Rattle.sip_context_opening.specs.Arrivals.{arrival_of};
+ghost use Rattle.sip_forwarding.specs.Arrivals.{arrival_of};
 ghost use Rattle.sip_transaction_table.specs.Key.{key_of};
-ghost use Rattle.sip_context_opening.specs.steps_model.Effect as Effects;
+ghost use Rattle.sip_forwarding.specs.steps_model.Effect as Effects;
 ghost use Rattle.model_transactions.specs.Fits.{IsFinalAnswer};
 ghost use Rattle.sip_uas.specs.Drafts.{Drafts, IsOpenable};
 
@@ -10,10 +10,10 @@ use model_transactions::fitting_events::opens_fitting;
 use model_transactions::openings::answered_at_once;
 use sip_audit::Record;
 use sip_base::Shared;
-use sip_context_opening::{Arrival, Replied, reply};
-use sip_core::context_request::Heard;
+use sip_core::state::Heard;
 use sip_dialog_lessons::Lessons;
 use sip_dialog_lessons::state::{OpenRequest, Server};
+use sip_forwarding::{Arrival, Replied, reply};
 use sip_message_fields::Fields;
 use sip_text::Items;
 use sip_transaction_table::Key;

@@ -1,6 +1,6 @@
 ghost use Rattle.std.specs.Prelude.{◌≡◌, ℕ, IfOk};
 ghost use Rattle.sip_uri.specs.declared.addr.Addr.{Addr};
-ghost use Rattle.sip_context_opening.specs.steps_model.Effect as Effects;
+ghost use Rattle.sip_forwarding.specs.steps_model.Effect as Effects;
 
 use sip_auth::offers_sha256;
 use sip_core::verdict_model::Question;

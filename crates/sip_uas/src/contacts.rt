@@ -4,7 +4,7 @@ ghost use Rattle.sip_location.specs.Locations.{IsPlan};
 ghost use Rattle.sip_location.specs.Registration.{registered};
 ghost use Rattle.sip_location.specs.declared.binding.Binding.{Binding};
 ghost use Rattle.sip_location.specs.declared.registration.Registration.{Registration};
-ghost use Rattle.sip_context_opening.specs.steps_model.Effect as Effects;
+ghost use Rattle.sip_forwarding.specs.steps_model.Effect as Effects;
 
 use sip_edit_response::contact_value;
 use sip_location::{BindingRef, Bindings, Plan};

@@ -3,7 +3,7 @@
 //! denials, the bindings that a 200 lists, the extensions that a 420 names. All of it is drafted, with all memory, before
 //! anything changes.
 //!
-//! - Used: `sip_engine_answer`, and `sip_engine_forward` for its records.
+//! - Used: `sip_engine_request`, and `sip_engine_request` for its records.
 //! - Not here: the decision (`sip_core`).
 //! - Tried: `test_server` by its stored runs.
 #![tactic(auto)]
@@ -28,9 +28,9 @@ pub use judging::judged;
 pub use records::{method_of, record_of, recorded};
 pub use refusals::denial_fields;
 
-/// Of `sip_context_opening`.
-pub mod context_opening {
-    pub use sip_context_opening::{Arrival, change_packets, reply};
+/// Of `sip_forwarding`.
+pub mod forwarding {
+    pub use sip_forwarding::{Arrival, change_packets, reply};
 }
 
 /// Of `model_transactions`.

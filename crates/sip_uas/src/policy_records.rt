@@ -1,14 +1,14 @@
 ghost use Rattle.std.specs.Prelude.{◌≡◌, [], ◌∷◌, IfOk};
-ghost use Rattle.sip_context_opening.specs.Arrivals.{arrival_of};
-ghost use Rattle.sip_context_opening.specs.steps_model.Effect as Effects;
+ghost use Rattle.sip_forwarding.specs.Arrivals.{arrival_of};
+ghost use Rattle.sip_forwarding.specs.steps_model.Effect as Effects;
 ghost use Rattle.sip_dialog_lessons.specs.state.declared.server.Server.{Server};
 ghost use Rattle.sip_core.specs.verdict_model.Verdict.{minute_on};
 
 use crate::record_of;
 use sip_audit::{Outcome, Record};
-use sip_context_opening::Arrival;
 use sip_core::Judged;
-use sip_core::context_request::Heard;
+use sip_core::state::Heard;
+use sip_forwarding::Arrival;
 use sip_text::Items;
 use std::alloc::{AllocError, Global};
 

@@ -1,5 +1,6 @@
 -- IPv4 addresses and ports as text.
-use Rattle.std.specs.Prelude.{ℕ, ◌+◌, ◌*◌, ◌&&◌, ◌==◌, nat_le, not, if◌then◌else◌, List, [], ◌∷◌, ◌++◌, length, slice_index, decimal, codes, Option, Some, None, option_map}
+use Rattle.std.specs.Prelude.{ℕ, ◌+◌, ◌*◌, ◌&&◌, ◌==◌, nat_le, not, if◌then◌else◌, List, [], ◌∷◌, ◌++◌, length, slice_index, decimal, codes}
+use Rattle.std.specs.Prelude.{Option, Some, None, option_map}
 use Rattle.std.specs.Option.{option_and_then}
 use Rattle.std.specs.Str.{byte}
 use Rattle.std.specs.Char.{is_ascii_digit, digit_value}
@@ -11,7 +12,8 @@ use Rattle.sip_uri.specs.declared.addr.Addr.{Addr}
 
 -- four decimal numbers joined by dots (RFC 3261 25.1, IPv4address)
 abbrev pub ip_text : List ℕ → List ℕ
-ip_text ip = decimal (slice_index ip 0) ++ codes "." ++ decimal (slice_index ip 1) ++ codes "." ++ decimal (slice_index ip 2) ++ codes "." ++ decimal (slice_index ip 3)
+ip_text ip = decimal (slice_index ip 0) ++ codes "." ++ decimal (slice_index ip 1) ++ codes "." ++ decimal (slice_index ip 2) ++ codes "."
+    ++ decimal (slice_index ip 3)
 
 -- ---- the address that a text writes: `ip_text_is_read` says that it is the one with that text
 

@@ -8,7 +8,8 @@ use Rattle.sip_uri.specs.declared.user.UserInfo.{UserInfo}
 use Rattle.sip_uri.specs.declared.uri.Uri.{Uri}
 use Rattle.sip_uri.specs.declared.aor.Aor.{Aor}
 
--- the user that a URI names, without escapes; none is the empty one. A user with a bad escape, which no URI of the grammar has, is taken as it stands.
+-- the user that a URI names, without escapes; none is the empty one. A user with a bad escape, which no URI of the grammar has, is
+-- taken as it stands.
 abbrev pub user_named : Option UserInfo → List ℕ
 user_named None = []
 user_named (Some info) = unwrap_or (unescaped info.user) info.user

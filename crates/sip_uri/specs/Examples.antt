@@ -7,7 +7,14 @@ use Rattle.sip_uri.specs.declared.uri.Uri.{Uri}
 
 -- `sip:`, a user, `@` and a host
 abbrev pub user_at : List ℕ → List ℕ → Uri
-user_at user host = record { scheme = Sip; userinfo = Some (record { user = user; password = None }); host = host; port = None; parameters = []; headers = [] }
+user_at user host = record {
+  scheme = Sip;
+  userinfo = Some (record { user = user; password = None });
+  host = host;
+  port = None;
+  parameters = [];
+  headers = [];
+}
 
 -- the same with one parameter
 abbrev pub with_parameter : Uri → Parameter → Uri
@@ -73,11 +80,25 @@ each_part =
 
 -- `sip:a:@h`, whose password is empty
 abbrev pub empty_password : Uri
-empty_password = record { scheme = Sip; userinfo = Some (record { user = codes "a"; password = Some [] }); host = codes "h"; port = None; parameters = []; headers = [] }
+empty_password = record {
+  scheme = Sip;
+  userinfo = Some (record { user = codes "a"; password = Some [] });
+  host = codes "h";
+  port = None;
+  parameters = [];
+  headers = [];
+}
 
 -- `sip:h;x=1;%78=2`, whose names differ as they are written
 abbrev pub escaped_name : Uri
-escaped_name = record { scheme = Sip; userinfo = None; host = codes "h"; port = None; parameters = valued (codes "x") (codes "1") ∷ valued (codes "%78") (codes "2") ∷ []; headers = [] }
+escaped_name = record {
+  scheme = Sip;
+  userinfo = None;
+  host = codes "h";
+  port = None;
+  parameters = valued (codes "x") (codes "1") ∷ valued (codes "%78") (codes "2") ∷ [];
+  headers = [];
+}
 
 -- the domains of the sample configuration
 abbrev pub sample_domains : List (List ℕ)

@@ -69,7 +69,8 @@ user_from text (Some x) = do
   info ← ok_or (userinfo_of x.0) Syntax
   Ok (Some info, x.1)
 
--- the user before the first `@` if there is one, and what follows. It is looked for first, since a user may have `;` and `?` (RFC 3261 25.1: userinfo).
+-- the user before the first `@` if there is one, and what follows. It is looked for first, since a user may have `;` and `?` (RFC
+-- 3261 25.1: userinfo).
 abbrev pub user_of : List ℕ → Result (Option UserInfo × List ℕ) UriError
 user_of text = user_from text (split_at_byte (byte "@") text)
 

@@ -77,7 +77,8 @@ fn number_at(text: &[u8]) -> Option<(u8, Option<&[u8]>)>
 
 /// The number behind a dot, if one was there.
 fn next_number(rest: Option<&[u8]>) -> Option<(u8, Option<&[u8]>)>
-    ensures { option_map (λ x. (x.0, option_map (λ rest. rest.now) x.1)) result ≡ option_and_then Addresses.number_at (option_map (λ text. text.now) rest.entry) }
+    ensures { option_map (λ x. (x.0, option_map (λ rest. rest.now) x.1)) result
+        ≡ option_and_then Addresses.number_at (option_map (λ text. text.now) rest.entry) }
 {
     number_at(rest?)
 }

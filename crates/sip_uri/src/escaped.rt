@@ -72,7 +72,9 @@ fn is_of(class: Class, byte: u8) -> bool
 
 /// What follows the byte or the escape at the front of a text. None at its end, or at another byte.
 fn after_byte(class: Class, rest: &[u8]) -> Option<&[u8]>
-    ensures { MatchOption result (Parts.are_escaped (Parts.is_of class) rest.now ≡ is_nil rest.now) (λ after. (length after.now < length rest.now) × (Parts.are_escaped (Parts.is_of class) rest.now ≡ Parts.are_escaped (Parts.is_of class) after.now)) }
+    ensures { MatchOption result (Parts.are_escaped (Parts.is_of class) rest.now ≡ is_nil rest.now)
+        (λ after. (length after.now < length rest.now) × (Parts.are_escaped (Parts.is_of class) rest.now
+        ≡ Parts.are_escaped (Parts.is_of class) after.now)) }
 {
     let (first, after) = rest.split_first()?;
     if is_of(class, *first) {

@@ -82,7 +82,8 @@ pub fn is_host(host: &[u8]) -> bool
     are_host_bytes(host)
 }
 
-fn begins_bracket(text: &[u8]) -> bool
+/// Whether a text begins as an address in brackets does.
+pub fn begins_bracket(text: &[u8]) -> bool
     ensures { result ≡ Host.begins_bracket text.now }
 {
     let Some((first, _)) = text.split_first() else {

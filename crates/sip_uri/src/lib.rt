@@ -1,6 +1,14 @@
 //! SIP and SIPS URIs: the tree of RFC 3261 19.1.1, its reading, its written form, and the address of record that a URI
 //! names; and what stands in one: hosts, ports and addresses (RFC 3261 25.1), an IPv4 address with a UDP port and its
 //! dotted text among them.
+//!
+//! - Used: whoever reads an address of a message or of the configuration; the program prints addresses.
+//! - Not here: whether two URIs are equal (`sip_uri_equality`), and where one leads (`sip_hops`).
+//! - Tried: worked examples in `src/examples.rt`, as contracts that compute and `host_examples.rt`; `test_parts`.
+//!
+//! ```text
+//! let uri = parse_uri(alloc, b"sip:help@host.com")?;
+//! ```
 #![tactic(auto)]
 
 mod addr;
@@ -28,7 +36,7 @@ pub use addr::{Addr, addr_of, addr_text, ip_of, ip_text};
 pub use aor::{Aor, aor_of, same_aor};
 pub use error::UriError;
 pub use headers::UriHeader;
-pub use host::{host_port, is_host, place_at, place_in};
+pub use host::{begins_bracket, host_port, is_host, place_at, place_in};
 pub use parameters::Parameter;
 pub use plain::plain_place;
 pub use port::port_value;

@@ -71,7 +71,8 @@ fn any_rest(text: &[u8]) -> (Option<(&[u8], Option<&[u8]>)>, Option<&[u8]>, Opti
 
 /// The parameters and the headers that a text writes which follows host and port. None where something else follows.
 pub(crate) fn behind_place(rest: &[u8]) -> Option<(Option<&[u8]>, Option<&[u8]>)>
-    ensures { IfSome result (λ x. (front : List ℕ) → list_all is_of_place front ≡ true → AreTexts (front ++ rest.now) front (option_map (λ y. y.now) x.0) (option_map (λ y. y.now) x.1)) }
+    ensures { IfSome result (λ x. (front : List ℕ) → list_all is_of_place front ≡ true
+        → AreTexts (front ++ rest.now) front (option_map (λ y. y.now) x.0) (option_map (λ y. y.now) x.1)) }
 {
     let Some((mark, behind)) = rest.split_first() else {
         return Some((None, None));
@@ -98,7 +99,8 @@ fn digits_of(port: Option<(&[u8], u16)>) -> Option<&[u8]>
 
 /// The same of a text with a host name, each byte of which is read once. None says nothing.
 fn plain_rest(text: &[u8]) -> Option<((&[u8], Option<&[u8]>), Option<&[u8]>, Option<&[u8]>)>
-    ensures { IfSome result (λ x. HasPlace text.now x.0.0.now (option_map (λ y. y.now) x.0.1) (option_map (λ y. y.now) x.1) (option_map (λ y. y.now) x.2)) }
+    ensures { IfSome result (λ x. HasPlace text.now x.0.0.now (option_map (λ y. y.now) x.0.1) (option_map (λ y. y.now) x.1)
+        (option_map (λ y. y.now) x.2)) }
 {
     let (host, port, rest) = place_at(text)?;
     let (parameters, headers) = behind_place(rest)?;

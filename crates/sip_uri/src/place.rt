@@ -13,7 +13,8 @@ pub(crate) fn read_place(
     alloc: Global,
     place: Option<(&[u8], Option<&[u8]>)>,
 ) -> Result<(Bytes, Option<Bytes>), UriError>
-    ensures { Gives {Y = List ℕ × Option (List ℕ)} (λ x. (x.0, x.1)) result (ok_or (option_map (λ x. (x.0.now, option_map (λ digits. digits.now) x.1)) place.entry) Syntax) }
+    ensures { Gives {Y = List ℕ × Option (List ℕ)} (λ x. (x.0, x.1)) result
+        (ok_or (option_map (λ x. (x.0.now, option_map (λ digits. digits.now) x.1)) place.entry) Syntax) }
 {
     let (host, port) = place.ok_or(UriError::Syntax)?;
     let host = Bytes::copy(alloc, host)?;

@@ -80,7 +80,8 @@ agrees p q = if says_same_no_case p.name q.name then both_or_none says_same_no_c
 
 -- parameters that aren't ignored where only one URI has them (RFC 3261 19.1.4; `transport` is this project's)
 abbrev pub is_never_ignored : List ℕ → Bool
-is_never_ignored name = list_any (λ known. says_same_no_case name known) (codes "user" ∷ codes "ttl" ∷ codes "method" ∷ codes "maddr" ∷ codes "transport" ∷ [])
+is_never_ignored name = list_any (λ known. says_same_no_case name known)
+    (codes "user" ∷ codes "ttl" ∷ codes "method" ∷ codes "maddr" ∷ codes "transport" ∷ [])
 
 -- a parameter may be ignored, or its name stands among others
 abbrev pub is_answered : List Parameter → Parameter → Bool

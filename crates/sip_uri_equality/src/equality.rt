@@ -55,7 +55,9 @@ fn are_same_ports(left: &Option<Bytes>, right: &Option<Bytes>) -> bool
 
 /// Whether two URIs have the same scheme, user, password, host and port; what is shortest is compared first.
 pub(crate) fn is_same_place(left: &Uri, right: &Uri) -> bool
-    ensures { result ≡ (Definitions.is_same_scheme left.now.scheme right.now.scheme && Definitions.is_same_userinfo left.now.userinfo right.now.userinfo && Definitions.says_same_no_case left.now.host right.now.host && Definitions.both_or_none Definitions.says_same_no_case left.now.port right.now.port) }
+    ensures { result ≡ (Definitions.is_same_scheme left.now.scheme right.now.scheme
+        && Definitions.is_same_userinfo left.now.userinfo right.now.userinfo && Definitions.says_same_no_case left.now.host right.now.host
+        && Definitions.both_or_none Definitions.says_same_no_case left.now.port right.now.port) }
 {
     if !are_same_ports(&left.port, &right.port) {
         return false;

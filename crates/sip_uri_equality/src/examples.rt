@@ -30,13 +30,15 @@ pub fn parameters_of_one_alone()
     ensures maddr { are_equal (codes "sip:h") (codes "sip:h;maddr=239.255.255.1") ≡ Some false }
     ensures transport { are_equal (codes "sip:h;transport") (codes "sip:h") ≡ Some false }
     ensures without_value { are_equal (codes "sip:h;lr") (codes "sip:h;lr=x") ≡ Some false }
-    ensures order { are_equal (codes "sip:biloxi.com;transport=tcp;method=REGISTER?to=sip:bob%40biloxi.com") (codes "sip:biloxi.com;method=REGISTER;transport=tcp?to=sip:bob%40biloxi.com") ≡ Some true }
+    ensures order { are_equal (codes "sip:biloxi.com;transport=tcp;method=REGISTER?to=sip:bob%40biloxi.com")
+        (codes "sip:biloxi.com;method=REGISTER;transport=tcp?to=sip:bob%40biloxi.com") ≡ Some true }
 {}
 
 /// URI headers match in any order; with another value, or in one URI alone, they don't (RFC 3261 19.1.4).
 #[tactic(auto, unfolding(sip_uri::specs::Reading::reading_of, sip_uri::specs::Reading::rest_of))]
 pub fn headers_in_any_order()
-    ensures order { are_equal (codes "sip:alice@atlanta.com?subject=project%20x&priority=urgent") (codes "sip:alice@atlanta.com?priority=urgent&subject=project%20x") ≡ Some true }
+    ensures order { are_equal (codes "sip:alice@atlanta.com?subject=project%20x&priority=urgent")
+        (codes "sip:alice@atlanta.com?priority=urgent&subject=project%20x") ≡ Some true }
     ensures value { are_equal (codes "sip:alice@atlanta.com?priority=urgent") (codes "sip:alice@atlanta.com?priority=normal") ≡ Some false }
     ensures missing { are_equal (codes "sip:carol@chicago.com") (codes "sip:carol@chicago.com?Subject=next%20meeting") ≡ Some false }
     ensures one_more { are_equal (codes "sip:carol@chicago.com?a=1&a=1") (codes "sip:carol@chicago.com?a=1") ≡ Some false }

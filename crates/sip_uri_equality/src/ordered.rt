@@ -24,7 +24,8 @@ impl<'a> Model for Ordered<'a> {
 
     ghost view = { λ o. o.uri.now };
 
-    ghost invariant = { λ o. ArePutInOrder order_of_names o.uri.now.parameters o.parameters.items × ArePutInOrder order_of_headers o.uri.now.headers o.headers.items };
+    ghost invariant = { λ o. ArePutInOrder order_of_names o.uri.now.parameters o.parameters.items
+        × ArePutInOrder order_of_headers o.uri.now.headers o.headers.items };
 }
 
 /// Parameters in order of their names.

@@ -1,6 +1,7 @@
 ghost use Rattle.std.specs.Prelude.{◌≡◌, ◌<◌, [], ◌∷◌, length, true, false, MatchOption};
-ghost use Rattle.std.specs.Char.{is_ascii_hexdigit, digit_value};
 ghost use Rattle.sip_uri_equality.specs.Equality as Definitions;
+
+use sip_text::hex_value;
 
 /// A character that a text of a URI says (RFC 3261 19.1.4).
 #[derive(Clone, Copy)]
@@ -36,18 +37,6 @@ impl Symbol {
     }
 }
 
-/// The value of a hexadecimal digit.
-fn hex_value(byte: u8) -> Option<u8>
-    ensures { MatchOption result (is_ascii_hexdigit byte ≡ false) (λ n. (n < 16) × (n ≡ digit_value byte) × (is_ascii_hexdigit byte ≡ true)) }
-{
-    match byte {
-        b'0'..=b'9' => Some(byte - b'0'),
-        b'a'..=b'f' => Some(byte - b'a' + 10),
-        b'A'..=b'F' => Some(byte - b'A' + 10),
-        _ => None,
-    }
-}
-
 /// Whether a byte is reserved (RFC 3261 25.1).
 fn is_reserved(byte: u8) -> bool
     ensures { result ≡ Definitions.is_reserved byte }
@@ -72,7 +61,9 @@ fn escaped(byte: u8) -> Symbol
 /// The byte of an escape whose digits stand at the front, and what stands behind them. None where no two
 /// digits stand there.
 fn escape_behind_percent(digits: &[u8]) -> Option<(u8, &[u8])>
-    ensures { MatchOption result (Definitions.symbols (37 ∷ digits.now) ≡ Symbol.Plain 37 ∷ Definitions.symbols digits.now) (λ x. (Definitions.symbols (37 ∷ digits.now) ≡ Definitions.escaped_symbol x.0 ∷ Definitions.symbols x.1.now) × (length x.1.now < length digits.now)) }
+    ensures { MatchOption result (Definitions.symbols (37 ∷ digits.now) ≡ Symbol.Plain 37 ∷ Definitions.symbols digits.now)
+        (λ x. (Definitions.symbols (37 ∷ digits.now) ≡ Definitions.escaped_symbol x.0 ∷ Definitions.symbols x.1.now)
+        × (length x.1.now < length digits.now)) }
 {
     let (high, rest) = digits.split_first()?;
     let (low, rest) = rest.split_first()?;
@@ -84,7 +75,8 @@ fn escape_behind_percent(digits: &[u8]) -> Option<(u8, &[u8])>
 /// The character that the front of a text says, and what stands behind it; None at its end. A `%` that begins
 /// no escape stands for itself.
 pub(crate) fn split_symbol(text: &[u8]) -> Option<(Symbol, &[u8])>
-    ensures { MatchOption result (text.now ≡ []) (λ x. (Definitions.symbols text.now ≡ x.0 ∷ Definitions.symbols x.1.now) × (length x.1.now < length text.now)) }
+    ensures { MatchOption result (text.now ≡ []) (λ x. (Definitions.symbols text.now ≡ x.0 ∷ Definitions.symbols x.1.now)
+        × (length x.1.now < length text.now)) }
 {
     let (first, rest) = text.split_first()?;
     if *first != b'%' {

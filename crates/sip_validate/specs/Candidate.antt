@@ -35,7 +35,16 @@ on_way way r = record r { way = way }
 -- a request line and fields as a request that is checked, with these core fields; a response is none
 abbrev pub candidate_with : Option CoreFields → Own → List Field → Bool → Start → Option Candidate
 candidate_with core own fields short (Request method uri version) =
-    Some (record { own = own; method = method; uri = uri; version = version; fields = fields; short = short; core = core; way = way_from own uri fields })
+    Some (record {
+      own = own;
+      method = method;
+      uri = uri;
+      version = version;
+      fields = fields;
+      short = short;
+      core = core;
+      way = way_from own uri fields;
+    })
 candidate_with core own fields short (Status code reason) = None
 
 -- whether a message with this first line is a request

@@ -80,7 +80,8 @@ is_bindable None = true
 is_bindable (Some Star) = true
 is_bindable (Some (Address address)) = may_be_bound address.uri
 
--- in a REGISTER, a Contact is neither `*` nor a SIP or SIPS URI, or is longer than 512 bytes (RFC 3261 10.2.1, 10.3 step 6, in this project's profile)
+-- in a REGISTER, a Contact is neither `*` nor a SIP or SIPS URI, or is longer than 512 bytes (RFC 3261 10.2.1, 10.3 step 6, in this
+-- project's profile)
 abbrev pub binds_other_contact : Candidate → Bool
 binds_other_contact r = is_register r && not (list_all (λ value. is_bindable (contact_of value)) (values_of Name.Contact r.fields))
 

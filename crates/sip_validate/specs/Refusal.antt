@@ -1,5 +1,6 @@
 -- The checks that a request has to pass, in their order, and the status of the first that it doesn't (RFC 3261 16.3, 8.2.2, 10.3).
-use Rattle.std.specs.Prelude.{ℕ, Bool, false, ◌&&◌, ◌==◌, not, nat_lt, if◌then◌else◌, List, [], ◌∷◌, length, find, codes, is_some, Option, None, option_map}
+use Rattle.std.specs.Prelude.{ℕ, Bool, false, ◌&&◌, ◌==◌, not, nat_lt, if◌then◌else◌, List, [], ◌∷◌, length, find, codes, is_some, Option}
+use Rattle.std.specs.Prelude.{None, option_map}
 use Rattle.std.specs.Option.{option_map_or}
 use Rattle.std.specs.Result.{result_ok}
 use Rattle.std.specs.List.{list_any, join_by}
@@ -103,7 +104,8 @@ candidate_by own fields short start = candidate_with (result_ok (core_in fields)
 abbrev pub candidate_of : Own → Message → Bool → Option Candidate
 candidate_of own m short = candidate_by own m.fields short m.start
 
--- The status that refuses a request, and the value of Unsupported, which is empty but in a 420; none where it may be served. `short` says that fewer bytes of
+-- The status that refuses a request, and the value of Unsupported, which is empty but in a 420; none where it may be served. `short`
+-- says that fewer bytes of
 -- its body came than its Content-Length says.
 abbrev pub refusal_of : Own → Message → Bool → Option (ℕ × List ℕ)
 refusal_of own m short = option_map_or refusal (candidate_of own m short) None

@@ -42,9 +42,19 @@ impl<'a> Model for Candidate<'a> {
 
     ghost Value = { Candidate };
 
-    ghost view = { λ r. record { own = r.own.now; method = r.method.now; uri = r.uri.now; version = r.version.now; fields = r.fields.now; short = r.short; core = Some r.core.now; way = way_from r.own.now r.uri.now r.fields.now } };
+    ghost view = { λ r. record {
+      own = r.own.now;
+      method = r.method.now;
+      uri = r.uri.now;
+      version = r.version.now;
+      fields = r.fields.now;
+      short = r.short;
+      core = Some r.core.now;
+      way = way_from r.own.now r.uri.now r.fields.now;
+    } };
 
-    ghost invariant = { λ r. (option_and_then via_of (first_value Name.Via r.fields.now) ≡ Some r.via.now) × IfSome r.is_uri (λ is_uri. is_uri ≡ is_ok (reading_of r.uri.now)) };
+    ghost invariant = { λ r. (option_and_then via_of (first_value Name.Via r.fields.now) ≡ Some r.via.now)
+        × IfSome r.is_uri (λ is_uri. is_uri ≡ is_ok (reading_of r.uri.now)) };
 }
 
 impl<'a> Candidate<'a> {

@@ -2,7 +2,8 @@ ghost use Rattle.std.specs.Prelude.{◌≡◌, [], ◌∷◌, codes, true, false
 ghost use Rattle.sip_message_fields.specs.declared.field_name.FieldName.TheVariants as Name;
 ghost use Rattle.sip_route.specs.Examples.{own};
 ghost use Rattle.sip_validate.specs.Refusal.{refusal_of, is_bad_request};
-ghost use Rattle.sip_validate.specs.Examples.{field, fields_with, all_with, invite, invite_with, invite_to, register, register_with, response, long_contact, without_call_id};
+ghost use Rattle.sip_validate.specs.Examples.{field, fields_with, all_with, invite, invite_with, invite_to, register, register_with};
+ghost use Rattle.sip_validate.specs.Examples.{response, long_contact, without_call_id};
 
 /// Requests that nothing is wrong with, and one for each row: Max-Forwards 0, which a REGISTER may have; two
 /// extensions; another scheme; another version; another place in Route, which can be read; a missing Call-ID; a short
@@ -12,8 +13,10 @@ pub fn validation_statuses()
     ensures served { refusal_of own (invite_with (field Name.MaxForwards (codes "70") ∷ [])) false ≡ None }
     ensures no_max_forwards { refusal_of own (invite_with []) false ≡ None }
     ensures no_hops { refusal_of own (invite_with (field Name.MaxForwards (codes "0") ∷ [])) false ≡ Some (483, []) }
-    ensures no_hops_in_register { refusal_of own (register_with (field Name.MaxForwards (codes "0") ∷ field Name.Contact (codes "<sip:Mufasa@127.0.0.1:5062>") ∷ [])) false ≡ None }
-    ensures extensions { refusal_of own (invite_with (field Name.ProxyRequire (codes "a") ∷ field Name.ProxyRequire (codes "b") ∷ [])) false ≡ Some (420, codes "a, b") }
+    ensures no_hops_in_register { refusal_of own (register_with (field Name.MaxForwards (codes "0") ∷ field Name.Contact (codes "<sip:Mufasa@127.0.0.1:5062>")
+        ∷ [])) false ≡ None }
+    ensures extensions { refusal_of own (invite_with (field Name.ProxyRequire (codes "a") ∷ field Name.ProxyRequire (codes "b") ∷ [])) false
+        ≡ Some (420, codes "a, b") }
     ensures scheme { refusal_of own (invite_to (codes "tel:+1") []) false ≡ Some (416, []) }
     ensures version { refusal_of own (invite (codes "sip:help@host.com") (codes "SIP/3.0") (all_with [])) false ≡ Some (505, []) }
     ensures own_route { refusal_of own (invite_with (field Name.Route (codes "<sip:sip.host.com:5060;lr>") ∷ [])) false ≡ None }
@@ -23,7 +26,8 @@ pub fn validation_statuses()
     ensures short_body { refusal_of own (invite_with []) true ≡ Some (400, []) }
     ensures own_via { refusal_of own (invite_with (field Name.Via (codes "SIP/2.0/UDP SIP.host.com;branch=z9hG4bK1") ∷ [])) false ≡ Some (482, []) }
     ensures via_of_domain { refusal_of own (invite_with (field Name.Via (codes "SIP/2.0/UDP host.com;branch=z9hG4bK1") ∷ [])) false ≡ None }
-    ensures via_of_other_port { refusal_of own (invite_with (field Name.Via (codes "SIP/2.0/UDP sip.host.com:5070;branch=z9hG4bK1") ∷ [])) false ≡ None }
+    ensures via_of_other_port { refusal_of own (invite_with (field Name.Via (codes "SIP/2.0/UDP sip.host.com:5070;branch=z9hG4bK1") ∷ []))
+        false ≡ None }
     ensures no_request { refusal_of own response false ≡ None }
 {}
 
@@ -32,13 +36,19 @@ pub fn validation_statuses()
 /// first row alone.
 #[tactic(auto, unfolding(sip_uri::specs::Reading::reading_of, sip_uri::specs::Reading::rest_of, sip_header::specs::CoreFields::core_in))]
 pub fn first_row_counts()
-    ensures bad { refusal_of own (invite (codes "tel:+1") (codes "SIP/3.0") (all_with (field Name.MaxForwards (codes "256") ∷ []))) false ≡ Some (400, []) }
-    ensures version { refusal_of own (invite (codes "tel:+1") (codes "SIP/3.0") (all_with (field Name.MaxForwards (codes "0") ∷ []))) false ≡ Some (505, []) }
+    ensures bad { refusal_of own (invite (codes "tel:+1") (codes "SIP/3.0") (all_with (field Name.MaxForwards (codes "256") ∷ []))) false
+        ≡ Some (400, []) }
+    ensures version { refusal_of own (invite (codes "tel:+1") (codes "SIP/3.0") (all_with (field Name.MaxForwards (codes "0") ∷ []))) false
+        ≡ Some (505, []) }
     ensures scheme { refusal_of own (invite_to (codes "tel:+1") (field Name.MaxForwards (codes "0") ∷ [])) false ≡ Some (416, []) }
-    ensures hops { refusal_of own (invite_with (field Name.MaxForwards (codes "0") ∷ field Name.Via (codes "SIP/2.0/UDP sip.host.com:5060") ∷ [])) false ≡ Some (483, []) }
-    ensures own_via { refusal_of own (invite_with (field Name.ProxyRequire (codes "a") ∷ field Name.Via (codes "SIP/2.0/UDP sip.host.com:5060") ∷ [])) false ≡ Some (482, []) }
-    ensures extension { refusal_of own (invite_with (field Name.ProxyRequire (codes "a") ∷ field Name.Route (codes "<sip:far.net>") ∷ [])) false ≡ Some (420, codes "a") }
-    ensures cancel { is_bad_request own (invite (codes "tel:+1") (codes "SIP/3.0") (all_with (field Name.MaxForwards (codes "0") ∷ []))) false ≡ false }
+    ensures hops { refusal_of own
+        (invite_with (field Name.MaxForwards (codes "0") ∷ field Name.Via (codes "SIP/2.0/UDP sip.host.com:5060") ∷ [])) false ≡ Some (483, []) }
+    ensures own_via { refusal_of own
+        (invite_with (field Name.ProxyRequire (codes "a") ∷ field Name.Via (codes "SIP/2.0/UDP sip.host.com:5060") ∷ [])) false ≡ Some (482, []) }
+    ensures extension { refusal_of own (invite_with (field Name.ProxyRequire (codes "a") ∷ field Name.Route (codes "<sip:far.net>") ∷ []))
+        false ≡ Some (420, codes "a") }
+    ensures cancel { is_bad_request own (invite (codes "tel:+1") (codes "SIP/3.0") (all_with (field Name.MaxForwards (codes "0") ∷ [])))
+        false ≡ false }
     ensures bad_cancel { is_bad_request own (invite_with (field Name.MaxForwards (codes "256") ∷ [])) false ≡ true }
 {}
 
@@ -46,8 +56,10 @@ pub fn first_row_counts()
 /// repeated; a Via, Route, Record-Route or Contact that can't be read.
 #[tactic(auto, unfolding(sip_uri::specs::Reading::reading_of, sip_uri::specs::Reading::rest_of, sip_header::specs::CoreFields::core_in))]
 pub fn bad_fields()
-    ensures cseq_method { refusal_of own (invite (codes "sip:help@host.com") (codes "SIP/2.0") (fields_with (field Name.To (codes "<sip:help@host.com>") ∷ field Name.CSeq (codes "1 BYE") ∷ []))) false ≡ Some (400, []) }
-    ensures cseq_number { refusal_of own (invite (codes "sip:help@host.com") (codes "SIP/2.0") (fields_with (field Name.To (codes "<sip:help@host.com>") ∷ field Name.CSeq (codes "2147483648 INVITE") ∷ []))) false ≡ Some (400, []) }
+    ensures cseq_method { refusal_of own (invite (codes "sip:help@host.com") (codes "SIP/2.0")
+        (fields_with (field Name.To (codes "<sip:help@host.com>") ∷ field Name.CSeq (codes "1 BYE") ∷ []))) false ≡ Some (400, []) }
+    ensures cseq_number { refusal_of own (invite (codes "sip:help@host.com") (codes "SIP/2.0")
+        (fields_with (field Name.To (codes "<sip:help@host.com>") ∷ field Name.CSeq (codes "2147483648 INVITE") ∷ []))) false ≡ Some (400, []) }
     ensures second_to { refusal_of own (invite_with (field Name.To (codes "<sip:help@host.com>") ∷ [])) false ≡ Some (400, []) }
     ensures many_hops { refusal_of own (invite_with (field Name.MaxForwards (codes "256") ∷ [])) false ≡ Some (400, []) }
     ensures second_max_forwards { refusal_of own (invite_with (field Name.MaxForwards (codes "70") ∷ field Name.MaxForwards (codes "70") ∷ [])) false ≡ Some (400, []) }
@@ -90,10 +102,15 @@ pub fn register_statuses()
 #[tactic(auto, unfolding(sip_uri::specs::Reading::reading_of, sip_uri::specs::Reading::rest_of, sip_header::specs::CoreFields::core_in))]
 pub fn route_statuses()
     ensures own_route { refusal_of own (invite_with (field Name.Route (codes "<sip:sip.host.com:5060;lr>") ∷ [])) false ≡ None }
-    ensures restored { refusal_of own (invite_to (codes "sip:sip.host.com:5060;lr") (field Name.Route (codes "<sip:help@host.com>") ∷ [])) false ≡ None }
+    ensures restored { refusal_of own (invite_to (codes "sip:sip.host.com:5060;lr") (field Name.Route (codes "<sip:help@host.com>") ∷ []))
+        false ≡ None }
     ensures other { refusal_of own (invite_with (field Name.Route (codes "<sip:far.net>") ∷ [])) false ≡ Some (400, []) }
-    ensures own_and_other { refusal_of own (invite_with (field Name.Route (codes "<sip:host.com;lr>") ∷ field Name.Route (codes "<sip:far.net;lr>") ∷ [])) false ≡ Some (400, []) }
-    ensures no_bad_request { is_bad_request own (invite_with (field Name.Route (codes "<sip:host.com;lr>") ∷ field Name.Route (codes "<sip:far.net;lr>") ∷ [])) false ≡ false }
-    ensures in_dialog { refusal_of own (invite (codes "sip:help@host.com") (codes "SIP/2.0") (fields_with (field Name.To (codes "<sip:help@host.com>;tag=t1") ∷ field Name.CSeq (codes "1 INVITE") ∷ field Name.Route (codes "<sip:far.net>") ∷ []))) false ≡ None }
+    ensures own_and_other { refusal_of own (invite_with (field Name.Route (codes "<sip:host.com;lr>") ∷ field Name.Route (codes "<sip:far.net;lr>") ∷ []))
+        false ≡ Some (400, []) }
+    ensures no_bad_request { is_bad_request own (invite_with (field Name.Route (codes "<sip:host.com;lr>") ∷ field Name.Route (codes "<sip:far.net;lr>") ∷ []))
+        false ≡ false }
+    ensures in_dialog { refusal_of own (invite (codes "sip:help@host.com") (codes "SIP/2.0")
+        (fields_with (field Name.To (codes "<sip:help@host.com>;tag=t1") ∷ field Name.CSeq (codes "1 INVITE")
+        ∷ field Name.Route (codes "<sip:far.net>") ∷ []))) false ≡ None }
     ensures require { refusal_of own (invite_with (field Name.Require (codes "100rel") ∷ [])) false ≡ None }
 {}

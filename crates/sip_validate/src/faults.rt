@@ -79,7 +79,9 @@ fn some_is_own_via(
     name: &FieldName,
 ) -> Result<Option<bool>, AllocError>
     ensures read { IfOk result (λ some. is_some some ≡ list_all (λ value. is_some (Vias.via_of value)) (values_of name.now fields.now)) }
-    ensures own { IfOk result (λ some. IfSome some (λ t. t ≡ list_any (λ value. option_map_or (Owns.is_own_via own.now) (Vias.via_of value) false) (values_of name.now fields.now))) }
+    ensures own { IfOk result
+        (λ some. IfSome some (λ t. t ≡ list_any (λ value. option_map_or (Owns.is_own_via own.now) (Vias.via_of value) false)
+        (values_of name.now fields.now))) }
 {
     let mut some = false;
     for field in fields {
@@ -116,7 +118,9 @@ fn one_is_own_via(
 ) -> Result<Option<bool>, AllocError>
     requires { option_and_then Vias.via_of (first_value Name.Via fields.now) ≡ Some top.now }
     ensures read { IfOk result (λ some. is_some some ≡ list_all (λ value. is_some (Vias.via_of value)) (values_of Name.Via fields.now)) }
-    ensures own { IfOk result (λ some. IfSome some (λ t. t ≡ list_any (λ value. option_map_or (Owns.is_own_via own.now) (Vias.via_of value) false) (values_of Name.Via fields.now))) }
+    ensures own { IfOk result
+        (λ some. IfSome some (λ t. t ≡ list_any (λ value. option_map_or (Owns.is_own_via own.now) (Vias.via_of value) false)
+        (values_of Name.Via fields.now))) }
 {
     let behind = behind_first(fields, &FieldName::Via);
     let Some(some) = some_is_own_via(alloc, own, behind, &FieldName::Via)? else {
@@ -220,7 +224,9 @@ fn are_bindable(
     fields: &[ViewField<'_>],
     name: &FieldName,
 ) -> Result<bool, AllocError>
-    ensures { IfOk result (λ all. all ≡ list_all (λ value. is_some (Contacts.contact_of value) && Definition.is_bindable (Contacts.contact_of value)) (values_of name.now fields.now)) }
+    ensures { IfOk result
+        (λ all. all ≡ list_all (λ value. is_some (Contacts.contact_of value) && Definition.is_bindable (Contacts.contact_of value))
+        (values_of name.now fields.now)) }
 {
     for field in fields {
         if field.name().is_same(name) {
@@ -290,7 +296,9 @@ impl<'a> Candidate<'a> {
     /// than 512 bytes (10.2.1, 10.3 step 6). Each is read once.
     #[tactic(auto, using(crate::proofs::Contacts::of_register, crate::proofs::Contacts::of_other))]
     fn has_good_contacts(&self, alloc: Global) -> Result<bool, AllocError>
-        ensures { IfOk result (λ good. good ≡ (list_all (λ value. is_some (Contacts.contact_of value)) (values_of Name.Contact self.now.fields) && not (Definition.binds_other_contact self.now))) }
+        ensures { IfOk result
+            (λ good. good ≡ (list_all (λ value. is_some (Contacts.contact_of value)) (values_of Name.Contact self.now.fields)
+            && not (Definition.binds_other_contact self.now))) }
     {
         let fields = self.fields.as_slice();
         if self.is_register() {

@@ -1,5 +1,13 @@
 //! Whether a request may be served at all (RFC 3261 16.3, 8.1.1, 8.2.2 and 10.3): the first check that it
 //! doesn't pass names the status that refuses it.
+//!
+//! - Used: `sip_core`, before anything else of a request is asked.
+//! - Not here: whether bytes are a message (`sip_message`).
+//! - Tried: worked examples in `src/examples.rt`, as contracts that compute; `test_counts`.
+//!
+//! ```text
+//! let checked = validate(alloc, &request, &via, short, &own)?;
+//! ```
 #![tactic(auto)]
 
 mod candidate;

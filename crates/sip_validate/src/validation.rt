@@ -48,7 +48,9 @@ fn refusal(
     requires via { option_and_then via_of (first_value Name.Via message.now.fields) ≡ Some via.now }
     requires way { way.now ≡ Ways.way_of own.now message.now }
     requires uri { is_uri ≡ is_ok (reading_of way.now.uri) }
-    ensures { IfOk result (λ refused. refused ≡ option_map refused_with (option_map_or (λ r. Definition.refusal (on_way way.now r)) (candidate_with (Some core.now) own.now message.now.fields short message.now.start) None)) }
+    ensures { IfOk result (λ refused. refused ≡ option_map refused_with
+        (option_map_or (λ r. Definition.refusal (on_way way.now r))
+        (candidate_with (Some core.now) own.now message.now.fields short message.now.start) None)) }
 {
     match Candidate::of(own, message, via, short, core) {
         Some(candidate) => candidate.with_uri_left(way, is_uri).refusal(alloc, way),
@@ -66,7 +68,8 @@ fn is_bad(
     core: &CoreFields<'_>,
 ) -> Result<bool, AllocError>
     requires { option_and_then via_of (first_value Name.Via message.now.fields) ≡ Some via.now }
-    ensures { IfOk result (λ bad. bad ≡ option_map_or Faults.is_bad (candidate_with (Some core.now) own.now message.now.fields short message.now.start) false) }
+    ensures { IfOk result (λ bad. bad ≡ option_map_or Faults.is_bad
+        (candidate_with (Some core.now) own.now message.now.fields short message.now.start) false) }
 {
     match Candidate::of(own, message, via, short, core) {
         Some(candidate) => candidate.is_bad(alloc),

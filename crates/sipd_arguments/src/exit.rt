@@ -2,7 +2,7 @@ ghost use Rattle.std.specs.Prelude.{◌≡◌, ◌≤◌};
 ghost use Rattle.sipd_arguments.specs.Exits.{status_of, exit_of_config};
 ghost use Rattle.sipd_arguments.specs.declared.exit.Exit.TheVariants.{Memory};
 
-use sip_config_rules::ConfigError;
+use sip_config::ConfigError;
 use std::alloc::{AllocError, AllocFailed};
 use std::{fmt, io};
 

@@ -1,6 +1,5 @@
 use crate::parts::requests::{INVITE, own_place};
-use sip_edit::{branch_text, own_via_value};
-use sip_edit_onward::{onward_base, to_target};
+use sip_edit::{branch_text, onward_base, own_via_value, to_target};
 use sip_message::view;
 use sip_message_form::{View, write_view};
 use sip_route::Own;

@@ -1,5 +1,5 @@
 use Rattle.std.proofs.Common.{[]}
-use Rattle.sip_context_resend.specs.context_model.Branches.{acknowledged}
+use Rattle.sip_context_branches.specs.context_model.Branches.{acknowledged}
 use Rattle.sip_context.proofs.Joined.{repeated}
 use Rattle.sip_context.proofs.events.acknowledge.Goals as goal
 

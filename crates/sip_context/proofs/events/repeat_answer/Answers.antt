@@ -1,4 +1,4 @@
-use Rattle.sip_context_resend.specs.context_model.Retransmission.{answer_next, answers_again}
+use Rattle.sip_context_branches.specs.context_model.Retransmission.{answer_next, answers_again}
 use Rattle.sip_context.proofs.Joined.{repeated}
 use Rattle.sip_context.proofs.events.repeat_answer.Goals as goal
 

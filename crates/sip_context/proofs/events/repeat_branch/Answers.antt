@@ -1,6 +1,6 @@
 use Rattle.std.proofs.Common.{true}
-use Rattle.sip_context_resend.specs.context_model.Sending.{branch_packets}
-use Rattle.sip_context_resend.specs.context_model.Retransmission.{with_resend}
+use Rattle.sip_context_branches.specs.context_model.Sending.{branch_packets}
+use Rattle.sip_context_branches.specs.context_model.Retransmission.{with_resend}
 use Rattle.sip_context.proofs.Joined.{repeated}
 use Rattle.sip_context.proofs.events.repeat_branch.Goals as goal
 

@@ -1,7 +1,7 @@
 use Rattle.std.proofs.Common.{ap, subst, sym}
-use Rattle.sip_matching.specs.Incoming.{Is}
-use Rattle.sip_matching.specs.declared.incoming.Incoming.{Incoming}
-use Rattle.sip_engine_time.specs.context_opening.Arrivals.{arrival_of}
+use Rattle.sip_core.specs.Incoming.{Is}
+use Rattle.sip_core.specs.declared.incoming.Incoming.{Incoming}
+use Rattle.sip_engine_open.specs.forwarding.Arrivals.{arrival_of}
 use Rattle.sip_core.specs.state.declared.server.Server.{Server}
 use Rattle.sip_core.specs.verdict_model.Verdict as Definition
 use Rattle.sip_engine.proofs.Taken.{dropped_as}

@@ -1,6 +1,6 @@
 use Rattle.std.proofs.Common.{IfOk, sym, subst}
 use Rattle.sip_core.specs.Verdict.{Is}
-use Rattle.sip_engine_time.specs.context_opening.Arrivals.{arrival_of}
+use Rattle.sip_engine_open.specs.forwarding.Arrivals.{arrival_of}
 use Rattle.sip_core.specs.state.declared.server.Server.{Server}
 use Rattle.sip_core.specs.verdict_model.Verdict as Definition
 use Rattle.sip_engine.specs.Delivery.{IsServed, Takes}

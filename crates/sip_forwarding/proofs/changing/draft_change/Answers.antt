@@ -1,5 +1,5 @@
 use Rattle.std.proofs.Common.{◌∙◌, ◌++◌}
-use Rattle.sip_context_opening.specs.steps_model.Effect.{change_packets}
+use Rattle.model_steps.specs.Effect.{change_packets}
 use Rattle.sip_context.specs.Inputs.{outcome}
 use Rattle.sip_forwarding.specs.Forwarding.{change_of}
 use Rattle.sip_forwarding.proofs.Drafts.{behind_none, change_told, draft_is, few_alone}
@@ -7,18 +7,18 @@ use Rattle.sip_forwarding.proofs.changing.draft_change.Goals as goal
 
 pub returns-clause-packets : goal.returns-clause-packets
 returns-clause-packets c =
-    behind_none c.new-packets.result c.put_sending.new.out (change_packets (change_of (outcome c.args.request.now c.args.sending)) ++ c.args.sending.copies) c.new-packets.ensures c.in_ok-upward.ensures.packets
+    behind_none c.new-packets.result c.put_sent.new.out (change_packets (change_of (outcome c.args.request.now c.args.sent)) ++ c.args.sent.copies) c.new-packets.ensures c.in_ok-upward.ensures.packets
 
 pub returns-clause-lessons : goal.returns-clause-lessons
 returns-clause-lessons c =
-    change_told c.args.hops.now.addresses c.args.request.now c.as_slice.result.now c.args.sending.upward c.new-lessons.result c.add_change.new.self c.new-lessons.ensures
+    change_told c.args.hops.now.addresses c.args.request.now c.as_slice.result.now c.args.sent.upward c.new-lessons.result c.add_change.new.self c.new-lessons.ensures
     (c.as_slice.ensures ∙ c.in_ok-upward.ensures.upward) c.in_ok-add_change.ensures.told
 
 pub returns-clause-beginnings : goal.returns-clause-beginnings
 returns-clause-beginnings c =
-    few_alone c.new-lessons.result c.add_change.new.self c.as_slice.result.now c.args.sending.upward c.new-lessons.ensures (c.as_slice.ensures ∙ c.in_ok-upward.ensures.upward) c.in_ok-add_change.ensures.room
+    few_alone c.new-lessons.result c.add_change.new.self c.as_slice.result.now c.args.sent.upward c.new-lessons.ensures (c.as_slice.ensures ∙ c.in_ok-upward.ensures.upward) c.in_ok-add_change.ensures.room
 
 pub returns-clause-event : goal.returns-clause-event
 returns-clause-event c = λ server now before input there e.
-    draft_is c.args.hops.now.addresses server now before input c.args.request.now c.args.sending (record { packets = c.put_sending.new.out; lessons = c.add_change.new.self }) there e (returns-clause-packets c)
+    draft_is c.args.hops.now.addresses server now before input c.args.request.now c.args.sent (record { packets = c.put_sent.new.out; lessons = c.add_change.new.self }) there e (returns-clause-packets c)
     (returns-clause-lessons c server now) (returns-clause-beginnings c)

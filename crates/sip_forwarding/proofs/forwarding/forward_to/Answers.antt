@@ -1,6 +1,6 @@
-use Rattle.sip_context_opening.specs.Arrivals.{arrival_of}
+use Rattle.sip_forwarding.specs.Arrivals.{arrival_of}
 use Rattle.sip_targets.specs.Targets.{target_list}
-use Rattle.sip_context_opening.specs.context_model.Opening.{branches_from}
+use Rattle.sip_forwarding.specs.context_model.Opening.{branches_from}
 use Rattle.sip_forwarding.specs.Forwarding.{call_to}
 use Rattle.std.proofs.Common.{length}
 use Rattle.sip_forwarding.proofs.Drafts.{packets_are, sent_are, request_is, opens_so, told_alone, none_begins, no_lessons, can_be_numbered}

@@ -1,7 +1,7 @@
 use Rattle.std.proofs.Common.{[], ◌∷◌}
-use Rattle.sip_context_opening.specs.Arrivals.{arrival_of}
+use Rattle.sip_forwarding.specs.Arrivals.{arrival_of}
 use Rattle.sip_dialog_lessons.specs.state.Dialogs.{after_request}
-use Rattle.sip_context_opening.specs.context_model.Opening.{dialog_branch}
+use Rattle.sip_forwarding.specs.context_model.Opening.{dialog_branch}
 use Rattle.sip_forwarding.specs.Forwarding.{call_within}
 use Rattle.sip_forwarding.proofs.Drafts.{packets_are, sent_are, request_is, opens_so, told_behind, renewed_is, none_begins}
 use Rattle.sip_forwarding.proofs.forwarding.forward_within.Goals as goal

@@ -1,6 +1,6 @@
 use Rattle.std.proofs.Common.{[], ◌∷◌, refl}
 use Rattle.sip_targets.specs.Targets.{target_list}
-use Rattle.sip_context_opening.specs.context_model.Opening.{branches_from, dialog_branch}
+use Rattle.sip_forwarding.specs.context_model.Opening.{branches_from, dialog_branch}
 use Rattle.sip_forwarding.specs.Forwarding.{call_to, call_within}
 use Rattle.sip_forwarding.proofs.Opened.{openable}
 use Rattle.sip_forwarding.proofs.laws.opens.Goals as goal

@@ -1,5 +1,5 @@
 use Rattle.std.specs.Prelude.{nat_eq}
-use Rattle.indexmap.specs.IndexMap.{get}
+use Rattle.std.specs.HashMap.{get}
 use Rattle.sip_hops.proofs.Chains.{AreChainedFrom}
 use Rattle.sip_hops.proofs.address_table.chain.Given as goal
 

@@ -1,14 +1,12 @@
-use Rattle.std.proofs.Common.{◌≡◌, ◌∙◌, sym, subst, ℕ, List, true, false, inr, refl}
-use Rattle.std.specs.List.{list_any}
-use Rattle.sip_policy.proofs.Names.{any_text, is_key, not_true, not_false}
+use Rattle.std.proofs.Common.{ℕ, List, Option, is_some, ◌∙◌, sym, ap, inr, refl}
+use Rattle.sip_policy.specs.Users.{place_of}
+use Rattle.sip_policy.proofs.Names.{place_more}
 use Rattle.sip_policy.proofs.users.add_name.Goals as goal
 
-pub returns-then-branch-clause-new : goal.returns-then-branch-clause-new
-returns-then-branch-clause-new c =
-    let new : list_any (is_key c.in_ok-copy.copy.items) c.args.names.now.keys ≡ false = not_true _ (sym c.if-branch.true ∙ c.in_ok-insert.ensures.added) in
-    sym (any_text c.args.name.now c.args.names.now.keys) ∙ subst (λ (text : List ℕ). list_any (is_key text) c.args.names.now.keys ≡ false) c.in_ok-copy.ensures.items new
+pub returns-then-is_none-clause-ok : goal.returns-then-is_none-clause-ok
+returns-then-is_none-clause-ok c =
+    place_more c.args.places.now c.insert.new.self c.in_ok-copy.copy c.args.name.now c.args.at c.in_ok-copy.ensures.items c.in_ok-insert.ensures.updates
 
-pub returns-else-branch-clause-refused : goal.returns-else-branch-clause-refused
-returns-else-branch-clause-refused c =
-    let there : list_any (is_key c.in_ok-copy.copy.items) c.args.names.now.keys ≡ true = not_false _ (sym c.if-branch.false ∙ c.in_ok-insert.ensures.added) in
-    inr (refl, sym (any_text c.args.name.now c.args.names.now.keys) ∙ subst (λ (text : List ℕ). list_any (is_key text) c.args.names.now.keys ≡ true) c.in_ok-copy.ensures.items there)
+pub returns-else-is_none-clause-refused : goal.returns-else-is_none-clause-refused
+returns-else-is_none-clause-refused c =
+    inr (refl, ap (λ (text : List ℕ). is_some (place_of c.args.places.now text)) (sym c.in_ok-copy.ensures.items) ∙ ap (λ (o : Option ℕ). is_some o) (sym c.in_ok-insert.ensures.old) ∙ c.if-is_none.ensures)

@@ -1,4 +1,4 @@
-use Rattle.sip_context_opening.specs.Arrivals.{arrival_of}
+use Rattle.sip_forwarding.specs.Arrivals.{arrival_of}
 use Rattle.model_transactions.specs.Fits.{IsFinalAnswer}
 use Rattle.sip_uas.proofs.Replying.{replied_does, replied_opens, text_by}
 use Rattle.sip_uas.proofs.answers.answer.Goals as goal

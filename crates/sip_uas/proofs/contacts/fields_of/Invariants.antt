@@ -1,5 +1,5 @@
 use Rattle.std.proofs.Common.{◌≡◌, ◌++◌, length, map}
-use Rattle.sip_context_opening.specs.steps_model.Effect.{contact_field}
+use Rattle.sip_forwarding.specs.steps_model.Effect.{contact_field}
 use Rattle.sip_uas.proofs.contacts.fields_of.Given as goal
 
 -- the fields so far, in front of those of the bindings that are left

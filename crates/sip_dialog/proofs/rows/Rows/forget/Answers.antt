@@ -1,25 +1,22 @@
-use Rattle.std.proofs.Common.{rules, List, ◌≡◌, ◌∙◌, ap, sym, subst, filter, min, length}
-use Rattle.sip_dialog.specs.Rows.{Entries, dialogs_in, is_recent, StandsNowhere, IsFront}
-use Rattle.sip_dialog.specs.Dialogs.{known}
-use Rattle.indexmap.proofs.CallerLemmas.{filter-RetainsPairs}
-use Rattle.sip_dialog.proofs.Alone.{Row}
-use Rattle.sip_dialog.proofs.Places.{front_kept}
-use Rattle.sip_dialog.proofs.Tables.{forgotten, nowhere_kept}
+use Rattle.std.proofs.Common.{◌≡◌, ◌-◌, ◌<◌, ◌∙◌, ap, sym, subst, arith, length, not}
+use Rattle.sip_dialog.specs.Rows.{Entries}
+use Rattle.sip_dialog.proofs.Leaving.{is_old, Leaves, row_left, forgotten, nowhere_left}
+use Rattle.sip_dialog.proofs.Tables.{read_at}
 use Rattle.sip_dialog.proofs.rows.Rows.forget.Goals as goal
-use Rattle.sip_dialog.proofs.rows.Rows.forget.Goals.{After-self-1}
 
-kept : (c : After-self-1) → c.retain.new.self.entries ≡ filter (λ (r : Row). is_recent c.args.now r.1) c.self.inside.map.entries
-kept c = filter-RetainsPairs _ _ _ (λ k v b w g call. search rules) _ _ c.retain.ensures.filtered
-
-pub invariant_of-self : goal.invariant_of-self
-invariant_of-self c =
-    let size : c.min-self-inside.result ≡ min c.self.inside.early (length c.retain.new.self.entries) = c.min-self-inside.ensures ∙ ap (min c.self.inside.early) c.len.ensures.len in
-    subst (λ n. IsFront n c.retain.new.self.entries) (sym size) (front_kept (λ r. is_recent c.args.now r.1) c.self.inside.early c.self.inside.map.entries c.retain.new.self.entries c.self.invariant (kept c))
+pub loop-place-preserved-then-not-is_recent : goal.loop-place-preserved-then-not-is_recent
+loop-place-preserved-then-not-is_recent c =
+    let lt : c.loop-place.place - 1 < length c.loop-place.self.entries = omega (arith, c.loop-place-test.true, c.loop-place.invariant.within) in
+    let there = read_at c.self-in-loop-place.inside.rows.items c.loop-place.self.entries (c.loop-place.place - 1) c.index.result.now (ap (λ (v : Entries). v.entries) c.self-in-loop-place.view_is) lt c.index.ensures in
+    row_left (is_old c.args.now) c.loop-place.place c.args.self.now c.loop-place.self c.index.result.now c.loop-place-test.true c.loop-place.invariant there c.take_out.new.self
+    (ap not (sym c.is_recent.ensures ∙ c.if-not-is_recent.true)) c.take_out.ensures.taken c.take_out.ensures.behind c.take_out.ensures.len c.take_out.ensures.room
 
 pub returns-clause-known : goal.returns-clause-known
-returns-clause-known c = ap dialogs_in (kept c) ∙ forgotten c.args.now c.self.inside.map.entries ∙ ap (λ (v : Entries). known c.args.now (dialogs_in v.entries)) c.self.view_is
+returns-clause-known c =
+    let done : c.loop-place.place ≡ 0 = omega (arith, c.loop-place-test.false) in
+    forgotten c.args.now c.args.self.now c.loop-place.self (subst (λ n. Leaves (is_old c.args.now) n c.args.self.now c.loop-place.self) done c.loop-place.invariant)
 
 pub returns-clause-absent : goal.returns-clause-absent
-returns-clause-absent c = λ id h.
-    subst (λ (rows : List Row). StandsNowhere id rows) (sym (kept c))
-    (nowhere_kept (λ r. is_recent c.args.now r.1) c.self.inside.map.entries id (subst (λ (v : Entries). StandsNowhere id v.entries) (sym c.self.view_is) h))
+returns-clause-absent c =
+    let done : c.loop-place.place ≡ 0 = omega (arith, c.loop-place-test.false) in
+    nowhere_left c.args.now c.args.self.now c.loop-place.self (subst (λ n. Leaves (is_old c.args.now) n c.args.self.now c.loop-place.self) done c.loop-place.invariant)

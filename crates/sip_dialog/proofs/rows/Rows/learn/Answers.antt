@@ -1,13 +1,12 @@
-use Rattle.std.proofs.Common.{◌≡◌, ◌∙◌, Bool, true, false, ◌||◌, ap, sym, subst, length, slice_get, Some, arith, refl}
-use Rattle.std.specs.Map.{values_of}
-use Rattle.indexmap.specs.IndexMap.{set_value_at}
+use Rattle.std.proofs.Common.{◌≡◌, ◌<◌, ◌∙◌, Bool, true, false, ◌||◌, ap, sym, subst, set, arith, length, refl}
 use Rattle.sip_dialog.specs.declared.dialog.Dialog.{Dialog}
-use Rattle.sip_dialog.proofs.Places.{front_set}
 use Rattle.sip_dialog.specs.Dialogs.{answered_again, learnt}
 use Rattle.sip_dialog.specs.Rows.{Entries, dialogs_in}
 use Rattle.sip_dialog.specs.Sameness.{SameDialogs}
+use Rattle.sip_dialog.proofs.Named.{named_set}
+use Rattle.sip_dialog.proofs.Places.{front_set}
 use Rattle.sip_dialog.proofs.Sameness.{dialogs_joined}
-use Rattle.sip_dialog.proofs.Tables.{same_counts, edit_met, met_again, set_len, full_is, learnt_from_begin, full_from_begin}
+use Rattle.sip_dialog.proofs.Tables.{same_counts, edit_met, met_again, full_is, learnt_from_begin, full_from_begin, read_at}
 use Rattle.sip_dialog.proofs.rows.Rows.learn.Goals as goal
 
 either_true : (a b : Bool) → a ≡ true → (a || b) ≡ true
@@ -16,25 +15,22 @@ either_true false b e = absurd (cc)
 
 pub invariant_of-self : goal.invariant_of-self
 invariant_of-self c =
-    front_set c.self.inside.early c.self.inside.map.entries c.in-Some.at c.index_mut.result.now c.answer_again.new.self c.self.invariant c.index_mut.ensures.value
-    (λ e. ap (λ (d : Dialog). d.has_success) (c.answer_again.ensures c.args.answer.id) ∙ either_true c.index_mut.result.now.has_success c.args.answer.is_success e)
-
-pub settle-requires : goal.settle-requires
-settle-requires c =
-    omega (arith, set_len c.self.inside.map.entries c.in-Some.at c.answer_again.new.self, c.in-Some.ensures.within, c.in-Some.is, ap (λ (v : Entries). length v.entries) c.self.view_is)
+    let inside : c.in-Some.at < length c.self.inside.rows.items = omega (arith, c.in-Some.ensures.within, ap (λ (v : Entries). length v.entries) c.self.view_is) in
+    let there = read_at c.self.inside.rows.items _ c.in-Some.at c.index_mut.result.now refl inside c.index_mut.ensures.value in (
+      named_set c.self.inside.keyed c.self.inside.digests.list c.self.inside.rows.items c.self.invariant.0 c.in-Some.at c.index_mut.result.now (c.index_mut.result.now.0, c.answer_again.new.self) there refl,
+      front_set c.self.inside.early c.self.inside.rows.items c.in-Some.at c.index_mut.result.now (c.index_mut.result.now.0, c.answer_again.new.self) c.self.invariant.1 there
+          (λ e. ap (λ (d : Dialog). d.has_success) (c.answer_again.ensures c.args.answer.id) ∙ either_true c.index_mut.result.now.1.has_success c.args.answer.is_success e),
+    )
 
 pub returns-in-Some-clause-ok : goal.returns-in-Some-clause-ok
 returns-in-Some-clause-ok c =
-    let there = subst (λ (v : Entries). slice_get (values_of v.entries) c.in-Some.at ≡ Some c.index_mut.result.now) c.self.view_is c.index_mut.ensures.value in
+    let there = read_at c.self.inside.rows.items c.meet.new.self.entries c.in-Some.at c.index_mut.result.now (ap (λ (v : Entries). v.entries) c.self.view_is) c.in-Some.ensures.within c.index_mut.ensures.value in
     let met = met_again c.args.now c.args.answer _ _ c.in-Some.ensures.known
     (edit_met c.args.now c.args.answer.id (answered_again c.args.answer) c.args.self.now.entries c.meet.new.self.entries c.in-Some.at c.index_mut.result.now c.answer_again.new.self
     c.in-Some.ensures.same c.in-Some.ensures.met there c.answer_again.ensures) in
-    dialogs_joined c.args.now _ _ _ (same_counts c.args.now (dialogs_in c.settle.new.self.entries) (dialogs_in (set_value_at c.self.inside.map.entries c.in-Some.at c.answer_again.new.self)) c.settle.ensures.same)
-    (subst (λ (v : Entries). SameDialogs c.args.now (dialogs_in (set_value_at v.entries c.in-Some.at c.answer_again.new.self)) (learnt c.args.now c.args.answer (dialogs_in c.args.self.now.entries))) (sym c.self.view_is) met)
-
-pub returns-in-Some-clause-len : goal.returns-in-Some-clause-len
-returns-in-Some-clause-len c =
-    omega (arith, set_len c.self.inside.map.entries c.in-Some.at c.answer_again.new.self, c.in-Some.ensures.len, c.requires, c.settle.ensures.len, ap (λ (v : Entries). length v.entries) c.self.view_is)
+    dialogs_joined c.args.now _ _ _
+    (same_counts c.args.now (dialogs_in c.settle.new.self.entries) (dialogs_in (set c.self.inside.rows.items c.in-Some.at (c.index_mut.result.now.0, c.answer_again.new.self))) c.settle.ensures.same)
+    (subst (λ (v : Entries). SameDialogs c.args.now (dialogs_in (set v.entries c.in-Some.at (c.index_mut.result.now.0, c.answer_again.new.self))) (learnt c.args.now c.args.answer (dialogs_in c.args.self.now.entries))) (sym c.self.view_is) met)
 
 pub returns-then-not-has_place-clause-full : goal.returns-then-not-has_place-clause-full
 returns-then-not-has_place-clause-full c =

@@ -1,6 +1,6 @@
 use Rattle.std.proofs.Common.{◌≤◌, ◌⊎◌, ℕ, IfOk, subst}
-use Rattle.sip_engine_time.specs.Next.{IsNext}
-use Rattle.sip_engine_time.specs.Timers.{IsFiredFirst}
+use Rattle.sip_engine_open.specs.Next.{IsNext}
+use Rattle.sip_engine_open.specs.Timers.{IsFiredFirst}
 use Rattle.sip_model.specs.steps_model.Step.{Passing, IsDeadline, IsResend, moment_of}
 use Rattle.sip_engine.specs.Engine.{Engine}
 use Rattle.sip_engine.proofs.Leading.{led_by}

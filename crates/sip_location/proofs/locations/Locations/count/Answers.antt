@@ -7,5 +7,6 @@ use Rattle.sip_location.proofs.locations.Locations.count.Goals as goal
 
 pub returns : goal.returns
 returns c =
-    c.live_count.ensures ∙ as_many c.args.aor.now c.args.now c.rows_of.result.now ∙ ap (λ rows. length (filter (is_live c.args.now) rows)) c.rows_of.ensures
-    ∙ ap length (sym (live_of_own c.args.aor.now c.args.now c.args.self.now.rows))
+    rw (← c.self.view_is)
+    (c.live_count.ensures ∙ as_many c.args.aor.now c.args.now c.rows_of.result.now ∙ ap (λ rows. length (filter (is_live c.args.now) rows)) c.rows_of.ensures
+    ∙ ap length (sym (live_of_own c.args.aor.now c.args.now c.self.inside.filing.rows)))

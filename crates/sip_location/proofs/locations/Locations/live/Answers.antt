@@ -9,4 +9,4 @@ use Rattle.sip_location.proofs.locations.Locations.live.Goals as goal
 pub returns : goal.returns
 returns c =
     let own = c.new.ensures ∙ ap (λ (a : Aor). bindings_of a c.rows_of.result.now) c.of.ensures ∙ c.rows_of.ensures in
-    c.new-2.ensures ∙ ap (filter (is_live c.args.now)) own ∙ sym (live_of_own c.args.aor.now c.args.now c.args.self.now.rows)
+    rw (← c.self.view_is) (c.new-2.ensures ∙ ap (filter (is_live c.args.now)) own ∙ sym (live_of_own c.args.aor.now c.args.now c.self.inside.filing.rows))

@@ -1,5 +1,0 @@
-use Rattle.model_origins.proofs.Going.{within_goes}
-use Rattle.model_origins.proofs.origins.requests_go_where_told.Goals as goal
-
-pub returns : goal.returns
-returns c = within_goes c.known_dialogs_were_told.ensures

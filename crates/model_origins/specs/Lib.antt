@@ -1,2 +1,0 @@
-pub mod Requests
-pub mod Dialogs

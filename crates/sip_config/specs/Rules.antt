@@ -1,0 +1,133 @@
+-- Rules: the tables `[[rule]]`.
+use Rattle.std.specs.Prelude.{ℕ, Bool, true, ◌==◌, not, if◌then◌else◌, List, [], codes, Option, None, Some, Result, Ok, Err}
+use Rattle.std.specs.List.{list_all, list_any}
+use Rattle.std.specs.Str.{bytes_eq}
+use Rattle.toml.specs.Data.{Data, Items, Members, get_member}
+use Rattle.sip_hops.specs.declared.hop.Hop.{Hop}
+use Rattle.sip_policy.specs.declared.user.User.{User}
+use Rattle.sip_policy.specs.declared.who.Who.{Who}
+use Rattle.sip_policy.specs.declared.who.Who.TheVariants.{Group}
+use Rattle.sip_policy.specs.declared.operation.OperationPattern.{OperationPattern}
+use Rattle.sip_policy.specs.declared.target_pattern.TargetPattern.{TargetPattern}
+use Rattle.sip_policy.specs.declared.rule_verdict.RuleVerdict.{RuleVerdict}
+use Rattle.sip_policy.specs.declared.window.Window.{Window}
+use Rattle.sip_policy.specs.declared.rule.Rule.{Rule}
+use Rattle.sip_config.specs.declared.error.ConfigError.{ConfigError}
+use Rattle.sip_config.specs.declared.error.ConfigError.TheVariants.{BadValue, DuplicateRule, UnknownGroup}
+use Rattle.sip_config.specs.declared.rules.RuleLine.{RuleLine}
+use Rattle.sip_config.specs.declared.rules.RuleLine.TheVariants.{Id, WhoAsks, Operation, Target, Verdict, Minutes}
+use Rattle.sip_config.specs.Refusals.{◌>>=◌, kept_if, confirmed, passed}
+use Rattle.sip_config.specs.Values.{needed, text_of, number_between}
+use Rattle.sip_config.specs.Rows.{rows_after, all_pass}
+use Rattle.sip_config.specs.Words.{who_of, operation_of, target_of, is_verdict, verdict_of}
+
+-- ---- the keys of a rule
+
+abbrev pub id_at : Members → Result ℕ ConfigError
+id_at members = needed (codes "id") members >>= number_between 1 999999
+
+abbrev pub who_at : List User → Members → Result Who ConfigError
+who_at users members = needed (codes "who") members >>= text_of >>= who_of users
+
+abbrev pub operation_at : Members → Result OperationPattern ConfigError
+operation_at members = needed (codes "op") members >>= text_of >>= operation_of
+
+abbrev pub target_at : Members → Result TargetPattern ConfigError
+target_at members = needed (codes "target") members >>= text_of >>= target_of
+
+abbrev pub verdict_text : Members → Result (List ℕ) ConfigError
+verdict_text members = needed (codes "verdict") members >>= text_of
+
+abbrev pub verdict_at : List Hop → Members → Result RuleVerdict ConfigError
+verdict_at hops members = verdict_text members >>= verdict_of hops
+
+-- a minute of the day
+abbrev pub minute_of : Data → Result ℕ ConfigError
+minute_of value = number_between 0 1439 value
+
+-- two minutes that differ
+abbrev pub window_between : Data → Data → Result (Option Window) ConfigError
+window_between first last = do
+  from ← minute_of first
+  until ← minute_of last
+  kept_if (not (from == until)) (Some (record { from = from; until = until }))
+
+-- both minutes or neither
+abbrev pub window_in : Option Data → Option Data → Result (Option Window) ConfigError
+window_in None None = Ok None
+window_in (Some first) (Some last) = window_between first last
+window_in None (Some last) = Err BadValue
+window_in (Some first) None = Err BadValue
+
+-- the window of a rule, which version 1 doesn't know
+abbrev pub window_at : ℕ → Members → Result (Option Window) ConfigError
+window_at version members = if version == 1 then Ok None else window_in (get_member (codes "from") members) (get_member (codes "until") members)
+
+-- ---- rules
+
+-- the line of the verdicts: `via` stands only where the operation is one that is sent on
+abbrev pub verdict_line : Members → Result (Unit {0}) ConfigError
+verdict_line members = do
+  text ← verdict_text members
+  operation ← operation_at members
+  confirmed (is_verdict operation text) BadValue
+
+abbrev pub rule_line : ℕ → List User → RuleLine → Members → Result (Unit {0}) ConfigError
+rule_line version users Id members = passed (id_at members)
+rule_line version users WhoAsks members = passed (who_at users members)
+rule_line version users Operation members = passed (operation_at members)
+rule_line version users Target members = passed (target_at members)
+rule_line version users Verdict members = verdict_line members
+rule_line version users Minutes members = passed (window_at version members)
+
+-- each line of all rules in turn
+abbrev pub rule_lines : ℕ → List User → Items → Result (Unit {0}) ConfigError
+rule_lines version users items = do
+  _ ← all_pass (rule_line version users Id) items
+  _ ← all_pass (rule_line version users WhoAsks) items
+  _ ← all_pass (rule_line version users Operation) items
+  _ ← all_pass (rule_line version users Target) items
+  _ ← all_pass (rule_line version users Verdict) items
+  all_pass (rule_line version users Minutes) items
+
+-- a number that no rule before has
+abbrev pub new_id : List ℕ → Members → Result ℕ ConfigError
+new_id before members = do
+  id ← id_at members
+  _ ← confirmed (not (list_any (λ other. other == id) before)) DuplicateRule
+  Ok id
+
+abbrev pub rule_at : ℕ → List User → List Hop → Members → Result Rule ConfigError
+rule_at version users hops members = do
+  id ← id_at members
+  verdict ← verdict_at hops members
+  window ← window_at version members
+  who ← who_at users members
+  operation ← operation_at members
+  target ← target_at members
+  Ok (record { id = id; who = who; operation = operation; target = target; window = window; verdict = verdict })
+
+-- whether a group has a member
+abbrev pub has_member : List User → List ℕ → Bool
+has_member users group = list_any (λ user. list_any (bytes_eq group) user.groups) users
+
+-- whether the group that a user pattern names has a member
+abbrev pub is_known : List User → Who → Bool
+is_known users (Group group) = has_member users group
+is_known users who = true
+
+-- whether the group that a user pattern names is among some
+abbrev pub is_listed : List (List ℕ) → Who → Bool
+is_listed groups (Group group) = list_any (bytes_eq group) groups
+is_listed groups who = true
+
+abbrev pub names_known_group : List User → Rule → Bool
+names_known_group users rule = is_known users rule.who
+
+-- the rules of a list whose lines passed: first no number twice, then each hop known, then each group
+abbrev pub rules_of : ℕ → List User → List Hop → Items → Result (List Rule) ConfigError
+rules_of version users hops items = do
+  ids ← rows_after new_id [] items
+  rules ← rows_after (λ before. rule_at version users hops) [] items
+  _ ← confirmed (list_all (names_known_group users) rules) UnknownGroup
+  Ok rules

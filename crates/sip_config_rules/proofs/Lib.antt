@@ -1,4 +1,0 @@
-pub mod ValueRows
-pub mod Keys
-pub mod Rows
-pub mod Groups

@@ -1,8 +1,0 @@
-use Rattle.std.proofs.Common.{◌≡◌, [], drop}
-use Rattle.toml.specs.View.{items_view}
-use Rattle.sip_config_rules.specs.Rows.{rows_after}
-use Rattle.sip_config_rules.specs.Rules.{rule_at}
-use Rattle.sip_config_rules.proofs.rules.rule_rows.Given as goal
-
-abbrev pub invariant-loop-item : goal.invariant-loop-item
-invariant-loop-item l = rows_after (λ before. rule_at l.version l.users l.hops) l.rules (items_view (drop l.item-index l.items)) ≡ rows_after (λ before. rule_at l.version l.users l.hops) [] (items_view l.items)

@@ -1,4 +1,0 @@
-pub mod Sent
-pub mod Sides
-pub use Rattle.sip_context_branches.specs as context_branches
-pub use Rattle.sip_context_branches.specs.state

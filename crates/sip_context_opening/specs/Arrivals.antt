@@ -1,7 +1,0 @@
--- A datagram as it comes.
-use Rattle.model_steps.specs.state.Arrival as States
-use Rattle.sip_context_opening.specs.declared.arrival.Arrival as Declared
-
--- the datagram of which the definitions speak
-abbrev pub arrival_of : Declared.Arrival → States.Arrival
-arrival_of a = record { number = a.number; now = a.now; word = a.word; from = a.from }

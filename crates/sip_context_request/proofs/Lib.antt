@@ -1,4 +1,0 @@
-pub mod Addresses
-pub mod Received
-pub mod Told
-pub mod Tails

@@ -1,2 +1,0 @@
-pub mod Refusals
-pub use Rattle.model_context.specs as context_model

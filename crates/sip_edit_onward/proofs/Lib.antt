@@ -1,3 +1,0 @@
-pub mod GoingOn
-pub mod Plain
-mod Tails

@@ -1,9 +1,0 @@
-use Rattle.std.proofs.Common.{refl}
-use Rattle.std.specs.Fmt.{digits}
-use Rattle.hex.specs.Hex.{encode_with}
-use Rattle.sip_uri.specs.Reading.{rest_of, reading_of}
-use Rattle.sip_edit_onward.proofs.examples.onward_message_example.Goals as goal
-
-pub returns-clause-text : goal.returns-clause-text
-unfolding digits encode_with rest_of reading_of
-returns-clause-text c = refl

@@ -1,4 +1,0 @@
-pub mod Lowering
-pub mod Tail
-pub mod Onward
-pub mod OnwardExamples

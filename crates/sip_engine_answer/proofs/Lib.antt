@@ -1,4 +1,0 @@
-pub mod Answering
-pub mod Asking
-pub mod Cancels
-pub mod Counted

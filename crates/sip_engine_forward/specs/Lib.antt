@@ -1,2 +1,0 @@
-pub mod Routing
-pub use Rattle.sip_uas.specs as uas

@@ -1,0 +1,23 @@
+use Rattle.sip_proxy.specs.steps_model.Effect.{replaced}
+use Rattle.sip_engine_open.proofs.Results.{first_done, left_at, left_at_moment, left_next}
+use Rattle.sip_engine_open.proofs.firing.fire_first.Goals as goal
+
+pub returns-clause-step : goal.returns-clause-step
+returns-clause-step g c =
+    first_done c.args.server.now c.args.proxy.now.state c.change.new.proxy.state c.args.proxy.now.timers c.args.hops.now.addresses c.args.first c.in_ok-draft.draft c.change.result c.requires.rows c.requires.first
+    c.requires.in_order c.in_ok-draft.ensures.fired c.change.ensures.leaves
+
+pub returns-clause-at_first : goal.returns-clause-at_first
+returns-clause-at_first g c =
+    left_at c.args.first.due c.in_ok-draft.draft.drafted.packets (replaced c.in_ok-draft.draft.change c.args.proxy.now.state.requests) c.in_ok-draft.draft.drafted.lessons c.args.proxy.now.state
+    c.change.new.proxy.state c.change.result c.change.ensures.leaves
+
+pub returns-clause-at_moment : goal.returns-clause-at_moment
+returns-clause-at_moment g c =
+    left_at_moment c.args.first.due c.in_ok-draft.draft.drafted.packets (replaced c.in_ok-draft.draft.change c.args.proxy.now.state.requests) c.in_ok-draft.draft.drafted.lessons
+    c.args.proxy.now.state c.change.new.proxy.state c.change.result c.change.ensures.leaves
+
+pub returns-clause-next_stays : goal.returns-clause-next_stays
+returns-clause-next_stays g c =
+    left_next c.args.first.due c.in_ok-draft.draft.drafted.packets (replaced c.in_ok-draft.draft.change c.args.proxy.now.state.requests) c.in_ok-draft.draft.drafted.lessons c.args.proxy.now.state
+    c.change.new.proxy.state c.change.result c.change.ensures.leaves

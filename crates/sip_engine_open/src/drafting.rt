@@ -1,0 +1,61 @@
+ghost use Rattle.std.specs.Prelude.{◌≡◌, ◌≤◌, ◌<◌, ◌^◌, length, slice_get, Some, IfOk};
+ghost use Rattle.sip_proxy.specs.fork.Due.{IsDue, IsFirst};
+ghost use Rattle.sip_proxy.specs.fork.Keeping.{IsKeptAs};
+ghost use Rattle.sip_dialog_lessons.specs.Lessons.{beginnings};
+ghost use Rattle.sip_dialog_lessons.specs.state.declared.open_request.OpenRequest.{OpenRequest};
+ghost use Rattle.sip_engine_open.specs.TimeSteps.{IsDueAs, IsFired, IsOfPart};
+
+use sip_dialog_lessons::state::{Branch, OpenRequest, Server};
+use sip_hops::Hops;
+use sip_proxy::context::Input;
+use sip_proxy::fork::{Due, First};
+use sip_proxy::{Draft, Proxy};
+use sip_timers::Timers;
+use std::alloc::{AllocError, Global};
+
+/// The branch of an open request at a place.
+pub(crate) fn branch_of(request: &OpenRequest, branch: usize) -> &Branch
+    requires { branch < length request.now.branches }
+    ensures { slice_get request.now.branches branch ≡ Some result.now }
+{
+    &request.branches.as_slice()[branch]
+}
+
+/// What is due of an open request, as an input to it.
+fn input_of<'a>(request: &'a OpenRequest, first: First) -> Input<'a>
+    requires { IsDue request.now first.due first.what }
+    ensures due { IsDueAs request.now first.due result }
+    ensures part { IsOfPart request.now first.what result }
+{
+    match first.what {
+        Due::AnswerAgain => Input::AnswerAgain,
+        Due::AnswerEnds => Input::SideDeadline,
+        Due::BranchAgain { place } => Input::BranchAgain {
+            branch: branch_of(request, place),
+        },
+        Due::BranchEnds { place } => Input::BranchDeadline {
+            branch: branch_of(request, place),
+        },
+    }
+}
+
+/// Drafts what is due first, at its own moment. `AllocError` is the only refusal.
+pub(crate) fn draft_first<T: Timers>(
+    alloc: Global,
+    server: &Server,
+    hops: &Hops,
+    proxy: &Proxy<T>,
+    first: First,
+) -> Result<Draft, AllocError>
+    requires first { IsFirst proxy.now.state.requests first }
+    requires later { proxy.now.state.moment ≤ first.due }
+    requires small { first.due < 2 ^ 62 }
+    ensures fired { IfOk result (λ draft. (r : OpenRequest) → slice_get proxy.now.state.requests first.place ≡ Some r
+        → IsFired hops.now.addresses server.now first.due first.what r draft) }
+    ensures kept { IfOk result (λ draft. (r : OpenRequest) → slice_get proxy.now.state.requests first.place ≡ Some r
+        → IsKeptAs first.due r draft.change) }
+    ensures few { IfOk result (λ draft. beginnings draft.drafted.lessons ≤ 1) }
+{
+    let input = input_of(proxy.get(first.place), first);
+    proxy.draft_input(alloc, server, hops, first.due, first.place, input)
+}

@@ -1,0 +1,53 @@
+ghost use Rattle.std.specs.Prelude.{◌≡◌, ◌≤◌, ◌<◌, [], length, slice_get, Some, IfOk, OnErr};
+ghost use Rattle.sip_proxy.specs.Proxy.{MayCome};
+ghost use Rattle.sip_proxy.specs.fork.Keeping.{IsKeptAs};
+ghost use Rattle.sip_dialog_lessons.specs.Lessons.{beginnings};
+ghost use Rattle.sip_proxy.specs.steps_model.Effect.{replaced};
+ghost use Rattle.sip_dialog_lessons.specs.state.declared.open_request.OpenRequest.{OpenRequest};
+ghost use Rattle.sip_engine_open.specs.TimeSteps.{Leaves};
+
+use sip_event::StepOut;
+use sip_proxy::{Draft, Proxy};
+use sip_text::Items;
+use sip_timers::Timers;
+use std::alloc::{AllocError, Global};
+
+/// A moment in milliseconds comes, and nothing happens. Takes no memory.
+pub(crate) fn pass<T: Timers>(alloc: Global, proxy: &mut Proxy<T>, now: u64) -> StepOut
+    requires { MayCome proxy.old.state now }
+    ensures leaves { Leaves now [] proxy.old.state.requests [] proxy.old.state result proxy.new.state }
+    ensures timers { proxy.new.timers ≡ proxy.old.timers }
+{
+    proxy.wait(now);
+    StepOut {
+        at: now,
+        packets: Items::new(alloc),
+        records: Items::new(alloc),
+    }
+}
+
+/// A moment in milliseconds comes, the open request at a place becomes what was drafted, and the draft's packets are sent.
+/// `AllocError` is the only refusal; nothing is changed then.
+pub(crate) fn change<T: Timers>(
+    alloc: Global,
+    proxy: &mut Proxy<T>,
+    now: u64,
+    place: usize,
+    draft: Draft,
+) -> Result<StepOut, AllocError>
+    requires moment { MayCome proxy.old.state now }
+    requires place { place < length proxy.old.state.requests }
+    requires kept { (r : OpenRequest) → slice_get proxy.old.state.requests place ≡ Some r → IsKeptAs now r draft.change }
+    requires few { beginnings draft.drafted.lessons ≤ 1 }
+    ensures leaves { IfOk result (λ out. Leaves now draft.drafted.packets (replaced draft.change proxy.old.state.requests)
+        draft.drafted.lessons proxy.old.state out proxy.new.state) }
+    ensures unchanged { OnErr result (proxy.new.state ≡ proxy.old.state) }
+    ensures timers { OnErr result (proxy.new.timers ≡ proxy.old.timers) }
+{
+    let packets = proxy.change(now, place, draft)?;
+    Ok(StepOut {
+        at: now,
+        packets,
+        records: Items::new(alloc),
+    })
+}

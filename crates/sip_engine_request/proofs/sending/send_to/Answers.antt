@@ -1,0 +1,19 @@
+use Rattle.std.proofs.Common.{◌∙◌, [], ◌∷◌, length, ap}
+use Rattle.sip_audit.specs.declared.record.Outcome.TheVariants.{Sent}
+use Rattle.sip_message_form.specs.declared.message.Message.{Message}
+use Rattle.sip_proxy.specs.steps_model.Effect.{record_of}
+use Rattle.sip_uas.specs.forwarding.Arrivals.{arrival_of}
+use Rattle.sip_targets.specs.Targets.{target_list}
+use Rattle.sip_engine_request.proofs.Forked.{sent_does}
+use Rattle.sip_engine_request.proofs.sending.send_to.Goals as goal
+
+pub returns-clause-does : goal.returns-clause-does
+returns-clause-does g c =
+    sent_does c.args.hops.now.addresses c.args.server.now c.args.arrival c.args.request c.args.judged.now.question c.args.rule c.args.targets.now c.in_ok-forwarded.forwarded.request c.in_ok-records.records
+    c.in_ok-forwarded.forwarded.packets c.in_ok-packets.packets c.in_ok-forwarded.forwarded.lessons c.args.proxy.now.state c.take_request.new.proxy.state c.take_credential.new.proxy.state c.requires.space c.requires.somebody
+    c.requires.rows c.in_ok-forwarded.ensures.sent c.in_ok-packets.ensures.packets
+    (
+    c.in_ok-records.ensures c.args.server.now c.requires.minute
+    ∙ ap (λ (m : Message). record_of c.args.server.now (arrival_of c.args.arrival) m c.args.judged.now.question (Sent c.args.rule (length (target_list c.args.targets.now))) ∷ []) c.get.ensures
+    )
+    c.in_ok-forwarded.ensures.request c.in_ok-forwarded.ensures.lessons c.in_ok-packets.ensures.becomes c.take_credential.ensures.state

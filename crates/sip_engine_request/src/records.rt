@@ -1,0 +1,78 @@
+ghost use Rattle.std.specs.Prelude.{◌≡◌, [], ◌∷◌, length, IfOk, IfSome};
+ghost use Rattle.sip_audit.specs.declared.record.Outcome.TheVariants.{Sent};
+ghost use Rattle.sip_proxy.specs.steps_model.Effect as Effects;
+ghost use Rattle.sip_uas.specs.forwarding.Arrivals.{arrival_of};
+ghost use Rattle.sip_dialog_lessons.specs.state.declared.server.Server.{Server};
+ghost use Rattle.sip_targets.specs.Targets.{target_list};
+ghost use Rattle.sip_core.specs.verdict_model.Verdict.{minute_on};
+
+use sip_audit::{Outcome, Record};
+use sip_core::Judged;
+use sip_core::state::Heard;
+use sip_targets::Targets;
+use sip_text::Items;
+use sip_uas::forwarding::Arrival;
+use sip_uas::record_of;
+use std::alloc::{AllocError, Global};
+
+/// How many targets there are, if that is a number of 32 bits.
+fn count_of(targets: &Targets) -> Option<u32>
+    ensures { IfSome result (λ count. count ≡ length (target_list targets.now)) }
+{
+    match targets {
+        Targets::Bindings(targets) => u32::try_from(targets.as_slice().len()).ok(),
+        Targets::Hop(..) => Some(1),
+        Targets::NotFound | Targets::Unavailable => Some(0),
+    }
+}
+
+/// What is recorded of a request that policy was asked about, and of which this became.
+fn recorded(
+    alloc: Global,
+    arrival: Arrival,
+    request: &Heard,
+    judged: &Judged<'_>,
+    outcome: Outcome,
+) -> Result<Items<Record>, AllocError>
+    ensures { IfOk result (λ records. (server : Server) → judged.now.minute ≡ minute_on server judged.now.question
+        → records ≡ Effects.record_of server (arrival_of arrival) request.now judged.now.question outcome ∷ []) }
+{
+    let record = record_of(
+        alloc,
+        arrival.number,
+        arrival.now,
+        &request.start(),
+        &judged.question,
+        judged.minute,
+        outcome,
+    )?;
+    let mut records = Items::new(alloc);
+    records.push(record)?;
+    Ok(records)
+}
+
+/// What is recorded of a request that a rule lets through to its targets. `AllocError` is the only refusal; it also comes
+/// where there are more targets than numbers of 32 bits.
+pub(crate) fn records_of(
+    alloc: Global,
+    arrival: Arrival,
+    request: &Heard,
+    judged: &Judged<'_>,
+    rule: u32,
+    targets: &Targets,
+) -> Result<Items<Record>, AllocError>
+    ensures { IfOk result (λ records. (server : Server) → judged.now.minute ≡ minute_on server judged.now.question
+        → records ≡ Effects.record_of server (arrival_of arrival) request.now judged.now.question
+        (Sent rule (length (target_list targets.now))) ∷ []) }
+{
+    let Some(targets) = count_of(targets) else {
+        return Err(AllocError);
+    };
+    recorded(
+        alloc,
+        arrival,
+        request,
+        judged,
+        Outcome::Sent { rule, targets },
+    )
+}

@@ -1,0 +1,93 @@
+ghost use Rattle.std.specs.Prelude.{◌≡◌, [], IfOk, IfSome, OnOk, OnErr};
+ghost use Rattle.sip_proxy.specs.Proxy.{Becomes, IsComing};
+ghost use Rattle.sip_proxy.specs.steps_model.Effect.{counted};
+ghost use Rattle.sip_uas.specs.forwarding.Arrivals.{arrival_of};
+ghost use Rattle.sip_dialog_lessons.specs.state.State.{with_one_more};
+ghost use Rattle.sip_uas.specs.Drafts.{with_opened};
+ghost use Rattle.sip_engine_request.specs.Admitting.{IsOpenableIn};
+
+use sip_dialog_lessons::Lessons;
+use sip_dialog_lessons::state::OpenRequest;
+use sip_event::StepOut;
+use sip_proxy::Proxy;
+use sip_proxy::fork::Opening;
+use sip_timers::Timers;
+use sip_uas::Draft;
+use sip_uas::forwarding::Arrival;
+use std::alloc::{AllocError, Global};
+
+/// A request that a datagram brought, and that was answered, is opened; the dialogs learn nothing of it. Refused with
+/// `AllocError` where there is no memory; nothing is changed then.
+fn open<T: Timers>(
+    alloc: Global,
+    proxy: &mut Proxy<T>,
+    arrival: Arrival,
+    request: OpenRequest,
+) -> Result<(), AllocError>
+    requires coming { IsComing proxy.old.state arrival }
+    requires opens { IsOpenableIn proxy.old.state arrival request }
+    ensures becomes { OnOk result (Becomes arrival.now (with_one_more request proxy.old.state.requests) [] proxy.old.state proxy.new.state) }
+    ensures unchanged { OnErr result (proxy.new.state ≡ proxy.old.state) }
+    ensures timers { OnErr result (proxy.new.timers ≡ proxy.old.timers) }
+    ensures room { proxy.new.room ≡ proxy.old.room }
+{
+    let opening = Opening::of(alloc, request)?;
+    proxy.open(arrival.now, opening, Lessons::new(alloc))
+}
+
+/// The moment of a datagram comes, and the request is opened that was drafted, if one was: where 1,024 are open, none is.
+/// Refused with `AllocError` where there is no memory; nothing is changed then.
+fn open_drafted<T: Timers>(
+    alloc: Global,
+    proxy: &mut Proxy<T>,
+    arrival: Arrival,
+    opened: Option<OpenRequest>,
+) -> Result<(), AllocError>
+    requires coming { IsComing proxy.old.state arrival }
+    requires opens { IfSome opened (IsOpenableIn proxy.old.state arrival) }
+    ensures becomes { OnOk result (Becomes arrival.now (with_opened opened proxy.old.state.requests) [] proxy.old.state proxy.new.state) }
+    ensures unchanged { OnErr result (proxy.new.state ≡ proxy.old.state) }
+    ensures timers { OnErr result (proxy.new.timers ≡ proxy.old.timers) }
+    ensures room { proxy.new.room ≡ proxy.old.room }
+{
+    match opened {
+        Some(request) => open(alloc, proxy, arrival, request),
+        None => {
+            proxy.wait(arrival.now);
+            Ok(())
+        }
+    }
+}
+
+/// What was drafted of a datagram's request is done: the request is opened, if it is to be, and the datagram takes its
+/// number. Nonces and bindings stay, and the dialogs learn nothing. Refused with `AllocError` where there is no memory;
+/// nothing is changed then.
+pub(crate) fn take_draft<T: Timers>(
+    alloc: Global,
+    proxy: &mut Proxy<T>,
+    arrival: Arrival,
+    draft: Draft,
+) -> Result<StepOut, AllocError>
+    requires coming { IsComing proxy.old.state arrival }
+    requires opens { IfSome draft.opened (IsOpenableIn proxy.old.state arrival) }
+    ensures becomes { OnOk result (Becomes arrival.now (with_opened draft.opened proxy.old.state.requests) []
+        (counted (arrival_of arrival) proxy.old.state) proxy.new.state) }
+    ensures out { IfOk result (λ out. out ≡ record { at = arrival.now; packets = draft.packets; records = draft.records }) }
+    ensures unchanged { OnErr result (proxy.new.state ≡ proxy.old.state) }
+    ensures timers { OnErr result (proxy.new.timers ≡ proxy.old.timers) }
+    ensures room { proxy.new.room ≡ proxy.old.room }
+{
+    let Draft {
+        packets,
+        records,
+        opened,
+        lessons: _none,
+    } = draft;
+    open_drafted(alloc, proxy, arrival, opened)?;
+    let _number = proxy.count();
+    Ok(StepOut {
+        at: arrival.now,
+        packets,
+        records,
+    })
+}

@@ -1,6 +1,0 @@
-mod Drafts
-mod Failed
-mod Lists
-mod Moments
-mod Results
-mod Steps

@@ -1,0 +1,7 @@
+-- A datagram as it comes.
+use Rattle.model_steps.specs.state.Arrival as States
+use Rattle.sip_forwarding.specs.declared.arrival.Arrival as Declared
+
+-- the datagram of which the definitions speak
+abbrev pub arrival_of : Declared.Arrival → States.Arrival
+arrival_of a = record { number = a.number; now = a.now; word = a.word; from = a.from }

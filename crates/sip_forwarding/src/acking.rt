@@ -1,0 +1,96 @@
+ghost use Rattle.std.specs.Prelude.{◌≡◌, IfOk};
+ghost use Rattle.sip_message_form.specs.Text.{text_of};
+ghost use Rattle.sip_edit.specs.OwnVia.{branch_text, own_via};
+ghost use Rattle.sip_edit.specs.Onward.{onward_of, onward_uri};
+ghost use Rattle.sip_context_branches.specs.context_model.Sending as Sendings;
+ghost use Rattle.model_steps.specs.Effect as Effects;
+ghost use Rattle.sip_forwarding.specs.Arrivals.{arrival_of};
+
+use crate::arrival::Arrival;
+use model_steps::state::{Server, received_value};
+use sip_edit::{branch_text, onward_base, onward_uri, own_via_value, to_target, with_top_via};
+use sip_event::{Packet, Ticket};
+use sip_message_form::{View, write_view};
+use sip_text::Bytes;
+use sip_uri::Addr;
+use std::alloc::{AllocError, Global};
+
+/// The value of this server's Via on a request that goes to one place.
+fn via_value(alloc: Global, server: &Server, number: u64) -> Result<Bytes, AllocError>
+    ensures { IfOk result (λ value. value ≡ own_via server.now.config.own (branch_text server.now.word number 1)) }
+{
+    let branch = branch_text(alloc, server.word, number, 1)?;
+    own_via_value(alloc, &server.config.own, branch.as_slice())
+}
+
+/// The text of a request that goes on with a Request-URI, with the value that its top Via gets.
+fn sent_on(
+    alloc: Global,
+    server: &Server,
+    number: u64,
+    received: &View<'_>,
+    uri: &[u8],
+) -> Result<Bytes, AllocError>
+    ensures { IfOk result
+        (λ text. text ≡ text_of (onward_of server.now.config.own server.now.config.realm uri.now (branch_text server.now.word number 1)
+        received.now)) }
+{
+    let via = via_value(alloc, server, number)?;
+    let realm = server.config.realm.as_slice();
+    let base = onward_base(alloc, &server.config.own, realm, false, received)?;
+    let request = to_target(alloc, &base, uri, via)?;
+    write_view(alloc, &request)
+}
+
+/// The text of a request, as it came, that goes on with a Request-URI.
+fn received_on(
+    alloc: Global,
+    server: &Server,
+    arrival: Arrival,
+    request: &View<'_>,
+    uri: &[u8],
+) -> Result<Bytes, AllocError>
+    ensures { IfOk result (λ text. text ≡ text_of (Sendings.onward_as server.now arrival.number request.now arrival.from uri.now 1)) }
+{
+    let via = received_value(alloc, request, arrival.from)?;
+    let received = with_top_via(alloc, request, via.as_slice())?;
+    sent_on(alloc, server, arrival.number, &received, uri)
+}
+
+/// The text of a request that goes on to its own Request-URI.
+fn onward_text(
+    alloc: Global,
+    server: &Server,
+    arrival: Arrival,
+    request: &View<'_>,
+) -> Result<Bytes, AllocError>
+    ensures { IfOk result
+        (λ text. text ≡ text_of (Sendings.onward_as server.now arrival.number request.now arrival.from
+        (onward_uri server.now.config.own request.now) 1)) }
+{
+    let uri = onward_uri(alloc, &server.config.own, request)?;
+    received_on(alloc, server, arrival, request, uri.as_slice())
+}
+
+/// The packet of an ACK that goes on, to the address that its dialog holds, without a transaction (RFC 3261 16.11, 17).
+/// `AllocError` is the only refusal.
+pub(crate) fn ack_packet(
+    alloc: Global,
+    server: &Server,
+    arrival: Arrival,
+    request: &View<'_>,
+    address: Addr,
+) -> Result<Packet, AllocError>
+    ensures { IfOk result (λ packet. packet ≡ Effects.ack_packet server.now (arrival_of arrival) request.now address) }
+{
+    let bytes = onward_text(alloc, server, arrival, request)?;
+    Ok(Packet {
+        to: address,
+        bytes,
+        ticket: Ticket {
+            datagram: arrival.number,
+            branch: 0,
+        },
+        again: false,
+    })
+}

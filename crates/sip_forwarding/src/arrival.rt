@@ -1,0 +1,51 @@
+ghost use Rattle.std.specs.Prelude.{◌≡◌, ◌+◌, ◌<◌, ◌^◌, Some};
+ghost use Rattle.sip_transaction_table.specs.Key.{key_of};
+ghost use Rattle.sip_context_branches.specs.context_model.Opening as Definitions;
+ghost use Rattle.sip_forwarding.specs.Arrivals.{arrival_of};
+
+use model_steps::state::{Heard, OpenRequest, Side};
+use sip_base::Shared;
+use sip_context::state::first_resend;
+use sip_text::Items;
+use sip_transaction_table::Key;
+use sip_uri::Addr;
+use std::alloc::Global;
+
+/// A datagram as it comes.
+#[derive(Clone, Copy)]
+pub struct Arrival {
+    /// Its number.
+    pub number: u64,
+    /// When it came, in milliseconds.
+    pub now: u64,
+    /// The word that makes the nonce of a challenge.
+    pub word: u128,
+    /// Where it came from.
+    pub from: Addr,
+}
+
+/// A request that comes, with its key, before anything was sent for it. Takes no memory.
+#[tactic(auto, using(crate::proofs::Keys::key_is))]
+pub(crate) fn arriving(
+    alloc: Global,
+    arrival: Arrival,
+    key: Shared<Key>,
+    request: Shared<Heard>,
+) -> OpenRequest
+    requires key { key_of request ≡ Some key }
+    requires now { arrival.now + 32000 < 2 ^ 64 }
+    ensures { result ≡ Definitions.arriving (arrival_of arrival) request }
+{
+    OpenRequest {
+        key,
+        request,
+        source: arrival.from,
+        number: arrival.number,
+        arrived_at: arrival.now,
+        answer: None,
+        side: Side::Answering,
+        again: first_resend(arrival.now),
+        finals: Items::new(alloc),
+        branches: Items::new(alloc),
+    }
+}

@@ -1,0 +1,107 @@
+ghost use Rattle.std.specs.Prelude.{◌≡◌, ◌+◌, ◌<◌, ◌^◌, false, Some, IfOk};
+ghost use Rattle.sip_message_form.specs.Text.{text_of};
+ghost use Rattle.sip_transaction_table.specs.Key.{key_of};
+ghost use Rattle.sip_context_branches.specs.context_model.Opening as Definitions;
+ghost use Rattle.sip_context_branches.specs.context_model.Sending as Sendings;
+ghost use Rattle.sip_forwarding.specs.Arrivals.{arrival_of};
+
+use crate::arrival::{Arrival, arriving};
+use model_steps::state::{Heard, LastAnswer, OpenRequest, Server, Side};
+use sip_base::Shared;
+use sip_context::context_packets::{answer_packet, made_answer};
+use sip_event::Packet;
+use sip_message_fields::Fields;
+use sip_timers::T1;
+use sip_transaction_table::Key;
+use std::alloc::{AllocError, Global};
+
+/// A final answer that is given at once: its packet, and the request that is open from then on.
+#[derive(Drop)]
+pub struct Replied {
+    pub packet: Packet,
+    pub request: OpenRequest,
+}
+
+/// An answer that is made here: its packet, and what is kept of it.
+#[derive(Drop)]
+struct Made {
+    packet: Packet,
+    answer: LastAnswer,
+}
+
+/// Makes the answer of a status with further fields.
+fn make(
+    alloc: Global,
+    server: &Server,
+    arrival: Arrival,
+    request: &Heard,
+    status: u16,
+    extras: &Fields,
+) -> Result<Made, AllocError>
+    ensures packet { IfOk result (λ made. made.packet ≡ Sendings.answer_packet false arrival.number request.now arrival.from
+        (text_of (Sendings.made_answer server.now arrival.number request.now arrival.from status extras.now))) }
+    ensures answer { IfOk result
+        (λ made. made.answer ≡ record {
+          status = status;
+          text = text_of
+              (Sendings.made_answer server.now arrival.number request.now arrival.from status extras.now);
+        }) }
+{
+    let text = made_answer(
+        alloc,
+        server,
+        arrival.number,
+        request,
+        arrival.from,
+        status,
+        extras,
+    )?;
+    let kept = Shared::new(alloc, text.clone()?)?;
+    let packet = answer_packet(alloc, false, arrival.number, request, arrival.from, text)?;
+    let answer = LastAnswer { status, text: kept };
+    Ok(Made { packet, answer })
+}
+
+/// A request that came and was answered at once.
+fn closing(
+    alloc: Global,
+    arrival: Arrival,
+    key: Shared<Key>,
+    request: Shared<Heard>,
+    answer: LastAnswer,
+) -> OpenRequest
+    requires key { key_of request ≡ Some key }
+    requires now { arrival.now + 32000 < 2 ^ 64 }
+    ensures { result ≡ Definitions.closing (arrival_of arrival) request answer.status answer.text }
+{
+    let mut open_request = arriving(alloc, arrival, key, request);
+    open_request.answer = Some(answer);
+    open_request.side = Side::Closing {
+        until: arrival.now + 64 * T1,
+    };
+    open_request
+}
+
+/// A request that came gets its final answer of a status at once, made here with further fields: the packet of the answer,
+/// and the request, which is open from then on (RFC 3261 8.2.6, 17.2). `AllocError` is the only refusal.
+pub fn reply(
+    alloc: Global,
+    server: &Server,
+    arrival: Arrival,
+    key: Shared<Key>,
+    request: Shared<Heard>,
+    status: u16,
+    extras: &Fields,
+) -> Result<Replied, AllocError>
+    requires key { key_of request ≡ Some key }
+    requires now { arrival.now + 32000 < 2 ^ 64 }
+    ensures packet { IfOk result (λ replied. replied.packet ≡ Sendings.answer_packet false arrival.number request arrival.from
+        (text_of (Sendings.made_answer server.now arrival.number request arrival.from status extras.now))) }
+    ensures request { IfOk result (λ replied. replied.request ≡ Definitions.closing (arrival_of arrival) request status
+        (text_of (Sendings.made_answer server.now arrival.number request arrival.from status extras.now))) }
+{
+    let made = make(alloc, server, arrival, request.get(), status, extras)?;
+    let packet = made.packet;
+    let request = closing(alloc, arrival, key, request, made.answer);
+    Ok(Replied { packet, request })
+}

@@ -1,0 +1,148 @@
+ghost use Rattle.std.specs.Prelude.{◌≡◌, ◌≤◌, ◌<◌, ◌-◌, ◌++◌, ◌==◌, ℕ, [], false, not, filter, nat_eq, vec_len, vec_capacity, OnOk};
+ghost use Rattle.std.specs.Prelude.{option_to_list, if◌then◌else◌};
+ghost use Rattle.std.specs.HashMap.{get, spare};
+ghost use Rattle.std.specs.Option.{option_map_or};
+ghost use Rattle.sip_location.specs.Filed.{bindings_of, is_filed_of, first_rows, with_rows, IsReplaced};
+ghost use Rattle.sip_location.specs.Locations.{of_aor};
+
+use crate::aor_ref::AorRef;
+use crate::code::code_of;
+use crate::filed::Filed;
+use crate::row::Row;
+use sip_uri::Aor;
+use std::alloc::{AllocError, Global};
+use std::collections::HashMap;
+use std::marker::Model;
+
+/// The rows of addresses of record: each address's under its code, or, where that is the code of another address that has
+/// rows, in a crowd, which is nearly always empty.
+#[derive(Drop)]
+pub(crate) struct Filing {
+    by_code: HashMap<u64, Filed>,
+    crowd: Vec<Filed>,
+}
+
+impl Model for Filing {
+    ghost use Rattle.std.specs.Prelude.{◌-◌, min, nat_eq, vec_len, vec_capacity};
+    ghost use Rattle.std.specs.HashMap.{get, spare};
+    ghost use Rattle.sip_location.specs.Filed.{rows_in, AreFiled};
+    ghost use Rattle.sip_location.specs.Locations.{LocationService};
+
+    ghost Value = { LocationService };
+
+    ghost view = { λ f. record {
+      rows = rows_in (λ code. get nat_eq f.by_code code) f.crowd.items;
+      room = min (spare f.by_code) (vec_capacity f.crowd - vec_len f.crowd);
+    } };
+
+    ghost invariant = { λ f. AreFiled (λ code. get nat_eq f.by_code code) f.crowd.items };
+}
+
+impl Filing {
+    /// No rows. Takes no memory.
+    pub(crate) fn new(alloc: Global) -> Self
+        ensures { result.rows ≡ [] }
+    {
+        Filing {
+            by_code: HashMap::new(alloc),
+            crowd: Vec::new(alloc),
+        }
+    }
+
+    pub(crate) fn alloc(&self) -> Global {
+        *self.crowd.allocator()
+    }
+
+    /// What is kept of an address of record, expired bindings, too.
+    pub(crate) fn rows_of(&self, aor: &Aor) -> &[Row]
+        ensures { bindings_of aor.now result.now ≡ of_aor aor.now self.now.rows }
+    {
+        let aor = AorRef::of(aor);
+        if let Some(filed) = self.by_code.get(&code_of(&aor)) {
+            if filed.aor.is_same(&aor) {
+                return filed.rows.as_slice();
+            }
+        }
+        rows_among(&self.crowd, &aor)
+    }
+
+    /// Makes room for one address more, whatever its code. `AllocError` is the only refusal.
+    pub(crate) fn reserve_one(&mut self) -> Result<(), AllocError>
+        ensures rows { self.new.rows ≡ self.old.rows }
+        ensures ok { OnOk result (1 ≤ self.new.room) }
+    {
+        self.crowd.reserve(1)?;
+        self.by_code.reserve(1)
+    }
+
+    /// Files rows under their address of record, in place of what is filed there. Without rows nothing is. Takes no memory.
+    pub(crate) fn file(&mut self, filed: Filed)
+        requires { 1 ≤ self.old.room }
+        ensures { IsReplaced self.old.rows filed.aor filed.rows self.new.rows }
+    {
+        let aor = filed.aor.lent();
+        let code = code_of(&aor);
+        let is_taken = is_of_another(&self.by_code, code, &aor);
+        leave(&mut self.crowd, &aor);
+        if is_taken {
+            join(&mut self.crowd, filed);
+        } else {
+            put(&mut self.by_code, code, filed);
+        }
+    }
+}
+
+/// The rows of an address of record in a crowd; where it has none, no rows.
+#[tactic(auto, using(std::proofs::lemmas::List::at_drop_more, std::proofs::lemmas::List::drop_all))]
+fn rows_among<'a>(crowd: &'a [Filed], aor: &AorRef<'_>) -> &'a [Row]
+    ensures { result.now ≡ first_rows (filter (is_filed_of aor.now) crowd.now) }
+{
+    for filed in crowd {
+        if filed.aor.is_same(aor) {
+            return filed.rows.as_slice();
+        }
+    }
+    &[]
+}
+
+/// Whether the rows of another address of record stand under a code.
+fn is_of_another(by_code: &HashMap<u64, Filed>, code: u64, aor: &AorRef<'_>) -> bool
+    ensures { result ≡ option_map_or (λ filed. not (is_filed_of aor.now filed)) (get nat_eq by_code.now code) false }
+{
+    match by_code.get(&code) {
+        Some(filed) => !filed.aor.is_same(aor),
+        None => false,
+    }
+}
+
+/// Takes an address of record out of a crowd.
+fn leave(crowd: &mut Vec<Filed>, aor: &AorRef<'_>)
+    ensures left { crowd.new.items ≡ filter (λ filed. not (is_filed_of aor.now filed)) crowd.old.items }
+    ensures room { vec_capacity crowd.old - vec_len crowd.old ≤ vec_capacity crowd.new - vec_len crowd.new }
+{
+    crowd.retain(|filed| !filed.aor.is_same(aor));
+}
+
+/// Adds rows to a crowd, if there are any.
+fn join(crowd: &mut Vec<Filed>, filed: Filed)
+    requires { vec_len crowd.old < vec_capacity crowd.old }
+    ensures { crowd.new.items ≡ crowd.old.items ++ option_to_list (with_rows filed) }
+{
+    if !filed.rows.as_slice().is_empty() {
+        let pushed: Result<_, _> = crowd.push(filed);
+        pushed.unwrap();
+    }
+}
+
+/// Puts rows under a code, in place of what stands there. Without rows nothing is to stand there.
+fn put(by_code: &mut HashMap<u64, Filed>, code: u64, filed: Filed)
+    requires { 1 ≤ spare by_code.old }
+    ensures { (other : ℕ) → get nat_eq by_code.new other ≡ (if code == other then with_rows filed else get nat_eq by_code.old other) }
+{
+    if filed.rows.as_slice().is_empty() {
+        let _old = by_code.remove(&code);
+    } else {
+        let inserted: Result<_, _> = by_code.insert(code, filed);
+        let _old = inserted.unwrap();
+    }
+}

@@ -1,2 +1,0 @@
-pub mod OneCSeq
-pub mod Deciding

@@ -1,0 +1,367 @@
+ghost use Rattle.std.specs.Prelude.{◌≡◌, ◌++◌, ℕ, IfOk, IfSome, OnOk, List, Some, is_some};
+ghost use Rattle.std.specs.Option.{option_and_then};
+ghost use Rattle.std.specs.List.{filter_map};
+ghost use Rattle.std.specs.Result.{result_ok};
+ghost use Rattle.sip_header.specs.CoreFields.{core_of};
+ghost use Rattle.sip_message_fields.specs.declared.field_name.FieldName.TheVariants as Name;
+ghost use Rattle.sip_message_fields.specs.Values.{with_first};
+ghost use Rattle.sip_dialog.specs.Addresses.{addresses_in};
+ghost use Rattle.sip_dialog.specs.DialogId.{id_of};
+ghost use Rattle.sip_edit.specs.Onward as Goes;
+ghost use Rattle.sip_edit.specs.ReceivedRequest.{received, received_fields, response_address, top_via};
+ghost use Rattle.sip_message_form.specs.Text.{text_of};
+ghost use Rattle.sip_message_form.specs.ViewStart.{start_seen};
+ghost use Rattle.sip_hops.specs.HostAddress.{address_of};
+ghost use Rattle.sip_route.specs.Way.{request_uri, fields_left};
+ghost use Rattle.sip_route.specs.RoutesKept.{fields_kept};
+ghost use Rattle.sip_context_places.specs.RouteFacts.{facts_in, kept_by};
+ghost use Rattle.sip_edit.specs.Tail.{tail_of};
+ghost use Rattle.sip_state.specs.Names as Spec;
+ghost use Rattle.sip_context_places.specs.Given.{address_there};
+
+use crate::names::{Names, dialog_by, dialog_to, names_dialog, names_in};
+use crate::onward::Onward;
+use crate::top_via::{TopVia, received_value, reply_address};
+use sip_base::Shared;
+use sip_context_places::laws::kept_routes_are_left;
+use sip_context_places::{Place, RouteFacts, places_in};
+use sip_dialog::DialogId;
+use sip_edit::{onward_base_by, text_to_target, to_target};
+use sip_header::Via;
+use sip_hops::Hops;
+use sip_message_fields::{FieldName, Value};
+use sip_message_form::{Kept, View, ViewStart, write_view};
+use sip_route::{Own, RoutesKept};
+use sip_text::{Bytes, Items};
+use sip_uri::Addr;
+use std::alloc::{AllocError, Global};
+use std::marker::Model;
+
+/// A request that is kept beyond its datagram, seen as that message, with what is read of it once.
+#[derive(Drop)]
+pub struct Heard {
+    message: Kept,
+    via: TopVia,
+    /// Of a request that goes on, in a block of its own: one that is answered here has none.
+    onward: Option<Shared<Onward>>,
+}
+
+impl Model for Heard {
+    ghost use Rattle.sip_message_form.specs.declared.message.Message.{Message};
+    ghost use Rattle.sip_state.specs.Heard.{IsHeard};
+
+    ghost Value = { Message };
+
+    ghost view = { λ h. h.message };
+
+    ghost invariant = { λ h. IsHeard h.message h.via h.onward };
+}
+
+/// Which Routes of a message are left for a server.
+fn unread_routes(alloc: Global, message: &Kept, own: &Own) -> Result<RoutesKept, AllocError>
+    ensures { IfOk result (λ kept. kept ≡ kept_by own.now (facts_in message.now)) }
+{
+    let request = message.view(alloc)?;
+    let facts = RouteFacts::of(alloc, &request)?;
+    facts.kept(alloc, own)
+}
+
+/// Whether a message names a dialog.
+fn unread_names_dialog(alloc: Global, message: &Kept) -> Result<bool, AllocError>
+    ensures { IfOk result (λ names. names ≡ is_some (Spec.dialog_by (Spec.names_in message.now))) }
+{
+    let request = message.view(alloc)?;
+    let names = names_in(alloc, &request)?;
+    Ok(names_dialog(&names))
+}
+
+/// The dialog that a message names.
+fn unread_dialog(alloc: Global, message: &Kept) -> Result<Option<DialogId>, AllocError>
+    ensures { IfOk result (λ id. id ≡ Spec.dialog_by (Spec.names_in message.now)) }
+{
+    let request = message.view(alloc)?;
+    let names = names_in(alloc, &request)?;
+    dialog_by(alloc, &names)
+}
+
+/// The dialog that an answer with a tag of To to a message names.
+fn unread_dialog_to(
+    alloc: Global,
+    message: &Kept,
+    to_tag: &[u8],
+) -> Result<Option<DialogId>, AllocError>
+    ensures { IfOk result (λ id. id ≡ Spec.dialog_to to_tag.now (Spec.names_in message.now)) }
+{
+    let request = message.view(alloc)?;
+    let names = names_in(alloc, &request)?;
+    dialog_to(alloc, &names, to_tag)
+}
+
+/// The value that the top Via of a message gets, which came from an address.
+fn unread_via(alloc: Global, message: &Kept, from: Addr) -> Result<Value<'static>, AllocError>
+    ensures { IfOk result (λ value. with_first Name.Via value message.now.fields ≡ received_fields from message.now.fields) }
+{
+    let request = message.view(alloc)?;
+    Value::of_bytes(alloc, received_value(alloc, &request, from)?)
+}
+
+/// Where the answers to a message go that came from an address.
+fn unread_reply(alloc: Global, message: &Kept, from: Addr) -> Result<Addr, AllocError>
+    ensures { IfOk result (λ address. address ≡ response_address message.now from) }
+{
+    let request = message.view(alloc)?;
+    reply_address(alloc, &request, from)
+}
+
+/// Adds the addresses that places have in a table.
+fn put_addresses(out: &mut Items<Addr>, hops: &Hops, places: &[Place]) -> Result<(), AllocError>
+    ensures { OnOk result (out.new ≡ out.old ++ filter_map (address_there hops.now.addresses) places.now) }
+{
+    for place in places {
+        if let Some(address) = hops.address_at(place.host.as_slice(), place.port) {
+            out.push(address)?;
+        }
+    }
+    Ok(())
+}
+
+/// Adds the addresses that Contact and Record-Route of a message give by a table.
+#[tactic(auto, using(crate::proofs::Told::addresses_are))]
+fn put_unread(
+    alloc: Global,
+    out: &mut Items<Addr>,
+    hops: &Hops,
+    message: &Kept,
+) -> Result<(), AllocError>
+    ensures { OnOk result (out.new ≡ out.old ++ addresses_in (address_of hops.now.addresses) message.now.fields) }
+{
+    let fields = message.fields(alloc)?;
+    let places = places_in(alloc, fields.as_slice())?;
+    put_addresses(out, hops, places.as_slice())
+}
+
+impl Heard {
+    /// A request with this Via on top that came from an address, and that is answered here. `AllocError` is the only
+    /// refusal.
+    pub fn of(
+        alloc: Global,
+        request: &View<'_>,
+        via: &Via<'_>,
+        from: Addr,
+    ) -> Result<Self, AllocError>
+        requires { top_via request.now ≡ Some via.now }
+        ensures { IfOk result (λ heard. heard ≡ request.now) }
+    {
+        let message = Kept::of(alloc, request)?;
+        let via = TopVia::of(alloc, request, via, from)?;
+        Ok(Heard {
+            message,
+            via,
+            onward: None,
+        })
+    }
+
+    /// A request with this Via on top that came from an address, and that goes on from a server of this place and realm. Its
+    /// core fields aren't read for names that were made before. `AllocError` is the only refusal.
+    pub fn onward(
+        alloc: Global,
+        own: &Own,
+        realm: &[u8],
+        request: &View<'_>,
+        via: &Via<'_>,
+        from: Addr,
+        names: Option<Names>,
+    ) -> Result<Self, AllocError>
+        requires names { Spec.AreNames request.now names }
+        requires via { top_via request.now ≡ Some via.now }
+        ensures { IfOk result (λ heard. heard ≡ request.now) }
+    {
+        let message = Kept::of(alloc, request)?;
+        let via = TopVia::of(alloc, request, via, from)?;
+        let onward = Onward::of(alloc, own, realm, request, &via, names)?;
+        Ok(Heard {
+            message,
+            via,
+            onward: Some(Shared::new(alloc, onward)?),
+        })
+    }
+
+    /// The first line of the message, of which no byte is copied. Takes no memory.
+    pub fn start(&self) -> ViewStart<'_>
+        ensures { start_seen result ≡ self.now.start }
+    {
+        self.message.start()
+    }
+
+    /// A view of the message, of which no byte is copied. `AllocError` is the only refusal.
+    pub fn view<'k>(&'k self, alloc: Global) -> Result<View<'k>, AllocError>
+        ensures { IfOk result (λ view. view ≡ self.now) }
+    {
+        self.message.view(alloc)
+    }
+
+    /// A view of the message, whose top Via has another value, as `received_via` gives it (RFC 3261 18.2.1). No byte is
+    /// copied. `AllocError` is the only refusal.
+    pub fn with_top_via<'k>(
+        &'k self,
+        alloc: Global,
+        value: &'k [u8],
+    ) -> Result<View<'k>, AllocError>
+        ensures { IfOk result (λ view. view ≡ record self.now { fields = with_first Name.Via value.now self.now.fields }) }
+    {
+        self.message.view_with_first(alloc, &FieldName::Via, value)
+    }
+
+    /// The value that the top Via gets where the request came from an address (RFC 3261 18.2.1); empty where there is no
+    /// Via. `AllocError` is the only refusal.
+    pub fn received_via(&self, alloc: Global, from: Addr) -> Result<Value<'_>, AllocError>
+        ensures { IfOk result (λ value. with_first Name.Via value self.now.fields ≡ received_fields from self.now.fields) }
+    {
+        if self.via.is_from(from) {
+            return Ok(Value::of_part(self.via.value.as_slice()));
+        }
+        unread_via(alloc, &self.message, from)
+    }
+
+    /// Where the answers go where the request came from an address (RFC 3261 18.2.2). `AllocError` is the only refusal.
+    pub fn reply_to(&self, alloc: Global, from: Addr) -> Result<Addr, AllocError>
+        ensures { IfOk result (λ address. address ≡ response_address self.now from) }
+    {
+        if self.via.is_from(from) {
+            return Ok(self.via.reply_to);
+        }
+        unread_reply(alloc, &self.message, from)
+    }
+
+    /// Which fields are left once a server's own part of the way is taken off (RFC 3261 16.4), whatever value the top Via
+    /// has. `AllocError` is the only refusal.
+    pub fn routes_kept(&self, alloc: Global, own: &Own) -> Result<RoutesKept, AllocError>
+        ensures { IfOk result (λ kept. (via : List ℕ) → fields_kept kept (with_first Name.Via via self.now.fields)
+            ≡ fields_left own.now (request_uri self.now.start) (with_first Name.Via via self.now.fields)) }
+    {
+        kept_routes_are_left();
+        match &self.onward {
+            Some(onward) => onward.get().routes.kept(alloc, own),
+            None => unread_routes(alloc, &self.message, own),
+        }
+    }
+
+    /// What its packets have in common, if that was written for a server of this realm, with these Routes left of the
+    /// request as it came from an address.
+    #[tactic(auto, using(crate::proofs::Tails::is_tail))]
+    fn tail_for(&self, realm: &[u8], routes: RoutesKept, from: Addr) -> Option<&[u8]>
+        ensures { IfSome result (λ tail. tail.now ≡ tail_of routes realm.now (received self.now from)) }
+    {
+        let onward = self.onward.as_ref()?;
+        let tail = &onward.get().tail;
+        if !self.via.is_from(from) {
+            return None;
+        }
+        if !tail.is_for(realm, routes) {
+            return None;
+        }
+        Some(tail.text.as_slice())
+    }
+
+    /// The text of the request as it goes to a target, written anew from its fields.
+    fn unread_text(
+        &self,
+        alloc: Global,
+        own: &Own,
+        realm: &[u8],
+        records_route: bool,
+        routes: RoutesKept,
+        from: Addr,
+        uri: &[u8],
+        via: Bytes,
+    ) -> Result<Bytes, AllocError>
+        requires { fields_kept routes (received_fields from self.now.fields)
+            ≡ fields_left own.now (request_uri self.now.start) (received_fields from self.now.fields) }
+        ensures { IfOk result
+            (λ text. text ≡ text_of (Goes.to_target uri.now via (Goes.onward_base own.now realm.now records_route (received self.now from)))) }
+    {
+        let value = self.received_via(alloc, from)?;
+        let received = self.with_top_via(alloc, value.as_slice())?;
+        let base = onward_base_by(alloc, own, realm, records_route, routes, &received)?;
+        let request = to_target(alloc, &base, uri, via)?;
+        write_view(alloc, &request)
+    }
+
+    /// The text of the request as it goes to a target with this Request-URI, if it came from an address: without the
+    /// server's own part of the way, without the credentials for its realm, with one hop less, the server's Via of this value
+    /// on top, and its Record-Route where it gets one (RFC 3261 16.4, 16.6). Where it came from the address that it was kept
+    /// with, what all targets have in common is copied, and not written anew. `AllocError` is the only refusal.
+    pub fn text_to(
+        &self,
+        alloc: Global,
+        own: &Own,
+        realm: &[u8],
+        records_route: bool,
+        from: Addr,
+        uri: &[u8],
+        via: Bytes,
+    ) -> Result<Bytes, AllocError>
+        ensures { IfOk result
+            (λ text. text ≡ text_of (Goes.to_target uri.now via (Goes.onward_base own.now realm.now records_route (received self.now from)))) }
+    {
+        let routes = self.routes_kept(alloc, own)?;
+        if let Some(tail) = self.tail_for(realm, routes, from) {
+            let start = self.start();
+            return text_to_target(alloc, own, records_route, &start, uri, via.as_slice(), tail);
+        }
+        self.unread_text(alloc, own, realm, records_route, routes, from, uri, via)
+    }
+
+    /// Whether the request names a dialog (RFC 3261 12.2.2). `AllocError` is the only refusal.
+    #[tactic(auto, using(crate::proofs::Told::dialog_is))]
+    pub fn names_dialog(&self, alloc: Global) -> Result<bool, AllocError>
+        ensures { IfOk result (λ names. names ≡ is_some (option_and_then (λ core. id_of core) (result_ok (core_of self.now)))) }
+    {
+        match &self.onward {
+            Some(onward) => Ok(names_dialog(&onward.get().names)),
+            None => unread_names_dialog(alloc, &self.message),
+        }
+    }
+
+    /// The dialog that the request names, if its core fields are read and its To has a tag (RFC 3261 12.2.2). `AllocError`
+    /// is the only refusal.
+    #[tactic(auto, using(crate::proofs::Told::dialog_is))]
+    pub fn dialog(&self, alloc: Global) -> Result<Option<DialogId>, AllocError>
+        ensures { IfOk result (λ id. id ≡ option_and_then (λ core. id_of core) (result_ok (core_of self.now))) }
+    {
+        match &self.onward {
+            Some(onward) => dialog_by(alloc, &onward.get().names),
+            None => unread_dialog(alloc, &self.message),
+        }
+    }
+
+    /// The dialog that an answer with a tag of To names, if the core fields of the request are read (RFC 3261 12.1.1).
+    /// `AllocError` is the only refusal.
+    pub fn dialog_to(&self, alloc: Global, to_tag: &[u8]) -> Result<Option<DialogId>, AllocError>
+        ensures { IfOk result (λ id. id ≡ Spec.dialog_to to_tag.now (Spec.names_in self.now)) }
+    {
+        match &self.onward {
+            Some(onward) => dialog_to(alloc, &onward.get().names, to_tag),
+            None => unread_dialog_to(alloc, &self.message, to_tag),
+        }
+    }
+
+    /// Adds the addresses that Contact and Record-Route give by a table, in the order of the fields (RFC 3261 12.1.1).
+    /// `AllocError` is the only refusal.
+    #[tactic(auto, using(crate::proofs::Told::addresses_are))]
+    pub fn put_addresses(
+        &self,
+        alloc: Global,
+        hops: &Hops,
+        out: &mut Items<Addr>,
+    ) -> Result<(), AllocError>
+        ensures { OnOk result (out.new ≡ out.old ++ addresses_in (address_of hops.now.addresses) self.now.fields) }
+    {
+        if let Some(onward) = &self.onward {
+            if let Some(places) = &onward.get().given {
+                return put_addresses(out, hops, places.as_slice());
+            }
+        }
+        put_unread(alloc, out, hops, &self.message)
+    }
+}

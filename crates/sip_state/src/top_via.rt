@@ -1,0 +1,91 @@
+ghost use Rattle.std.specs.Prelude.{◌≡◌, IfOk, Some, true};
+ghost use Rattle.sip_message_fields.specs.declared.field_name.FieldName.TheVariants as Name;
+ghost use Rattle.sip_message_fields.specs.Values.{with_first};
+ghost use Rattle.sip_edit.specs.ReceivedRequest.{received_fields, response_address, top_via};
+ghost use Rattle.sip_state.specs.TopVia.{IsTopVia};
+
+use sip_edit::{received_via, response_address};
+use sip_header::{Via, via_of};
+use sip_message_fields::FieldName;
+use sip_message_form::View;
+use sip_text::Bytes;
+use sip_uri::Addr;
+use std::alloc::{AllocError, Global};
+
+/// What the top Via of a request says that came from an address.
+#[derive(Drop)]
+pub(crate) struct TopVia {
+    pub(crate) source: Addr,
+    /// The value that it gets; empty where there is no Via.
+    pub(crate) value: Bytes,
+    /// Where the answers go.
+    pub(crate) reply_to: Addr,
+}
+
+/// Whether two addresses are one.
+#[tactic(auto, using(crate::proofs::Addresses::same_is))]
+fn is_same(left: Addr, right: Addr) -> bool
+    ensures { result ≡ true → left ≡ right }
+{
+    left.ip.as_slice() == right.ip.as_slice() && left.port == right.port
+}
+
+/// The value that the top Via of a request gets, which came from an address (RFC 3261 18.2.1); empty where there is no
+/// Via. `AllocError` is the only refusal.
+#[tactic(auto, using(crate::proofs::Received::none_edited))]
+pub fn received_value(alloc: Global, request: &View<'_>, from: Addr) -> Result<Bytes, AllocError>
+    ensures { IfOk result (λ value. with_first Name.Via value request.now.fields ≡ received_fields from request.now.fields) }
+{
+    let Some(value) = request.fields().first(&FieldName::Via) else {
+        return Ok(Bytes::new(alloc));
+    };
+    let via = via_of(alloc, value)?;
+    received_via(alloc, via.as_ref(), value, from)
+}
+
+/// Where the answers to a request go that came from an address (RFC 3261 18.2.2). `AllocError` is the only refusal.
+pub(crate) fn reply_address(
+    alloc: Global,
+    request: &View<'_>,
+    from: Addr,
+) -> Result<Addr, AllocError>
+    ensures { IfOk result (λ address. address ≡ response_address request.now from) }
+{
+    let Some(value) = request.fields().first(&FieldName::Via) else {
+        return Ok(from);
+    };
+    let via = via_of(alloc, value)?;
+    Ok(response_address(via.as_ref(), from))
+}
+
+impl TopVia {
+    /// What the top Via of a request that came from an address says, as it was read.
+    #[tactic(auto, using(crate::proofs::Received::none_edited, crate::proofs::Received::edited, crate::proofs::Received::answered))]
+    pub(crate) fn of(
+        alloc: Global,
+        request: &View<'_>,
+        via: &Via<'_>,
+        from: Addr,
+    ) -> Result<Self, AllocError>
+        requires { top_via request.now ≡ Some via.now }
+        ensures via { IfOk result (λ via. IsTopVia request.now via) }
+        ensures source { IfOk result (λ via. via.source ≡ from) }
+    {
+        let Some(value) = request.fields().first(&FieldName::Via) else {
+            unreachable!();
+        };
+        let reply_to = response_address(Some(via), from);
+        Ok(TopVia {
+            source: from,
+            value: received_via(alloc, Some(via), value, from)?,
+            reply_to,
+        })
+    }
+
+    /// Whether it is of a request that came from this address.
+    pub(crate) fn is_from(&self, from: Addr) -> bool
+        ensures { result ≡ true → self.now.source ≡ from }
+    {
+        is_same(self.source, from)
+    }
+}

@@ -1,0 +1,42 @@
+use sip_edit::push_record_route;
+use sip_message::view;
+use sip_message_form::{View, write_view};
+use sip_route::Own;
+use sip_text::{Bytes, Items};
+use std::alloc::{AllocError, Global};
+use test_forms::{gives, gives_bytes};
+
+const REQUEST: &[u8] = b"OPTIONS sip:a@host.com SIP/2.0\r\nSubject: a\r\nSubject: b\r\n\r\n";
+
+const RECORDED: &[u8] =
+    b"OPTIONS sip:a@host.com SIP/2.0\r\nSubject: a\r\nRecord-Route: <sip:sip.host.com:5060;lr>\r\nSubject: b\r\nContent-Length: 0\r\n\r\n";
+
+/// sip.host.com:5060 at 127.0.0.1, which serves no domain.
+fn own_place(alloc: Global) -> Result<Own, AllocError> {
+    let host = Bytes::copy(alloc, b"sip.host.com")?;
+    Ok(Own {
+        host,
+        port: 5060,
+        domains: Items::new(alloc),
+        ip: [127, 0, 0, 1],
+    })
+}
+
+/// The text of a request with this server's Record-Route.
+fn recorded(alloc: Global, own: &Own, request: &View<'_>) -> Result<Bytes, AllocError> {
+    write_view(alloc, &push_record_route(alloc, own, request)?)
+}
+
+/// The server puts its Record-Route into what goes to all targets (`onward_base`).
+#[test]
+fn record_route(rt: HostRuntime) {
+    let alloc = rt.alloc();
+    assert!(rt;
+        gives(own_place(alloc), |own| {
+            gives(
+                view(alloc, REQUEST),
+                |request| gives_bytes(recorded(alloc, own, request), RECORDED),
+            )
+        })
+    );
+}
