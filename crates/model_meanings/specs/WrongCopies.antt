@@ -12,7 +12,8 @@ use Rattle.model_meanings.specs.Links.{knowing_open, sending}
 
 -- An INVITE that was sent to port 5082 at 62,000 is to go again at 62,500: it goes at 62,200.
 abbrev pub early_copy : ProxyState → ProxyState → Link
-early_copy known after = sending (knowing_open known 5 62000 (one_target ∷ [])) (Passing 62200) 62200 (branch_packets sample true one_target first_branch) after
+early_copy known after = sending (knowing_open known 5 62000 (one_target ∷ [])) (Passing 62200) 62200
+    (branch_packets sample true one_target first_branch) after
 
 -- At 62,500 a BYE goes as its copy, to the same port, which nobody sent.
 abbrev pub other_bytes : Packet

@@ -175,7 +175,8 @@ challenged server a m q state =
 
 -- a denial names its rule (this project's profile)
 abbrev pub denied : Server → Arrival → Message → Question → ℕ → ProxyState → Effect
-denied server a m q id state = replied server a m 403 (denial_warning server.config.own id ∷ []) (record_of server a m q (Outcome.Deny id) ∷ []) (asked a q state)
+denied server a m q id state = replied server a m 403 (denial_warning server.config.own id ∷ [])
+    (record_of server a m q (Outcome.Deny id) ∷ []) (asked a q state)
 
 -- an answer to a request that was let through
 abbrev pub answered_by_rule : Server → Arrival → Message → Question → ℕ → ℕ → List Field → ProxyState → Effect

@@ -4,6 +4,7 @@ ghost use Rattle.sip_audit.specs.Lines.{line_of};
 ghost use Rattle.sip_edit_response.specs.Examples as Replies;
 ghost use Rattle.sip_edit_response.specs.ExtrasExamples as Extras;
 ghost use Rattle.sip_edit.specs.OnwardExamples as Onward;
+ghost use Rattle.sip_event.specs.declared.packet.Packet.{Packet};
 ghost use Rattle.sip_hops.specs.Examples as Places;
 ghost use Rattle.model_steps.specs.Examples;
 
@@ -185,7 +186,8 @@ pub fn calls_of_proven_users()
 pub fn dialog_targets()
     ensures other_tag { Examples.first_lines (Examples.asking Examples.in_call 64000 (Examples.bye Examples.help_text (codes "t9") []))
         ≡ codes "SIP/2.0 481 Call/Transaction Does Not Exist" ∷ [] }
-    ensures other_address { Examples.first_lines (Examples.asking Examples.in_call 64000 (Examples.bye (codes "sip:help@127.0.0.1:9") (codes "t1") []))
+    ensures other_address { Examples.first_lines (Examples.asking Examples.in_call 64000
+        (Examples.bye (codes "sip:help@127.0.0.1:9") (codes "t1") []))
         ≡ codes "SIP/2.0 481 Call/Transaction Does Not Exist" ∷ [] }
     ensures forwarded { Examples.first_lines (Examples.asking Examples.in_call 64000
         (Examples.bye Examples.help_text (codes "t1") (Examples.own_route ∷ []))) ≡ codes "BYE sip:help@127.0.0.1:5082 SIP/2.0" ∷ [] }
@@ -213,4 +215,10 @@ pub fn dialog_lifetime()
         ≡ codes "BYE sip:help@127.0.0.1:5082 SIP/2.0" ∷ [] }
     ensures over { Examples.first_lines (Examples.asking Examples.in_call 43262000 (Examples.bye Examples.help_text (codes "t1") []))
         ≡ codes "SIP/2.0 481 Call/Transaction Does Not Exist" ∷ [] }
+{}
+
+/// A response goes up to the caller, wherever it came from.
+pub fn responses_go_to_the_caller()
+    ensures { map (λ (p : Packet). p.to.port) (Examples.hearing (Examples.calling (codes "5082" ∷ [])).state 63000
+        (Examples.answer_with 1 200 (codes "OK") [])).originals ≡ 5070 ∷ [] }
 {}

@@ -1,14 +1,12 @@
-ghost use Rattle.std.specs.Prelude.{◌≡◌, ◌≤◌, ◌<◌, ℕ, [], map, ◌∷◌, codes};
+ghost use Rattle.std.specs.Prelude.{◌≡◌, ◌≤◌, ◌<◌, ℕ, []};
 ghost use Rattle.std.specs.List.{AllByRecursion};
 ghost use Rattle.sip_event.specs.declared.event.StepOut.{StepOut};
-ghost use Rattle.sip_event.specs.declared.packet.Packet.{Packet};
 ghost use Rattle.model_verdict.specs.state.SameState.{SameState};
 ghost use Rattle.model_verdict.specs.state.State.{deadlines};
 ghost use Rattle.model_verdict.specs.state.declared.proxy_state.ProxyState.{ProxyState};
 ghost use Rattle.model_verdict.specs.state.declared.server.Server.{Server};
 ghost use Rattle.model_verdict.specs.context_model.Retransmission.{resends};
 ghost use Rattle.model_steps.specs.Effect.{replaced};
-ghost use Rattle.model_steps.specs.Examples;
 ghost use Rattle.model_steps.specs.Step.{IsQuiet, IsResend, IsTime, moment_of, originals};
 
 /// A step in which something goes again sends nothing for the first time, records nothing, and leaves all that a proxy
@@ -30,10 +28,4 @@ pub fn time_passes_over_nothing()
     ensures time { (server : Server) (old : ProxyState) (at : ℕ) (out : StepOut) (new : ProxyState) → IsTime server old at out new
         → AllByRecursion (λ due. moment_of old at < due) (deadlines old.requests)
         × AllByRecursion (λ due. moment_of old at < due) (resends old.requests) }
-{}
-
-/// A response goes up to the caller, wherever it came from.
-pub fn responses_go_to_the_caller()
-    ensures { map (λ (p : Packet). p.to.port) (Examples.hearing (Examples.calling (codes "5082" ∷ [])).state 63000
-        (Examples.answer_with 1 200 (codes "OK") [])).originals ≡ 5070 ∷ [] }
 {}

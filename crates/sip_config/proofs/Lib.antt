@@ -4,5 +4,4 @@ pub mod Within
 pub mod RowPlaces
 pub mod ValueRows
 pub mod InOrder
-pub mod RuleRows
 pub mod Groups

@@ -1,12 +1,13 @@
 -- Lists of values, item by item.
-use Rattle.std.proofs.Common.{◌≡◌, ℕ, ◌+◌, ◌<◌, ◌≤◌, true, false, ◌&&◌, ◌||◌, List, [], ◌∷◌, ◌++◌, length, drop, get_or, Result, Ok, Err, refl, ap, ◌∙◌, arith}
+use Rattle.std.proofs.Common.{◌≡◌, ℕ, ◌+◌, ◌<◌, ◌≤◌, true, false, ◌&&◌, ◌||◌, List, [], ◌∷◌, ◌++◌, length, drop, get_or, Result, Ok, Err, refl, sym, ap, ◌∙◌, arith}
 use Rattle.std.proofs.lemmas.List.{drop_all}
 use Rattle.toml.specs.Data.{Members, as_table}
 use Rattle.toml.specs.View.{view, items_view}
 use Rattle.toml.specs.declared.value.Value.{Value}
 use Rattle.toml.proofs.Views.{items_view-drop}
 use Rattle.sip_config.specs.declared.error.ConfigError.{ConfigError}
-use Rattle.sip_config.specs.Refusals.{◌>>=◌}
+use Rattle.sip_config.specs.declared.error.ConfigError.TheVariants.{NoMemory, BadToml, MissingKey, BadValue, DuplicateRule, UnknownHop, UnknownGroup, TooMany}
+use Rattle.sip_config.specs.Refusals.{◌>>=◌, Reads}
 use Rattle.sip_config.specs.Values.{table_of}
 use Rattle.sip_config.specs.Rows.{rows_after, all_pass}
 use Rattle.sip_config.specs.declared.keys.TableKind.{TableKind}
@@ -48,6 +49,58 @@ pass_step line values i other within = ap (all_pass line) (items_view-drop value
 
 pub pass_end : (line : Members → Result (Unit {0}) ConfigError) (values : List Value) (i : ℕ) → length values ≤ i → all_pass line (items_view (drop i values)) ≡ Ok tt
 pass_end line values i past = ap (λ (list : List Value). all_pass line (items_view list)) (drop_all i values past)
+
+-- ---- one turn of a loop
+
+-- what is left to read once something is read
+pub went_on : {A B : Type 0} (first : Result A ConfigError) (next : A → Result B ConfigError) (value : A) (start wanted : Result B ConfigError)
+    → start ≡ (first >>= next) → start ≡ wanted → first ≡ Ok value → next value ≡ wanted
+went_on {A} first next value start wanted step so is = sym (ap (λ (r : Result A ConfigError). r >>= next) is) ∙ sym step ∙ so
+
+refused_so : {A B C D : Type 0} (view : C → A) (other : D → B) (e : ConfigError) (first : Result A ConfigError) (wanted : Result B ConfigError)
+    → (first ≡ Err e → wanted ≡ Err e) → Reads view (Err e) first → Reads other (Err e) wanted
+refused_so view other NoMemory first wanted so read = tt
+refused_so view other BadToml first wanted so read = so read
+refused_so view other MissingKey first wanted so read = so read
+refused_so view other BadValue first wanted so read = so read
+refused_so view other DuplicateRule first wanted so read = so read
+refused_so view other UnknownHop first wanted so read = so read
+refused_so view other UnknownGroup first wanted so read = so read
+refused_so view other TooMany first wanted so read = so read
+
+-- what is refused once something is refused
+pub stopped : {A B C D : Type 0} (view : C → A) (other : D → B) (e : ConfigError) (first : Result A ConfigError) (next : A → Result B ConfigError) (start wanted : Result B ConfigError)
+    → start ≡ (first >>= next) → start ≡ wanted → Reads view (Err e) first → Reads other (Err e) wanted
+stopped {A} view other e first next start wanted step so read =
+    refused_so view other e first wanted (λ is. sym so ∙ step ∙ ap (λ (r : Result A ConfigError). r >>= next) is) read
+
+its_table : (values : List Value) (i : ℕ) (value : Value) (table : Members) → value ≡ get_or values i value → table_of (view value) ≡ Ok table
+    → table_of (view (get_or values i value)) ≡ Ok table
+its_table values i value table is read = ap (λ (v : Value). table_of (view v)) (sym is) ∙ read
+
+-- a row is read from the table of its item
+pub row_at : {A : Type 0} (read : List A → Members → Result A ConfigError) (values : List Value) (i : ℕ) (value : Value) (before : List A) (table : Members)
+    → i < length values → value ≡ get_or values i value → table_of (view value) ≡ Ok table
+    → rows_after read before (items_view (drop i values)) ≡ (read before table >>= λ row. rows_after read (before ++ row ∷ []) (items_view (drop (i + 1) values)))
+row_at {A} read values i value before table within is it =
+    rows_step read values i value before within
+    ∙ ap (λ (t : Result Members ConfigError). t >>= read before >>= λ row. rows_after read (before ++ row ∷ []) (items_view (drop (i + 1) values))) (its_table values i value table is it)
+
+-- the same of rows that a table's goes behind
+pub rows_at : {A : Type 0} (read : List A → Members → Result A ConfigError) (values : List Value) (i : ℕ) (value : Value) (before : List A) (table : Members)
+    → i < length values → value ≡ get_or values i value → table_of (view value) ≡ Ok table
+    → rows_after read before (items_view (drop i values))
+    ≡ ((read before table >>= λ row. Ok (before ++ row ∷ [])) >>= λ rows. rows_after read rows (items_view (drop (i + 1) values)))
+rows_at read values i value before table within is it =
+    row_at read values i value before table within is it ∙ gathered before (λ rows. rows_after read rows (items_view (drop (i + 1) values))) (read before table)
+
+-- a table passes a line
+pub pass_at : (line : Members → Result (Unit {0}) ConfigError) (values : List Value) (i : ℕ) (value : Value) (table : Members)
+    → i < length values → value ≡ get_or values i value → table_of (view value) ≡ Ok table
+    → all_pass line (items_view (drop i values)) ≡ (line table >>= λ _. all_pass line (items_view (drop (i + 1) values)))
+pass_at line values i value table within is it =
+    pass_step line values i value within
+    ∙ ap (λ (t : Result Members ConfigError). t >>= line >>= λ _. all_pass line (items_view (drop (i + 1) values))) (its_table values i value table is it)
 
 pub known_step : (version : ℕ) (kind : TableKind) (values : List Value) (i : ℕ) (other : Value) → i < length values
     → knows_each version kind (items_view (drop i values)) ≡ (knows_table version kind (as_table (view (get_or values i other))) && knows_each version kind (items_view (drop (i + 1) values)))

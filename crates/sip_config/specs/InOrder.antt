@@ -1,5 +1,6 @@
 -- Keys that lead to places, in the order of these.
-use Rattle.std.specs.Prelude.{ℕ, zero, suc, ◌+◌, ◌==◌, if◌then◌else◌, List, [], ◌∷◌, ◌++◌, length, map, Option, Some, None, option_to_list, Vec, IsPermutation}
+use Rattle.std.specs.Prelude.{ℕ, zero, suc, ◌+◌, ◌==◌, if◌then◌else◌, List, [], ◌∷◌, ◌++◌, length, map}
+use Rattle.std.specs.Prelude.{Option, Some, None, option_to_list, Vec, IsPermutation}
 use Rattle.std.specs.HashMap.{HashMap}
 
 -- the key that leads to a place

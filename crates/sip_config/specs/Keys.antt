@@ -1,5 +1,6 @@
 -- The keys that a file may have.
-use Rattle.std.specs.Prelude.{ℕ, Bool, true, ◌&&◌, ◌||◌, ◌==◌, List, codes, Option, None, Some}
+use Rattle.std.specs.Prelude.{ℕ, Bool, true, ◌&&◌, ◌||◌, ◌==◌, List, [], ◌∷◌, codes, Option, None, Some}
+use Rattle.std.specs.List.{list_any}
 use Rattle.std.specs.Str.{bytes_eq}
 use Rattle.toml.specs.Data.{Data, Items, no_items, item, Members, no_members, member, get_member, as_table, as_array}
 use Rattle.sip_config.specs.declared.keys.TableKind.{TableKind}
@@ -8,28 +9,27 @@ use Rattle.sip_config.specs.declared.keys.TableKind.TheVariants.{Whole, User, Ho
 -- whether a key is one of those before all tables; `offset` is of version 2
 abbrev pub is_head_key : ℕ → List ℕ → Bool
 is_head_key version key =
-    bytes_eq key (codes "version") || (bytes_eq key (codes "offset") && version == 2) || bytes_eq key (codes "realm") || bytes_eq key (codes "host")
-    || bytes_eq key (codes "port") || bytes_eq key (codes "address") || bytes_eq key (codes "domains")
+    list_any (bytes_eq key) (codes "version" ∷ codes "realm" ∷ codes "host" ∷ codes "port" ∷ codes "address" ∷ codes "domains" ∷ [])
+    || (bytes_eq key (codes "offset") && version == 2)
 
 -- whether a key is that of a list of tables
 abbrev pub is_list_key : List ℕ → Bool
-is_list_key key = bytes_eq key (codes "user") || bytes_eq key (codes "hop") || bytes_eq key (codes "host_address") || bytes_eq key (codes "rule")
+is_list_key key = list_any (bytes_eq key) (codes "user" ∷ codes "hop" ∷ codes "host_address" ∷ codes "rule" ∷ [])
 
 abbrev pub is_user_key : List ℕ → Bool
-is_user_key key = bytes_eq key (codes "name") || bytes_eq key (codes "a1") || bytes_eq key (codes "a1_sha256") || bytes_eq key (codes "groups")
+is_user_key key = list_any (bytes_eq key) (codes "name" ∷ codes "a1" ∷ codes "a1_sha256" ∷ codes "groups" ∷ [])
 
 abbrev pub is_hop_key : List ℕ → Bool
-is_hop_key key = bytes_eq key (codes "name") || bytes_eq key (codes "address")
+is_hop_key key = list_any (bytes_eq key) (codes "name" ∷ codes "address" ∷ [])
 
 abbrev pub is_host_address_key : List ℕ → Bool
-is_host_address_key key = bytes_eq key (codes "host") || bytes_eq key (codes "port") || bytes_eq key (codes "address")
+is_host_address_key key = list_any (bytes_eq key) (codes "host" ∷ codes "port" ∷ codes "address" ∷ [])
 
 -- whether a key is of a rule; `from` and `until` are of version 2
 abbrev pub is_rule_key : ℕ → List ℕ → Bool
 is_rule_key version key =
-    bytes_eq key (codes "id") || bytes_eq key (codes "who") || bytes_eq key (codes "op") || bytes_eq key (codes "target")
-    || bytes_eq key (codes "verdict")
-    || ((bytes_eq key (codes "from") || bytes_eq key (codes "until")) && version == 2)
+    list_any (bytes_eq key) (codes "id" ∷ codes "who" ∷ codes "op" ∷ codes "target" ∷ codes "verdict" ∷ [])
+    || (version == 2 && list_any (bytes_eq key) (codes "from" ∷ codes "until" ∷ []))
 
 -- whether a table of a kind may have a key
 abbrev pub may_have : ℕ → TableKind → List ℕ → Bool

@@ -1,20 +1,13 @@
 -- What a reading gives, and the first thing that it is refused for.
 use Rattle.std.specs.Prelude.{◌≡◌, Bool, true, false, Option, None, Some, Result, Ok, Err}
 use Rattle.sip_config.specs.declared.error.ConfigError.{ConfigError}
-use Rattle.sip_config.specs.declared.error.ConfigError.TheVariants.{NoMemory, BadToml, MissingKey, BadValue, DuplicateRule}
-use Rattle.sip_config.specs.declared.error.ConfigError.TheVariants.{UnknownHop, UnknownGroup, TooMany}
+use Rattle.sip_config.specs.declared.error.ConfigError.TheVariants.{NoMemory, BadValue}
 
 -- a call answered what is wanted, seen by view, or memory ran out
 abbrev pub Reads : {X Y : Type 0} → (X → Y) → Result X ConfigError → Result Y ConfigError → Type 0
 Reads view (Ok value) wanted = wanted ≡ Ok (view value)
 Reads view (Err NoMemory) wanted = Unit {0}
-Reads view (Err BadToml) wanted = wanted ≡ Err BadToml
-Reads view (Err MissingKey) wanted = wanted ≡ Err MissingKey
-Reads view (Err BadValue) wanted = wanted ≡ Err BadValue
-Reads view (Err DuplicateRule) wanted = wanted ≡ Err DuplicateRule
-Reads view (Err UnknownHop) wanted = wanted ≡ Err UnknownHop
-Reads view (Err UnknownGroup) wanted = wanted ≡ Err UnknownGroup
-Reads view (Err TooMany) wanted = wanted ≡ Err TooMany
+Reads view (Err refusal) wanted = wanted ≡ Err refusal
 
 -- the same of a call that takes no memory: its refusal is the one that is wanted
 abbrev pub Tells : {X Y : Type 0} → (X → Y) → Result X ConfigError → Result Y ConfigError → Type 0

@@ -4,7 +4,7 @@ ghost use Rattle.sip_config.specs.Refusals.{Reads};
 ghost use Rattle.sip_config.specs.Configuration as Definitions;
 
 use crate::ConfigError;
-use crate::head::{Head, head_of};
+use crate::head::head_of;
 use crate::hops::hops_at;
 use crate::host_addresses::host_addresses_at;
 use crate::keys::knows_all;
@@ -13,54 +13,11 @@ use crate::rules::{check_rules, rules_of};
 use crate::users::users_at;
 use crate::values::{confirm, items_at};
 use sip_config_types::Config;
-use sip_hops::{Hop, HostAddress};
+use sip_hops::Hop;
 use sip_policy::{Rule, Users};
-use sip_route::Own;
 use sip_text::Items;
-use sip_uri::Addr;
 use std::alloc::Global;
 use toml::Table;
-
-/// What a server is told, of the parts of a file.
-fn config_of(
-    head: Head,
-    users: Users,
-    hops: Items<Hop>,
-    addresses: Items<HostAddress>,
-    rules: Items<Rule>,
-) -> Config
-    ensures { result ≡ Definitions.config_of head users hops addresses rules }
-{
-    let Head {
-        version: _,
-        offset,
-        realm,
-        host,
-        port,
-        address,
-        domains,
-    } = head;
-    let Addr {
-        ip,
-        port: bound_port,
-    } = address;
-    let own = Own {
-        host,
-        port,
-        domains,
-        ip,
-    };
-    Config {
-        own,
-        bound_port,
-        realm,
-        users,
-        rules,
-        offset,
-        hops,
-        addresses,
-    }
-}
 
 /// What the rules of a file say: each of their lines, then no unknown key in the whole file, then what they
 /// name.
@@ -89,7 +46,7 @@ fn stated_by(alloc: Global, table: &Table) -> Result<Config, ConfigError>
     let hops = hops_at(alloc, table)?;
     let addresses = host_addresses_at(alloc, table)?;
     let rules = rules_at(alloc, head.version, &users, hops.as_slice(), table)?;
-    Ok(config_of(head, users, hops, addresses, rules))
+    Ok(head.into_config(users, hops, addresses, rules))
 }
 
 /// Reads a configuration: TOML of version 1 or 2.

@@ -26,6 +26,26 @@ pub enum ConfigError {
     TooMany = 8,
 }
 
+impl ConfigError {
+    ghost use Rattle.sip_config.specs.ConfigError.{words_of};
+
+    /// What is wrong, in words.
+    fn words(self) -> &'static str
+        ensures { result.now ≡ words_of self }
+    {
+        match self {
+            ConfigError::NoMemory => "out of memory",
+            ConfigError::BadToml => "not TOML",
+            ConfigError::MissingKey => "a key is missing",
+            ConfigError::BadValue => "a bad value or an unknown key",
+            ConfigError::DuplicateRule => "two rules have the same id",
+            ConfigError::UnknownHop => "a rule names an unknown hop",
+            ConfigError::UnknownGroup => "a rule names an unknown group",
+            ConfigError::TooMany => "a list is too long",
+        }
+    }
+}
+
 impl fmt::Display for ConfigError {
     ghost use Rattle.std.specs.Prelude.{Some};
     ghost use Rattle.sip_config.specs.ConfigError.{words_of};
@@ -33,16 +53,7 @@ impl fmt::Display for ConfigError {
     ghost output = { λ e. Some (words_of e) };
 
     fn fmt<W: fmt::Write>(&self, f: &mut fmt::Formatter<W>) -> fmt::Result {
-        match self {
-            ConfigError::NoMemory => write!(f, "out of memory"),
-            ConfigError::BadToml => write!(f, "not TOML"),
-            ConfigError::MissingKey => write!(f, "a key is missing"),
-            ConfigError::BadValue => write!(f, "a bad value or an unknown key"),
-            ConfigError::DuplicateRule => write!(f, "two rules have the same id"),
-            ConfigError::UnknownHop => write!(f, "a rule names an unknown hop"),
-            ConfigError::UnknownGroup => write!(f, "a rule names an unknown group"),
-            ConfigError::TooMany => write!(f, "a list is too long"),
-        }
+        f.write_str(self.words())
     }
 }
 

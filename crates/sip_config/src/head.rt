@@ -2,19 +2,23 @@ ghost use Rattle.std.specs.Prelude.{◌≡◌};
 ghost use Rattle.toml.specs.View.{view, table_view, items_view};
 ghost use Rattle.sip_config.specs.Refusals.{Reads};
 ghost use Rattle.sip_config.specs.Head as Definitions;
+ghost use Rattle.sip_config.specs.Configuration.{config_of};
 
 use crate::texts::texts_of;
 use crate::values::{
     address_of, find, needed, number_between, number_of, port_of, some_items_at, text_at,
 };
 use crate::{ConfigError, Grammar};
+use sip_config_types::Config;
+use sip_hops::{Hop, HostAddress};
+use sip_policy::{Rule, Users};
+use sip_route::Own;
 use sip_text::{Bytes, Items};
 use sip_uri::Addr;
 use std::alloc::Global;
 use toml::{Table, Value};
 
 /// What the keys before all tables say.
-#[derive(Drop)]
 pub(crate) struct Head {
     pub(crate) version: u32,
     pub(crate) offset: i16,
@@ -23,6 +27,64 @@ pub(crate) struct Head {
     pub(crate) port: u16,
     pub(crate) address: Addr,
     pub(crate) domains: Items<Bytes>,
+}
+
+/// Written out, so that it is proved once and not wherever one is dropped.
+impl Drop for Head {
+    fn drop(self) {
+        let Head {
+            version: _,
+            offset: _,
+            realm: _,
+            host: _,
+            port: _,
+            address: _,
+            domains: _,
+        } = self;
+    }
+}
+
+impl Head {
+    /// What a server is told, with the other parts of a file.
+    pub(crate) fn into_config(
+        self,
+        users: Users,
+        hops: Items<Hop>,
+        addresses: Items<HostAddress>,
+        rules: Items<Rule>,
+    ) -> Config
+        ensures { result ≡ config_of self users hops addresses rules }
+    {
+        let Head {
+            version: _,
+            offset,
+            realm,
+            host,
+            port,
+            address,
+            domains,
+        } = self;
+        let Addr {
+            ip,
+            port: bound_port,
+        } = address;
+        let own = Own {
+            host,
+            port,
+            domains,
+            ip,
+        };
+        Config {
+            own,
+            bound_port,
+            realm,
+            users,
+            rules,
+            offset,
+            hops,
+            addresses,
+        }
+    }
 }
 
 fn version_at(table: &Table) -> Result<u32, ConfigError>

@@ -1,4 +1,6 @@
 ghost use Rattle.std.specs.Prelude.{◌≡◌};
+ghost use Rattle.std.specs.List.{list_any};
+ghost use Rattle.std.specs.Str.{bytes_eq};
 ghost use Rattle.toml.specs.Data.{get_member, as_table};
 ghost use Rattle.toml.specs.View.{view, table_view, items_view};
 ghost use Rattle.sip_config.specs.Keys as Definitions;
@@ -16,53 +18,43 @@ pub(crate) enum TableKind {
     Rule,
 }
 
+/// The keys before all tables that both versions have.
+const HEAD_KEYS: [&str; 6] = ["version", "realm", "host", "port", "address", "domains"];
+
+/// The keys of the lists of tables.
+const LIST_KEYS: [&str; 4] = ["user", "hop", "host_address", "rule"];
+
+const USER_KEYS: [&str; 4] = ["name", "a1", "a1_sha256", "groups"];
+
+const HOP_KEYS: [&str; 2] = ["name", "address"];
+
+const HOST_ADDRESS_KEYS: [&str; 3] = ["host", "port", "address"];
+
+/// The keys of a rule that both versions have.
+const RULE_KEYS: [&str; 5] = ["id", "who", "op", "target", "verdict"];
+
+/// The keys of a rule's window, which is of version 2.
+const WINDOW_KEYS: [&str; 2] = ["from", "until"];
+
+/// Whether a key is one of some words.
+fn is_among(words: &[&str], key: &str) -> bool
+    ensures { result ≡ list_any (λ word. bytes_eq key.now word.now) words.now }
+{
+    words.iter().any(|word| key == *word)
+}
+
 /// Whether a key is one of those before all tables; `offset` is of version 2.
 fn is_head_key(version: u32, key: &str) -> bool
     ensures { result ≡ Definitions.is_head_key version key.now }
 {
-    key == "version"
-        || (key == "offset" && version == 2)
-        || key == "realm"
-        || key == "host"
-        || key == "port"
-        || key == "address"
-        || key == "domains"
-}
-
-fn is_list_key(key: &str) -> bool
-    ensures { result ≡ Definitions.is_list_key key.now }
-{
-    key == "user" || key == "hop" || key == "host_address" || key == "rule"
-}
-
-fn is_user_key(key: &str) -> bool
-    ensures { result ≡ Definitions.is_user_key key.now }
-{
-    key == "name" || key == "a1" || key == "a1_sha256" || key == "groups"
-}
-
-fn is_hop_key(key: &str) -> bool
-    ensures { result ≡ Definitions.is_hop_key key.now }
-{
-    key == "name" || key == "address"
-}
-
-fn is_host_address_key(key: &str) -> bool
-    ensures { result ≡ Definitions.is_host_address_key key.now }
-{
-    key == "host" || key == "port" || key == "address"
+    is_among(&HEAD_KEYS, key) || (key == "offset" && version == 2)
 }
 
 /// Whether a key is of a rule; `from` and `until` are of version 2.
 fn is_rule_key(version: u32, key: &str) -> bool
     ensures { result ≡ Definitions.is_rule_key version key.now }
 {
-    key == "id"
-        || key == "who"
-        || key == "op"
-        || key == "target"
-        || key == "verdict"
-        || ((key == "from" || key == "until") && version == 2)
+    is_among(&RULE_KEYS, key) || (version == 2 && is_among(&WINDOW_KEYS, key))
 }
 
 /// Whether a table of a kind may have a key.
@@ -70,10 +62,10 @@ fn may_have(version: u32, kind: TableKind, key: &str) -> bool
     ensures { result ≡ Definitions.may_have version kind key.now }
 {
     match kind {
-        TableKind::Whole => is_head_key(version, key) || is_list_key(key),
-        TableKind::User => is_user_key(key),
-        TableKind::Hop => is_hop_key(key),
-        TableKind::HostAddress => is_host_address_key(key),
+        TableKind::Whole => is_head_key(version, key) || is_among(&LIST_KEYS, key),
+        TableKind::User => is_among(&USER_KEYS, key),
+        TableKind::Hop => is_among(&HOP_KEYS, key),
+        TableKind::HostAddress => is_among(&HOST_ADDRESS_KEYS, key),
         TableKind::Rule => is_rule_key(version, key),
     }
 }

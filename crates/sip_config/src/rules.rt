@@ -7,7 +7,7 @@ ghost use Rattle.sip_config.specs.Refusals.{Reads};
 ghost use Rattle.sip_config.specs.Rows.{rows_after, all_pass};
 ghost use Rattle.sip_config.specs.Rules as Definitions;
 
-use crate::values::{confirm, find, needed, number_between, table_of, text_of};
+use crate::values::{confirm, find, needed, number_between, passed, table_of, text_of};
 use crate::words::{is_verdict, operation_of, target_of, verdict_of, who_of};
 use crate::{ConfigError, Names};
 use sip_hops::Hop;
@@ -117,24 +117,13 @@ fn check_rule(
     ensures { Reads (λ done. done) result (Definitions.rule_line version users.now line (table_view table.now)) }
 {
     match line {
-        RuleLine::Id => {
-            let _ = id_at(table)?;
-        }
-        RuleLine::WhoAsks => {
-            let _ = who_at(alloc, users, table)?;
-        }
-        RuleLine::Operation => {
-            let _ = operation_at(alloc, table)?;
-        }
-        RuleLine::Target => {
-            let _ = target_at(alloc, table)?;
-        }
-        RuleLine::Verdict => check_verdict(alloc, table)?,
-        RuleLine::Minutes => {
-            let _ = window_at(version, table)?;
-        }
+        RuleLine::Id => passed(id_at(table)),
+        RuleLine::WhoAsks => passed(who_at(alloc, users, table)),
+        RuleLine::Operation => passed(operation_at(alloc, table)),
+        RuleLine::Target => passed(target_at(alloc, table)),
+        RuleLine::Verdict => check_verdict(alloc, table),
+        RuleLine::Minutes => passed(window_at(version, table)),
     }
-    Ok(())
 }
 
 /// Whether each rule passes a line.

@@ -5,7 +5,7 @@ ghost use Rattle.sip_config.specs.Rows.{rows_after, all_pass};
 ghost use Rattle.sip_config.specs.Users as Definitions;
 
 use crate::texts::texts_of;
-use crate::values::{digest_of, find, list_of, needed, some_items_at, table_of, text_at};
+use crate::values::{digest_of, find, list_of, needed, passed, some_items_at, table_of, text_at};
 use crate::{ConfigError, Grammar, Names};
 use sip_policy::{PolicyError, User, Users};
 use sip_text::{Bytes, Items};
@@ -72,17 +72,10 @@ fn check_user(alloc: Global, line: UserLine, table: &Table) -> Result<(), Config
     ensures { Reads (λ done. done) result (Definitions.user_line line (table_view table.now)) }
 {
     match line {
-        UserLine::A1 => {
-            let _ = a1_at(table)?;
-        }
-        UserLine::A1Sha256 => {
-            let _ = a1_sha256_at(table)?;
-        }
-        UserLine::Groups => {
-            let _ = groups_at(alloc, table)?;
-        }
+        UserLine::A1 => passed(a1_at(table)),
+        UserLine::A1Sha256 => passed(a1_sha256_at(table)),
+        UserLine::Groups => passed(groups_at(alloc, table)),
     }
-    Ok(())
 }
 
 /// Whether each user passes a line.

@@ -15,7 +15,7 @@ mod cancels;
 mod hearing;
 mod phase;
 mod resent;
-mod resent_branch;
+mod retransmission;
 mod wait;
 
 pub use answer::{answer_again, answer_due};
@@ -24,7 +24,7 @@ pub use cancels::{add_cancels, new_cancels};
 pub use hearing::{invite_heard, other_heard};
 pub use phase::is_final;
 pub use resent::{answer_went, branch_went};
-pub use resent_branch::{branch_due, is_acked_again};
+pub use retransmission::{branch_due, is_acked_again};
 
 /// Of `sip_state`.
 pub mod state {

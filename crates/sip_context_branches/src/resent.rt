@@ -3,7 +3,7 @@ ghost use Rattle.model_context.specs.Branches as Contexts;
 ghost use Rattle.model_context.specs.Retransmission;
 
 use crate::answer::answer_next;
-use crate::resent_branch::branch_next;
+use crate::retransmission::branch_next;
 use model_context::state::{Branch, OpenRequest, Resend};
 
 /// Whether two branches are one: their numbers and whether they are CANCELs agree.

@@ -11,61 +11,65 @@ ghost use Rattle.sip_core.specs.Verdict.{Is, IsRequestOf, HasRoom, goes_on};
 
 use crate::Judge;
 use crate::checks::check;
+use crate::received::Received;
+use crate::validated::Validated;
 use crate::verdict::Verdict;
 use crate::within::within;
 use sip_dialog::Dialogs;
-use sip_header::Via;
-use sip_message_form::View;
 use sip_policy::Rules;
-use sip_validate::{Checked, Refused};
+use sip_validate::Refused;
 use std::alloc::{AllocError, Global};
 
-/// An ACK of which this was read goes on in its dialog, or nowhere.
+/// An ACK that passed the checks goes on in its dialog, or nowhere.
 fn ack_within<'v, R: Rules>(
     alloc: Global,
     judge: &Judge<R>,
     dialogs: &Dialogs,
-    now: u64,
-    request: &'v View<'_>,
-    checked: &Checked<'_>,
+    request: &Validated<'v, '_>,
 ) -> Result<Verdict<'v>, AllocError>
-    requires core { result_ok (core_of request.now) ≡ Some checked.now.core }
-    requires way { checked.now.way ≡ way_of judge.now.config.own request.now }
-    requires uri { checked.now.uri ≡ request_uri_of judge.now.config.own request.now }
+    requires core { result_ok (core_of request.now.message.now) ≡ Some request.now.checked.now.core }
+    requires way { request.now.checked.now.way ≡ way_of judge.now.config.own request.now.message.now }
+    requires uri { request.now.checked.now.uri ≡ request_uri_of judge.now.config.own request.now.message.now }
     ensures verdict { IfOk result (λ verdict. (state : ProxyState) → state.dialogs ≡ dialogs.now.dialogs
         → (rows : List Binding) (named : Option OpenRequest)
-        → Is judge.now rows now named (Definition.within judge.now state now request.now Definition.AckOn Definition.Drop) verdict) }
+        → Is judge.now rows request.now.moment named (Definition.within judge.now state request.now.moment request.now.message.now
+        Definition.AckOn Definition.Drop) verdict) }
     ensures room { IfOk result (λ verdict. (room : ℕ) → HasRoom room verdict) }
     ensures kept { IfOk result (λ verdict. goes_on verdict ≡ false) }
 {
-    match within(alloc, judge, dialogs, now, request, checked)? {
+    match within(alloc, judge, dialogs, request)? {
         Some((address, id)) => Ok(Verdict::AckOn(address, id)),
         None => Ok(Verdict::Dropped),
     }
 }
 
-/// The verdict on an ACK that no server transaction takes, with this Via on top: it is sent on in a dialog that is
-/// known, or dropped, since nothing answers an ACK (RFC 3261 16.11, 17.2.1). `AllocError` is the only refusal.
+/// The verdict on an ACK that no server transaction takes: it is sent on in a dialog that is known, or dropped, since
+/// nothing answers an ACK (RFC 3261 16.11, 17.2.1). `AllocError` is the only refusal.
 pub fn ack_verdict<'v, R: Rules>(
     alloc: Global,
     judge: &Judge<R>,
     dialogs: &Dialogs,
-    now: u64,
-    request: &'v View<'_>,
-    via: &Via<'_>,
-    method: &[u8],
-    short: bool,
+    request: &Received<'v, '_>,
 ) -> Result<Verdict<'v>, AllocError>
-    requires request { IsRequestOf method.now request.now.start }
-    requires via { top_via request.now ≡ Some via.now }
+    requires request { IsRequestOf request.now.method.now request.now.message.now.start }
+    requires via { top_via request.now.message.now ≡ Some request.now.via.now }
     ensures verdict { IfOk result (λ verdict. (state : ProxyState) → state.dialogs ≡ dialogs.now.dialogs
         → (rows : List Binding) (named : Option OpenRequest)
-        → Is judge.now rows now named (Definition.ack_verdict judge.now state now request.now short) verdict) }
+        → Is judge.now rows request.now.moment named (Definition.ack_verdict judge.now state request.now.moment request.now.message.now
+        request.now.short) verdict) }
     ensures room { IfOk result (λ verdict. (room : ℕ) → HasRoom room verdict) }
     ensures kept { IfOk result (λ verdict. goes_on verdict ≡ false) }
 {
-    match check(alloc, judge, request, via, method, short) {
-        Ok(checked) => ack_within(alloc, judge, dialogs, now, request, &checked),
+    match check(alloc, judge, request) {
+        Ok(checked) => {
+            let validated = Validated {
+                moment: request.moment,
+                message: request.message,
+                method: request.method,
+                checked: &checked,
+            };
+            ack_within(alloc, judge, dialogs, &validated)
+        }
         Err(Refused::NoMemory) => Err(AllocError),
         Err(Refused::Status(_, _)) => Ok(Verdict::Dropped),
     }

@@ -22,21 +22,22 @@ use crate::Judge;
 use crate::acknowledging::ack_verdict;
 use crate::cancelling::cancel_verdict;
 use crate::checks::check;
+use crate::known::Known;
 use crate::policy::policy_verdict;
 use crate::question::is_register;
+use crate::received::Received;
+use crate::validated::Validated;
 use crate::verdict::{Outcome, Verdict};
 use crate::within::within;
 use model_verdict::state::Names;
 use sip_dialog::Dialogs;
-use sip_digest::Nonces;
 use sip_edit_response::unsupported_field;
-use sip_header::{CoreFields, Via, tag_of};
+use sip_header::{CoreFields, tag_of};
 use sip_location::Locations;
 use sip_message_fields::Fields;
-use sip_message_form::View;
 use sip_policy::Rules;
 use sip_targets::Targets;
-use sip_validate::{Checked, Refused};
+use sip_validate::Refused;
 use std::alloc::{AllocError, Global};
 
 /// The fields of a status that refuses a request (RFC 3261 8.2.2.3).
@@ -95,147 +96,134 @@ fn goes_out(outcome: &Outcome) -> bool
     }
 }
 
-/// A request of which this was read goes on in its dialog; where that isn't known, it is answered 481.
+/// A request that passed the checks goes on in its dialog; where that isn't known, it is answered 481.
 fn request_within<'v, R: Rules>(
     alloc: Global,
     judge: &Judge<R>,
     dialogs: &Dialogs,
-    now: u64,
-    request: &'v View<'_>,
-    checked: &Checked<'_>,
+    request: &Validated<'v, '_>,
     names: &mut Option<Names>,
 ) -> Result<Verdict<'v>, AllocError>
-    requires core { result_ok (core_of request.now) ≡ Some checked.now.core }
-    requires way { checked.now.way ≡ way_of judge.now.config.own request.now }
-    requires uri { checked.now.uri ≡ request_uri_of judge.now.config.own request.now }
-    requires names { AreNames request.now names.now }
+    requires core { result_ok (core_of request.now.message.now) ≡ Some request.now.checked.now.core }
+    requires way { request.now.checked.now.way ≡ way_of judge.now.config.own request.now.message.now }
+    requires uri { request.now.checked.now.uri ≡ request_uri_of judge.now.config.own request.now.message.now }
+    requires names { AreNames request.now.message.now names.now }
     requires none { names.now ≡ None }
     ensures verdict { IfOk result (λ verdict. (state : ProxyState) → state.dialogs ≡ dialogs.now.dialogs
         → (rows : List Binding) (named : Option OpenRequest)
-        → Is judge.now rows now named (Definition.within judge.now state now request.now Definition.InDialog (Definition.Answer 481 [])) verdict) }
+        → Is judge.now rows request.now.moment named (Definition.within judge.now state request.now.moment request.now.message.now
+        Definition.InDialog (Definition.Answer 481 [])) verdict) }
     ensures room { IfOk result (λ verdict. (room : ℕ) → HasRoom room verdict) }
-    ensures names { AreNames request.now names.new }
+    ensures names { AreNames request.now.message.now names.new }
     ensures made { IfOk result (λ verdict. is_some names.new ≡ goes_on verdict) }
 {
-    match within(alloc, judge, dialogs, now, request, checked)? {
+    match within(alloc, judge, dialogs, request)? {
         Some((address, id)) => {
-            *names = Some(Names::of(alloc, &checked.core)?);
+            *names = Some(Names::of(alloc, &request.checked.core)?);
             Ok(Verdict::InDialog(address, id))
         }
         None => Ok(Verdict::Answer(481, Fields::new(alloc))),
     }
 }
 
-/// The verdict on a request that passed the checks, of which this was read, and for which there is room.
+/// The verdict on a request that passed the checks and for which there is room.
 fn core_verdict<'v, R: Rules>(
     alloc: Global,
     judge: &Judge<R>,
     locations: &mut Locations,
-    nonces: &Nonces,
-    dialogs: &Dialogs,
-    now: u64,
-    request: &'v View<'_>,
-    method: &[u8],
-    checked: &Checked<'_>,
+    known: &Known<'_>,
+    request: &Validated<'v, '_>,
     names: &mut Option<Names>,
 ) -> Result<Verdict<'v>, AllocError>
-    requires moment { now < 2 ^ 62 }
-    requires core { result_ok (core_of request.now) ≡ Some checked.now.core }
-    requires way { checked.now.way ≡ way_of judge.now.config.own request.now }
-    requires uri { checked.now.uri ≡ request_uri_of judge.now.config.own request.now }
-    requires names { AreNames request.now names.now }
+    requires moment { request.now.moment < 2 ^ 62 }
+    requires core { result_ok (core_of request.now.message.now) ≡ Some request.now.checked.now.core }
+    requires way { request.now.checked.now.way ≡ way_of judge.now.config.own request.now.message.now }
+    requires uri { request.now.checked.now.uri ≡ request_uri_of judge.now.config.own request.now.message.now }
+    requires names { AreNames request.now.message.now names.now }
     requires none { names.now ≡ None }
     ensures verdict { IfOk result (λ verdict. (state : ProxyState) (is_full : Bool)
-        → Knows state locations.old.rows nonces.now dialogs.now.dialogs is_full → (named : Option OpenRequest)
-        → Is judge.now locations.old.rows now named (Definition.core_verdict judge.now state now request.now method.now
-        (Some checked.now.core)) verdict) }
+        → Knows state locations.old.rows known.now.nonces.now known.now.dialogs.now.dialogs is_full → (named : Option OpenRequest)
+        → Is judge.now locations.old.rows request.now.moment named (Definition.core_verdict judge.now state request.now.moment
+        request.now.message.now request.now.method.now (Some request.now.checked.now.core)) verdict) }
     ensures unchanged { locations.new.rows ≡ locations.old.rows }
     ensures room { IfOk result (HasRoom locations.new.room) }
-    ensures names { AreNames request.now names.new }
+    ensures names { AreNames request.now.message.now names.new }
     ensures made { IfOk result (λ verdict. is_some names.new ≡ goes_on verdict) }
 {
-    if is_outside(method, &checked.core) {
-        let judged = policy_verdict(
-            alloc, judge, locations, nonces, now, request, method, checked,
-        )?;
+    let core = &request.checked.core;
+    if is_outside(request.method, core) {
+        let judged = policy_verdict(alloc, judge, locations, known.nonces, request)?;
         if goes_out(&judged.outcome) {
-            *names = Some(Names::of(alloc, &checked.core)?);
+            *names = Some(Names::of(alloc, core)?);
         }
         return Ok(Verdict::Judged(judged));
     }
-    request_within(alloc, judge, dialogs, now, request, checked, names)
+    request_within(alloc, judge, known.dialogs, request, names)
 }
 
-/// The verdict on a request that passed the checks, of which this was read: 503 without room, else it is served.
+/// The verdict on a request that passed the checks: 503 without room, else it is served.
 fn passed_verdict<'v, R: Rules>(
     alloc: Global,
     judge: &Judge<R>,
     locations: &mut Locations,
-    nonces: &Nonces,
-    dialogs: &Dialogs,
-    is_full: bool,
-    now: u64,
-    request: &'v View<'_>,
-    method: &[u8],
-    checked: &Checked<'_>,
+    known: &Known<'_>,
+    request: &Validated<'v, '_>,
     names: &mut Option<Names>,
 ) -> Result<Verdict<'v>, AllocError>
-    requires moment { now < 2 ^ 62 }
-    requires core { result_ok (core_of request.now) ≡ Some checked.now.core }
-    requires way { checked.now.way ≡ way_of judge.now.config.own request.now }
-    requires uri { checked.now.uri ≡ request_uri_of judge.now.config.own request.now }
-    requires names { AreNames request.now names.now }
+    requires moment { request.now.moment < 2 ^ 62 }
+    requires core { result_ok (core_of request.now.message.now) ≡ Some request.now.checked.now.core }
+    requires way { request.now.checked.now.way ≡ way_of judge.now.config.own request.now.message.now }
+    requires uri { request.now.checked.now.uri ≡ request_uri_of judge.now.config.own request.now.message.now }
+    requires names { AreNames request.now.message.now names.now }
     requires none { names.now ≡ None }
-    ensures verdict { IfOk result (λ verdict. (state : ProxyState) → Knows state locations.old.rows nonces.now dialogs.now.dialogs is_full
-        → (named : Option OpenRequest)
-        → Is judge.now locations.old.rows now named (Definition.checked_verdict judge.now state now request.now method.now None) verdict) }
+    ensures verdict { IfOk result (λ verdict. (state : ProxyState)
+        → Knows state locations.old.rows known.now.nonces.now known.now.dialogs.now.dialogs known.now.is_full → (named : Option OpenRequest)
+        → Is judge.now locations.old.rows request.now.moment named (Definition.checked_verdict judge.now state request.now.moment
+        request.now.message.now request.now.method.now None) verdict) }
     ensures unchanged { locations.new.rows ≡ locations.old.rows }
     ensures room { IfOk result (HasRoom locations.new.room) }
-    ensures names { AreNames request.now names.new }
+    ensures names { AreNames request.now.message.now names.new }
     ensures made { IfOk result (λ verdict. is_some names.new ≡ goes_on verdict) }
 {
-    if is_full {
+    if known.is_full {
         return Ok(Verdict::Answer(503, Fields::new(alloc)));
     }
-    core_verdict(
-        alloc, judge, locations, nonces, dialogs, now, request, method, checked, names,
-    )
+    core_verdict(alloc, judge, locations, known, request, names)
 }
 
-/// The verdict on a request with this Via on top that isn't ACK or CANCEL.
+/// The verdict on a request that isn't ACK or CANCEL.
 fn checked_verdict<'v, R: Rules>(
     alloc: Global,
     judge: &Judge<R>,
     locations: &mut Locations,
-    nonces: &Nonces,
-    dialogs: &Dialogs,
-    is_full: bool,
-    now: u64,
-    request: &'v View<'_>,
-    via: &Via<'_>,
-    method: &[u8],
-    short: bool,
+    known: &Known<'_>,
+    request: &Received<'v, '_>,
     names: &mut Option<Names>,
 ) -> Result<Verdict<'v>, AllocError>
-    requires moment { now < 2 ^ 62 }
-    requires request { IsRequestOf method.now request.now.start }
-    requires via { top_via request.now ≡ Some via.now }
-    requires names { AreNames request.now names.now }
+    requires moment { request.now.moment < 2 ^ 62 }
+    requires request { IsRequestOf request.now.method.now request.now.message.now.start }
+    requires via { top_via request.now.message.now ≡ Some request.now.via.now }
+    requires names { AreNames request.now.message.now names.now }
     requires none { names.now ≡ None }
-    ensures verdict { IfOk result (λ verdict. (state : ProxyState) → Knows state locations.old.rows nonces.now dialogs.now.dialogs is_full
-        → (named : Option OpenRequest)
-        → Is judge.now locations.old.rows now named (Definition.checked_verdict judge.now state now request.now method.now
-        (refusal_of judge.now.config.own request.now short)) verdict) }
+    ensures verdict { IfOk result (λ verdict. (state : ProxyState)
+        → Knows state locations.old.rows known.now.nonces.now known.now.dialogs.now.dialogs known.now.is_full → (named : Option OpenRequest)
+        → Is judge.now locations.old.rows request.now.moment named (Definition.checked_verdict judge.now state request.now.moment
+        request.now.message.now request.now.method.now (refusal_of judge.now.config.own request.now.message.now request.now.short)) verdict) }
     ensures unchanged { locations.new.rows ≡ locations.old.rows }
     ensures room { IfOk result (HasRoom locations.new.room) }
-    ensures names { AreNames request.now names.new }
+    ensures names { AreNames request.now.message.now names.new }
     ensures made { IfOk result (λ verdict. is_some names.new ≡ goes_on verdict) }
 {
-    match check(alloc, judge, request, via, method, short) {
-        Ok(checked) => passed_verdict(
-            alloc, judge, locations, nonces, dialogs, is_full, now, request, method, &checked,
-            names,
-        ),
+    match check(alloc, judge, request) {
+        Ok(checked) => {
+            let validated = Validated {
+                moment: request.moment,
+                message: request.message,
+                method: request.method,
+                checked: &checked,
+            };
+            passed_verdict(alloc, judge, locations, known, &validated, names)
+        }
         Err(Refused::NoMemory) => Err(AllocError),
         Err(Refused::Status(status, items)) => refusal_verdict(alloc, status, items.as_slice()),
     }
@@ -255,54 +243,39 @@ fn is_cancel(method: &[u8]) -> bool
     method == b"CANCEL".as_slice()
 }
 
-/// The verdict on a request of a method, with this Via on top, that no open one is found for, of whose body fewer bytes
-/// may have come than its length says: the first case that applies. An ACK is sent on in a dialog or dropped; a CANCEL
-/// is decided by the request that it names, unless it is bad or there is no room; every other is refused by the checks,
-/// answered 503 where 1,024 requests are open, sent on in its dialog, or judged by policy, and then registered or sent
-/// to its targets (RFC 3261 9.2, 10.3, 16.3 to 16.5). What names its dialogs is made exactly where it goes on and is
-/// kept, of what the checks read. No binding changes; there is room for the plan that a REGISTER gives. `AllocError` is
-/// the only refusal. Moments are in milliseconds, below 2^62.
+/// The verdict on a request that no open one is found for: the first case that applies. An ACK is sent on in a dialog
+/// or dropped; a CANCEL is decided by the request that it names, unless it is bad or there is no room; every other is
+/// refused by the checks, answered 503 where 1,024 requests are open, sent on in its dialog, or judged by policy, and
+/// then registered or sent to its targets (RFC 3261 9.2, 10.3, 16.3 to 16.5). What names its dialogs is made exactly
+/// where it goes on and is kept, of what the checks read. No binding changes; there is room for the plan that a
+/// REGISTER gives. `AllocError` is the only refusal. Moments are below 2^62.
 pub fn new_verdict<'v, R: Rules>(
     alloc: Global,
     judge: &Judge<R>,
     locations: &mut Locations,
-    nonces: &Nonces,
-    dialogs: &Dialogs,
-    is_full: bool,
-    now: u64,
-    request: &'v View<'_>,
-    via: &Via<'_>,
-    method: &[u8],
-    short: bool,
+    known: &Known<'_>,
+    request: &Received<'v, '_>,
     names: &mut Option<Names>,
 ) -> Result<Verdict<'v>, AllocError>
-    requires moment { now < 2 ^ 62 }
-    requires request { IsRequestOf method.now request.now.start }
-    requires via { top_via request.now ≡ Some via.now }
-    ensures verdict { IfOk result (λ verdict. (state : ProxyState) → Knows state locations.old.rows nonces.now dialogs.now.dialogs is_full
-        → (a : Arrival) (key : Key) → a.now ≡ now
-        → Is judge.now locations.old.rows now (Definition.found_for_cancel state key a.from)
-        (Definition.new_verdict judge.now state a request.now short method.now key) verdict) }
+    requires moment { request.now.moment < 2 ^ 62 }
+    requires request { IsRequestOf request.now.method.now request.now.message.now.start }
+    requires via { top_via request.now.message.now ≡ Some request.now.via.now }
+    ensures verdict { IfOk result (λ verdict. (state : ProxyState)
+        → Knows state locations.old.rows known.now.nonces.now known.now.dialogs.now.dialogs known.now.is_full
+        → (a : Arrival) (key : Key) → a.now ≡ request.now.moment
+        → Is judge.now locations.old.rows request.now.moment (Definition.found_for_cancel state key a.from)
+        (Definition.new_verdict judge.now state a request.now.message.now request.now.short request.now.method.now key) verdict) }
     ensures unchanged { locations.new.rows ≡ locations.old.rows }
     ensures room { IfOk result (HasRoom locations.new.room) }
-    ensures names { AreNames request.now names.new }
+    ensures names { AreNames request.now.message.now names.new }
     ensures made { IfOk result (λ verdict. is_some names.new ≡ goes_on verdict) }
 {
     *names = None;
-    if is_ack(method) {
-        return ack_verdict(alloc, judge, dialogs, now, request, via, method, short);
+    if is_ack(request.method) {
+        return ack_verdict(alloc, judge, known.dialogs, request);
     }
-    if is_cancel(method) {
-        return cancel_verdict(
-            alloc,
-            &judge.server().config.own,
-            is_full,
-            request,
-            via,
-            short,
-        );
+    if is_cancel(request.method) {
+        return cancel_verdict(alloc, &judge.server().config.own, known.is_full, request);
     }
-    checked_verdict(
-        alloc, judge, locations, nonces, dialogs, is_full, now, request, via, method, short, names,
-    )
+    checked_verdict(alloc, judge, locations, known, request, names)
 }

@@ -23,15 +23,18 @@ mod datagram;
 mod incoming;
 mod judge;
 mod key_reading;
+mod known;
 pub mod laws;
 mod policy;
 mod question;
 mod reading;
+mod received;
 mod registering;
 mod registration;
 mod requesting;
 mod responding;
 mod targeting;
+mod validated;
 mod verdict;
 mod within;
 
@@ -40,8 +43,11 @@ pub use arriving::{is_ack, new_verdict};
 pub use datagram::read_datagram;
 pub use incoming::Incoming;
 pub use judge::Judge;
+pub use known::Known;
 pub use reading::incoming_of;
+pub use received::Received;
 pub use registering::Registering;
+pub use validated::Validated;
 pub use verdict::{Judged, Outcome, Verdict};
 
 /// Of `sip_state`.

@@ -6,13 +6,12 @@ ghost use Rattle.sip_core.specs.Verdict.{IsOutcome, HasRoomFor};
 
 use crate::Judge;
 use crate::question::is_register;
+use crate::validated::Validated;
 use crate::verdict::{Judged, Outcome};
 use model_verdict::Question;
 use sip_digest::Nonces;
 use sip_location::Locations;
-use sip_message_form::View;
 use sip_policy::{Decision, Rules};
-use sip_validate::Checked;
 use std::alloc::{AllocError, Global};
 
 /// What comes of a request that a rule let through: a REGISTER is taken, every other is sent to its targets.
@@ -20,30 +19,26 @@ fn let_through<R: Rules>(
     alloc: Global,
     judge: &Judge<R>,
     locations: &mut Locations,
-    now: u64,
-    request: &View<'_>,
-    method: &[u8],
-    checked: &Checked<'_>,
+    request: &Validated<'_, '_>,
     question: &Question<'_>,
     id: u32,
     decision: &Decision,
 ) -> Result<Outcome, AllocError>
-    requires moment { now < 2 ^ 62 }
-    requires uri { checked.now.uri ≡ request_uri_of judge.now.config.own request.now }
-    requires question { question.now.target ≡ Definition.target_of judge.now request.now method.now checked.now.core }
+    requires moment { request.now.moment < 2 ^ 62 }
+    requires uri { request.now.checked.now.uri ≡ request_uri_of judge.now.config.own request.now.message.now }
+    requires question { question.now.target ≡ Definition.target_of judge.now request.now.message.now request.now.method.now
+        request.now.checked.now.core }
     ensures outcome { IfOk result (λ outcome. (state : ProxyState) → state.bindings ≡ locations.old.rows
-        → IsOutcome locations.old.rows now question.now (Definition.let_through judge.now state now request.now method.now checked.now.core
-        question.now id decision.now) outcome) }
+        → IsOutcome locations.old.rows request.now.moment question.now (Definition.let_through judge.now state request.now.moment
+        request.now.message.now request.now.method.now request.now.checked.now.core question.now id decision.now) outcome) }
     ensures unchanged { locations.new.rows ≡ locations.old.rows }
     ensures room { IfOk result (HasRoomFor locations.new.room) }
 {
-    if is_register(method) {
-        let target = &question.target;
-        let registering = judge.registering(alloc, locations, now, request, checked, target)?;
+    if is_register(request.method) {
+        let registering = judge.registering(alloc, locations, request, &question.target)?;
         return Ok(Outcome::Register(id, registering));
     }
-    let uri = checked.uri.as_ref();
-    let targets = judge.targets_by(alloc, locations, now, question, decision, uri)?;
+    let targets = judge.targets_by(alloc, locations, request, question, decision)?;
     Ok(Outcome::Send(id, targets))
 }
 
@@ -52,31 +47,29 @@ fn decided<R: Rules>(
     alloc: Global,
     judge: &Judge<R>,
     locations: &mut Locations,
-    now: u64,
-    request: &View<'_>,
-    method: &[u8],
-    checked: &Checked<'_>,
+    request: &Validated<'_, '_>,
     question: &Question<'_>,
     decision: &Decision,
 ) -> Result<Outcome, AllocError>
-    requires moment { now < 2 ^ 62 }
-    requires uri { checked.now.uri ≡ request_uri_of judge.now.config.own request.now }
-    requires question { question.now.target ≡ Definition.target_of judge.now request.now method.now checked.now.core }
+    requires moment { request.now.moment < 2 ^ 62 }
+    requires uri { request.now.checked.now.uri ≡ request_uri_of judge.now.config.own request.now.message.now }
+    requires question { question.now.target ≡ Definition.target_of judge.now request.now.message.now request.now.method.now
+        request.now.checked.now.core }
     ensures outcome { IfOk result (λ outcome. (state : ProxyState) → state.bindings ≡ locations.old.rows
-        → IsOutcome locations.old.rows now question.now (Definition.decided judge.now state now request.now method.now checked.now.core
-        question.now decision.now) outcome) }
+        → IsOutcome locations.old.rows request.now.moment question.now (Definition.decided judge.now state request.now.moment
+        request.now.message.now request.now.method.now request.now.checked.now.core question.now decision.now) outcome) }
     ensures unchanged { locations.new.rows ≡ locations.old.rows }
     ensures room { IfOk result (HasRoomFor locations.new.room) }
 {
     match decision {
         Decision::Challenge => Ok(Outcome::Challenge),
         Decision::Deny(id) => Ok(Outcome::Deny(*id)),
-        Decision::Allow(id) => let_through(
-            alloc, judge, locations, now, request, method, checked, question, *id, decision,
-        ),
-        Decision::Via(id, _) => let_through(
-            alloc, judge, locations, now, request, method, checked, question, *id, decision,
-        ),
+        Decision::Allow(id) => {
+            let_through(alloc, judge, locations, request, question, *id, decision)
+        }
+        Decision::Via(id, _) => {
+            let_through(alloc, judge, locations, request, question, *id, decision)
+        }
     }
 }
 
@@ -85,20 +78,19 @@ fn judged<'v, R: Rules>(
     alloc: Global,
     judge: &Judge<R>,
     locations: &mut Locations,
-    now: u64,
-    request: &View<'_>,
-    method: &[u8],
-    checked: &Checked<'_>,
+    request: &Validated<'_, '_>,
     question: Question<'v>,
 ) -> Result<Judged<'v>, AllocError>
-    requires moment { now < 2 ^ 62 }
-    requires uri { checked.now.uri ≡ request_uri_of judge.now.config.own request.now }
-    requires question { question.target ≡ Definition.target_of judge.now request.now method.now checked.now.core }
+    requires moment { request.now.moment < 2 ^ 62 }
+    requires uri { request.now.checked.now.uri ≡ request_uri_of judge.now.config.own request.now.message.now }
+    requires question { question.target ≡ Definition.target_of judge.now request.now.message.now request.now.method.now
+        request.now.checked.now.core }
     ensures question { IfOk result (λ judged. judged.question ≡ question.entry) }
     ensures minute { IfOk result (λ judged. judged.minute ≡ Definition.minute_on judge.now judged.question) }
     ensures outcome { IfOk result (λ judged. (state : ProxyState) → state.bindings ≡ locations.old.rows
-        → IsOutcome locations.old.rows now judged.question (Definition.decided judge.now state now request.now method.now checked.now.core
-        judged.question (Definition.answer_of judge.now judged.question)) judged.outcome) }
+        → IsOutcome locations.old.rows request.now.moment judged.question (Definition.decided judge.now state request.now.moment
+        request.now.message.now request.now.method.now request.now.checked.now.core judged.question
+        (Definition.answer_of judge.now judged.question)) judged.outcome) }
     ensures unchanged { locations.new.rows ≡ locations.old.rows }
     ensures room { IfOk result (λ judged. HasRoomFor locations.new.room judged.outcome) }
 {
@@ -107,10 +99,7 @@ fn judged<'v, R: Rules>(
         alloc,
         judge,
         locations,
-        now,
         request,
-        method,
-        checked,
         &question,
         &ruling.decision,
     )?;
@@ -121,30 +110,23 @@ fn judged<'v, R: Rules>(
     })
 }
 
-/// What policy says of a request outside a dialog, of which this was read (RFC 3261 16.3 step 6, 16.5, 10.3).
+/// What policy says of a request outside a dialog that passed the checks (RFC 3261 16.3 step 6, 16.5, 10.3).
 pub(crate) fn policy_verdict<'v, R: Rules>(
     alloc: Global,
     judge: &Judge<R>,
     locations: &mut Locations,
     nonces: &Nonces,
-    now: u64,
-    request: &'v View<'_>,
-    method: &[u8],
-    checked: &Checked<'_>,
+    request: &Validated<'v, '_>,
 ) -> Result<Judged<'v>, AllocError>
-    requires moment { now < 2 ^ 62 }
-    requires uri { checked.now.uri ≡ request_uri_of judge.now.config.own request.now }
+    requires moment { request.now.moment < 2 ^ 62 }
+    requires uri { request.now.checked.now.uri ≡ request_uri_of judge.now.config.own request.now.message.now }
     ensures minute { IfOk result (λ judged. judged.minute ≡ Definition.minute_on judge.now judged.question) }
     ensures outcome { IfOk result (λ judged. (state : ProxyState) → state.bindings ≡ locations.old.rows → state.nonces ≡ nonces.now
-        → IsOutcome locations.old.rows now judged.question (Definition.policy_verdict judge.now state now request.now method.now
-        checked.now.core) judged.outcome) }
+        → IsOutcome locations.old.rows request.now.moment judged.question (Definition.policy_verdict judge.now state request.now.moment
+        request.now.message.now request.now.method.now request.now.checked.now.core) judged.outcome) }
     ensures unchanged { locations.new.rows ≡ locations.old.rows }
     ensures room { IfOk result (λ judged. HasRoomFor locations.new.room judged.outcome) }
 {
-    let uri = checked.uri.as_ref();
-    let core = &checked.core;
-    let question = judge.question_of(alloc, nonces, now, request, method, core, uri)?;
-    judged(
-        alloc, judge, locations, now, request, method, checked, question,
-    )
+    let question = judge.question_of(alloc, nonces, request)?;
+    judged(alloc, judge, locations, request, question)
 }

@@ -6,6 +6,7 @@ ghost use Rattle.sip_route.specs.Way.{request_uri_of};
 ghost use Rattle.model_verdict.specs.Verdict as Verdict;
 
 use crate::judge::Judge;
+use crate::validated::Validated;
 use model_verdict::Question;
 use sip_auth::proof_of;
 use sip_digest::Nonces;
@@ -15,6 +16,7 @@ use sip_message_form::View;
 use sip_policy::{Operation, Rules, minute_of};
 use sip_text::Bytes;
 use sip_uri::{Aor, Uri, aor_of};
+use sip_validate::Checked;
 use std::alloc::{AllocError, Global};
 
 /// Whether a method is REGISTER. Takes no memory.
@@ -44,20 +46,16 @@ fn to_aor(alloc: Global, core: &CoreFields<'_>) -> Result<Aor, AllocError>
     aor_or_nobody(alloc, core.to.uri.sip_uri())
 }
 
-/// The address of record that a request is for: To's of a REGISTER, that of the Request-URI of any other.
-fn target_of(
-    alloc: Global,
-    method: &[u8],
-    core: &CoreFields<'_>,
-    uri: Option<&Uri>,
-) -> Result<Aor, AllocError>
-    ensures { IfOk result
-        (λ aor. aor ≡ (if Verdict.is_register method.now then Naming.to_aor core.now else Naming.aor_or_nobody (option_copied uri.entry))) }
+/// The address of record that a request of a method is for, of which this was read: To's of a REGISTER, that of the
+/// Request-URI of any other.
+fn target_of(alloc: Global, method: &[u8], checked: &Checked<'_>) -> Result<Aor, AllocError>
+    ensures { IfOk result (λ aor. aor ≡ (if Verdict.is_register method.now then Naming.to_aor checked.now.core
+        else Naming.aor_or_nobody checked.now.uri)) }
 {
     if is_register(method) {
-        to_aor(alloc, core)
+        to_aor(alloc, &checked.core)
     } else {
-        aor_or_nobody(alloc, uri)
+        aor_or_nobody(alloc, checked.uri.as_ref())
     }
 }
 
@@ -70,32 +68,31 @@ fn operation_of(alloc: Global, method: &[u8], request: &View<'_>) -> Result<Oper
 }
 
 impl<R: Rules> Judge<R> {
-    /// What policy is asked about a request of a method, of which this was read, with the Request-URI of one that is no
-    /// REGISTER. `AllocError` is the only refusal.
+    /// What policy is asked about a request that passed the checks, with the Request-URI of one that is no REGISTER.
+    /// `AllocError` is the only refusal.
     #[tactic(auto, using(crate::proofs::ByMethod::target_by_method))]
     pub fn question_of<'v>(
         &self,
         alloc: Global,
         nonces: &Nonces,
-        now: u64,
-        request: &'v View<'_>,
-        method: &[u8],
-        core: &CoreFields<'_>,
-        uri: Option<&Uri>,
+        request: &Validated<'v, '_>,
     ) -> Result<Question<'v>, AllocError>
-        requires { Verdict.is_register method.now ≡ false → option_copied uri ≡ request_uri_of self.now.config.own request.now }
-        ensures { IfOk result (λ question. question ≡ Verdict.question_of self.now nonces.now now request.now method.now core.now) }
+        requires { Verdict.is_register request.now.method.now ≡ false
+            → request.now.checked.now.uri ≡ request_uri_of self.now.config.own request.now.message.now }
+        ensures { IfOk result (λ question. question ≡ Verdict.question_of self.now nonces.now request.now.moment request.now.message.now
+            request.now.method.now request.now.checked.now.core) }
     {
         let config = &self.server().config;
-        let target = target_of(alloc, method, core, uri)?;
-        let operation = operation_of(alloc, method, request)?;
+        let message = request.message;
+        let target = target_of(alloc, request.method, request.checked)?;
+        let operation = operation_of(alloc, request.method, message)?;
         let realm = config.realm.as_slice();
-        let proof = proof_of(alloc, realm, &config.users, nonces, now, request)?;
+        let proof = proof_of(alloc, realm, &config.users, nonces, request.moment, message)?;
         Ok(Question {
             proof,
             operation,
             target,
-            minute: minute_of(now, config.offset),
+            minute: minute_of(request.moment, config.offset),
         })
     }
 }

@@ -13,12 +13,12 @@ ghost use Rattle.sip_core.specs.Registering.{ComesTo, HasRoom};
 
 use crate::judge::Judge;
 use crate::registering::Registering;
+use crate::validated::Validated;
 use model_verdict::state::Server;
 use sip_edit_response::min_expires;
 use sip_header::{CoreFields, expires_of};
 use sip_location::{Contacts, LocationError, Locations, Registration};
 use sip_message_fields::{Field, FieldName, Fields, ViewFields};
-use sip_message_form::View;
 use sip_policy::{Rules, is_own_domain, is_users_address};
 use sip_text::Text;
 use sip_uri::{Aor, Uri};
@@ -90,24 +90,24 @@ fn planned(
     }
 }
 
-/// What the registrar plans for a REGISTER with these core fields, or how it refuses it.
+/// What the registrar plans for a REGISTER that passed the checks, or how it refuses it.
 fn planned_for(
     alloc: Global,
     locations: &mut Locations,
-    now: u64,
-    request: &View<'_>,
-    core: &CoreFields<'_>,
+    request: &Validated<'_, '_>,
     aor: &Aor,
 ) -> Result<Registering, AllocError>
-    requires moment { now < 2 ^ 62 }
-    requires named { aor.now ≡ Naming.to_aor core.now }
-    ensures outcome { IfOk result (ComesTo locations.old.rows now (Naming.to_aor core.now)
-        (Verdict.registered_by (registered locations.old.rows (Naming.registration_of core.now request.now.fields) now))) }
+    requires moment { request.now.moment < 2 ^ 62 }
+    requires named { aor.now ≡ Naming.to_aor request.now.checked.now.core }
+    ensures outcome { IfOk result (ComesTo locations.old.rows request.now.moment (Naming.to_aor request.now.checked.now.core)
+        (Verdict.registered_by (registered locations.old.rows
+        (Naming.registration_of request.now.checked.now.core request.now.message.now.fields) request.now.moment))) }
     ensures unchanged { locations.new.rows ≡ locations.old.rows }
     ensures room { IfOk result (HasRoom locations.new.room) }
 {
-    let registration = registration_of(alloc, core, request.fields(), aor)?;
-    planned(alloc, locations, now, registration)
+    let core = &request.checked.core;
+    let registration = registration_of(alloc, core, request.message.fields(), aor)?;
+    planned(alloc, locations, request.moment, registration)
 }
 
 /// The status that names nobody.
@@ -151,27 +151,26 @@ fn registering_by(
     alloc: Global,
     server: &Server,
     locations: &mut Locations,
-    now: u64,
-    request: &View<'_>,
-    checked: &Checked<'_>,
+    request: &Validated<'_, '_>,
     aor: &Aor,
 ) -> Result<Registering, AllocError>
-    requires moment { now < 2 ^ 62 }
-    requires read { checked.now.uri ≡ request_uri_of server.now.config.own request.now }
-    requires named { aor.now ≡ Naming.to_aor checked.now.core }
-    ensures outcome { IfOk result (ComesTo locations.old.rows now (Naming.to_aor checked.now.core)
-        (Verdict.registration_by server.now locations.old.rows now request.now checked.now.core)) }
+    requires moment { request.now.moment < 2 ^ 62 }
+    requires read { request.now.checked.now.uri ≡ request_uri_of server.now.config.own request.now.message.now }
+    requires named { aor.now ≡ Naming.to_aor request.now.checked.now.core }
+    ensures outcome { IfOk result (ComesTo locations.old.rows request.now.moment (Naming.to_aor request.now.checked.now.core)
+        (Verdict.registration_by server.now locations.old.rows request.now.moment request.now.message.now
+        request.now.checked.now.core)) }
     ensures unchanged { locations.new.rows ≡ locations.old.rows }
     ensures room { IfOk result (HasRoom locations.new.room) }
 {
-    if !is_registrable(server, checked, aor) {
+    if !is_registrable(server, request.checked, aor) {
         return Ok(not_found(alloc));
     }
-    planned_for(alloc, locations, now, request, &checked.core, aor)
+    planned_for(alloc, locations, request, aor)
 }
 
 impl<R: Rules> Judge<R> {
-    /// What a REGISTER that was let through comes to, of which this was read: 404 unless its Request-URI names an own
+    /// What a REGISTER that passed the checks and was let through comes to: 404 unless its Request-URI names an own
     /// domain and To a configured user of one, else what the registrar refuses, or plans for the address of record that
     /// To names, which is handed in (RFC 3261 10.3). No binding changes. `AllocError` is the only refusal. Moments are
     /// below 2^62.
@@ -179,20 +178,18 @@ impl<R: Rules> Judge<R> {
         &self,
         alloc: Global,
         locations: &mut Locations,
-        now: u64,
-        request: &View<'_>,
-        checked: &Checked<'_>,
+        request: &Validated<'_, '_>,
         aor: &Aor,
     ) -> Result<Registering, AllocError>
-        requires moment { now < 2 ^ 62 }
-        requires read { checked.now.uri ≡ request_uri_of self.now.config.own request.now }
-        requires named { aor.now ≡ Naming.to_aor checked.now.core }
-        ensures outcome { IfOk result (ComesTo locations.old.rows now (Naming.to_aor checked.now.core)
-            (Verdict.registration_by self.now locations.old.rows now request.now checked.now.core)) }
+        requires moment { request.now.moment < 2 ^ 62 }
+        requires read { request.now.checked.now.uri ≡ request_uri_of self.now.config.own request.now.message.now }
+        requires named { aor.now ≡ Naming.to_aor request.now.checked.now.core }
+        ensures outcome { IfOk result (ComesTo locations.old.rows request.now.moment (Naming.to_aor request.now.checked.now.core)
+            (Verdict.registration_by self.now locations.old.rows request.now.moment request.now.message.now
+            request.now.checked.now.core)) }
         ensures unchanged { locations.new.rows ≡ locations.old.rows }
         ensures room { IfOk result (HasRoom locations.new.room) }
     {
-        let server = self.server();
-        registering_by(alloc, server, locations, now, request, checked, aor)
+        registering_by(alloc, self.server(), locations, request, aor)
     }
 }

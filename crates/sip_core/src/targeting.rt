@@ -1,8 +1,8 @@
 ghost use Rattle.std.specs.Prelude.{◌≡◌, Some, IfOk};
-ghost use Rattle.std.specs.Option.{option_copied};
 ghost use Rattle.model_verdict.specs.Verdict as Verdict;
 
 use crate::judge::Judge;
+use crate::validated::Validated;
 use model_verdict::Question;
 use sip_location::Locations;
 use sip_policy::{Decision, Rules, is_users_address};
@@ -31,21 +31,21 @@ impl<R: Rules> Judge<R> {
         targets_of(alloc, decision, is_known, uri, bindings, self.hops())
     }
 
-    /// Where a request with this Request-URI goes, about which policy was asked and decided so (RFC 3261 16.5): without a
+    /// Where a request that passed the checks goes, about which policy was asked and decided so (RFC 3261 16.5): without a
     /// SIP or SIPS URI nowhere. `AllocError` is the only refusal.
     pub fn targets_by(
         &self,
         alloc: Global,
         locations: &Locations,
-        now: u64,
+        request: &Validated<'_, '_>,
         question: &Question<'_>,
         decision: &Decision,
-        uri: Option<&Uri>,
     ) -> Result<Targets, AllocError>
-        ensures { IfOk result (λ targets. targets ≡ Verdict.targets_by self.now locations.now.rows now question.now.target decision.now
-            (option_copied uri.entry)) }
+        ensures { IfOk result (λ targets. targets ≡ Verdict.targets_by self.now locations.now.rows request.now.moment
+            question.now.target decision.now request.now.checked.now.uri) }
     {
-        match uri {
+        let now = request.moment;
+        match &request.checked.uri {
             Some(uri) => self.targets_for(alloc, locations, now, question, decision, uri),
             None => Ok(Targets::NotFound),
         }

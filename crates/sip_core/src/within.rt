@@ -9,9 +9,9 @@ ghost use Rattle.sip_route.specs.Way as Ways;
 ghost use Rattle.sip_core.specs.Within.{GoesOn};
 
 use crate::Judge;
+use crate::validated::Validated;
 use sip_dialog::{DialogId, Dialogs};
 use sip_header::{CoreFields, tag_of};
-use sip_message_form::View;
 use sip_policy::Rules;
 use sip_text::Bytes;
 use sip_uri::{Addr, Uri};
@@ -82,29 +82,28 @@ fn next_address<R: Rules>(
     Ok(address_for(judge, uri.as_ref()))
 }
 
-/// Where a request of which this was read goes in a dialog that is known: to the next address of its way, if the dialog
+/// Where a request that passed the checks goes in a dialog that is known: to the next address of its way, if the dialog
 /// that it names holds that (RFC 3261 12.2.2, 16.12.1). None where it isn't in a dialog that is known.
 #[tactic(auto, using(crate::proofs::Going::unnamed, crate::proofs::Going::unaddressed, crate::proofs::Going::held, crate::proofs::Going::not_held, crate::proofs::Going::left))]
 pub(crate) fn within<R: Rules>(
     alloc: Global,
     judge: &Judge<R>,
     dialogs: &Dialogs,
-    now: u64,
-    request: &View<'_>,
-    checked: &Checked<'_>,
+    request: &Validated<'_, '_>,
 ) -> Result<Option<(Addr, DialogId)>, AllocError>
-    requires core { result_ok (core_of request.now) ≡ Some checked.now.core }
-    requires way { checked.now.way ≡ Ways.way_of judge.now.config.own request.now }
-    requires uri { checked.now.uri ≡ Ways.request_uri_of judge.now.config.own request.now }
-    ensures { IfOk result (GoesOn judge.now dialogs.now.dialogs now request.now) }
+    requires core { result_ok (core_of request.now.message.now) ≡ Some request.now.checked.now.core }
+    requires way { request.now.checked.now.way ≡ Ways.way_of judge.now.config.own request.now.message.now }
+    requires uri { request.now.checked.now.uri ≡ Ways.request_uri_of judge.now.config.own request.now.message.now }
+    ensures { IfOk result (GoesOn judge.now dialogs.now.dialogs request.now.moment request.now.message.now) }
 {
+    let checked = request.checked;
     let Some(id) = dialog_of(alloc, &checked.core)? else {
         return Ok(None);
     };
     let Some(address) = next_address(alloc, judge, checked)? else {
         return Ok(None);
     };
-    if dialogs.allows(&id, address, now) {
+    if dialogs.allows(&id, address, request.moment) {
         return Ok(Some((address, id)));
     }
     Ok(None)

@@ -61,7 +61,8 @@ same-names : (a b : DialogId) → is_same_dialog a b ≡ true → name a ≡ nam
 same-names a b e = by_tags (one_true (bytes_eq a.from_tag b.from_tag && bytes_eq a.to_tag b.to_tag)
     (bytes_eq a.from_tag b.to_tag && bytes_eq a.to_tag b.from_tag) parts.1) where
       parts : (bytes_eq a.call_id b.call_id ≡ true)
-          × (((bytes_eq a.from_tag b.from_tag && bytes_eq a.to_tag b.to_tag) || (bytes_eq a.from_tag b.to_tag && bytes_eq a.to_tag b.from_tag)) ≡ true)
+          × (((bytes_eq a.from_tag b.from_tag && bytes_eq a.to_tag b.to_tag)
+          || (bytes_eq a.from_tag b.to_tag && bytes_eq a.to_tag b.from_tag)) ≡ true)
       parts = both_true (bytes_eq a.call_id b.call_id) _ e
 
       with_tags : in_order a.from_tag a.to_tag ≡ in_order b.from_tag b.to_tag → name a ≡ name b

@@ -1,5 +1,5 @@
-ghost use Rattle.std.specs.Prelude.{◌≡◌, ◌≤◌, ◌<◌, ◌+◌, ◌&&◌, ◌++◌, ◌∷◌, [], ℕ, Some, false, length, is_some, nat_eq, swap, swap_remove, if◌then◌else◌};
-ghost use Rattle.std.specs.Prelude.{IsOk, OnOk, OnErr};
+ghost use Rattle.std.specs.Prelude.{◌≡◌, ◌≤◌, ◌<◌, ◌+◌, ◌&&◌, ◌++◌, ◌∷◌, [], ℕ, Some, false, length, is_some, nat_eq, swap, swap_remove};
+ghost use Rattle.std.specs.Prelude.{if◌then◌else◌, IsOk, OnOk, OnErr};
 ghost use Rattle.std.specs.HashMap.{get, spare};
 ghost use Rattle.sip_dialog.specs.Digests.{IsPlace};
 

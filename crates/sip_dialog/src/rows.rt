@@ -1,5 +1,5 @@
-ghost use Rattle.std.specs.Prelude.{◌≡◌, ◌≤◌, ◌<◌, ◌+◌, ◌++◌, ◌∷◌, [], Bool, true, not, length, count_by, position, MatchOption, ℕ, ◌==◌, is_some};
-ghost use Rattle.std.specs.Prelude.{IfSome, IfNone, IfErr, Err, nat_le, ◌↔◌, ◌≢◌, OnOk, OnErr, IsOk};
+ghost use Rattle.std.specs.Prelude.{◌≡◌, ◌≤◌, ◌<◌, ◌+◌, ◌++◌, ◌∷◌, [], Bool, true, not, length, count_by, position, MatchOption, ℕ};
+ghost use Rattle.std.specs.Prelude.{◌==◌, is_some, IfSome, IfNone, IfErr, Err, nat_le, ◌↔◌, ◌≢◌, OnOk, OnErr, IsOk};
 ghost use Rattle.sip_dialog.specs.declared.error.DialogError.TheVariants.{NoMemory, Full};
 ghost use Rattle.sip_dialog.specs.Dialogs.{known, knows, is_in_dialog, learnt, taught, renewed, is_full_for, begun, after_invite, without_dialog};
 ghost use Rattle.sip_dialog.specs.declared.dialog.DialogId.{DialogId};

@@ -49,7 +49,9 @@ pub fn md5_is_unchanged()
               (record { nc = count; cnonce = client });
           response = response;
         }) now ≢ Wrong)
-        ↔ (response ≡ encode_lower (md5 (a1 ++ byte ":" ∷ (nonce ++ byte ":" ∷ (count ++ byte ":" ∷ (client ++ (codes ":auth:" ++ encode_lower (md5 (method ++ byte ":" ∷ uri))))))))) }
+        ↔ (response ≡ encode_lower (md5
+        (a1 ++ byte ":" ∷ (nonce ++ byte ":" ∷ (count ++ byte ":" ∷ (client ++ (codes ":auth:"
+        ++ encode_lower (md5 (method ++ byte ":" ∷ uri))))))))) }
 {}
 
 /// Of the rows of a word at most one lives, whatever was issued and used while moments didn't go back; so the

@@ -67,7 +67,8 @@ impl Model for Nonces {
 
     ghost view = { λ n. nonces_in n.rows.items };
 
-    ghost invariant = { λ n. (4096 ≤ deque_capacity n.rows) × AreKept (buckets_of (nonces_in n.rows.items)) (gaps_in n.rows.items) n.turn n.marks.items };
+    ghost invariant = { λ n. (4096 ≤ deque_capacity n.rows)
+        × AreKept (buckets_of (nonces_in n.rows.items)) (gaps_in n.rows.items) n.turn n.marks.items };
 }
 
 impl Nonces {

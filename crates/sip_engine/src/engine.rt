@@ -18,7 +18,6 @@ use crate::stepping;
 use sip_config_types::Config;
 use sip_core::Judge;
 use sip_core::state::Server;
-use sip_engine_open as firing;
 use sip_engine_open::proxy::Proxy;
 use sip_event::{Boot, StepOut, Ticket};
 use sip_location::LiveBindings;
@@ -101,9 +100,9 @@ impl<T: Timers, R: Rules> Engine<T, R> {
             × NoneAgainBy m self.now.state.requests }
     {
         reached_states_are_sound();
-        firing::time_laws::next_moment_is_first();
+        sip_engine_open::laws::next_moment_is_first();
         let _judge = &self.judge;
-        firing::next_due(&self.proxy)
+        sip_engine_open::next_due(&self.proxy)
     }
 
     /// The live bindings of an address of record at the last moment, in their order, lent. Takes no memory.

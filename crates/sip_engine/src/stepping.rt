@@ -13,7 +13,6 @@ use crate::error::StepError;
 use crate::histories::reached_states_are_sound;
 use crate::take_datagram;
 use sip_core::Judge;
-use sip_engine_open as firing;
 use sip_engine_open::forwarding::Arrival;
 use sip_engine_open::proxy::Proxy;
 use sip_event::{StepOut, Ticket};
@@ -75,7 +74,7 @@ pub(crate) fn fire<T: Timers, R: Rules>(
     }
     reached_states_are_sound();
     let now = moment_of(proxy, at);
-    let out = firing::fire(alloc, judge.server(), judge.hops(), proxy, now)?;
+    let out = sip_engine_open::fire(alloc, judge.server(), judge.hops(), proxy, now)?;
     Ok(out)
 }
 
@@ -139,6 +138,6 @@ pub(crate) fn fault<T: Timers, R: Rules>(
         return Err(StepError::MomentTooLarge);
     }
     let now = moment_of(proxy, at);
-    let out = firing::fault(alloc, judge.server(), judge.hops(), proxy, now, ticket)?;
+    let out = sip_engine_open::fault(alloc, judge.server(), judge.hops(), proxy, now, ticket)?;
     Ok(out)
 }

@@ -18,7 +18,6 @@ pub mod laws;
 mod next;
 mod responding;
 mod stepping;
-pub mod time_laws;
 
 pub use copying::take_copy;
 pub use dropping::take_dropped;

@@ -5,7 +5,7 @@ ghost use Rattle.sip_proxy.specs.steps_model.Step.{Does};
 ghost use Rattle.sip_uas.specs.forwarding.Arrivals.{arrival_of};
 ghost use Rattle.sip_core.specs.verdict_model.Verdict as Definition;
 
-use crate::forwarding_taking::take_lessons;
+use crate::forwarded::take_lessons;
 use sip_dialog::DialogId;
 use sip_dialog_lessons::state::Server;
 use sip_event::StepOut;

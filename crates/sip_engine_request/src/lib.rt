@@ -12,7 +12,7 @@ mod acknowledging;
 mod answered;
 mod cancelling;
 mod deciding;
-mod forwarding_taking;
+mod forwarded;
 mod judging;
 mod records;
 mod sending;

@@ -8,7 +8,7 @@ ghost use Rattle.sip_dialog_lessons.specs.state.State.{has_key};
 ghost use Rattle.sip_core.specs.verdict_model.Verdict as Definition;
 ghost use Rattle.sip_engine_request.specs.Routing.{are_somebody};
 
-use crate::forwarding_taking::{take_credential, take_request};
+use crate::forwarded::{take_credential, take_request};
 use crate::records::records_of;
 use sip_base::Shared;
 use sip_core::Judged;

@@ -7,7 +7,7 @@ ghost use Rattle.sip_uas.specs.forwarding.Arrivals.{arrival_of};
 ghost use Rattle.sip_dialog_lessons.specs.state.State.{has_key};
 ghost use Rattle.sip_core.specs.verdict_model.Verdict as Definition;
 
-use crate::forwarding_taking::take_request;
+use crate::forwarded::take_request;
 use sip_base::Shared;
 use sip_core::state::Heard;
 use sip_dialog::DialogId;

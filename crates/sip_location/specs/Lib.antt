@@ -11,3 +11,4 @@ pub mod Sameness
 pub mod Locations
 pub mod Code
 pub mod Filed
+pub mod FiledAor

@@ -10,7 +10,7 @@ ghost use Rattle.sip_core.specs.verdict_model.Verdict as Definition;
 
 use crate::proxy::Proxy;
 use sip_core::state::Names;
-use sip_core::{Judge, Verdict, ack_verdict, new_verdict};
+use sip_core::{Judge, Known, Received, Verdict, ack_verdict, new_verdict};
 use sip_header::Via;
 use sip_message_form::View;
 use sip_policy::Rules;
@@ -46,20 +46,19 @@ impl<T: Timers> Proxy<T> {
         ensures timers { self.new.timers ≡ self.old.timers }
     {
         let is_full = self.contexts.is_full();
-        new_verdict(
-            alloc,
-            judge,
-            &mut self.locations,
-            &self.nonces,
-            &self.dialogs,
+        let known = Known {
+            nonces: &self.nonces,
+            dialogs: &self.dialogs,
             is_full,
-            now,
-            request,
+        };
+        let received = Received {
+            moment: now,
+            message: request,
             via,
             method,
             short,
-            names,
-        )
+        };
+        new_verdict(alloc, judge, &mut self.locations, &known, &received, names)
     }
 
     /// The verdict on an ACK, with this Via on top, that a 2xx calls for, or that belongs to no open request: it goes
@@ -81,15 +80,13 @@ impl<T: Timers> Proxy<T> {
             → Is judge.now rows now named (Definition.ack_verdict judge.now self.now.state now request.now short) verdict) }
     {
         let _open = &self.contexts;
-        ack_verdict(
-            alloc,
-            judge,
-            &self.dialogs,
-            now,
-            request,
+        let received = Received {
+            moment: now,
+            message: request,
             via,
             method,
             short,
-        )
+        };
+        ack_verdict(alloc, judge, &self.dialogs, &received)
     }
 }

@@ -124,26 +124,25 @@ module _ (server : Server) (a : Arrival) (m : Message) (q : Question) (minute : 
 
   -- ---- registration
 
+  -- what a draft does of a registration by a plan
+  abbrev pub Binds : ℕ → Planned → Draft → Type 0
+  Binds rule plan draft = (rows after : List Binding) (r : Registration) → IsPlan rows r a.now plan → registered rows r a.now ≡ Ok after → plan.aor ≡ q.target
+      → Refuses rule 200 (Effects.contact_fields a.now q.target after) draft
+
   pub bound_with : (result : Result Draft AllocError) (rule : ℕ) (extras : List Field) (plan : Planned)
       → ((rows after : List Binding) (r : Registration) → IsPlan rows r a.now plan → registered rows r a.now ≡ Ok after → extras ≡ Effects.contact_fields a.now plan.aor after)
       → IfOk result (Refuses rule 200 extras)
-      → IfOk result (λ draft. minute ≡ minute_on server q → (rows after : List Binding) (r : Registration) → IsPlan rows r a.now plan → registered rows r a.now ≡ Ok after → plan.aor ≡ q.target
-      → Drafts full a.now draft (λ nonces. used nonces a.now q.proof) None (Effects.answered_by_rule server (arrival_of a) m q rule 200 (Effects.contact_fields a.now q.target after)))
-  bound_with (Ok draft) rule extras plan lists h = λ is rows after r is_plan comes for.
-      subst (λ (fs : List Field). Refuses rule 200 fs draft) (lists rows after r is_plan comes ∙ ap (λ aor. Effects.contact_fields a.now aor after) for) h is
+      → IfOk result (Binds rule plan)
+  bound_with (Ok draft) rule extras plan lists h = λ rows after r is_plan comes for.
+      subst (λ (fs : List Field). Refuses rule 200 fs draft) (lists rows after r is_plan comes ∙ ap (λ aor. Effects.contact_fields a.now aor after) for) h
   bound_with (Err e) rule extras plan lists h = tt
-
-  -- what a draft does of a registration by a plan
-  abbrev pub Binds : ℕ → Planned → Draft → Type 0
-  Binds rule plan draft = minute ≡ minute_on server q → (rows after : List Binding) (r : Registration) → IsPlan rows r a.now plan → registered rows r a.now ≡ Ok after → plan.aor ≡ q.target
-      → Drafts full a.now draft (λ nonces. used nonces a.now q.proof) None (Effects.answered_by_rule server (arrival_of a) m q rule 200 (Effects.contact_fields a.now q.target after))
 
   bound_by : (draft : Draft) (rule : ℕ) (plan : Planned) (state : ProxyState) (r : Registration) (outcome : Result (List Binding) LocationError) → registered state.bindings r a.now ≡ outcome → IsOk outcome
       → minute ≡ minute_on server q → is_full state ≡ full → IsPlan state.bindings r a.now plan → plan.aor ≡ q.target → Binds rule plan draft
       → Does a.now draft (used state.nonces a.now q.proof) (Some plan) state (Effects.registering server (arrival_of a) m q rule (registered_by outcome) state)
   bound_by draft rule plan state r (Ok after) comes ok is room is_plan for h =
       with_bindings a.now draft (used state.nonces a.now q.proof) plan state after (Effects.registering server (arrival_of a) m q rule (Bound after) state)
-      (record { registration = r; is_plan = is_plan; registered_are = comes }) (h is state.bindings after r is_plan comes for (record state { bindings = after }) room)
+      (record { registration = r; is_plan = is_plan; registered_are = comes }) (h state.bindings after r is_plan comes for is (record state { bindings = after }) room)
   bound_by draft rule plan state r (Err e) comes ok is room is_plan for h = absurd (true≢false (sym ok))
 
   pub planned_with : (result : Result Draft AllocError) (rule : ℕ) (plan : Planned) → IfOk result (Binds rule plan)

@@ -13,6 +13,7 @@ mod asking;
 mod challenges;
 mod contacts;
 mod draft;
+mod judged_request;
 mod judging;
 pub mod laws;
 mod policy_records;

@@ -13,7 +13,8 @@ pub fn validation_statuses()
     ensures served { refusal_of own (invite_with (field Name.MaxForwards (codes "70") ∷ [])) false ≡ None }
     ensures no_max_forwards { refusal_of own (invite_with []) false ≡ None }
     ensures no_hops { refusal_of own (invite_with (field Name.MaxForwards (codes "0") ∷ [])) false ≡ Some (483, []) }
-    ensures no_hops_in_register { refusal_of own (register_with (field Name.MaxForwards (codes "0") ∷ field Name.Contact (codes "<sip:Mufasa@127.0.0.1:5062>")
+    ensures no_hops_in_register { refusal_of own (register_with
+        (field Name.MaxForwards (codes "0") ∷ field Name.Contact (codes "<sip:Mufasa@127.0.0.1:5062>")
         ∷ [])) false ≡ None }
     ensures extensions { refusal_of own (invite_with (field Name.ProxyRequire (codes "a") ∷ field Name.ProxyRequire (codes "b") ∷ [])) false
         ≡ Some (420, codes "a, b") }
@@ -62,7 +63,8 @@ pub fn bad_fields()
         (fields_with (field Name.To (codes "<sip:help@host.com>") ∷ field Name.CSeq (codes "2147483648 INVITE") ∷ []))) false ≡ Some (400, []) }
     ensures second_to { refusal_of own (invite_with (field Name.To (codes "<sip:help@host.com>") ∷ [])) false ≡ Some (400, []) }
     ensures many_hops { refusal_of own (invite_with (field Name.MaxForwards (codes "256") ∷ [])) false ≡ Some (400, []) }
-    ensures second_max_forwards { refusal_of own (invite_with (field Name.MaxForwards (codes "70") ∷ field Name.MaxForwards (codes "70") ∷ [])) false ≡ Some (400, []) }
+    ensures second_max_forwards { refusal_of own (invite_with (field Name.MaxForwards (codes "70") ∷ field Name.MaxForwards (codes "70") ∷ [])) false
+        ≡ Some (400, []) }
     ensures via { refusal_of own (invite_with (field Name.Via (codes "SIP/2.0/UDP") ∷ [])) false ≡ Some (400, []) }
     ensures route { refusal_of own (invite_with (field Name.Route (codes "sip:host.com") ∷ [])) false ≡ Some (400, []) }
     ensures record_route { refusal_of own (invite_with (field Name.RecordRoute (codes "sip:host.com") ∷ [])) false ≡ Some (400, []) }
@@ -105,9 +107,11 @@ pub fn route_statuses()
     ensures restored { refusal_of own (invite_to (codes "sip:sip.host.com:5060;lr") (field Name.Route (codes "<sip:help@host.com>") ∷ []))
         false ≡ None }
     ensures other { refusal_of own (invite_with (field Name.Route (codes "<sip:far.net>") ∷ [])) false ≡ Some (400, []) }
-    ensures own_and_other { refusal_of own (invite_with (field Name.Route (codes "<sip:host.com;lr>") ∷ field Name.Route (codes "<sip:far.net;lr>") ∷ []))
+    ensures own_and_other { refusal_of own (invite_with
+        (field Name.Route (codes "<sip:host.com;lr>") ∷ field Name.Route (codes "<sip:far.net;lr>") ∷ []))
         false ≡ Some (400, []) }
-    ensures no_bad_request { is_bad_request own (invite_with (field Name.Route (codes "<sip:host.com;lr>") ∷ field Name.Route (codes "<sip:far.net;lr>") ∷ []))
+    ensures no_bad_request { is_bad_request own (invite_with
+        (field Name.Route (codes "<sip:host.com;lr>") ∷ field Name.Route (codes "<sip:far.net;lr>") ∷ []))
         false ≡ false }
     ensures in_dialog { refusal_of own (invite (codes "sip:help@host.com") (codes "SIP/2.0")
         (fields_with (field Name.To (codes "<sip:help@host.com>;tag=t1") ∷ field Name.CSeq (codes "1 INVITE")

@@ -19,14 +19,7 @@ use memory::{refused_inside_deliver, refused_inside_replay};
 use replay::{many_registers, refused_first_lines};
 use runs::runs_are_listed;
 use std::io;
-
-fn tell<R: Print>(rt: &R, name: &str, holds: bool) -> io::Result<()> {
-    if holds {
-        println!(rt; "{name} holds")
-    } else {
-        println!(rt; "{name} FAILS")
-    }
-}
+use test_forms::tell;
 
 /// Each case: its name, and whether it held. A new one is a line here.
 pub fn tell_all<R: Print + AllocGlobal>(rt: &R) -> io::Result<()> {

@@ -1,7 +1,7 @@
-//! The forms of tests: what a call gives is lent to a predicate, and dropped here alone.
+//! The forms of tests: what a call gives is lent to a predicate, and dropped here alone; and a line for each case.
 #![tactic(auto)]
 
-use sip_text::Bytes;
+use std::io;
 
 /// Whether a value is given, and is right.
 pub fn gives<T: Drop, E: Drop, F: FnOnce(&T) -> bool>(given: Result<T, E>, is_right: F) -> bool
@@ -32,18 +32,19 @@ pub fn says_nothing<T: Drop, E: Drop>(said: Result<Option<T>, E>) -> bool {
     matches!(said, Ok(None))
 }
 
-/// Whether these bytes are given.
-pub fn gives_bytes<E: Drop>(given: Result<Bytes, E>, wanted: &[u8]) -> bool {
-    match given {
-        Ok(bytes) => bytes.as_slice() == wanted,
-        Err(_) => false,
-    }
-}
-
 /// Whether this text is given.
 pub fn gives_text<E: Drop>(given: Result<String, E>, wanted: &str) -> bool {
     match given {
         Ok(text) => text.as_str() == wanted,
         Err(_) => false,
+    }
+}
+
+/// Prints whether the case of this name holds.
+pub fn tell<R: Print>(rt: &R, name: &str, holds: bool) -> io::Result<()> {
+    if holds {
+        println!(rt; "{name} holds")
+    } else {
+        println!(rt; "{name} FAILS")
     }
 }

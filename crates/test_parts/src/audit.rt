@@ -1,6 +1,7 @@
+use crate::bytes::gives_bytes;
 use sip_audit::{AuditError, line_of, read_line};
 use std::alloc::Global;
-use test_forms::{gives, gives_bytes, gives_text};
+use test_forms::{gives, gives_text};
 
 /// Lines of each operation and outcome, with and without a user, and of rules with and without a window.
 const LINES: &[&[u8]] = &[

@@ -1,9 +1,10 @@
+use crate::bytes::gives_bytes;
 use sip_edit::ack_of;
 use sip_message::view;
 use sip_message_form::{View, write_view};
 use sip_text::Bytes;
 use std::alloc::{AllocError, Global};
-use test_forms::{gives, gives_bytes};
+use test_forms::gives;
 
 /// An INVITE as it went on.
 const INVITE: &[u8] =

@@ -13,6 +13,8 @@ mod auth;
 #[cfg(test)]
 mod best;
 #[cfg(test)]
+mod bytes;
+#[cfg(test)]
 mod config;
 #[cfg(test)]
 mod config_texts;

@@ -1,8 +1,9 @@
+use crate::bytes::gives_bytes;
 use sip_message::{read, view};
 use sip_message_fields::FieldName;
 use sip_message_form::{Message, View, write, written_length};
 use std::alloc::Global;
-use test_forms::{gives, gives_bytes};
+use test_forms::gives;
 
 const COMPACT_AND_FOLDED: &[u8] =
     b"\r\n\r\nOPTIONS sip:a@host.com sip/2.0\r\nv : SIP/2.0/UDP a;branch=1 , \tSIP/2.0/UDP b\r\nSubject: I know\r\n  you\r\nX-Note: one \r\n \r\n\ttwo\r\nl: 2\r\n\r\nabcd";

@@ -1,10 +1,11 @@
+use crate::bytes::gives_bytes;
 use sip_edit::push_record_route;
 use sip_message::view;
 use sip_message_form::{View, write_view};
 use sip_route::Own;
 use sip_text::{Bytes, Items};
 use std::alloc::{AllocError, Global};
-use test_forms::{gives, gives_bytes};
+use test_forms::gives;
 
 const REQUEST: &[u8] = b"OPTIONS sip:a@host.com SIP/2.0\r\nSubject: a\r\nSubject: b\r\n\r\n";
 

@@ -1,6 +1,7 @@
+use crate::bytes::gives_bytes;
 use sip_uri::{UriError, parse_uri, plain_place, write_uri};
 use std::alloc::Global;
-use test_forms::{gives_bytes, gives_text};
+use test_forms::gives_text;
 
 /// Texts, and whether they write a URI. The first ones are those of RFC 3261 19.1.3.
 const TEXTS: &[(&[u8], bool)] = &[

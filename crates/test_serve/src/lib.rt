@@ -15,14 +15,7 @@ use failing::{both_sends_fail, final_send_fails, numbers_worn, receive_fails, tr
 use on_loopback::{call_on_loopback, loopback};
 use std::io;
 use std::net::Net;
-
-fn tell<R: Print>(rt: &R, name: &str, holds: bool) -> io::Result<()> {
-    if holds {
-        println!(rt; "{name} holds")
-    } else {
-        println!(rt; "{name} FAILS")
-    }
-}
+use test_forms::tell;
 
 /// Each case: its name, and whether it held. A new one is a line here.
 pub fn tell_all<R: Print + AllocGlobal + Net>(rt: &R) -> io::Result<()> {

@@ -1,7 +1,7 @@
 //! Phones on loopback, and a server on a port that the system chooses. Its clock stands still, so nothing goes again.
 
 use crate::datagrams::ASKS_BY_PORT;
-use crate::phone::{Phone, accepting, between};
+use crate::phone::{Phone, accepting, between, digits};
 use crate::trial::Trial;
 use sip_digest::{Protection, answer};
 use sip_loop_link::UdpLink;
@@ -93,6 +93,24 @@ const HELP: User = User {
     a1: b"22222222222222222222222222222222",
 };
 
+fn credential_text<'a>(
+    alloc: Global,
+    name: &'a str,
+    nonce: &'a str,
+    response: &'a str,
+) -> Result<String, AllocError> {
+    [
+        "Authorization: Digest username=\"",
+        name,
+        "\", realm=\"testrealm@host.com\", nonce=\"",
+        nonce,
+        "\", uri=\"sip:host.com\", response=\"",
+        response,
+        "\", qop=auth, nc=00000001, cnonce=\"0a4f113b\"\r\n",
+    ]
+    .concat(alloc)
+}
+
 /// The header field by which a user answers a challenge.
 fn credential(alloc: Global, user: User, nonce: &str) -> Result<String, AllocError> {
     let protection = Protection {
@@ -107,10 +125,39 @@ fn credential(alloc: Global, user: User, nonce: &str) -> Result<String, AllocErr
         Some(protection),
     );
     let response = str::from_utf8(&digits).unwrap_or("");
-    let name = user.name;
-    format!(in alloc;
-        "Authorization: Digest username=\"{name}\", realm=\"testrealm@host.com\", nonce=\"{nonce}\", uri=\"sip:host.com\", response=\"{response}\", qop=auth, nc=00000001, cnonce=\"0a4f113b\"\r\n"
-    )
+    credential_text(alloc, user.name, nonce, response)
+}
+
+fn register_text<'a>(
+    alloc: Global,
+    name: &'a str,
+    port: &'a str,
+    cseq: &'a str,
+    field: &'a str,
+) -> Result<String, AllocError> {
+    [
+        "REGISTER sip:host.com SIP/2.0\r\nVia: SIP/2.0/UDP 127.0.0.1:",
+        port,
+        ";branch=z9hG4bK",
+        name,
+        cseq,
+        "\r\nMax-Forwards: 70\r\nFrom: <sip:",
+        name,
+        "@host.com>;tag=r1\r\nTo: <sip:",
+        name,
+        "@host.com>\r\nCall-ID: ",
+        name,
+        "@127.0.0.1\r\nCSeq: ",
+        cseq,
+        " REGISTER\r\nContact: <sip:",
+        name,
+        "@127.0.0.1:",
+        port,
+        ">\r\n",
+        field,
+        "Content-Length: 0\r\n\r\n",
+    ]
+    .concat(alloc)
 }
 
 /// A REGISTER of a user at a port, with one more header field or none.
@@ -118,29 +165,56 @@ fn register(
     alloc: Global,
     user: User,
     port: u16,
-    cseq: u32,
+    cseq: &str,
     field: &str,
 ) -> Result<String, AllocError> {
-    let name = user.name;
-    format!(in alloc;
-        "REGISTER sip:host.com SIP/2.0\r\nVia: SIP/2.0/UDP 127.0.0.1:{port};branch=z9hG4bK{name}{cseq}\r\nMax-Forwards: 70\r\nFrom: <sip:{name}@host.com>;tag=r1\r\nTo: <sip:{name}@host.com>\r\nCall-ID: {name}@127.0.0.1\r\nCSeq: {cseq} REGISTER\r\nContact: <sip:{name}@127.0.0.1:{port}>\r\n{field}Content-Length: 0\r\n\r\n"
-    )
+    let digits = digits(alloc, port)?;
+    register_text(alloc, user.name, digits.as_str(), cseq, field)
 }
 
 /// The REGISTER of a user whose phone has heard a challenge.
 fn register_again(alloc: Global, user: User, phone: &Phone) -> Result<String, AllocError> {
     let nonce = between(phone.heard(), "nonce=\"", "\"");
     let credential = credential(alloc, user, nonce)?;
-    register(alloc, user, phone.port, 2, credential.as_str())
+    register(alloc, user, phone.port, "2", credential.as_str())
 }
 
 /// Whether a phone registers as a user, who answers the challenge that it hears.
 fn is_registered(server: &mut Server, phone: &mut Phone, user: User) -> bool {
     let alloc = server.alloc;
-    is_sent(phone, server, register(alloc, user, phone.port, 1, ""))
+    is_sent(phone, server, register(alloc, user, phone.port, "1", ""))
         && server.reaches(phone, CHALLENGED, "\r\nCSeq: 1 REGISTER\r\n")
         && is_sent(phone, server, register_again(alloc, user, phone))
         && server.reaches(phone, ACCEPTED, "\r\nCSeq: 2 REGISTER\r\n")
+}
+
+fn request_text<'a>(
+    alloc: Global,
+    method: &'a str,
+    uri: &'a str,
+    field: &'a str,
+    tag: &'a str,
+    port: &'a str,
+) -> Result<String, AllocError> {
+    [
+        method,
+        " ",
+        uri,
+        " SIP/2.0\r\nVia: SIP/2.0/UDP 127.0.0.1:",
+        port,
+        ";branch=z9hG4bKcaller",
+        method,
+        "\r\n",
+        field,
+        "Max-Forwards: 70\r\nFrom: <sip:Mufasa@host.com>;tag=f1\r\nTo: <sip:help@host.com>",
+        tag,
+        "\r\nCall-ID: k1@127.0.0.1\r\nCSeq: 7 ",
+        method,
+        "\r\nContact: <sip:Mufasa@127.0.0.1:",
+        port,
+        ">\r\nContent-Length: 0\r\n\r\n",
+    ]
+    .concat(alloc)
 }
 
 /// A request of the phone that calls, with one more header field or none, and a tag of the other or none.
@@ -152,9 +226,8 @@ fn of_caller(
     tag: &str,
     port: u16,
 ) -> Result<String, AllocError> {
-    format!(in alloc;
-        "{method} {uri} SIP/2.0\r\nVia: SIP/2.0/UDP 127.0.0.1:{port};branch=z9hG4bKcaller{method}\r\n{field}Max-Forwards: 70\r\nFrom: <sip:Mufasa@host.com>;tag=f1\r\nTo: <sip:help@host.com>{tag}\r\nCall-ID: k1@127.0.0.1\r\nCSeq: 7 {method}\r\nContact: <sip:Mufasa@127.0.0.1:{port}>\r\nContent-Length: 0\r\n\r\n"
-    )
+    let digits = digits(alloc, port)?;
+    request_text(alloc, method, uri, field, tag, digits.as_str())
 }
 
 const RECORDED: &str = "\r\nRecord-Route: <sip:sip.host.com:5060;lr>\r\n";
@@ -164,9 +237,18 @@ const WAY: &str = "Route: <sip:sip.host.com:5060;lr>\r\n";
 
 /// The BYE of the phone that was called, to that which called.
 fn bye(alloc: Global, port: u16, caller: u16) -> Result<String, AllocError> {
-    format!(in alloc;
-        "BYE sip:Mufasa@127.0.0.1:{caller} SIP/2.0\r\nVia: SIP/2.0/UDP 127.0.0.1:{port};branch=z9hG4bKbye\r\n{WAY}Max-Forwards: 70\r\nFrom: <sip:help@host.com>;tag=b1\r\nTo: <sip:Mufasa@host.com>;tag=f1\r\nCall-ID: k1@127.0.0.1\r\nCSeq: 1 BYE\r\nContent-Length: 0\r\n\r\n"
-    )
+    let (port, caller) = (digits(alloc, port)?, digits(alloc, caller)?);
+    [
+        "BYE sip:Mufasa@127.0.0.1:",
+        caller.as_str(),
+        " SIP/2.0\r\nVia: SIP/2.0/UDP 127.0.0.1:",
+        port.as_str(),
+        ";branch=z9hG4bKbye\r\n",
+        WAY,
+        "Max-Forwards: 70\r\nFrom: <sip:help@host.com>;tag=b1\r\nTo: <sip:Mufasa@host.com>;tag=f1\r\n",
+        "Call-ID: k1@127.0.0.1\r\nCSeq: 1 BYE\r\nContent-Length: 0\r\n\r\n",
+    ]
+    .concat(alloc)
 }
 
 /// Whether a call reaches the phone of `help`, and its answer the phone that calls.

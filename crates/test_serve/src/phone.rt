@@ -83,6 +83,11 @@ pub fn between<'a>(text: &'a str, mark: &str, end: &str) -> &'a str {
     }
 }
 
+/// A port in decimal digits.
+pub fn digits(alloc: Global, port: u16) -> Result<String, AllocError> {
+    format!(in alloc; "{port}")
+}
+
 /// The header fields of a request that its answer has as well.
 const SHARED: [&str; 6] = ["Via:", "Record-Route:", "From:", "To:", "Call-ID:", "CSeq:"];
 
@@ -109,7 +114,13 @@ fn put_fields(text: &mut String, request: &str) -> Result<(), AllocError> {
 pub fn accepting(alloc: Global, request: &str, port: u16) -> Result<String, AllocError> {
     let mut fields = String::new(alloc);
     put_fields(&mut fields, request)?;
-    format!(in alloc;
-        "SIP/2.0 200 OK\r\n{fields}Contact: <sip:help@127.0.0.1:{port}>\r\nContent-Length: 0\r\n\r\n"
-    )
+    let port = digits(alloc, port)?;
+    [
+        "SIP/2.0 200 OK\r\n",
+        fields.as_str(),
+        "Contact: <sip:help@127.0.0.1:",
+        port.as_str(),
+        ">\r\nContent-Length: 0\r\n\r\n",
+    ]
+    .concat(alloc)
 }

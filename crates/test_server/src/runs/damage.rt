@@ -17,12 +17,14 @@ fn put_datagram(
     datagram: &[u8],
 ) -> Result<(), AllocError> {
     let at = number.saturating_mul(APART);
-    let event = if datagram.is_empty() {
-        format!(in alloc; "datagram {at} {SOURCE}\n.\n")?
+    let moment = format!(in alloc; "{at} ")?;
+    let digits = hex::encode(alloc, datagram)?;
+    let (kind, mark, body) = if datagram.is_empty() {
+        ("datagram ", "\n", ".")
     } else {
-        let digits = hex::encode(alloc, datagram)?;
-        format!(in alloc; "hex {at} {SOURCE} {digits}\n")?
+        ("hex ", " ", digits.as_str())
     };
+    let event = [kind, moment.as_str(), SOURCE, mark, body, "\n"].concat(alloc)?;
     script.push_str(event.as_str())
 }
 

@@ -4,4 +4,4 @@ use Rattle.sip_core.proofs.arriving.core_verdict.Goals as goal
 
 pub returns-then-is_outside-clause-verdict : goal.returns-then-is_outside-clause-verdict
 returns-then-is_outside-clause-verdict g c =
-    outside c.args.judge.now c.args.locations.now.rows c.args.nonces.now c.args.dialogs.now.dialogs c.args.now c.args.request.now c.args.method.now c.args.checked.now.core c.in_ok-judged.judged (sym c.is_outside.ensures ∙ c.if-is_outside.true) c.in_ok-judged.ensures.minute c.in_ok-judged.ensures.outcome
+    outside c.args.judge.now c.args.locations.now.rows c.args.known.now.nonces.now c.args.known.now.dialogs.now.dialogs c.args.request.now.moment c.args.request.now.message.now c.args.request.now.method.now c.args.request.now.checked.now.core c.in_ok-judged.judged (sym c.is_outside.ensures ∙ c.if-is_outside.true) c.in_ok-judged.ensures.minute c.in_ok-judged.ensures.outcome

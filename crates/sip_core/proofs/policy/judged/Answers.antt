@@ -7,4 +7,4 @@ use Rattle.sip_core.proofs.policy.judged.Goals as goal
 pub returns-clause-outcome : goal.returns-clause-outcome
 returns-clause-outcome g c =
     λ state same.
-    subst (λ (d : Decision). IsOutcome c.args.locations.now.rows c.args.now c.args.question (Definition.decided c.args.judge.now state c.args.now c.args.request.now c.args.method.now c.args.checked.now.core c.args.question d) c.in_ok-outcome.outcome) c.ruling-ruling.ensures.decision (c.in_ok-outcome.ensures.outcome state same)
+    subst (λ (d : Decision). IsOutcome c.args.locations.now.rows c.args.request.now.moment c.args.question (Definition.decided c.args.judge.now state c.args.request.now.moment c.args.request.now.message.now c.args.request.now.method.now c.args.request.now.checked.now.core c.args.question d) c.in_ok-outcome.outcome) c.ruling-ruling.ensures.decision (c.in_ok-outcome.ensures.outcome state same)

@@ -3,4 +3,4 @@ use Rattle.sip_core.proofs.policy.policy_verdict.Goals as goal
 
 pub returns-clause-outcome : goal.returns-clause-outcome
 returns-clause-outcome g c =
-    asked c.judged.result c.args.judge.now c.args.locations.now.rows c.args.nonces.now c.args.now c.args.request.now c.args.method.now c.args.checked.now.core c.in_ok-question.question c.in_ok-question.ensures c.judged.ensures.question c.judged.ensures.outcome
+    asked c.judged.result c.args.judge.now c.args.locations.now.rows c.args.nonces.now c.args.request.now.moment c.args.request.now.message.now c.args.request.now.method.now c.args.request.now.checked.now.core c.in_ok-question.question c.in_ok-question.ensures c.judged.ensures.question c.judged.ensures.outcome

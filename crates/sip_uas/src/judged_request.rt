@@ -1,0 +1,191 @@
+ghost use Rattle.std.specs.Prelude.{◌≡◌, ◌+◌, ◌<◌, ◌^◌, true, [], ◌∷◌, Some, Ok, IfOk, IfSome, List};
+ghost use Rattle.sip_transaction_table.specs.Key.{key_of};
+
+use crate::answers::answer;
+use crate::asking::nobody_status;
+use crate::draft::Draft;
+use crate::policy_records::records_of;
+use crate::{challenge_status, challenges_to, contact_fields, denial_fields};
+use sip_audit::Outcome as Recorded;
+use sip_base::Shared;
+use sip_core::state::Heard;
+use sip_core::{Judged, Registering};
+use sip_dialog_lessons::state::Server;
+use sip_forwarding::Arrival;
+use sip_location::Plan;
+use sip_message_fields::Fields;
+use sip_targets::Targets;
+use sip_transaction_table::Key;
+use std::alloc::{AllocError, Global};
+
+/// A request outside a dialog that was received, with what policy decided about it: all that its answer is made of.
+pub(crate) struct JudgedRequest<'a> {
+    pub(crate) server: &'a Server,
+    /// The datagram that brought it.
+    pub(crate) arrival: Arrival,
+    pub(crate) key: Shared<Key>,
+    pub(crate) request: Shared<Heard>,
+    pub(crate) judged: &'a Judged<'a>,
+    /// Whether 1,024 requests are open, so that it isn't kept.
+    pub(crate) is_full: bool,
+    ghost key_is: { key_of request ≡ Some key },
+    ghost in_time: { arrival.now + 32000 < 2 ^ 64 },
+}
+
+/// Written out, so that it is proved once and not wherever one is dropped.
+impl<'a> Drop for JudgedRequest<'a> {
+    fn drop(self) {
+        let JudgedRequest {
+            server: _,
+            arrival: _,
+            key: _,
+            request: _,
+            judged: _,
+            is_full: _,
+        } = self;
+    }
+}
+
+impl<'a> JudgedRequest<'a> {
+    ghost use Rattle.sip_forwarding.specs.Arrivals.{arrival_of};
+    ghost use Rattle.sip_forwarding.specs.steps_model.Effect as Effects;
+    ghost use Rattle.sip_digest.specs.Nonces.{issued};
+    ghost use Rattle.sip_dialog_lessons.specs.state.declared.proxy_state.ProxyState.{ProxyState};
+    ghost use Rattle.sip_core.specs.verdict_model.Verdict as Definition;
+    ghost use Rattle.sip_location.specs.declared.binding.Binding.{Binding};
+    ghost use Rattle.sip_location.specs.declared.registration.Registration.{Registration};
+    ghost use Rattle.sip_location.specs.Locations.{IsPlan};
+    ghost use Rattle.sip_location.specs.Registration.{registered};
+    ghost use Rattle.sip_core.specs.Registering.{ComesTo, plan_in};
+    ghost use Rattle.model_transactions.specs.Fits.{IsFinalAnswer};
+    ghost use Rattle.sip_uas.specs.Asking as Asking;
+    ghost use Rattle.sip_uas.specs.Drafts.{Does, IsOpenable};
+    ghost use Rattle.sip_uas.specs.JudgedRequest.{after_use, DraftsAnswer};
+
+    /// It is answered so, and this is recorded of it.
+    fn replied(
+        self,
+        alloc: Global,
+        outcome: Recorded,
+        status: u16,
+        extras: &Fields,
+    ) -> Result<Draft, AllocError>
+        ensures does { IfOk result (DraftsAnswer self.entry (λ nonces. nonces)
+            (λ s a m q. Effects.replied s a m status extras.now (Effects.record_of s a m q outcome ∷ []))) }
+        ensures opens { IfOk result (λ draft. IsFinalAnswer status → IfSome draft.opened (IsOpenable self.entry.arrival self.entry.key)) }
+    {
+        let records = records_of(
+            alloc,
+            self.arrival,
+            self.request.get(),
+            self.judged,
+            outcome,
+        )?;
+        let JudgedRequest {
+            server,
+            arrival,
+            key,
+            request,
+            judged: _,
+            is_full,
+        } = self;
+        answer(
+            alloc, server, arrival, key, request, status, extras, records, is_full,
+        )
+    }
+
+    /// It is challenged (RFC 3261 22.1).
+    pub(crate) fn challenged(self, alloc: Global) -> Result<Draft, AllocError>
+        ensures does { IfOk result (DraftsAnswer self.entry
+            (λ nonces. issued (after_use self.entry nonces) self.entry.arrival.word self.entry.arrival.now) Effects.challenged) }
+        ensures opens { IfOk result (λ draft. IfSome draft.opened (IsOpenable self.entry.arrival self.entry.key)) }
+    {
+        let question = &self.judged.question;
+        let status = challenge_status(&question.operation);
+        let extras = challenges_to(alloc, self.server, self.arrival.word, question)?;
+        let outcome = Recorded::Challenge { status };
+        self.replied(alloc, outcome, status, &extras)
+    }
+
+    /// A rule denies it (RFC 3261 21.4.4).
+    pub(crate) fn denied(self, alloc: Global, rule: u32) -> Result<Draft, AllocError>
+        ensures does { IfOk result (DraftsAnswer self.entry (after_use self.entry) (λ s a m q. Effects.denied s a m q rule)) }
+        ensures opens { IfOk result (λ draft. IfSome draft.opened (IsOpenable self.entry.arrival self.entry.key)) }
+    {
+        let extras = denial_fields(alloc, self.server, rule)?;
+        let outcome = Recorded::Deny { rule };
+        self.replied(alloc, outcome, 403, &extras)
+    }
+
+    /// A rule let it through, and it is answered here.
+    fn answered_by_rule(
+        self,
+        alloc: Global,
+        rule: u32,
+        status: u16,
+        extras: &Fields,
+    ) -> Result<Draft, AllocError>
+        ensures does { IfOk result (DraftsAnswer self.entry (after_use self.entry)
+            (λ s a m q. Effects.answered_by_rule s a m q rule status extras.now)) }
+        ensures opens { IfOk result (λ draft. IsFinalAnswer status → IfSome draft.opened (IsOpenable self.entry.arrival self.entry.key)) }
+    {
+        let outcome = Recorded::Answer { rule, status };
+        self.replied(alloc, outcome, status, extras)
+    }
+
+    /// It goes to nobody (RFC 3261 16.5).
+    pub(crate) fn unsent(
+        self,
+        alloc: Global,
+        rule: u32,
+        targets: &Targets,
+    ) -> Result<Draft, AllocError>
+        requires { Asking.are_nobody targets.now ≡ true }
+        ensures does { IfOk result (DraftsAnswer self.entry (after_use self.entry)
+            (λ s a m q. Effects.sending s a m q rule targets.now)) }
+        ensures opens { IfOk result (λ draft. IfSome draft.opened (IsOpenable self.entry.arrival self.entry.key)) }
+    {
+        let extras = Fields::new(alloc);
+        let status = nobody_status(targets);
+        self.answered_by_rule(alloc, rule, status, &extras)
+    }
+
+    /// It is a REGISTER that is taken, and the 200 lists what is bound after it (RFC 3261 10.3 step 8).
+    fn bound(self, alloc: Global, rule: u32, plan: &Plan) -> Result<Draft, AllocError>
+        ensures does { IfOk result (λ draft. (rows after : List Binding) (r : Registration)
+            → IsPlan rows r self.entry.arrival.now plan.now → registered rows r self.entry.arrival.now ≡ Ok after
+            → plan.now.aor ≡ self.entry.judged.now.question.target
+            → DraftsAnswer self.entry (after_use self.entry) (λ s a m q. Effects.answered_by_rule s a m q rule 200
+            (Effects.contact_fields a.now q.target after)) draft) }
+        ensures opens { IfOk result (λ draft. IfSome draft.opened (IsOpenable self.entry.arrival self.entry.key)) }
+    {
+        let extras = contact_fields(alloc, self.arrival.now, plan)?;
+        self.answered_by_rule(alloc, rule, 200, &extras)
+    }
+
+    /// It is a REGISTER that was let through (RFC 3261 10.3).
+    pub(crate) fn registering(
+        self,
+        alloc: Global,
+        rule: u32,
+        outcome: &Registering,
+    ) -> Result<Draft, AllocError>
+        ensures does { IfOk result (λ draft.
+            self.entry.judged.now.minute ≡ Definition.minute_on self.entry.server.now self.entry.judged.now.question
+            → (state : ProxyState) (registered : Definition.Registered) → Definition.is_full state ≡ self.entry.is_full
+            → ComesTo state.bindings self.entry.arrival.now self.entry.judged.now.question.target registered outcome.now
+            → Does self.entry.arrival.now draft (after_use self.entry state.nonces) (plan_in outcome.now) state
+            (Effects.registering self.entry.server.now (arrival_of self.entry.arrival) self.entry.request
+            self.entry.judged.now.question rule registered state)) }
+        ensures opens { IfOk result (λ draft. (rows : List Binding) (registered : Definition.Registered)
+            → ComesTo rows self.entry.arrival.now self.entry.judged.now.question.target registered outcome.now
+            → Asking.RefusesFinally registered → IfSome draft.opened (IsOpenable self.entry.arrival self.entry.key)) }
+    {
+        match outcome {
+            Registering::Planned(plan) => self.bound(alloc, rule, plan),
+            Registering::Refused(status, extras) => {
+                self.answered_by_rule(alloc, rule, *status, extras)
+            }
+        }
+    }
+}
