@@ -152,11 +152,16 @@ fn core_verdict<'v, R: Rules>(
 {
     let core = &request.checked.core;
     if is_outside(request.method, core) {
-        let judged = policy_verdict(alloc, judge, locations, known.nonces, request)?;
-        if goes_out(&judged.outcome) {
-            *names = Some(Names::of(alloc, core)?);
-        }
-        return Ok(Verdict::Judged(judged));
+        // Matched, not `?`: what was judged is large, and is moved less so.
+        return match policy_verdict(alloc, judge, locations, known.nonces, request) {
+            Ok(judged) => {
+                if goes_out(&judged.outcome) {
+                    *names = Some(Names::of(alloc, core)?);
+                }
+                Ok(Verdict::Judged(judged))
+            }
+            Err(refusal) => Err(refusal),
+        };
     }
     request_within(alloc, judge, known.dialogs, request, names)
 }

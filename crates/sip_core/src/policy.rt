@@ -95,19 +95,15 @@ fn judged<'v, R: Rules>(
     ensures room { IfOk result (λ judged. HasRoomFor locations.new.room judged.outcome) }
 {
     let ruling = judge.ruling(&question);
-    let outcome = decided(
-        alloc,
-        judge,
-        locations,
-        request,
-        &question,
-        &ruling.decision,
-    )?;
-    Ok(Judged {
-        question,
-        minute: ruling.minute,
-        outcome,
-    })
+    let decision = &ruling.decision;
+    match decided(alloc, judge, locations, request, &question, decision) {
+        Ok(outcome) => Ok(Judged {
+            question,
+            minute: ruling.minute,
+            outcome,
+        }),
+        Err(refusal) => Err(refusal),
+    }
 }
 
 /// What policy says of a request outside a dialog that passed the checks (RFC 3261 16.3 step 6, 16.5, 10.3).
@@ -127,6 +123,9 @@ pub(crate) fn policy_verdict<'v, R: Rules>(
     ensures unchanged { locations.new.rows ≡ locations.old.rows }
     ensures room { IfOk result (λ judged. HasRoomFor locations.new.room judged.outcome) }
 {
-    let question = judge.question_of(alloc, nonces, request)?;
-    judged(alloc, judge, locations, request, question)
+    // Matched, not `?`: what is asked is large, and is moved less so.
+    match judge.question_of(alloc, nonces, request) {
+        Ok(question) => judged(alloc, judge, locations, request, question),
+        Err(refusal) => Err(refusal),
+    }
 }

@@ -3,7 +3,7 @@ use sip_uri::Addr;
 
 /// A hop to which rules send, as a gateway to another network. No two of a list have one name; who reads a
 /// configuration turns the name in a rule into a place of the list.
-#[derive(Debug, Drop)]
+#[derive(Drop)]
 pub struct Hop {
     pub name: Bytes,
     pub address: Addr,

@@ -2,7 +2,7 @@ use sip_text::Bytes;
 use sip_uri::Addr;
 
 /// A row of the address table: where requests for a host and a port go. No two rows have one host and port.
-#[derive(Debug, Drop)]
+#[derive(Drop)]
 pub struct HostAddress {
     /// A host name, or an address in square brackets.
     pub host: Bytes,

@@ -13,14 +13,14 @@ pub enum Sending {
 }
 
 /// A datagram that a link heard.
-#[derive(Debug, Drop)]
+#[derive(Drop)]
 pub struct Heard {
     pub from: Addr,
     pub bytes: Bytes,
 }
 
 /// A datagram that a link was given, and whether it went out.
-#[derive(Debug, Drop)]
+#[derive(Drop)]
 pub struct Given {
     pub to: Addr,
     pub bytes: Bytes,

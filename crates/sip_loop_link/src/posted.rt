@@ -1,7 +1,7 @@
 use crate::datagram::Heard;
 
 /// A datagram that a link over memory hears, and before which so many receives heard nothing.
-#[derive(Debug, Drop)]
+#[derive(Drop)]
 pub(crate) struct Posted {
     pub(crate) silent: u64,
     pub(crate) datagram: Heard,

@@ -1,6 +1,5 @@
-ghost use Rattle.std.specs.Prelude.{◌≡◌, ◌≤◌, [], length, IfOk, IfSome, IsSome, OnOk, OnErr, Some, None};
+ghost use Rattle.std.specs.Prelude.{◌≡◌, ◌≤◌, [], length, IfOk, IfSome, IsSome, OnOk, OnErr, None};
 ghost use Rattle.sip_loop_link.specs.Told.{counted};
-ghost use Rattle.sip_loop_link.specs.UdpLink.{handed};
 
 use crate::datagram::{LinkFault, Sending};
 use crate::link::Link;
@@ -26,7 +25,8 @@ pub struct UdpLink {
     buffer: Vec<u8>,
     /// How many bytes at the buffer's front are those of the last datagram.
     held: usize,
-    kept: Option<Result<Addr, LinkFault>>,
+    /// What waiting came to, until the next receive.
+    kept: Option<Result<Option<Addr>, LinkFault>>,
     receives: u64,
     failures: u64,
 }
@@ -103,22 +103,20 @@ impl UdpLink {
         Ok(self.socket.local_addr()?.port())
     }
 
-    /// Waits for a datagram, so many milliseconds at most, and keeps it for the next `receive`; a fault is kept as well. Doesn't
-    /// wait where something is kept already.
+    /// Waits for a datagram, so many milliseconds at most, and keeps what that came to for the next `receive`: the datagram, that
+    /// none came, or a fault. Doesn't wait where something is kept already.
     pub fn wait(&mut self, milliseconds: u64)
         ensures receives { self.new.receives ≡ self.old.receives }
         ensures failures { self.new.failures ≡ self.old.failures }
         ensures at_once { milliseconds ≡ 0 → self.new ≡ self.old }
         ensures keeps { IsSome self.old.kept → self.new ≡ self.old }
+        ensures waited { ¬ (milliseconds ≡ 0) → IsSome self.new.kept }
     {
         if self.kept.is_some() || milliseconds == 0 {
             return;
         }
-        self.kept = match self.hear_within(milliseconds) {
-            Ok(None) => None,
-            Ok(Some(from)) => Some(Ok(from)),
-            Err(fault) => Some(Err(fault)),
-        };
+        let found = self.hear_within(milliseconds);
+        self.kept = Some(found);
     }
 
     /// The next datagram, waited for so many milliseconds at most.
@@ -173,18 +171,15 @@ impl UdpLink {
         Ok(Some(from))
     }
 
-    /// What was kept, or else what is there.
+    /// What waiting came to, or else what is there.
     fn take_kept(&mut self) -> Result<Option<Addr>, LinkFault>
         ensures same { (self.new.receives ≡ self.old.receives) × (self.new.failures ≡ self.old.failures) }
-        ensures kept { IfSome self.old.kept (λ found. (result ≡ handed found) × (self.new.held ≡ self.old.held)) }
+        ensures kept { IfSome self.old.kept (λ found. (result ≡ found) × (self.new.held ≡ self.old.held)) }
         ensures none { self.new.kept ≡ None }
     {
-        match self.kept {
+        match self.kept.take() {
             None => self.hear_at_once(),
-            Some(found) => {
-                self.kept = None;
-                found.map(Some)
-            }
+            Some(found) => found,
         }
     }
 }
@@ -204,7 +199,7 @@ impl Link for UdpLink {
         ensures counted { self.new.receives ≡ counted self.old.receives }
         ensures ok { OnOk result (self.new.failures ≡ self.old.failures) }
         ensures err { OnErr result (self.new.failures ≡ counted self.old.failures) }
-        ensures kept { IfSome self.old.kept (λ found. (result ≡ handed found) × (self.new.held ≡ self.old.held)) }
+        ensures kept { IfSome self.old.kept (λ found. (result ≡ found) × (self.new.held ≡ self.old.held)) }
         ensures none { self.new.kept ≡ None }
     {
         self.receives = self.receives.saturating_add(1);

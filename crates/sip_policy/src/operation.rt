@@ -32,7 +32,7 @@ impl Operation {
 }
 
 /// The operation pattern of a rule.
-#[derive(Debug, Drop)]
+#[derive(Drop)]
 pub enum OperationPattern {
     Register,
     List,

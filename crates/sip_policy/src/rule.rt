@@ -15,7 +15,6 @@ use sip_uri::Aor;
 use std::alloc::AllocError;
 
 /// A policy rule.
-#[derive(Debug)]
 pub struct Rule {
     /// The number by which a denial names the rule, 1 to 999,999.
     pub id: u32,

@@ -4,7 +4,7 @@ ghost use Rattle.sip_policy.specs.Decision.{decision_for};
 use crate::decision::Decision;
 
 /// What a rule says of the requests that it decides.
-#[derive(Clone, Copy, Debug)]
+#[derive(Clone, Copy)]
 pub enum RuleVerdict {
     Allow,
     Deny,

@@ -10,7 +10,7 @@ use sip_uri::Aor;
 use std::alloc::AllocError;
 
 /// The target pattern of a rule: addresses of record.
-#[derive(Debug, Drop)]
+#[derive(Drop)]
 pub enum TargetPattern {
     /// `USER@DOMAIN`: that address.
     Exact { user: Bytes, domain: Bytes },

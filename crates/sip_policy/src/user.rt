@@ -7,7 +7,6 @@ use sip_text::{Bytes, Items, same_bytes};
 use std::alloc::{AllocError, Global};
 
 /// A configured user.
-#[derive(Debug)]
 pub struct User {
     pub name: Bytes,
     /// MD5 of `name:realm:password` in lower-case hexadecimal digits (H(A1) of RFC 2617 3.2.2.2).

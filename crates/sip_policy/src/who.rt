@@ -8,7 +8,7 @@ use sip_text::{Bytes, same_bytes};
 use std::alloc::AllocError;
 
 /// The user pattern of a rule.
-#[derive(Debug, Drop)]
+#[derive(Drop)]
 pub enum Who {
     /// `anyone`: also one who proved nothing.
     Anyone,

@@ -6,7 +6,7 @@ use std::alloc::{AllocError, Global};
 use std::marker::Model;
 
 /// What a longer text is written into, in one block of memory, seen as the bytes that it has.
-#[derive(Clone, Debug, Drop)]
+#[derive(Clone, Drop)]
 pub struct Buffer {
     block: Vec<u8>,
 }

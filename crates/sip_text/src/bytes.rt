@@ -6,7 +6,7 @@ use std::alloc::{AllocError, Global};
 use std::marker::Model;
 
 /// Bytes of its own, seen as the list of them. A few of them, 16 at most, take no memory beside the value itself.
-#[derive(Debug, Drop)]
+#[derive(Drop)]
 pub struct Bytes {
     store: Store,
 }

@@ -1,7 +1,6 @@
 ghost use Rattle.std.specs.Prelude.{◌≡◌, ◌++◌, [], ◌∷◌, true, false, IfSome};
 
 use std::alloc::Global;
-use std::fmt;
 use std::marker::Model;
 
 /// How many bytes stand in the value itself, without a block of memory: most users, hosts, ports and tags.
@@ -23,13 +22,6 @@ impl Model for Few {
     ghost view = { λ f. take f.length f.bytes };
 
     ghost invariant = { λ f. f.length ≤ 16 };
-}
-
-/// The bytes alone, not what stands behind them.
-impl fmt::Debug for Few {
-    fn fmt<W: fmt::Write>(&self, f: &mut fmt::Formatter<W>) -> fmt::Result {
-        fmt::Debug::fmt(self.as_slice(), f)
-    }
 }
 
 impl Few {

@@ -7,7 +7,7 @@ use std::alloc::{AllocError, Global};
 use std::marker::Model;
 
 /// Items of one kind in their order, seen as the list of them.
-#[derive(Clone, Debug, Drop)]
+#[derive(Clone, Drop)]
 pub struct Items<T: Drop> {
     list: Vec<T>,
 }

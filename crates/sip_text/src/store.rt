@@ -6,7 +6,7 @@ use itoa::Buffer as Digits;
 use std::alloc::{AllocError, Global};
 
 /// Where bytes of their own stand.
-#[derive(Debug, Drop)]
+#[derive(Drop)]
 pub(crate) enum Store {
     /// A few, in the value itself.
     Inside(Few),

@@ -7,7 +7,7 @@ use std::error::Error;
 use std::fmt;
 
 /// Why a request isn't served.
-#[derive(Debug, Drop)]
+#[derive(Drop)]
 pub enum Refused {
     /// Memory ran out.
     NoMemory,
@@ -35,6 +35,13 @@ impl fmt::Display for Refused {
             Refused::NoMemory => write!(f, "out of memory"),
             Refused::Status(status, _) => write!(f, "refused with {status}"),
         }
+    }
+}
+
+/// Its words, as they are printed.
+impl fmt::Debug for Refused {
+    fn fmt<W: fmt::Write>(&self, f: &mut fmt::Formatter<W>) -> fmt::Result {
+        fmt::Display::fmt(self, f)
     }
 }
 

@@ -102,11 +102,17 @@ pub fn validate<'v>(
     requires { option_and_then via_of (first_value Name.Via request.now.fields) ≡ Some via.now }
     ensures { Validates result (validation_of own.now request.now short) }
 {
-    let Some(core) = core_read(alloc, request)? else {
-        return Err(Refused::of(alloc, 400));
+    // Matched, not `?`: what is read is large, and is moved less so.
+    let core = match core_of(alloc, request) {
+        Ok(core) => core,
+        Err(HeaderError::NoMemory) => return Err(Refused::NoMemory),
+        Err(_) => return Err(Refused::of(alloc, 400)),
     };
     let way = way_of(alloc, own, request)?;
-    let uri = way.request_uri(alloc)?;
+    let uri = match way.request_uri(alloc) {
+        Ok(uri) => uri,
+        Err(_) => return Err(Refused::NoMemory),
+    };
     let is_uri = uri.is_some();
     if let Some(refused) = refusal(alloc, request, via, short, own, &core, &way, is_uri)? {
         return Err(refused);

@@ -1,5 +1,4 @@
 ghost use Rattle.std.specs.Prelude.{◌≡◌, ◌++◌, IfOk, OnOk};
-ghost use Rattle.std.specs.List.{flat_map};
 ghost use Rattle.std.specs.Io.KnownBytes.{Appends};
 ghost use Rattle.sipd_command.specs.Printing;
 
@@ -18,30 +17,19 @@ pub fn print<W: Write>(text: &[u8], output: &mut W) -> Result<(), Exit>
     Ok(output.flush()?)
 }
 
-/// Adds a record's line.
-fn put_record(text: &mut Bytes, alloc: Global, record: &Record) -> Result<(), AllocError>
-    ensures { OnOk result (text.new ≡ text.old ++ Printing.record_text «record».now) }
+/// A record's line, with its end.
+fn record_text(alloc: Global, record: &Record) -> Result<Bytes, AllocError>
+    ensures { IfOk result (λ text. text ≡ Printing.record_text «record».now) }
 {
-    match line_of(alloc, record) {
-        Ok(line) => text.extend(line.as_slice())?,
-        Err(_) => return Err(AllocError),
-    }
-    text.push(b'\n')
-}
-
-/// The lines of records, in order.
-fn records_text(alloc: Global, records: &[Record]) -> Result<Bytes, AllocError>
-    ensures { IfOk result (λ text. text ≡ flat_map Printing.record_text records.now) }
-{
-    let mut text = Bytes::new(alloc);
-    for record in records {
-        put_record(&mut text, alloc, record)?;
-    }
-    Ok(text)
+    let Ok(mut line) = line_of(alloc, record) else {
+        return Err(AllocError);
+    };
+    line.push(b'\n')?;
+    Ok(line)
 }
 
 /// Prints records, each in a line.
-#[tactic(auto, using(crate::proofs::Printed::prints_these))]
+#[tactic(auto, using(crate::proofs::Printed::prints_none))]
 pub fn print_records<W: Write>(
     alloc: Global,
     records: &[Record],
@@ -49,8 +37,11 @@ pub fn print_records<W: Write>(
 ) -> Result<(), Exit>
     ensures { OnOk result (Printing.PrintsRecords (W.contents output.old) (W.contents output.new)) }
 {
-    let text = records_text(alloc, records)?;
-    print(text.as_slice(), output)
+    for record in records {
+        let line = record_text(alloc, record)?;
+        print(line.as_slice(), output)?;
+    }
+    Ok(())
 }
 
 /// Where it serves, as a line.

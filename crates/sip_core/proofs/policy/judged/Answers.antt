@@ -4,7 +4,7 @@ use Rattle.model_verdict.specs.Verdict as Definition
 use Rattle.sip_core.specs.Verdict.{IsOutcome}
 use Rattle.sip_core.proofs.policy.judged.Goals as goal
 
-pub returns-clause-outcome : goal.returns-clause-outcome
-returns-clause-outcome g c =
+pub returns-in-Ok-clause-outcome : goal.returns-in-Ok-clause-outcome
+returns-in-Ok-clause-outcome g c =
     λ state same.
-    subst (λ (d : Decision). IsOutcome c.args.locations.now.rows c.args.request.now.moment c.args.question (Definition.decided c.args.judge.now state c.args.request.now.moment c.args.request.now.message.now c.args.request.now.method.now c.args.request.now.checked.now.core c.args.question d) c.in_ok-outcome.outcome) c.ruling-ruling.ensures.decision (c.in_ok-outcome.ensures.outcome state same)
+    subst (λ (d : Decision). IsOutcome c.args.locations.now.rows c.args.request.now.moment c.args.question (Definition.decided c.args.judge.now state c.args.request.now.moment c.args.request.now.message.now c.args.request.now.method.now c.args.request.now.checked.now.core c.args.question d) c.in-Ok.outcome) c.ruling-ruling.ensures.decision (c.in-Ok.ensures.outcome state same)
