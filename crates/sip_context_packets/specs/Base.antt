@@ -1,10 +1,13 @@
 -- What is sent of an open request, by what is the same of it for all its branches (RFC 3261 16.6).
-use Rattle.std.specs.Prelude.{ℕ, Bool, if◌then◌else◌, List, [], ◌∷◌, Option}
+use Rattle.std.specs.Prelude.{◌≡◌, ℕ, Bool, if◌then◌else◌, List, [], ◌∷◌, Option}
 use Rattle.std.specs.Option.{option_map_or}
 use Rattle.sip_message_fields.specs.declared.field_name.FieldName.TheVariants as Name
 use Rattle.sip_message_fields.specs.Values.{with_first}
 use Rattle.sip_message_form.specs.declared.message.Message.{Message}
 use Rattle.sip_message_form.specs.Text.{text_of}
+use Rattle.sip_route.specs.declared.routes_kept.RoutesKept.{RoutesKept}
+use Rattle.sip_route.specs.RoutesKept.{fields_kept}
+use Rattle.sip_route.specs.Way.{fields_left, request_uri}
 use Rattle.sip_edit.specs.OwnVia.{branch_text, own_via}
 use Rattle.sip_edit.specs.Onward.{onward_base, to_target}
 use Rattle.sip_edit.specs.OwnRequests.{ack_with, cancel_of}
@@ -25,6 +28,12 @@ base_by server begins received = onward_base server.config.own server.config.rea
 -- the same, of a request given the value that its top Via gets
 abbrev pub base_over : Server → Bool → List ℕ → Message → Message
 base_over server begins via request = base_by server begins (record request { fields = with_first Name.Via via request.fields })
+
+-- which fields are left of a request without this server's own part of the way, once its top Via has this value
+abbrev pub IsLeftOf : Server → RoutesKept → List ℕ → Message → Type 0
+IsLeftOf server routes via request =
+    fields_kept routes (with_first Name.Via via request.fields)
+    ≡ fields_left server.config.own (request_uri request.start) (with_first Name.Via via request.fields)
 
 -- the request of a branch
 unfoldable pub request_by : Server → ℕ → Message → Branch → Message

@@ -1,7 +1,5 @@
 ghost use Rattle.std.specs.Prelude.{◌≡◌, ◌++◌, ◌∷◌, [], IfOk, OnOk, false, if◌then◌else◌, option_map};
 ghost use Rattle.std.specs.List.{flat_map};
-ghost use Rattle.sip_message_fields.specs.declared.field_name.FieldName.TheVariants as Name;
-ghost use Rattle.sip_message_fields.specs.Values.{with_first};
 ghost use Rattle.sip_message_form.specs.Text.{text_of};
 ghost use Rattle.sip_route.specs.RoutesKept.{fields_kept};
 ghost use Rattle.sip_route.specs.Way.{fields_left, request_uri};
@@ -9,6 +7,7 @@ ghost use Rattle.sip_edit.specs.OwnRequests;
 ghost use Rattle.model_context.specs.state.State.{is_invite};
 ghost use Rattle.model_context.specs.Sending as Spec;
 ghost use Rattle.sip_context_packets.specs.Base;
+ghost use Rattle.sip_context_packets.specs.Base.{IsLeftOf};
 
 use model_context::state::{Branch, Heard, OpenRequest, Server, is_invite};
 use sip_edit::{ack_with, branch_text, cancel_of, onward_base_by, own_via_value, to_target};
@@ -18,6 +17,26 @@ use sip_route::RoutesKept;
 use sip_text::{Bytes, Items};
 use sip_uri::Addr;
 use std::alloc::{AllocError, Global};
+
+/// This server, as it sends packets of one open request.
+#[derive(Drop)]
+struct Sender<'a> {
+    server: &'a Server,
+    /// The number of the datagram that brought the request.
+    number: u64,
+    /// Whether they go again.
+    again: bool,
+}
+
+/// What the packets of a request are made anew of: the request as it came, with the value that its top Via gets, and which of
+/// its Routes are left then.
+#[derive(Drop)]
+struct Original<'a> {
+    request: &'a Heard,
+    via: &'a [u8],
+    routes: RoutesKept,
+    begins_dialog: bool,
+}
 
 /// Whether an open request is an INVITE that begins a dialog.
 fn begins_dialog(alloc: Global, request: &OpenRequest) -> Result<bool, AllocError>
@@ -53,28 +72,26 @@ fn sent_text(alloc: Global, request: &View<'_>, is_cancel: bool) -> Result<Bytes
 #[tactic(auto, unfolding(crate::specs::Base::request_by))]
 fn request_to<'v>(
     alloc: Global,
-    server: &Server,
-    number: u64,
+    sender: &Sender<'_>,
     base: &'v View<'_>,
     branch: &'v Branch,
 ) -> Result<View<'v>, AllocError>
-    ensures { IfOk result (λ request. request ≡ Base.request_by server.now number base.now branch.now) }
+    ensures { IfOk result (λ request. request ≡ Base.request_by sender.now.server.now sender.now.number base.now branch.now) }
 {
-    let via = via_value(alloc, server, number, branch.number)?;
+    let via = via_value(alloc, sender.server, sender.number, branch.number)?;
     to_target(alloc, base, branch.uri.get().as_slice(), via)
 }
 
 /// The text of what a branch sends, by what is the same of the request for all branches.
 fn branch_bytes(
     alloc: Global,
-    server: &Server,
-    number: u64,
+    sender: &Sender<'_>,
     base: &View<'_>,
     branch: &Branch,
 ) -> Result<Bytes, AllocError>
-    ensures { IfOk result (λ text. text ≡ text_of (Base.sent_by server.now number base.now branch.now)) }
+    ensures { IfOk result (λ text. text ≡ text_of (Base.sent_by sender.now.server.now sender.now.number base.now branch.now)) }
 {
-    let request = request_to(alloc, server, number, base, branch)?;
+    let request = request_to(alloc, sender, base, branch)?;
     sent_text(alloc, &request, branch.is_cancel)
 }
 
@@ -111,35 +128,34 @@ fn put_packet(
 fn put_branch(
     alloc: Global,
     out: &mut Items<Packet>,
-    server: &Server,
-    again: bool,
-    number: u64,
+    sender: &Sender<'_>,
     base: &View<'_>,
     branch: &Branch,
 ) -> Result<(), AllocError>
-    ensures { OnOk result (out.new ≡ out.old ++ Base.packets_by server.now again number base.now branch.now) }
+    ensures { OnOk result
+        (out.new ≡ out.old ++ Base.packets_by sender.now.server.now sender.now.again sender.now.number base.now branch.now) }
 {
     let Some(address) = branch.address else {
         return Ok(());
     };
-    let bytes = branch_bytes(alloc, server, number, base, branch)?;
-    put_packet(out, address, bytes, number, ticket_branch(branch), again)
+    let bytes = branch_bytes(alloc, sender, base, branch)?;
+    let branch = ticket_branch(branch);
+    put_packet(out, address, bytes, sender.number, branch, sender.again)
 }
 
 /// Adds what some branches send, by what is the same of the request for all branches.
 fn put_branches(
     alloc: Global,
     out: &mut Items<Packet>,
-    server: &Server,
-    again: bool,
-    number: u64,
+    sender: &Sender<'_>,
     base: &View<'_>,
     branches: &[Branch],
 ) -> Result<(), AllocError>
-    ensures { OnOk result (out.new ≡ out.old ++ flat_map (Base.packets_by server.now again number base.now) branches.now) }
+    ensures { OnOk result (out.new
+        ≡ out.old ++ flat_map (Base.packets_by sender.now.server.now sender.now.again sender.now.number base.now) branches.now) }
 {
     for branch in branches {
-        put_branch(alloc, out, server, again, number, base, branch)?;
+        put_branch(alloc, out, sender, base, branch)?;
     }
     Ok(())
 }
@@ -171,23 +187,23 @@ fn base_of<'v>(
 fn put_received_branch(
     alloc: Global,
     out: &mut Items<Packet>,
-    server: &Server,
-    again: bool,
-    number: u64,
-    begins_dialog: bool,
-    routes: RoutesKept,
-    request: &Heard,
-    via: &[u8],
+    sender: &Sender<'_>,
+    original: &Original<'_>,
     branch: &Branch,
 ) -> Result<(), AllocError>
-    requires { fields_kept routes (with_first Name.Via via.now request.now.fields)
-        ≡ fields_left server.now.config.own (request_uri request.now.start) (with_first Name.Via via.now request.now.fields) }
-    ensures { OnOk result (out.new ≡ out.old ++ Base.packets_by server.now again number
-        (Base.base_over server.now begins_dialog via.now request.now) branch.now) }
+    requires { IsLeftOf sender.now.server.now original.now.routes original.now.via.now original.now.request.now }
+    ensures { OnOk result (out.new ≡ out.old ++ Base.packets_by sender.now.server.now sender.now.again sender.now.number
+        (Base.base_over sender.now.server.now original.now.begins_dialog original.now.via.now original.now.request.now) branch.now) }
 {
-    let received = request.with_top_via(alloc, via)?;
-    let base = base_of(alloc, server, begins_dialog, routes, &received)?;
-    put_branch(alloc, out, server, again, number, &base, branch)
+    let received = original.request.with_top_via(alloc, original.via)?;
+    let base = base_of(
+        alloc,
+        sender.server,
+        original.begins_dialog,
+        original.routes,
+        &received,
+    )?;
+    put_branch(alloc, out, sender, &base, branch)
 }
 
 /// Adds what a branch of an open request sends, made anew of what the request was.
@@ -205,18 +221,18 @@ fn put_anew(
     let begins = begins_dialog(alloc, request)?;
     let routes = heard.routes_kept(alloc, &server.config.own)?;
     let via = heard.received_via(alloc, request.source)?;
-    put_received_branch(
-        alloc,
-        out,
+    let sender = Sender {
         server,
+        number: request.number,
         again,
-        request.number,
-        begins,
+    };
+    let original = Original {
+        request: heard,
+        via: via.as_slice(),
         routes,
-        heard,
-        via.as_slice(),
-        branch,
-    )
+        begins_dialog: begins,
+    };
+    put_received_branch(alloc, out, &sender, &original, branch)
 }
 
 /// The text of the request of a branch of an open request, of which it is known whether it begins a dialog.
@@ -314,24 +330,23 @@ fn put_each(
 fn put_received_branches(
     alloc: Global,
     out: &mut Items<Packet>,
-    server: &Server,
-    again: bool,
-    number: u64,
-    begins_dialog: bool,
-    routes: RoutesKept,
-    request: &Heard,
-    via: &[u8],
+    sender: &Sender<'_>,
+    original: &Original<'_>,
     branches: &[Branch],
 ) -> Result<(), AllocError>
-    requires { fields_kept routes (with_first Name.Via via.now request.now.fields)
-        ≡ fields_left server.now.config.own (request_uri request.now.start) (with_first Name.Via via.now request.now.fields) }
-    ensures { OnOk result
-        (out.new ≡ out.old ++ flat_map (Base.packets_by server.now again number
-        (Base.base_over server.now begins_dialog via.now request.now)) branches.now) }
+    requires { IsLeftOf sender.now.server.now original.now.routes original.now.via.now original.now.request.now }
+    ensures { OnOk result (out.new ≡ out.old ++ flat_map (Base.packets_by sender.now.server.now sender.now.again sender.now.number
+        (Base.base_over sender.now.server.now original.now.begins_dialog original.now.via.now original.now.request.now)) branches.now) }
 {
-    let received = request.with_top_via(alloc, via)?;
-    let base = base_of(alloc, server, begins_dialog, routes, &received)?;
-    put_branches(alloc, out, server, again, number, &base, branches)
+    let received = original.request.with_top_via(alloc, original.via)?;
+    let base = base_of(
+        alloc,
+        sender.server,
+        original.begins_dialog,
+        original.routes,
+        &received,
+    )?;
+    put_branches(alloc, out, sender, &base, branches)
 }
 
 /// Adds what some branches of an open request send, made anew of what the request was: what is the same for all is made
@@ -350,18 +365,18 @@ fn put_all_anew(
     let begins = begins_dialog(alloc, request)?;
     let routes = heard.routes_kept(alloc, &server.config.own)?;
     let via = heard.received_via(alloc, request.source)?;
-    put_received_branches(
-        alloc,
-        out,
+    let sender = Sender {
         server,
+        number: request.number,
         again,
-        request.number,
-        begins,
+    };
+    let original = Original {
+        request: heard,
+        via: via.as_slice(),
         routes,
-        heard,
-        via.as_slice(),
-        branches,
-    )
+        begins_dialog: begins,
+    };
+    put_received_branches(alloc, out, &sender, &original, branches)
 }
 
 /// Adds what some branches of an open request send, in their order. What is the same for all is made once, and each packet
@@ -387,17 +402,16 @@ pub fn packets_of_branches(
 /// The text of the ACK of a branch, by what is the same of the request for all branches.
 fn ack_bytes(
     alloc: Global,
-    server: &Server,
-    number: u64,
+    sender: &Sender<'_>,
     base: &View<'_>,
     branch: &Branch,
     to: Option<&[u8]>,
 ) -> Result<Bytes, AllocError>
     ensures { IfOk result
         (λ text. text ≡ text_of (OwnRequests.ack_with (option_map (λ value. value.now) to.entry)
-        (Base.request_by server.now number base.now branch.now))) }
+        (Base.request_by sender.now.server.now sender.now.number base.now branch.now))) }
 {
-    let request = request_to(alloc, server, number, base, branch)?;
+    let request = request_to(alloc, sender, base, branch)?;
     let ack = ack_with(alloc, to, &request)?;
     write_view(alloc, &ack)
 }
@@ -407,44 +421,44 @@ fn ack_bytes(
 fn put_ack(
     alloc: Global,
     out: &mut Items<Packet>,
-    server: &Server,
-    again: bool,
-    number: u64,
+    sender: &Sender<'_>,
     base: &View<'_>,
     branch: &Branch,
     to: Option<&[u8]>,
 ) -> Result<(), AllocError>
-    ensures { OnOk result (out.new ≡ out.old ++ Base.acks_by server.now again number base.now branch.now (option_map (λ value. value.now) to.entry)) }
+    ensures { OnOk result (out.new ≡ out.old ++ Base.acks_by sender.now.server.now sender.now.again sender.now.number base.now branch.now
+        (option_map (λ value. value.now) to.entry)) }
 {
     let Some(address) = branch.address else {
         return Ok(());
     };
-    let bytes = ack_bytes(alloc, server, number, base, branch, to)?;
-    put_packet(out, address, bytes, number, 0, again)
+    let bytes = ack_bytes(alloc, sender, base, branch, to)?;
+    put_packet(out, address, bytes, sender.number, 0, sender.again)
 }
 
 /// Adds the ACK of a branch of a request, given the value that its top Via gets.
 fn put_received_ack(
     alloc: Global,
     out: &mut Items<Packet>,
-    server: &Server,
-    again: bool,
-    number: u64,
-    begins_dialog: bool,
-    routes: RoutesKept,
-    request: &Heard,
-    via: &[u8],
+    sender: &Sender<'_>,
+    original: &Original<'_>,
     branch: &Branch,
     to: Option<&[u8]>,
 ) -> Result<(), AllocError>
-    requires { fields_kept routes (with_first Name.Via via.now request.now.fields)
-        ≡ fields_left server.now.config.own (request_uri request.now.start) (with_first Name.Via via.now request.now.fields) }
-    ensures { OnOk result (out.new ≡ out.old ++ Base.acks_by server.now again number
-        (Base.base_over server.now begins_dialog via.now request.now) branch.now (option_map (λ value. value.now) to.entry)) }
+    requires { IsLeftOf sender.now.server.now original.now.routes original.now.via.now original.now.request.now }
+    ensures { OnOk result (out.new ≡ out.old ++ Base.acks_by sender.now.server.now sender.now.again sender.now.number
+        (Base.base_over sender.now.server.now original.now.begins_dialog original.now.via.now original.now.request.now) branch.now
+        (option_map (λ value. value.now) to.entry)) }
 {
-    let received = request.with_top_via(alloc, via)?;
-    let base = base_of(alloc, server, begins_dialog, routes, &received)?;
-    put_ack(alloc, out, server, again, number, &base, branch, to)
+    let received = original.request.with_top_via(alloc, original.via)?;
+    let base = base_of(
+        alloc,
+        sender.server,
+        original.begins_dialog,
+        original.routes,
+        &received,
+    )?;
+    put_ack(alloc, out, sender, &base, branch, to)
 }
 
 /// Adds the ACK of a final answer of an INVITE that is no 2xx, which a branch sends, with this To if that had one (RFC 3261
@@ -464,17 +478,16 @@ pub fn ack_packets(
     let begins = begins_dialog(alloc, request)?;
     let routes = heard.routes_kept(alloc, &server.config.own)?;
     let via = heard.received_via(alloc, request.source)?;
-    put_received_ack(
-        alloc,
-        out,
+    let sender = Sender {
         server,
+        number: request.number,
         again,
-        request.number,
-        begins,
+    };
+    let original = Original {
+        request: heard,
+        via: via.as_slice(),
         routes,
-        heard,
-        via.as_slice(),
-        branch,
-        to,
-    )
+        begins_dialog: begins,
+    };
+    put_received_ack(alloc, out, &sender, &original, branch, to)
 }

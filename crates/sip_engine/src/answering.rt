@@ -3,77 +3,77 @@ ghost use Rattle.sip_engine_open.specs.proxy.Proxy.{IsComing};
 ghost use Rattle.sip_edit.specs.ReceivedRequest.{top_via};
 ghost use Rattle.sip_engine_open.specs.transactions_model.Fits.{IsFinalAnswer};
 ghost use Rattle.sip_transaction_table.specs.Key.{key_of};
-ghost use Rattle.sip_engine_open.specs.forwarding.Arrivals.{arrival_of};
 ghost use Rattle.sip_core.specs.state.State.{has_key};
 ghost use Rattle.sip_core.specs.verdict_model.Verdict as Definition;
 ghost use Rattle.sip_engine.specs.Delivery.{Takes};
 
-use crate::keeping::{NewRequest, keep};
+use crate::configured::Configured;
+use crate::keeping::{KeptRequest, keep};
+use crate::new_request::NewRequest;
 use sip_core::state::Server;
-use sip_engine_open::forwarding::Arrival;
 use sip_engine_open::proxy::Proxy;
 use sip_engine_request::{take_answered, take_cancel};
 use sip_event::StepOut;
-use sip_header::Via;
-use sip_hops::Hops;
 use sip_message_fields::Fields;
-use sip_message_form::View;
 use sip_timers::Timers;
-use sip_transaction_table::Key;
 use std::alloc::{AllocError, Global};
 
-/// A new request with a key is answered at once, with a status and further fields. `AllocError` is the only refusal;
-/// nothing is changed then.
+/// A new request is answered at once, with a status and further fields. `AllocError` is the only refusal; nothing is changed
+/// then.
 pub(crate) fn answer<T: Timers>(
     alloc: Global,
     server: &Server,
     proxy: &mut Proxy<T>,
-    arrival: Arrival,
-    key: Key,
-    message: &View<'_>,
-    via: &Via<'_>,
+    request: NewRequest<'_>,
     status: u16,
     extras: &Fields,
 ) -> Result<StepOut, AllocError>
-    requires coming { IsComing proxy.old.state arrival }
-    requires key { key_of message.now ≡ Some key }
-    requires via { top_via message.now ≡ Some via.now }
-    requires alone { position (has_key key) proxy.old.state.requests ≡ None }
+    requires coming { IsComing proxy.old.state request.arrival }
+    requires key { key_of request.message.now ≡ Some request.key }
+    requires via { top_via request.message.now ≡ Some request.via.now }
+    requires alone { position (has_key request.key) proxy.old.state.requests ≡ None }
     requires final_status { IsFinalAnswer status }
-    ensures does { IfOk result (λ out. Takes server.now proxy.old.state arrival message.now (Definition.Answer status extras.now) out
+    ensures does { IfOk result (λ out. Takes server.now proxy.old.state request.entry.arrival request.entry.message.now
+        (Definition.Answer status extras.now) out proxy.new.state) }
+    ensures unchanged { OnErr result (proxy.new.state ≡ proxy.old.state) }
+    ensures timers { OnErr result (proxy.new.timers ≡ proxy.old.timers) }
+{
+    let arrival = request.arrival;
+    let kept = keep(alloc, request)?;
+    let KeptRequest { key, message } = kept;
+    take_answered(alloc, server, proxy, arrival, key, message, status, extras)
+}
+
+/// A new CANCEL cancels the request that it names, if there is one (RFC 3261 9.2). `AllocError` is the only refusal; nothing
+/// is changed then.
+pub(crate) fn cancel<T: Timers>(
+    alloc: Global,
+    configured: &Configured<'_>,
+    proxy: &mut Proxy<T>,
+    request: NewRequest<'_>,
+) -> Result<StepOut, AllocError>
+    requires coming { IsComing proxy.old.state request.arrival }
+    requires key { key_of request.message.now ≡ Some request.key }
+    requires via { top_via request.message.now ≡ Some request.via.now }
+    requires alone { position (has_key request.key) proxy.old.state.requests ≡ None }
+    requires space { Definition.is_full proxy.old.state ≡ false }
+    requires rows { configured.now.hops.now.addresses ≡ configured.now.server.now.config.addresses }
+    ensures does { IfOk result (λ out. Takes configured.now.server.now proxy.old.state request.entry.arrival request.entry.message.now
+        (Definition.Cancel (Definition.found_for_cancel proxy.old.state request.entry.key request.entry.arrival.from)) out
         proxy.new.state) }
     ensures unchanged { OnErr result (proxy.new.state ≡ proxy.old.state) }
     ensures timers { OnErr result (proxy.new.timers ≡ proxy.old.timers) }
 {
-    let kept = keep(alloc, key, message, via, arrival.from)?;
-    let NewRequest { key, message } = kept;
-    take_answered(alloc, server, proxy, arrival, key, message, status, extras)
-}
-
-/// A CANCEL with a key cancels the request that it names, if there is one (RFC 3261 9.2). `AllocError` is the only
-/// refusal; nothing is changed then.
-pub(crate) fn cancel<T: Timers>(
-    alloc: Global,
-    server: &Server,
-    hops: &Hops,
-    proxy: &mut Proxy<T>,
-    arrival: Arrival,
-    key: Key,
-    message: &View<'_>,
-    via: &Via<'_>,
-) -> Result<StepOut, AllocError>
-    requires coming { IsComing proxy.old.state arrival }
-    requires key { key_of message.now ≡ Some key }
-    requires via { top_via message.now ≡ Some via.now }
-    requires alone { position (has_key key) proxy.old.state.requests ≡ None }
-    requires space { Definition.is_full proxy.old.state ≡ false }
-    requires rows { hops.now.addresses ≡ server.now.config.addresses }
-    ensures does { IfOk result (λ out. Takes server.now proxy.old.state arrival message.now
-        (Definition.Cancel (Definition.found_for_cancel proxy.old.state key arrival.from)) out proxy.new.state) }
-    ensures unchanged { OnErr result (proxy.new.state ≡ proxy.old.state) }
-    ensures timers { OnErr result (proxy.new.timers ≡ proxy.old.timers) }
-{
-    let kept = keep(alloc, key, message, via, arrival.from)?;
-    let NewRequest { key, message } = kept;
-    take_cancel(alloc, server, hops, proxy, arrival, key, message)
+    let arrival = request.arrival;
+    let kept = keep(alloc, request)?;
+    let KeptRequest { key, message } = kept;
+    take_cancel(
+        alloc,
+        configured.server,
+        configured.hops,
+        proxy,
+        arrival,
+        key,
+        message,
+    )
 }

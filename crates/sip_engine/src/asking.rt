@@ -1,4 +1,4 @@
-ghost use Rattle.std.specs.Prelude.{◌≡◌, position, true, false, None, Some, Option, IfOk, OnErr};
+ghost use Rattle.std.specs.Prelude.{◌≡◌, position, true, false, None, Some, IfOk, OnErr};
 ghost use Rattle.sip_engine_request.specs.Admitting.{IsAnswered};
 ghost use Rattle.sip_engine_open.specs.proxy.Proxy.{IsComing};
 ghost use Rattle.sip_core.specs.Verdict.{HasRoomFor, Is};
@@ -6,132 +6,114 @@ ghost use Rattle.sip_core.specs.declared.verdict.Verdict.TheVariants as Arrived;
 ghost use Rattle.sip_edit.specs.ReceivedRequest.{top_via};
 ghost use Rattle.sip_core.specs.state.Names.{AreNames};
 ghost use Rattle.sip_transaction_table.specs.Key.{key_of};
-ghost use Rattle.sip_engine_open.specs.forwarding.Arrivals.{arrival_of};
 ghost use Rattle.sip_core.specs.state.State.{has_key};
 ghost use Rattle.sip_core.specs.verdict_model.Verdict as Definition;
 ghost use Rattle.sip_engine_request.specs.uas.Asking as Asking;
 ghost use Rattle.sip_engine.specs.Delivery.{IsServed, Takes};
 
+use crate::configured::Configured;
 use crate::going::go_to;
-use crate::keeping::{NewRequest, keep};
-use sip_core::state::{Names, Server};
+use crate::keeping::{KeptRequest, keep};
+use crate::new_request::NewRequest;
+use sip_core::state::Server;
 use sip_core::{Judged, Outcome};
-use sip_engine_open::forwarding::Arrival;
 use sip_engine_open::proxy::Proxy;
 use sip_engine_open::take_dropped;
 use sip_engine_request::take_judged;
 use sip_engine_request::uas::is_answered_here;
 use sip_event::StepOut;
-use sip_header::Via;
-use sip_hops::Hops;
-use sip_message_form::View;
 use sip_timers::Timers;
-use sip_transaction_table::Key;
 use std::alloc::{AllocError, Global};
 
-/// A new request with a key about which policy decided is answered here: challenged, denied, registered, or sent to nobody.
-/// `AllocError` is the only refusal; nothing is changed then.
+/// A new request about which policy decided is answered here: challenged, denied, registered, or sent to nobody. `AllocError`
+/// is the only refusal; nothing is changed then.
 fn answer_judged<T: Timers>(
     alloc: Global,
     server: &Server,
     proxy: &mut Proxy<T>,
-    arrival: Arrival,
-    key: Key,
-    message: &View<'_>,
-    via: &Via<'_>,
+    request: NewRequest<'_>,
     judged: Judged<'_>,
 ) -> Result<StepOut, AllocError>
-    requires coming { IsComing proxy.old.state arrival }
-    requires key { key_of message.now ≡ Some key }
-    requires via { top_via message.now ≡ Some via.now }
-    requires alone { position (has_key key) proxy.old.state.requests ≡ None }
+    requires coming { IsComing proxy.old.state request.arrival }
+    requires key { key_of request.message.now ≡ Some request.key }
+    requires via { top_via request.message.now ≡ Some request.via.now }
+    requires alone { position (has_key request.key) proxy.old.state.requests ≡ None }
     requires here { Asking.is_answered_here judged.outcome ≡ true }
     requires room { HasRoomFor proxy.old.room judged.outcome }
-    requires answers { IsAnswered server.now proxy.old.state.bindings arrival.now judged }
+    requires answers { IsAnswered server.now proxy.old.state.bindings request.arrival.now judged }
     ensures does { IfOk result (λ out. (verdict : Definition.Verdict)
-        → Is server.now proxy.old.state.bindings arrival.now (Definition.found_for_cancel proxy.old.state key arrival.from) verdict
-        (Arrived.Judged judged.entry)
-        → Takes server.now proxy.old.state arrival message.now verdict out proxy.new.state) }
+        → Is server.now proxy.old.state.bindings request.entry.arrival.now
+        (Definition.found_for_cancel proxy.old.state request.entry.key request.entry.arrival.from) verdict (Arrived.Judged judged.entry)
+        → Takes server.now proxy.old.state request.entry.arrival request.entry.message.now verdict out proxy.new.state) }
     ensures unchanged { OnErr result (proxy.new.state ≡ proxy.old.state) }
     ensures timers { OnErr result (proxy.new.timers ≡ proxy.old.timers) }
 {
-    let kept = keep(alloc, key, message, via, arrival.from)?;
-    let NewRequest { key, message } = kept;
+    let arrival = request.arrival;
+    let kept = keep(alloc, request)?;
+    let KeptRequest { key, message } = kept;
     take_judged(alloc, server, proxy, arrival, key, message, judged)
 }
 
-/// A new request with a key about which policy decided, and that isn't answered here, goes to its targets (RFC 3261 16.5).
-/// `AllocError` is the only refusal; nothing is changed then.
+/// A new request about which policy decided, and that isn't answered here, goes to its targets (RFC 3261 16.5). `AllocError`
+/// is the only refusal; nothing is changed then.
 fn send_judged<T: Timers>(
     alloc: Global,
-    server: &Server,
-    hops: &Hops,
+    configured: &Configured<'_>,
     proxy: &mut Proxy<T>,
-    arrival: Arrival,
-    key: Key,
-    message: &View<'_>,
-    via: &Via<'_>,
-    names: Option<Names>,
+    request: NewRequest<'_>,
     judged: &Judged<'_>,
 ) -> Result<StepOut, AllocError>
-    requires coming { IsComing proxy.old.state arrival }
-    requires key { key_of message.now ≡ Some key }
-    requires via { top_via message.now ≡ Some via.now }
-    requires names { AreNames message.now names }
-    requires alone { position (has_key key) proxy.old.state.requests ≡ None }
-    requires rows { hops.now.addresses ≡ server.now.config.addresses }
+    requires coming { IsComing proxy.old.state request.arrival }
+    requires key { key_of request.message.now ≡ Some request.key }
+    requires via { top_via request.message.now ≡ Some request.via.now }
+    requires names { AreNames request.message.now request.names }
+    requires alone { position (has_key request.key) proxy.old.state.requests ≡ None }
+    requires rows { configured.now.hops.now.addresses ≡ configured.now.server.now.config.addresses }
     requires there { Asking.is_answered_here judged.now.outcome ≡ false }
-    requires served { IsServed server.now proxy.old.state arrival key (Arrived.Judged judged.now) }
+    requires served { IsServed configured.now.server.now proxy.old.state request.arrival request.key (Arrived.Judged judged.now) }
     ensures does { IfOk result (λ out. (verdict : Definition.Verdict)
-        → Is server.now proxy.old.state.bindings arrival.now (Definition.found_for_cancel proxy.old.state key arrival.from) verdict
-        (Arrived.Judged judged.now)
-        → Takes server.now proxy.old.state arrival message.now verdict out proxy.new.state) }
+        → Is configured.now.server.now proxy.old.state.bindings request.entry.arrival.now
+        (Definition.found_for_cancel proxy.old.state request.entry.key request.entry.arrival.from) verdict (Arrived.Judged judged.now)
+        → Takes configured.now.server.now proxy.old.state request.entry.arrival request.entry.message.now verdict out proxy.new.state) }
     ensures unchanged { OnErr result (proxy.new.state ≡ proxy.old.state) }
     ensures timers { OnErr result (proxy.new.timers ≡ proxy.old.timers) }
 {
     match &judged.outcome {
-        Outcome::Send(rule, targets) => go_to(
-            alloc, server, hops, proxy, arrival, key, message, via, names, judged, *rule, targets,
-        ),
+        Outcome::Send(rule, targets) => {
+            go_to(alloc, configured, proxy, request, judged, *rule, targets)
+        }
         Outcome::Challenge | Outcome::Deny(_) | Outcome::Register(_, _) => {
-            Ok(take_dropped(alloc, proxy, arrival))
+            Ok(take_dropped(alloc, proxy, request.arrival))
         }
     }
 }
 
-/// The step of a new request with a key about which policy decided: it is answered here, or goes to its targets (RFC 3261
-/// 10.3, 16.5, 22). `AllocError` is the only refusal; nothing is changed then.
+/// The step of a new request about which policy decided: it is answered here, or goes to its targets (RFC 3261 10.3, 16.5,
+/// 22). `AllocError` is the only refusal; nothing is changed then.
 pub(crate) fn take_asked<T: Timers>(
     alloc: Global,
-    server: &Server,
-    hops: &Hops,
+    configured: &Configured<'_>,
     proxy: &mut Proxy<T>,
-    arrival: Arrival,
-    key: Key,
-    message: &View<'_>,
-    via: &Via<'_>,
-    names: Option<Names>,
+    request: NewRequest<'_>,
     judged: Judged<'_>,
 ) -> Result<StepOut, AllocError>
-    requires coming { IsComing proxy.old.state arrival }
-    requires key { key_of message.now ≡ Some key }
-    requires via { top_via message.now ≡ Some via.now }
-    requires names { AreNames message.now names }
-    requires alone { position (has_key key) proxy.old.state.requests ≡ None }
-    requires rows { hops.now.addresses ≡ server.now.config.addresses }
+    requires coming { IsComing proxy.old.state request.arrival }
+    requires key { key_of request.message.now ≡ Some request.key }
+    requires via { top_via request.message.now ≡ Some request.via.now }
+    requires names { AreNames request.message.now request.names }
+    requires alone { position (has_key request.key) proxy.old.state.requests ≡ None }
+    requires rows { configured.now.hops.now.addresses ≡ configured.now.server.now.config.addresses }
     requires room { HasRoomFor proxy.old.room judged.outcome }
-    requires served { IsServed server.now proxy.old.state arrival key (Arrived.Judged judged) }
+    requires served { IsServed configured.now.server.now proxy.old.state request.arrival request.key (Arrived.Judged judged) }
     ensures does { IfOk result (λ out. (verdict : Definition.Verdict)
-        → Is server.now proxy.old.state.bindings arrival.now (Definition.found_for_cancel proxy.old.state key arrival.from) verdict
-        (Arrived.Judged judged.entry)
-        → Takes server.now proxy.old.state arrival message.now verdict out proxy.new.state) }
+        → Is configured.now.server.now proxy.old.state.bindings request.entry.arrival.now
+        (Definition.found_for_cancel proxy.old.state request.entry.key request.entry.arrival.from) verdict (Arrived.Judged judged.entry)
+        → Takes configured.now.server.now proxy.old.state request.entry.arrival request.entry.message.now verdict out proxy.new.state) }
     ensures unchanged { OnErr result (proxy.new.state ≡ proxy.old.state) }
     ensures timers { OnErr result (proxy.new.timers ≡ proxy.old.timers) }
 {
     if is_answered_here(&judged.outcome) {
-        return answer_judged(alloc, server, proxy, arrival, key, message, via, judged);
+        return answer_judged(alloc, configured.server, proxy, request, judged);
     }
-    send_judged(
-        alloc, server, hops, proxy, arrival, key, message, via, names, &judged,
-    )
+    send_judged(alloc, configured, proxy, request, &judged)
 }

@@ -7,49 +7,44 @@ ghost use Rattle.sip_engine_open.specs.forwarding.Arrivals.{arrival_of};
 ghost use Rattle.sip_core.specs.verdict_model.Verdict as Definition;
 ghost use Rattle.sip_engine.specs.Delivery.{Takes};
 
+use crate::configured::Configured;
 use crate::known::take_known;
 use crate::new::take_new;
+use crate::received_request::ReceivedRequest;
+use crate::received_response::ReceivedResponse;
 use crate::responses::take_reply;
 use sip_core::{Incoming, Judge, incoming_of, laws, read_datagram};
 use sip_engine_open::forwarding::Arrival;
 use sip_engine_open::proxy::Proxy;
 use sip_engine_open::take_dropped;
 use sip_event::StepOut;
-use sip_header::Via;
 use sip_message_form::View;
 use sip_policy::Rules;
 use sip_timers::Timers;
 use sip_transaction_table::Key;
 use std::alloc::{AllocError, Global};
 
-/// The step of a request of a method with a key and this Via on top: it belongs to the open one with that key, or is
-/// new (RFC 3261 17.2.3). `AllocError` is the only refusal; nothing is changed then.
+/// The step of a request with a key: it belongs to the open one with that key, or is new (RFC 3261 17.2.3). `AllocError` is
+/// the only refusal; nothing is changed then.
 fn take_request<T: Timers, R: Rules>(
     alloc: Global,
     judge: &Judge<R>,
     proxy: &mut Proxy<T>,
-    arrival: Arrival,
     key: Key,
-    method: &[u8],
-    message: &View<'_>,
-    via: &Via<'_>,
-    short: bool,
+    request: &ReceivedRequest<'_>,
 ) -> Result<StepOut, AllocError>
-    requires coming { IsComing proxy.old.state arrival }
-    requires request { IsRequest message.now short method.now via.now key }
-    ensures does { IfOk result (λ out. Takes judge.now proxy.old.state arrival message.now
-        (Definition.message_verdict judge.now proxy.old.state (arrival_of arrival) message.now short) out proxy.new.state) }
+    requires coming { IsComing proxy.old.state request.now.arrival }
+    requires request { IsRequest request.now.message.now request.now.short request.now.method.now request.now.via key }
+    ensures does { IfOk result (λ out. Takes judge.now proxy.old.state request.now.arrival request.now.message.now
+        (Definition.message_verdict judge.now proxy.old.state (arrival_of request.now.arrival) request.now.message.now
+        request.now.short) out proxy.new.state) }
     ensures unchanged { OnErr result (proxy.new.state ≡ proxy.old.state) }
     ensures timers { OnErr result (proxy.new.timers ≡ proxy.old.timers) }
 {
     laws::requests();
     match proxy.find(&key) {
-        Some(place) => take_known(
-            alloc, judge, proxy, arrival, place, method, message, via, short,
-        ),
-        None => take_new(
-            alloc, judge, proxy, arrival, key, method, message, via, short,
-        ),
+        Some(place) => take_known(alloc, judge, proxy, place, request),
+        None => take_new(alloc, judge, proxy, key, request),
     }
 }
 
@@ -77,23 +72,30 @@ fn take_message<T: Timers, R: Rules>(
             branch,
             method,
             has_more_vias,
-        } => take_reply(
-            alloc,
-            judge.server(),
-            judge.hops(),
-            proxy,
-            arrival,
-            status,
-            branch,
-            method,
-            has_more_vias,
-            message,
-            short,
-        ),
+        } => {
+            let server = judge.server();
+            let hops = judge.hops();
+            let configured = Configured { server, hops };
+            let response = ReceivedResponse {
+                arrival,
+                message,
+                status,
+                branch,
+                method,
+                has_more_vias,
+                short,
+            };
+            take_reply(alloc, &configured, proxy, &response)
+        }
         Incoming::Request { method, via, key } => {
-            take_request(
-                alloc, judge, proxy, arrival, key, method, message, &via, short,
-            )
+            let request = ReceivedRequest {
+                arrival,
+                method,
+                message,
+                via,
+                short,
+            };
+            take_request(alloc, judge, proxy, key, &request)
         }
     }
 }

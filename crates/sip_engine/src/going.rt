@@ -8,89 +8,94 @@ ghost use Rattle.sip_core.specs.verdict_model.Verdict as Definition;
 ghost use Rattle.sip_engine_request.specs.Routing.{are_somebody};
 ghost use Rattle.sip_engine.specs.Delivery.{Takes};
 
-use crate::keeping::{NewRequest, keep_onward};
+use crate::configured::Configured;
+use crate::keeping::{KeptRequest, keep_onward};
+use crate::new_request::NewRequest;
 use sip_core::Judged;
-use sip_core::state::{Names, Server};
 use sip_dialog::DialogId;
-use sip_engine_open::forwarding::Arrival;
 use sip_engine_open::proxy::Proxy;
 use sip_engine_request::{send_to, send_within};
 use sip_event::StepOut;
-use sip_header::Via;
-use sip_hops::Hops;
-use sip_message_form::View;
 use sip_targets::Targets;
 use sip_timers::Timers;
-use sip_transaction_table::Key;
 use sip_uri::Addr;
 use std::alloc::{AllocError, Global};
 
-/// A new request with a key goes to its targets, which are somebody, by a rule (RFC 3261 16.5, 16.6). `AllocError` is the
-/// only refusal; nothing is changed then.
+/// A new request goes to its targets, which are somebody, by a rule (RFC 3261 16.5, 16.6). `AllocError` is the only refusal;
+/// nothing is changed then.
 pub(crate) fn go_to<T: Timers>(
     alloc: Global,
-    server: &Server,
-    hops: &Hops,
+    configured: &Configured<'_>,
     proxy: &mut Proxy<T>,
-    arrival: Arrival,
-    key: Key,
-    message: &View<'_>,
-    via: &Via<'_>,
-    names: Option<Names>,
+    request: NewRequest<'_>,
     judged: &Judged<'_>,
     rule: u32,
     targets: &Targets,
 ) -> Result<StepOut, AllocError>
-    requires coming { IsComing proxy.old.state arrival }
-    requires key { key_of message.now ≡ Some key }
-    requires via { top_via message.now ≡ Some via.now }
-    requires names { AreNames message.now names }
-    requires alone { position (has_key key) proxy.old.state.requests ≡ None }
+    requires coming { IsComing proxy.old.state request.arrival }
+    requires key { key_of request.message.now ≡ Some request.key }
+    requires via { top_via request.message.now ≡ Some request.via.now }
+    requires names { AreNames request.message.now request.names }
+    requires alone { position (has_key request.key) proxy.old.state.requests ≡ None }
     requires space { Definition.is_full proxy.old.state ≡ false }
-    requires rows { hops.now.addresses ≡ server.now.config.addresses }
-    requires minute { judged.now.minute ≡ Definition.minute_on server.now judged.now.question }
+    requires rows { configured.now.hops.now.addresses ≡ configured.now.server.now.config.addresses }
+    requires minute { judged.now.minute ≡ Definition.minute_on configured.now.server.now judged.now.question }
     requires somebody { are_somebody targets.now ≡ true }
-    ensures does { IfOk result (λ out. Takes server.now proxy.old.state arrival message.now
+    ensures does { IfOk result (λ out. Takes configured.now.server.now proxy.old.state request.entry.arrival request.entry.message.now
         (Definition.Send judged.now.question rule targets.now) out proxy.new.state) }
     ensures unchanged { OnErr result (proxy.new.state ≡ proxy.old.state) }
     ensures timers { OnErr result (proxy.new.timers ≡ proxy.old.timers) }
 {
-    let kept = keep_onward(alloc, server, key, message, via, names, arrival.from)?;
-    let NewRequest { key, message } = kept;
+    let arrival = request.arrival;
+    let kept = keep_onward(alloc, configured.server, request)?;
+    let KeptRequest { key, message } = kept;
     send_to(
-        alloc, server, hops, proxy, arrival, key, message, judged, rule, targets,
+        alloc,
+        configured.server,
+        configured.hops,
+        proxy,
+        arrival,
+        key,
+        message,
+        judged,
+        rule,
+        targets,
     )
 }
 
-/// A new request with a key goes on in its dialog (RFC 3261 12.2, 16.12). `AllocError` is the only refusal; nothing is
-/// changed then.
+/// A new request goes on in its dialog (RFC 3261 12.2, 16.12). `AllocError` is the only refusal; nothing is changed then.
 pub(crate) fn go_within<T: Timers>(
     alloc: Global,
-    server: &Server,
-    hops: &Hops,
+    configured: &Configured<'_>,
     proxy: &mut Proxy<T>,
-    arrival: Arrival,
-    key: Key,
-    message: &View<'_>,
-    via: &Via<'_>,
-    names: Option<Names>,
+    request: NewRequest<'_>,
     address: Addr,
     id: DialogId,
 ) -> Result<StepOut, AllocError>
-    requires coming { IsComing proxy.old.state arrival }
-    requires key { key_of message.now ≡ Some key }
-    requires via { top_via message.now ≡ Some via.now }
-    requires names { AreNames message.now names }
-    requires alone { position (has_key key) proxy.old.state.requests ≡ None }
+    requires coming { IsComing proxy.old.state request.arrival }
+    requires key { key_of request.message.now ≡ Some request.key }
+    requires via { top_via request.message.now ≡ Some request.via.now }
+    requires names { AreNames request.message.now request.names }
+    requires alone { position (has_key request.key) proxy.old.state.requests ≡ None }
     requires space { Definition.is_full proxy.old.state ≡ false }
-    requires rows { hops.now.addresses ≡ server.now.config.addresses }
-    ensures does { IfOk result (λ out. Takes server.now proxy.old.state arrival message.now (Definition.InDialog address id) out proxy.new.state) }
+    requires rows { configured.now.hops.now.addresses ≡ configured.now.server.now.config.addresses }
+    ensures does { IfOk result (λ out. Takes configured.now.server.now proxy.old.state request.entry.arrival request.entry.message.now
+        (Definition.InDialog address id) out proxy.new.state) }
     ensures unchanged { OnErr result (proxy.new.state ≡ proxy.old.state) }
     ensures timers { OnErr result (proxy.new.timers ≡ proxy.old.timers) }
 {
-    let kept = keep_onward(alloc, server, key, message, via, names, arrival.from)?;
-    let NewRequest { key, message } = kept;
+    let arrival = request.arrival;
+    let kept = keep_onward(alloc, configured.server, request)?;
+    let KeptRequest { key, message } = kept;
     send_within(
-        alloc, server, hops, proxy, arrival, key, message, address, id,
+        alloc,
+        configured.server,
+        configured.hops,
+        proxy,
+        arrival,
+        key,
+        message,
+        address,
+        id,
     )
 }

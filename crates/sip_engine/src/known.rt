@@ -12,17 +12,15 @@ ghost use Rattle.sip_engine.specs.Delivery.{Takes};
 ghost use Rattle.sip_engine.specs.Delivery as Delivery;
 
 use crate::delivery_laws::acks_are_dropped_or_go_on;
+use crate::received_request::ReceivedRequest;
 use sip_core::state::OpenRequest;
 use sip_core::{Judge, Verdict};
 use sip_dialog::DialogId;
 use sip_engine_open::context::is_accepted;
-use sip_engine_open::forwarding::Arrival;
 use sip_engine_open::proxy::Proxy;
 use sip_engine_open::{take_copy, take_dropped};
 use sip_engine_request::send_ack;
 use sip_event::StepOut;
-use sip_header::Via;
-use sip_message_form::View;
 use sip_policy::Rules;
 use sip_timers::Timers;
 use sip_uri::Addr;
@@ -50,66 +48,84 @@ fn way_on(decided: Verdict<'_>) -> Option<(Addr, DialogId)>
     }
 }
 
-/// The step of an ACK that no server transaction takes, with this Via on top: it goes on in its dialog, or is dropped
-/// (RFC 3261 13.2.2.4, 16.11). `AllocError` is the only refusal; nothing is changed then.
+/// The step of an ACK that no server transaction takes: it goes on in its dialog, or is dropped (RFC 3261 13.2.2.4, 16.11).
+/// `AllocError` is the only refusal; nothing is changed then.
 fn take_ack<T: Timers, R: Rules>(
     alloc: Global,
     judge: &Judge<R>,
     proxy: &mut Proxy<T>,
-    arrival: Arrival,
-    method: &[u8],
-    message: &View<'_>,
-    via: &Via<'_>,
-    short: bool,
+    ack: &ReceivedRequest<'_>,
 ) -> Result<StepOut, AllocError>
-    requires coming { IsComing proxy.old.state arrival }
-    requires request { IsRequestOf method.now message.now.start }
-    requires via { top_via message.now ≡ Some via.now }
-    ensures does { IfOk result (λ out. Takes judge.now proxy.old.state arrival message.now
-        (Definition.ack_verdict judge.now proxy.old.state arrival.now message.now short) out proxy.new.state) }
+    requires coming { IsComing proxy.old.state ack.now.arrival }
+    requires request { IsRequestOf ack.now.method.now ack.now.message.now.start }
+    requires via { top_via ack.now.message.now ≡ Some ack.now.via }
+    ensures does { IfOk result (λ out. Takes judge.now proxy.old.state ack.now.arrival ack.now.message.now
+        (Definition.ack_verdict judge.now proxy.old.state ack.now.arrival.now ack.now.message.now ack.now.short) out proxy.new.state) }
     ensures unchanged { OnErr result (proxy.new.state ≡ proxy.old.state) }
     ensures timers { OnErr result (proxy.new.timers ≡ proxy.old.timers) }
 {
     acks_are_dropped_or_go_on();
-    let decided = proxy.ack_verdict(alloc, judge, arrival.now, message, via, method, short)?;
+    let decided = proxy.ack_verdict(
+        alloc,
+        judge,
+        ack.arrival.now,
+        ack.message,
+        &ack.via,
+        ack.method,
+        ack.short,
+    )?;
     match way_on(decided) {
         Some((address, id)) => {
             let server = judge.server();
             let hops = judge.hops();
-            send_ack(alloc, server, hops, proxy, arrival, message, address, id)
+            send_ack(
+                alloc,
+                server,
+                hops,
+                proxy,
+                ack.arrival,
+                ack.message,
+                address,
+                id,
+            )
         }
-        None => Ok(take_dropped(alloc, proxy, arrival)),
+        None => Ok(take_dropped(alloc, proxy, ack.arrival)),
     }
 }
 
-/// The step of a request of a method, with this Via on top and the key of the open one at a place: an ACK of a 2xx is
-/// an own transaction; any other belongs to the open request (RFC 3261 13.2.2.4, 17.2). `AllocError` is the only
-/// refusal; nothing is changed then.
+/// The step of a request with the key of the open one at a place: an ACK of a 2xx is an own transaction; any other belongs
+/// to the open request (RFC 3261 13.2.2.4, 17.2). `AllocError` is the only refusal; nothing is changed then.
 pub(crate) fn take_known<T: Timers, R: Rules>(
     alloc: Global,
     judge: &Judge<R>,
     proxy: &mut Proxy<T>,
-    arrival: Arrival,
     place: usize,
-    method: &[u8],
-    message: &View<'_>,
-    via: &Via<'_>,
-    short: bool,
+    request: &ReceivedRequest<'_>,
 ) -> Result<StepOut, AllocError>
-    requires coming { IsComing proxy.old.state arrival }
+    requires coming { IsComing proxy.old.state request.now.arrival }
     requires place { place < length proxy.old.state.requests }
-    requires request { IsRequestOf method.now message.now.start }
-    requires via { top_via message.now ≡ Some via.now }
+    requires request { IsRequestOf request.now.method.now request.now.message.now.start }
+    requires via { top_via request.now.message.now ≡ Some request.now.via }
     ensures does { IfOk result (λ out. (key : Key) (r : OpenRequest) → slice_get proxy.old.state.requests place ≡ Some r
-        → Takes judge.now proxy.old.state arrival message.now
-        (Definition.by_open judge.now proxy.old.state (arrival_of arrival) message.now short method.now key (Some r)) out proxy.new.state) }
+        → Takes judge.now proxy.old.state request.now.arrival request.now.message.now
+        (Definition.by_open judge.now proxy.old.state (arrival_of request.now.arrival) request.now.message.now request.now.short
+        request.now.method.now key (Some r)) out proxy.new.state) }
     ensures unchanged { OnErr result (proxy.new.state ≡ proxy.old.state) }
     ensures timers { OnErr result (proxy.new.timers ≡ proxy.old.timers) }
 {
-    if acknowledges_success(method, proxy.get(place)) {
-        return take_ack(alloc, judge, proxy, arrival, method, message, via, short);
+    if acknowledges_success(request.method, proxy.get(place)) {
+        return take_ack(alloc, judge, proxy, request);
     }
     let server = judge.server();
     let hops = judge.hops();
-    take_copy(alloc, server, hops, proxy, arrival, place, method, message)
+    take_copy(
+        alloc,
+        server,
+        hops,
+        proxy,
+        request.arrival,
+        place,
+        request.method,
+        request.message,
+    )
 }

@@ -15,6 +15,7 @@
 
 mod answering;
 mod asking;
+mod configured;
 mod datagram;
 mod delivery_laws;
 mod engine;
@@ -24,6 +25,9 @@ mod histories;
 mod keeping;
 mod known;
 mod new;
+mod new_request;
+mod received_request;
+mod received_response;
 mod responses;
 mod served;
 mod stepping;

@@ -8,40 +8,37 @@ ghost use Rattle.sip_core.specs.state.State.{has_key};
 ghost use Rattle.sip_core.specs.verdict_model.Verdict as Definition;
 ghost use Rattle.sip_engine.specs.Delivery.{Takes};
 
+use crate::configured::Configured;
 use crate::delivery_laws::new_requests_need_room;
+use crate::new_request::NewRequest;
+use crate::received_request::ReceivedRequest;
 use crate::served::serve;
 use sip_core::Judge;
-use sip_engine_open::forwarding::Arrival;
 use sip_engine_open::proxy::Proxy;
 use sip_engine_request::uas::laws::new_verdict_answers_finally;
 use sip_event::StepOut;
-use sip_header::Via;
-use sip_message_form::View;
 use sip_policy::Rules;
 use sip_timers::Timers;
 use sip_transaction_table::Key;
 use std::alloc::{AllocError, Global};
 
-/// The step of a request of a method, with this Via on top, that no open one is found for: it is judged, and served so
-/// (RFC 3261 9.2, 10.3, 16.3 to 16.6). `AllocError` is the only refusal; nothing is changed then.
+/// The step of a request with a key that no open one is found for: it is judged, and served so (RFC 3261 9.2, 10.3, 16.3 to
+/// 16.6). `AllocError` is the only refusal; nothing is changed then.
 pub(crate) fn take_new<T: Timers, R: Rules>(
     alloc: Global,
     judge: &Judge<R>,
     proxy: &mut Proxy<T>,
-    arrival: Arrival,
     key: Key,
-    method: &[u8],
-    message: &View<'_>,
-    via: &Via<'_>,
-    short: bool,
+    received: &ReceivedRequest<'_>,
 ) -> Result<StepOut, AllocError>
-    requires coming { IsComing proxy.old.state arrival }
-    requires request { IsRequestOf method.now message.now.start }
-    requires via { top_via message.now ≡ Some via.now }
-    requires key { key_of message.now ≡ Some key }
+    requires coming { IsComing proxy.old.state received.now.arrival }
+    requires request { IsRequestOf received.now.method.now received.now.message.now.start }
+    requires via { top_via received.now.message.now ≡ Some received.now.via }
+    requires key { key_of received.now.message.now ≡ Some key }
     requires alone { position (has_key key) proxy.old.state.requests ≡ None }
-    ensures does { IfOk result (λ out. Takes judge.now proxy.old.state arrival message.now
-        (Definition.new_verdict judge.now proxy.old.state (arrival_of arrival) message.now short method.now key) out proxy.new.state) }
+    ensures does { IfOk result (λ out. Takes judge.now proxy.old.state received.now.arrival received.now.message.now
+        (Definition.new_verdict judge.now proxy.old.state (arrival_of received.now.arrival) received.now.message.now received.now.short
+        received.now.method.now key) out proxy.new.state) }
     ensures unchanged { OnErr result (proxy.new.state ≡ proxy.old.state) }
     ensures timers { OnErr result (proxy.new.timers ≡ proxy.old.timers) }
 {
@@ -52,19 +49,25 @@ pub(crate) fn take_new<T: Timers, R: Rules>(
     match proxy.verdict(
         alloc,
         judge,
-        arrival.now,
-        message,
-        via,
-        method,
-        short,
+        received.arrival.now,
+        received.message,
+        &received.via,
+        received.method,
+        received.short,
         &mut names,
     ) {
         Ok(decided) => {
             let server = judge.server();
             let hops = judge.hops();
-            serve(
-                alloc, server, hops, proxy, arrival, key, message, via, names, decided,
-            )
+            let configured = Configured { server, hops };
+            let request = NewRequest {
+                arrival: received.arrival,
+                key,
+                message: received.message,
+                via: &received.via,
+                names,
+            };
+            serve(alloc, &configured, proxy, request, decided)
         }
         Err(_) => Err(AllocError),
     }

@@ -8,14 +8,12 @@ ghost use Rattle.sip_core.specs.state.declared.open_request.OpenRequest.{OpenReq
 ghost use Rattle.sip_core.specs.verdict_model.Verdict as Definition;
 ghost use Rattle.sip_engine.specs.Delivery.{Takes};
 
+use crate::configured::Configured;
+use crate::received_response::ReceivedResponse;
 use sip_core::laws;
-use sip_core::state::Server;
-use sip_engine_open::forwarding::Arrival;
 use sip_engine_open::proxy::Proxy;
 use sip_engine_open::{take_dropped, take_response};
 use sip_event::StepOut;
-use sip_hops::Hops;
-use sip_message_form::View;
 use sip_timers::Timers;
 use std::alloc::{AllocError, Global};
 
@@ -28,74 +26,63 @@ fn is_taken<T: Timers>(proxy: &Proxy<T>, place: usize, branch: usize, has_more_v
     proxy.get(place).branches.as_slice()[branch].is_cancel || has_more_vias
 }
 
-/// The step of a response of a status to the branch at these places: one without a second Via is dropped, but one to a
-/// CANCEL of this server (RFC 3261 16.7). `AllocError` is the only refusal; nothing is changed then.
+/// The step of a response to the branch at these places: one without a second Via is dropped, but one to a CANCEL of this
+/// server (RFC 3261 16.7). `AllocError` is the only refusal; nothing is changed then.
 fn take_found<T: Timers>(
     alloc: Global,
-    server: &Server,
-    hops: &Hops,
+    configured: &Configured<'_>,
     proxy: &mut Proxy<T>,
-    arrival: Arrival,
+    response: &ReceivedResponse<'_>,
     place: usize,
     branch: usize,
-    status: u16,
-    has_more_vias: bool,
-    message: &View<'_>,
 ) -> Result<StepOut, AllocError>
-    requires coming { IsComing proxy.old.state arrival }
-    requires rows { hops.now.addresses ≡ server.now.config.addresses }
+    requires coming { IsComing proxy.old.state response.now.arrival }
+    requires rows { configured.now.hops.now.addresses ≡ configured.now.server.now.config.addresses }
     requires found { IsSome (branch_at proxy.old.state.requests (place, branch)) }
     ensures does { IfOk result (λ out. (r : OpenRequest) (b : Branch) → branch_at proxy.old.state.requests (place, branch) ≡ Some (r, b)
-        → Takes server.now proxy.old.state arrival message.now
-        (if b.is_cancel || has_more_vias then Definition.Respond r b status else Definition.Drop) out proxy.new.state) }
+        → Takes configured.now.server.now proxy.old.state response.now.arrival response.now.message.now
+        (if b.is_cancel || response.now.has_more_vias then Definition.Respond r b response.now.status else Definition.Drop) out
+        proxy.new.state) }
     ensures unchanged { OnErr result (proxy.new.state ≡ proxy.old.state) }
     ensures timers { OnErr result (proxy.new.timers ≡ proxy.old.timers) }
 {
-    if is_taken(proxy, place, branch, has_more_vias) {
+    if is_taken(proxy, place, branch, response.has_more_vias) {
         return take_response(
-            alloc, server, hops, proxy, arrival, place, branch, status, message,
+            alloc,
+            configured.server,
+            configured.hops,
+            proxy,
+            response.arrival,
+            place,
+            branch,
+            response.status,
+            response.message,
         );
     }
-    Ok(take_dropped(alloc, proxy, arrival))
+    Ok(take_dropped(alloc, proxy, response.arrival))
 }
 
-/// The step of a response of a status to the branch with this text that was sent with this method; one whose branch isn't
-/// found is dropped (RFC 3261 16.7, 17.1.3). `AllocError` is the only refusal; nothing is changed then.
+/// The step of a response; one whose branch isn't found is dropped (RFC 3261 16.7, 17.1.3). `AllocError` is the only refusal;
+/// nothing is changed then.
 pub(crate) fn take_reply<T: Timers>(
     alloc: Global,
-    server: &Server,
-    hops: &Hops,
+    configured: &Configured<'_>,
     proxy: &mut Proxy<T>,
-    arrival: Arrival,
-    status: u16,
-    branch: &[u8],
-    method: &[u8],
-    has_more_vias: bool,
-    message: &View<'_>,
-    short: bool,
+    response: &ReceivedResponse<'_>,
 ) -> Result<StepOut, AllocError>
-    requires coming { IsComing proxy.old.state arrival }
-    requires rows { hops.now.addresses ≡ server.now.config.addresses }
-    requires response { IsResponse server.now.config.own message.now short status branch.now method.now has_more_vias }
-    ensures does { IfOk result (λ out. Takes server.now proxy.old.state arrival message.now
-        (Definition.message_verdict server.now proxy.old.state (arrival_of arrival) message.now short) out proxy.new.state) }
+    requires coming { IsComing proxy.old.state response.now.arrival }
+    requires rows { configured.now.hops.now.addresses ≡ configured.now.server.now.config.addresses }
+    requires response { IsResponse configured.now.server.now.config.own response.now.message.now response.now.short response.now.status
+        response.now.branch.now response.now.method.now response.now.has_more_vias }
+    ensures does { IfOk result (λ out. Takes configured.now.server.now proxy.old.state response.now.arrival response.now.message.now
+        (Definition.message_verdict configured.now.server.now proxy.old.state (arrival_of response.now.arrival) response.now.message.now
+        response.now.short) out proxy.new.state) }
     ensures unchanged { OnErr result (proxy.new.state ≡ proxy.old.state) }
     ensures timers { OnErr result (proxy.new.timers ≡ proxy.old.timers) }
 {
     laws::responses();
-    match proxy.find_branch(server, branch, method) {
-        Some((place, number)) => take_found(
-            alloc,
-            server,
-            hops,
-            proxy,
-            arrival,
-            place,
-            number,
-            status,
-            has_more_vias,
-            message,
-        ),
-        None => Ok(take_dropped(alloc, proxy, arrival)),
+    match proxy.find_branch(configured.server, response.branch, response.method) {
+        Some((place, number)) => take_found(alloc, configured, proxy, response, place, number),
+        None => Ok(take_dropped(alloc, proxy, response.arrival)),
     }
 }

@@ -10,63 +10,59 @@ ghost use Rattle.sip_engine.specs.Delivery.{IsServed, Takes};
 
 use crate::answering::{answer, cancel};
 use crate::asking::take_asked;
+use crate::configured::Configured;
 use crate::going::go_within;
+use crate::new_request::NewRequest;
 use sip_core::Verdict;
-use sip_core::state::{Names, Server};
-use sip_engine_open::forwarding::Arrival;
 use sip_engine_open::proxy::Proxy;
 use sip_engine_open::take_dropped;
 use sip_engine_request::send_ack;
 use sip_event::StepOut;
-use sip_header::Via;
-use sip_hops::Hops;
-use sip_message_form::View;
 use sip_timers::Timers;
-use sip_transaction_table::Key;
 use std::alloc::{AllocError, Global};
 
-/// The step of a new request with a key and this Via on top, of what was decided about it; its names may have been made
-/// before. `AllocError` is the only refusal; nothing is changed then.
+/// The step of a new request, of what was decided about it. `AllocError` is the only refusal; nothing is changed then.
 pub(crate) fn serve<T: Timers>(
     alloc: Global,
-    server: &Server,
-    hops: &Hops,
+    configured: &Configured<'_>,
     proxy: &mut Proxy<T>,
-    arrival: Arrival,
-    key: Key,
-    message: &View<'_>,
-    via: &Via<'_>,
-    names: Option<Names>,
+    request: NewRequest<'_>,
     decided: Verdict<'_>,
 ) -> Result<StepOut, AllocError>
-    requires coming { IsComing proxy.old.state arrival }
-    requires key { key_of message.now ≡ Some key }
-    requires via { top_via message.now ≡ Some via.now }
-    requires names { AreNames message.now names }
-    requires alone { position (has_key key) proxy.old.state.requests ≡ None }
-    requires rows { hops.now.addresses ≡ server.now.config.addresses }
+    requires coming { IsComing proxy.old.state request.arrival }
+    requires key { key_of request.message.now ≡ Some request.key }
+    requires via { top_via request.message.now ≡ Some request.via.now }
+    requires names { AreNames request.message.now request.names }
+    requires alone { position (has_key request.key) proxy.old.state.requests ≡ None }
+    requires rows { configured.now.hops.now.addresses ≡ configured.now.server.now.config.addresses }
     requires room { HasRoom proxy.old.room decided }
-    requires served { IsServed server.now proxy.old.state arrival key decided }
+    requires served { IsServed configured.now.server.now proxy.old.state request.arrival request.key decided }
     ensures does { IfOk result (λ out. (verdict : Definition.Verdict)
-        → Is server.now proxy.old.state.bindings arrival.now (Definition.found_for_cancel proxy.old.state key arrival.from) verdict decided.entry
-        → Takes server.now proxy.old.state arrival message.now verdict out proxy.new.state) }
+        → Is configured.now.server.now proxy.old.state.bindings request.entry.arrival.now
+        (Definition.found_for_cancel proxy.old.state request.entry.key request.entry.arrival.from) verdict decided.entry
+        → Takes configured.now.server.now proxy.old.state request.entry.arrival request.entry.message.now verdict out proxy.new.state) }
     ensures unchanged { OnErr result (proxy.new.state ≡ proxy.old.state) }
     ensures timers { OnErr result (proxy.new.timers ≡ proxy.old.timers) }
 {
     match decided {
-        Verdict::Dropped => Ok(take_dropped(alloc, proxy, arrival)),
-        Verdict::AckOn(address, id) => {
-            send_ack(alloc, server, hops, proxy, arrival, message, address, id)
+        Verdict::Dropped => Ok(take_dropped(alloc, proxy, request.arrival)),
+        Verdict::AckOn(address, id) => send_ack(
+            alloc,
+            configured.server,
+            configured.hops,
+            proxy,
+            request.arrival,
+            request.message,
+            address,
+            id,
+        ),
+        Verdict::Cancel => cancel(alloc, configured, proxy, request),
+        Verdict::Answer(status, extras) => {
+            answer(alloc, configured.server, proxy, request, status, &extras)
         }
-        Verdict::Cancel => cancel(alloc, server, hops, proxy, arrival, key, message, via),
-        Verdict::Answer(status, extras) => answer(
-            alloc, server, proxy, arrival, key, message, via, status, &extras,
-        ),
-        Verdict::InDialog(address, id) => go_within(
-            alloc, server, hops, proxy, arrival, key, message, via, names, address, id,
-        ),
-        Verdict::Judged(judged) => take_asked(
-            alloc, server, hops, proxy, arrival, key, message, via, names, judged,
-        ),
+        Verdict::InDialog(address, id) => {
+            go_within(alloc, configured, proxy, request, address, id)
+        }
+        Verdict::Judged(judged) => take_asked(alloc, configured, proxy, request, judged),
     }
 }

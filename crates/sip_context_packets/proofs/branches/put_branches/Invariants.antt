@@ -5,4 +5,4 @@ use Rattle.sip_context_packets.proofs.branches.put_branches.Given as goal
 
 -- the packets so far
 abbrev pub invariant-loop-branch : goal.invariant-loop-branch
-invariant-loop-branch l = l.out ≡ l.fn.out ++ flat_map (packets_by l.server l.again l.number l.base) (take l.branch-index l.branches)
+invariant-loop-branch l = l.out ≡ l.fn.out ++ flat_map (packets_by l.sender.server.now l.sender.again l.sender.number l.base) (take l.branch-index l.branches)

@@ -7,9 +7,9 @@ use Rattle.sip_context_packets.proofs.branches.put_received_branch.Goals as goal
 
 pub base_of-requires : goal.base_of-requires
 base_of-requires c =
-    subst (λ (m : Message). fields_kept c.args.routes m.fields ≡ fields_left c.args.server.now.config.own (request_uri m.start) m.fields) (sym c.in_ok-received.ensures) c.requires
+    subst (λ (m : Message). fields_kept c.args.original.now.routes m.fields ≡ fields_left c.args.sender.now.server.now.config.own (request_uri m.start) m.fields) (sym c.in_ok-received.ensures) c.requires
 
 pub returns : goal.returns
 returns c =
-    subst (λ (m : Message). OnOk c.put_branch.result (c.put_branch.new.out ≡ c.args.out.now ++ packets_by c.args.server.now c.args.again c.args.number m c.args.branch.now))
-    (c.in_ok-base.ensures ∙ ap (base_by c.args.server.now c.args.begins_dialog) c.in_ok-received.ensures) c.put_branch.ensures
+    subst (λ (m : Message). OnOk c.put_branch.result (c.put_branch.new.out ≡ c.args.out.now ++ packets_by c.args.sender.now.server.now c.args.sender.now.again c.args.sender.now.number m c.args.branch.now))
+    (c.in_ok-base.ensures ∙ ap (base_by c.args.sender.now.server.now c.args.original.now.begins_dialog) c.in_ok-received.ensures) c.put_branch.ensures
