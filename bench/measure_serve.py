@@ -1,6 +1,6 @@
 #!/usr/bin/env python3
-"""Counts what `sipd serve` costs over real sockets of this machine: `bench/measure_serve.py [PROGRAM]`, at the top, after `rt run`
-in crates/sipd. It takes four minutes: instructions of a REGISTER pair, a call and a forked call, the processor time of an idle
+"""Counts what `sipd serve` costs over real sockets of this machine: `bench/measure_serve.py [PROGRAM] [--record]`, at the top, after
+`rt run` in crates/sipd; with `--record` the server records what it hears. It takes four minutes: instructions of a REGISTER pair, a call and a forked call, the processor time of an idle
 minute, and the memory that is resident at the start and with 1,000 bindings.
 
 Instructions are callgrind's: of a run of some units, less those of a run as long in which only phones registered, for each unit.
@@ -24,7 +24,9 @@ import replays
 from phone import PROGRAM as BUILT
 from phone import Phone, free_port, started, tag_of, uri_in
 
-PROGRAM = sys.argv[1] if len(sys.argv) > 1 else BUILT
+RECORDS = "--record" in sys.argv
+GIVEN = [word for word in sys.argv[1:] if word != "--record"]
+PROGRAM = GIVEN[0] if GIVEN else BUILT
 UNITS = 20
 OPEN = 34  # seconds until what was opened has ended
 BINDINGS, TOGETHER = 1000, 450  # so many registrations fit into the table of open requests
@@ -37,6 +39,11 @@ def configured(folder, users=("help",)):
     with open(path, "w") as made:
         made.write(replays.configuration(users).replace("5060", str(port)))
     return path
+
+
+def recorded(folder):
+    """The words by which a server records, if it is to."""
+    return ["--record", tempfile.mktemp(prefix="record_", dir=folder)] if RECORDS else []
 
 
 def phone_of(user, port):
@@ -77,7 +84,7 @@ def call(caller, phones):
 
 def instructions(folder, phones, unit):
     """Of a run in which so many phones register, and then a unit is done some times, if there is one."""
-    server, port = started(PROGRAM, configured(folder), before=COUNTED)
+    server, port = started(PROGRAM, configured(folder), *recorded(folder), before=COUNTED)
     ends = time.monotonic() + 10 + OPEN
     registered = [phone_of("help", port) for _ in range(phones)]
     for phone in registered:
@@ -109,7 +116,7 @@ def processor(server):
 
 
 def idle(folder):
-    server, _ = started(PROGRAM, configured(folder))
+    server, _ = started(PROGRAM, configured(folder), *recorded(folder))
     time.sleep(1)
     before = processor(server)
     time.sleep(60)
@@ -120,7 +127,7 @@ def idle(folder):
 
 def bindings(folder):
     users = [f"user{place}" for place in range(BINDINGS)]
-    server, port = started(PROGRAM, configured(folder, ["help", *users]))
+    server, port = started(PROGRAM, configured(folder, ["help", *users]), *recorded(folder))
     # Its records are read on: they are more than a pipe holds, and a server whose output nobody reads waits.
     threading.Thread(target=server.stdout.read, daemon=True).start()
     time.sleep(1)

@@ -71,6 +71,7 @@ class Phone:
         self.socket.settimeout(timeout)
         self.at = "127.0.0.1:%d" % self.socket.getsockname()[1]
         self.address = f"sip:{name}@{domain}"
+        self.heard = []
 
     def mark(self):
         return f"{self.name}{next(Phone.marks)}x{os.getpid()}"
@@ -83,6 +84,7 @@ class Phone:
         """The next message that isn't a 100."""
         while True:
             data, self.source = self.socket.recvfrom(65536)
+            self.heard.append(data)
             message = Message(data)
             if message.status != 100:
                 return message

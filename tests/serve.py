@@ -1,5 +1,5 @@
 #!/usr/bin/env python3
-"""Tries `sipd serve` by real sockets of this machine: `tests/serve.py [PROGRAM]`, after `rt run` in crates/sipd. It takes half a
+"""Tries `sipd serve` by real sockets of this machine: `tests/serve.py [PROGRAM]`, after `rt run` in crates/sipd. It takes a
 minute, prints a line for each trial, and ends with 1 where one fails. Timer A asks for a machine that isn't overloaded."""
 
 import os
@@ -155,10 +155,197 @@ def closed_output(folder):
     assert server.wait(10) == 4 and server.stderr.read() == b"sipd: device\n"
 
 
+def established(alice, bob):
+    """A call that stands: its Call-ID, and what its caller knows of it."""
+    number, _ = alice.invite(bob.address)
+    invite = bob.hear()
+    bob.answer(invite, 200, "b1", [bob.contact()])
+    taken = alice.hear()
+    assert taken.status == 200, taken.start
+    dialog = number, taken["Record-Route"], uri_in(taken["Contact"]), tag_of(taken)
+    alice.request("ACK", dialog[2], bob.address, number, 2, [("Route", dialog[1])], dialog[3])
+    assert bob.hear().method == "ACK"
+    return dialog
+
+
+def hung_up(alice, bob, dialog):
+    number, route, remote, tag = dialog
+    alice.request("BYE", remote, bob.address, number, 3, [("Route", route)], tag)
+    bye = bob.hear()
+    assert bye.method == "BYE", bye.start
+    bob.answer(bye, 200)
+    over = alice.hear()
+    assert over.status == 200 and over.method == "BYE", over.start
+
+
+def killed(server):
+    """Ends a server by a signal that it can't see; gives what it printed beside its first line, and its complaints."""
+    server.kill()
+    rest, complaints = server.communicate(timeout=10)
+    return rest.decode(), complaints.decode()
+
+
+def replayed(config, record):
+    status, printed, complaints = ended("replay", "--config", config, "--record", record)
+    return status, printed, complaints
+
+
+def audit_of(printed):
+    return [line[len("audit "):] for line in printed.splitlines() if line.startswith("audit ")]
+
+
+def record(folder):
+    """What was recorded is replayed: the lines of the log byte for byte, and each packet that a phone heard."""
+    config, path = office(folder, free_port()), os.path.join(folder, "day")
+    server, port = started(PROGRAM, config, "--record", path)
+    alice, bob = phones(port)
+    heard = []
+    for it in (alice, bob):
+        it.heard = heard
+    assert alice.register() == [401, 200] and bob.register() == [401, 200]
+    hung_up(alice, bob, established(alice, bob))
+    alice.socket.sendto(b"", alice.server)
+    alice.socket.sendto(b"\r\n\r\n", alice.server)
+    number, _ = alice.invite("sip:carol@127.0.0.1")
+    refused = alice.hear()
+    assert refused.status >= 400, refused.start
+    time.sleep(0.6)
+    printed, complaints = killed(server)
+    assert complaints == "", complaints
+    assert os.stat(path).st_mode & 0o777 == 0o600
+    status, again, complaints = replayed(config, path)
+    assert (status, complaints) == (0, ""), (status, complaints)
+    assert audit_of(again) == printed.splitlines() != [], (audit_of(again), printed)
+    assert len(heard) > 10 and all(data.decode() in again for data in heard)
+
+
+def restart(folder):
+    """Killed and started again under a standing call, and again from a record whose last line is cut: nothing is lost."""
+    port = free_port()
+    config = office(folder, port)
+    first, second, third = (os.path.join(folder, name) for name in ("first", "second", "third"))
+    server, port = started(PROGRAM, config, "--record", first)
+    alice, bob = phones(port)
+    assert alice.register() == [401, 200] and bob.register() == [401, 200]
+    dialog = established(alice, bob)
+    before, _ = killed(server)
+    server, _ = started(PROGRAM, config, "--record", second, "--resume", first)
+    hung_up(alice, bob, dialog)
+    other = established(alice, bob)
+    printed, complaints = killed(server)
+    assert re.fullmatch(r"sipd: goes on behind \d+ lines of .*/first\n", complaints), complaints
+    last, following = int(before.splitlines()[-1].split(" ")[1]), int(printed.split(" ")[1])
+    assert following > last, (before, printed)
+    with open(second, "rb+") as whole:
+        whole.seek(0, os.SEEK_END)
+        whole.truncate(whole.tell() - 3)
+    server, _ = started(PROGRAM, config, "--record", third, "--resume", second)
+    hung_up(alice, bob, other)
+    _, complaints = killed(server)
+    assert complaints.startswith("sipd: goes on behind "), complaints
+    status, again, complaints = replayed(config, third)
+    assert (status, complaints) == (0, ""), complaints
+    assert audit_of(again)[: len((before + printed).splitlines())] == (before + printed).splitlines()
+
+
+def no_count_twice(folder):
+    """What proved a user before a restart proves nobody behind it."""
+    config = office(folder, free_port())
+    first, second = os.path.join(folder, "counts"), os.path.join(folder, "counts2")
+    server, port = started(PROGRAM, config, "--record", first)
+    alice, _ = phones(port)
+    uri, call_id = "sip:127.0.0.1", alice.mark()
+    alice.request("REGISTER", uri, alice.address, call_id, 1, [alice.contact()])
+    proof = alice.credential(alice.hear(), "REGISTER", uri)
+    alice.request("REGISTER", uri, alice.address, call_id, 2, [alice.contact(), proof])
+    assert alice.hear().status == 200
+    killed(server)
+    server, _ = started(PROGRAM, config, "--record", second, "--resume", first)
+    alice.request("REGISTER", uri, alice.address, call_id, 3, [alice.contact(), proof])
+    refused = alice.hear()
+    assert refused.status == 401, refused.start
+    killed(server)
+
+
+def not_resumed(folder):
+    """A record of another configuration, none, one that is damaged and one that isn't there: a line says so, and the server starts anew."""
+    config = office(folder, free_port())
+    good = os.path.join(folder, "good")
+    server, port = started(PROGRAM, config, "--record", good)
+    alice, _ = phones(port)
+    assert alice.register() == [401, 200]
+    killed(server)
+    with open(good) as source:
+        lines = source.readlines()
+    other, damaged, missing = (os.path.join(folder, name) for name in ("other.toml", "damaged", "nowhere"))
+    with open(config) as source, open(other, "w") as made:
+        made.write(source.read() + "\n# another\n")
+    with open(damaged, "w") as made:
+        made.writelines([*lines[:2], "hello\n", *lines[2:]])
+    for number, (by, old, why) in enumerate((
+        (other, good, "it was made with another configuration"),
+        (config, config, "it is no record"),
+        (config, damaged, "its line 3 begins no event"),
+        (config, missing, "it can't be read"),
+    )):
+        server, _ = started(PROGRAM, by, "--record", os.path.join(folder, f"anew{number}"), "--resume", old)
+        _, complaints = killed(server)
+        assert complaints == f"sipd: {old} isn't resumed: {why}; bindings, dialogs, open calls and nonces are lost\n", complaints
+    there = ended("serve", "--config", config, "--record", good)
+    assert there == (4, "", "sipd: the record can't be made: its file is there already, or its folder isn't\n"), there
+    assert replayed(other, good) == (3, "", "sipd: the record was made with another configuration\n")
+    assert replayed(config, config) == (3, "", "sipd: no record\n")
+
+
+def full_device(folder):
+    """A record that can't be written any more: said once, and the server goes on; or it ends, by a word of the option."""
+    config = office(folder, free_port())
+    limited = ["env", "--ignore-signal=XFSZ", "prlimit", "--fsize=2000", "--"]
+    server, port = started(PROGRAM, config, "--record", os.path.join(folder, "small"), before=limited)
+    alice, bob = phones(port)
+    assert alice.register() == [401, 200] and bob.register() == [401, 200]
+    _, complaints = killed(server)
+    assert complaints == "sipd: the record can't be written; nothing more is recorded\n", complaints
+    with open(os.path.join(folder, "small"), "rb") as broken:
+        assert broken.read(7) == b"broken "
+    assert replayed(config, os.path.join(folder, "small")) == (3, "", "sipd: no record\n")
+    server, _ = started(PROGRAM, config, "--record", os.path.join(folder, "small2"), "--record-fault", "end", before=limited)
+    for _ in range(3):
+        alice.request("REGISTER", "sip:127.0.0.1", alice.address, alice.mark(), 1, [alice.contact()])
+    assert server.wait(10) == 4
+    complaints = server.stderr.read().decode()
+    assert complaints.endswith("sipd: the record can't be written\n"), complaints
+
+
+def guard(folder):
+    """A scanner of 400 REGISTERs a second turns no phone away, and how many of its datagrams weren't heard is said."""
+    server, port = started(PROGRAM, office(folder, free_port()), "--per-source", "20")
+    alice, bob = phones(port)
+    with socket.socket(socket.AF_INET, socket.SOCK_DGRAM) as scanner:
+        scanner.bind(("127.0.0.2", 0))
+        for number in range(1200):
+            at = "127.0.0.2:%d" % scanner.getsockname()[1]
+            scanner.sendto(
+                f"REGISTER sip:127.0.0.1 SIP/2.0\r\nVia: SIP/2.0/UDP {at};branch=z9hG4bKs{number}\r\nMax-Forwards: 70\r\nFrom: <sip:x@127.0.0.1>;tag=s\r\n"
+                f"To: <sip:x@127.0.0.1>\r\nCall-ID: s{number}\r\nCSeq: 1 REGISTER\r\nContact: <sip:x@{at}>\r\nContent-Length: 0\r\n\r\n".encode(),
+                alice.server,
+            )
+            time.sleep(0.0025)
+            if number % 100 == 50:
+                assert alice.register() == [401, 200] and bob.register() == [401, 200], number
+    printed, complaints = killed(server)
+    assert complaints.startswith("sipd: ") and "of 127.0.0.2" in complaints and "127.0.0.1" not in complaints, complaints
+    scanned = [line for line in printed.splitlines() if " x@127.0.0.1 " in line]
+    assert 40 <= len(scanned) <= 40 + 20 * 6, len(scanned)
+
+
+TRIALS = (call, timer_a, stop_and_continue, turns, bad_starts, closed_output, record, restart, no_count_twice, not_resumed, full_device, guard)
+
+
 def main():
     failed = 0
     with tempfile.TemporaryDirectory() as folder:
-        for trial in (call, timer_a, stop_and_continue, turns, bad_starts, closed_output):
+        for trial in TRIALS:
             try:
                 trial(folder)
                 print("ok:", trial.__doc__)

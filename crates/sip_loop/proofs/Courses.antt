@@ -11,11 +11,13 @@ use Rattle.sip_event.specs.declared.event.Event.TheVariants.{Fault}
 use Rattle.sip_event.specs.declared.event.StepOut.{StepOut}
 use Rattle.sip_event.specs.declared.packet.Packet.{Packet}
 use Rattle.sip_audit.specs.declared.record.Record.{Record}
+use Rattle.sip_record.specs.Record.{Notes}
+use Rattle.sip_loop.proofs.Noted.{notes_nothing, notes_same, notes_both}
 use Rattle.model_bounds.specs.state.declared.server.Server.{Server}
 use Rattle.model_bounds.specs.state.declared.proxy_state.ProxyState.{ProxyState}
 use Rattle.model_bounds.specs.steps_model.Step.{Given as ForEvent, Passing, IsStep, moment_of}
 use Rattle.model_bounds.specs.model.Run.{Link, IsRun, event_moment, events_of, steps_of}
-use Rattle.sip_loop.specs.Serving.{Turn, Doing, Fires, Takes, Sends, Faults, IsWaiting, turns_in, events_in, steps_in, given_in, event_of_turn, reading_of, last_moment, records_of, told_more}
+use Rattle.sip_loop.specs.Serving.{Turn, Doing, Sent, Fires, Takes, Sends, Faults, IsWaiting, turns_in, events_in, steps_in, given_in, event_of_turn, reading_of, last_moment, records_of, told_more}
 use Rattle.sip_loop.specs.Courses.{HasRunOf, Leads, Hands, Course}
 use Rattle.sip_run.proofs.RunOn.{run_on}
 
@@ -42,6 +44,13 @@ given_behind (Takes turn out ∷ more) done = given_behind more done
 given_behind (Sends p sending ∷ more) done = ap (λ (l : List Given). record { to = p.to; bytes = p.bytes; sending = sending } ∷ l) (given_behind more done)
 given_behind (Faults at p out ∷ more) done = given_behind more done
 
+events_behind : (more done : List Doing) → events_in (more ++ done) ≡ events_in more ++ events_in done
+events_behind [] done = refl
+events_behind (Fires out ∷ more) done = events_behind more done
+events_behind (Takes turn out ∷ more) done = ap (λ (l : List Event). event_of_turn turn ∷ l) (events_behind more done)
+events_behind (Sends p sending ∷ more) done = events_behind more done
+events_behind (Faults at p out ∷ more) done = ap (λ (l : List Event). Fault at p.ticket ∷ l) (events_behind more done)
+
 -- what is told in two parts
 pub told_both : {A : Type 0} (o : Option (List A)) (first second : List A) → told_more (told_more o first) second ≡ told_more o (first ++ second)
 told_both None first second = refl
@@ -62,6 +71,13 @@ pub given_both : (before middle after : Option (List Given)) (first second : Lis
 given_both before middle after first second h1 h2 =
     h2 ∙ ap (λ (o : Option (List Given)). told_more o (reverse (given_in second))) h1 ∙ told_both before (reverse (given_in first)) (reverse (given_in second))
     ∙ ap (told_more before) (sym (ap reverse (given_behind second first) ∙ reverse-append (given_in second) (given_in first)))
+
+-- what was noted in two parts, newest first
+pub noted_both : (before middle after : Option (Option (List ℕ))) (first second : List Doing) → Notes before middle (reverse (events_in first)) → Notes middle after (reverse (events_in second))
+    → Notes before after (reverse (events_in (second ++ first)))
+noted_both before middle after first second h1 h2 =
+    subst (Notes before after) (sym (ap reverse (events_behind second first) ∙ reverse-append (events_in second) (events_in first)))
+    (notes_both before middle after (reverse (events_in first)) (reverse (events_in second)) h1 h2)
 
 -- records of two parts
 pub records_both : (first second : List Doing) → records_of (reverse (steps_in (second ++ first))) ≡ records_of (reverse (steps_in first)) ++ records_of (reverse (steps_in second))
@@ -192,20 +208,21 @@ fires_leads server start old new at done out rises stands step h = λ moment ok.
 -- ---- packets
 
 module _ (server : Server) where
-  pub hands_nothing : (state : ProxyState) (packets : List Packet) (g : Option (List Given)) → Hands server state state packets None packets g g
-  hands_nothing state packets g = record {
+  pub hands_nothing : (state : ProxyState) (packets : List Packet) (before after : Sent) → after.given ≡ before.given → after.written ≡ before.written → Hands server state state packets None packets before after
+  hands_nothing state packets before after g w = record {
     more = [];
     no_turns = refl;
     no_records = refl;
     leads = λ start until done h. h;
     waits = λ done h last. h;
     last = λ done h. h;
-    given = told_none g;
+    given = g ∙ told_none before.given;
+    noted = notes_same before.written after.written w;
   }
 
-  pub hands_went : (state : ProxyState) (p : Packet) (packets : List Packet) (before after : Option (List Given)) → after ≡ told_more before (record { to = p.to; bytes = p.bytes; sending = Went } ∷ [])
-      → Hands server state state (p ∷ packets) None packets before after
-  hands_went state p packets before after g = record {
+  pub hands_went : (state : ProxyState) (p : Packet) (packets : List Packet) (before after : Sent) → after.given ≡ told_more before.given (record { to = p.to; bytes = p.bytes; sending = Went } ∷ [])
+      → after.written ≡ before.written → Hands server state state (p ∷ packets) None packets before after
+  hands_went state p packets before after g w = record {
     more = Sends p Went ∷ [];
     no_turns = refl;
     no_records = refl;
@@ -213,11 +230,12 @@ module _ (server : Server) where
     waits = λ done h last. (h, refl);
     last = λ done h. h;
     given = g;
+    noted = notes_same before.written after.written w;
   }
 
-  pub hands_failed : (state : ProxyState) (p : Packet) (packets : List Packet) (before after : Option (List Given)) → after ≡ told_more before (record { to = p.to; bytes = p.bytes; sending = Failed } ∷ [])
-      → Hands server state state (p ∷ packets) (Some p) packets before after
-  hands_failed state p packets before after g = record {
+  pub hands_failed : (state : ProxyState) (p : Packet) (packets : List Packet) (before after : Sent) → after.given ≡ told_more before.given (record { to = p.to; bytes = p.bytes; sending = Failed } ∷ [])
+      → after.written ≡ before.written → Hands server state state (p ∷ packets) (Some p) packets before after
+  hands_failed state p packets before after g w = record {
     more = Sends p Failed ∷ [];
     no_turns = refl;
     no_records = refl;
@@ -225,11 +243,13 @@ module _ (server : Server) where
     waits = λ done h last. (h, refl);
     last = λ done h. h;
     given = g;
+    noted = notes_same before.written after.written w;
   }
 
-  pub hands_fault : (old new : ProxyState) (p : Packet) (packets : List Packet) (out : StepOut) (before after : Option (List Given)) → after ≡ told_more before (record { to = p.to; bytes = p.bytes; sending = Failed } ∷ [])
-      → IsStep server old (ForEvent (Fault old.moment p.ticket)) out new → new.moment ≡ out.at → out.records ≡ [] → Hands server old new (p ∷ packets) None (packets ++ out.packets) before after
-  hands_fault old new p packets out before after g step stands none = record {
+  pub hands_fault : (old new : ProxyState) (p : Packet) (packets : List Packet) (out : StepOut) (before after : Sent) → after.given ≡ told_more before.given (record { to = p.to; bytes = p.bytes; sending = Failed } ∷ [])
+      → IsStep server old (ForEvent (Fault old.moment p.ticket)) out new → new.moment ≡ out.at → out.records ≡ []
+      → Notes before.written after.written (Fault old.moment p.ticket ∷ []) → Hands server old new (p ∷ packets) None (packets ++ out.packets) before after
+  hands_fault old new p packets out before after g step stands none noted = record {
     more = Faults old.moment p out ∷ Sends p Failed ∷ [];
     no_turns = refl;
     no_records = ap (λ (l : List Record). l ++ []) none;
@@ -237,9 +257,10 @@ module _ (server : Server) where
     waits = λ done h last. (packets, (h, refl), sym last, refl, refl);
     last = λ done h. sym stands;
     given = g;
+    noted = noted;
   }
 
-  pub hands_on : (old middle new : ProxyState) (packets rest : List Packet) (failed : Option Packet) (waiting : List Packet) (before between after : Option (List Given)) → Hands server old middle packets None rest before between
+  pub hands_on : (old middle new : ProxyState) (packets rest : List Packet) (failed : Option Packet) (waiting : List Packet) (before between after : Sent) → Hands server old middle packets None rest before between
       → Hands server middle new rest failed waiting between after → Hands server old new packets failed waiting before after
   hands_on old middle new packets rest failed waiting before between after first second = record {
     more = second.more ++ first.more;
@@ -251,23 +272,25 @@ module _ (server : Server) where
         subst (λ (l : List Doing). IsWaiting l failed waiting) (sym (append_assoc second.more first.more done)) (second.waits (first.more ++ done) (first.waits done h last) (first.last done last));
     last = λ done last.
         subst (λ (l : List Doing). last_moment l ≡ new.moment) (sym (append_assoc second.more first.more done)) (second.last (first.more ++ done) (first.last done last));
-    given = given_both before between after first.more second.more first.given second.given;
+    given = given_both before.given between.given after.given first.more second.more first.given second.given;
+    noted = noted_both before.written between.written after.written first.more second.more first.noted second.noted;
   }
 
   -- ---- steps
 
-  pub course_nothing : (state : ProxyState) (entry : Option ℕ) (g : Option (List Given)) → Course server state state entry entry [] [] None [] g g
+  pub course_nothing : (state : ProxyState) (entry : Option ℕ) (g : Sent) → Course server state state entry entry [] [] None [] g g
   course_nothing state entry g = record {
     more = [];
     turns_are = refl;
     recorded = refl;
     leads = λ start done h. h;
     waits = λ done h. h;
-    given = told_none g;
+    given = told_none g.given;
+    noted = notes_nothing g.written;
   }
 
   -- what is due happens, and its packets are given to the link
-  pub course_fires : (old middle new : ProxyState) (at : ℕ) (out : StepOut) (failed : Option Packet) (waiting : List Packet) (before after : Option (List Given)) → old.moment ≤ middle.moment → middle.moment ≡ out.at
+  pub course_fires : (old middle new : ProxyState) (at : ℕ) (out : StepOut) (failed : Option Packet) (waiting : List Packet) (before after : Sent) → old.moment ≤ middle.moment → middle.moment ≡ out.at
       → out.records ≡ [] → IsStep server old (Passing at) out middle → Hands server middle new out.packets failed waiting before after → Course server old new (Some at) (Some at) [] [] failed waiting before after
   course_fires old middle new at out failed waiting before after rises stands none step hands = record {
     more = hands.more ++ Fires out ∷ [];
@@ -278,14 +301,16 @@ module _ (server : Server) where
         (hands.leads start (Some at) (Fires out ∷ done) (fires_leads server start old middle at done out rises stands step h));
     waits = λ done h.
         subst (λ (l : List Doing). IsWaiting l failed waiting) (sym (append_assoc hands.more (Fires out ∷ []) done)) (hands.waits (Fires out ∷ done) (h, refl, refl) (sym stands));
-    given = given_both before before after (Fires out ∷ []) hands.more (told_none before) hands.given;
+    given = given_both before.given before.given after.given (Fires out ∷ []) hands.more (told_none before.given) hands.given;
+    noted = noted_both before.written before.written after.written (Fires out ∷ []) hands.more (notes_nothing before.written) hands.noted;
   }
 
-  -- the event of a turn is taken, and its packets are given to the link
-  pub course_takes : (old middle new : ProxyState) (turn : Turn) (out : StepOut) (failed : Option Packet) (waiting : List Packet) (before after : Option (List Given)) → middle.moment ≡ out.at
-      → event_moment (event_of_turn turn) ≡ reading_of turn → IsStep server old (ForEvent (event_of_turn turn)) out middle → Hands server middle new out.packets failed waiting before after
+  -- the event of a turn is taken and noted, and its packets are given to the link
+  pub course_takes : (old middle new : ProxyState) (turn : Turn) (out : StepOut) (failed : Option Packet) (waiting : List Packet) (before half after : Sent) → middle.moment ≡ out.at
+      → event_moment (event_of_turn turn) ≡ reading_of turn → IsStep server old (ForEvent (event_of_turn turn)) out middle → half.given ≡ before.given
+      → Notes before.written half.written (event_of_turn turn ∷ []) → Hands server middle new out.packets failed waiting half after
       → Course server old new (Some (reading_of turn)) None (turn ∷ []) out.records failed waiting before after
-  course_takes old middle new turn out failed waiting before after stands is step hands = record {
+  course_takes old middle new turn out failed waiting before half after stands is step g noted hands = record {
     more = hands.more ++ Takes turn out ∷ [];
     turns_are = turns_behind hands.more (Takes turn out ∷ []) ∙ ap (λ (l : List Turn). l ++ turn ∷ []) hands.no_turns;
     recorded = records_both (Takes turn out ∷ []) hands.more ∙ ap (λ (b : List Record). (out.records ++ []) ++ b) hands.no_records ∙ append-nil (out.records ++ []) ∙ append-nil out.records;
@@ -294,10 +319,11 @@ module _ (server : Server) where
         (hands.leads start None (Takes turn out ∷ done) (turn_leads server start done old middle turn out step is h));
     waits = λ done h.
         subst (λ (l : List Doing). IsWaiting l failed waiting) (sym (append_assoc hands.more (Takes turn out ∷ []) done)) (hands.waits (Takes turn out ∷ done) (h, refl, refl) (sym stands));
-    given = given_both before before after (Takes turn out ∷ []) hands.more (told_none before) hands.given;
+    given = given_both before.given half.given after.given (Takes turn out ∷ []) hands.more (g ∙ told_none before.given) hands.given;
+    noted = noted_both before.written half.written after.written (Takes turn out ∷ []) hands.more noted hands.noted;
   }
 
-  pub course_on : (old middle new : ProxyState) (entry between exit : Option ℕ) (turns more_turns : List Turn) (records more_records : List Record) (failed : Option Packet) (waiting : List Packet) (before half after : Option (List Given))
+  pub course_on : (old middle new : ProxyState) (entry between exit : Option ℕ) (turns more_turns : List Turn) (records more_records : List Record) (failed : Option Packet) (waiting : List Packet) (before half after : Sent)
       → Course server old middle entry between turns records None [] before half → Course server middle new between exit more_turns more_records failed waiting half after
       → Course server old new entry exit (more_turns ++ turns) (records ++ more_records) failed waiting before after
   course_on old middle new entry between exit turns more_turns records more_records failed waiting before half after first second = record {
@@ -306,5 +332,6 @@ module _ (server : Server) where
     recorded = records_both first.more second.more ∙ ap₂ (λ (a b : List Record). a ++ b) first.recorded second.recorded;
     leads = λ start done h. subst (λ (l : List Doing). Leads server start exit l new) (sym (append_assoc second.more first.more done)) (second.leads start (first.more ++ done) (first.leads start done h));
     waits = λ done h. subst (λ (l : List Doing). IsWaiting l failed waiting) (sym (append_assoc second.more first.more done)) (second.waits (first.more ++ done) (first.waits done h));
-    given = given_both before half after first.more second.more first.given second.given;
+    given = given_both before.given half.given after.given first.more second.more first.given second.given;
+    noted = noted_both before.written half.written after.written first.more second.more first.noted second.noted;
   }

@@ -12,9 +12,10 @@ use Rattle.model_bounds.specs.state.declared.proxy_state.ProxyState.{ProxyState}
 use Rattle.model_bounds.specs.state.declared.server.Server.{Server}
 use Rattle.model_bounds.specs.steps_model.Step.{Given as ForEvent, IsFault, IsStep, failed_branch, failed_request, fault_effect, is_failed, moment_of}
 use Rattle.model_bounds.specs.model.Ends.{sends_left}
-use Rattle.sip_loop_link.specs.declared.datagram.Given.{Given}
 use Rattle.sip_loop_link.specs.declared.datagram.Sending.TheVariants.{Went, Failed}
 use Rattle.sip_loop_link.specs.Told.{and_then}
+use Rattle.sip_record.specs.Record.{Notes}
+use Rattle.sip_loop.specs.Serving.{Sent}
 use Rattle.sip_loop.specs.Courses.{Hands, HandsSome, IsNoFurther, TakesFault}
 use Rattle.sip_loop.proofs.Courses.{hands_failed, hands_fault, hands_nothing, hands_on, hands_went, told_one}
 
@@ -76,50 +77,47 @@ pub on_err_of : {X E : Type 0} {P : Type 0} (r : Result X E) → P → OnErr r P
 on_err_of (Ok x) h = tt
 on_err_of (Err e) h = h
 
-module _ (server : Server) (state : ProxyState) (packets : List Packet) (place : ℕ) (p : Packet) (lt : place < length packets) (is : p ≡ get_or packets place p) (before after : Option (List Given)) where
-  pub went : after ≡ and_then before (record { to = p.to; bytes = p.bytes; sending = Went }) → Hands server state state (drop place packets) None (drop (place + 1) packets) before after
-  went g =
+module _ (server : Server) (state : ProxyState) (packets : List Packet) (place : ℕ) (p : Packet) (lt : place < length packets) (is : p ≡ get_or packets place p) (before after : Sent) where
+  pub went : after.given ≡ and_then before.given (record { to = p.to; bytes = p.bytes; sending = Went }) → after.written ≡ before.written → Hands server state state (drop place packets) None (drop (place + 1) packets) before after
+  went g w =
       subst (λ (l : List Packet). Hands server state state l None (drop (place + 1) packets) before after) (sym (at_place packets place p lt is))
-      (hands_went server state p (drop (place + 1) packets) before after (g ∙ told_one before (record { to = p.to; bytes = p.bytes; sending = Went })))
+      (hands_went server state p (drop (place + 1) packets) before after (g ∙ told_one before.given (record { to = p.to; bytes = p.bytes; sending = Went })) w)
 
-  pub unfaulted : (new : ProxyState) → new ≡ state → after ≡ and_then before (record { to = p.to; bytes = p.bytes; sending = Failed }) → HandsSome server state new (drop place packets) before after
-  unfaulted new same g = record {
+  pub unfaulted : (new : ProxyState) → new ≡ state → after.given ≡ and_then before.given (record { to = p.to; bytes = p.bytes; sending = Failed }) → after.written ≡ before.written
+      → HandsSome server state new (drop place packets) before after
+  unfaulted new same g w = record {
     failed = Some p;
     waiting = drop (place + 1) packets;
     hands =
         subst (λ (s : ProxyState). Hands server state s (drop place packets) (Some p) (drop (place + 1) packets) before after) (sym same)
         (subst (λ (l : List Packet). Hands server state state l (Some p) (drop (place + 1) packets) before after) (sym (at_place packets place p lt is))
-        (hands_failed server state p (drop (place + 1) packets) before after (g ∙ told_one before (record { to = p.to; bytes = p.bytes; sending = Failed }))));
+        (hands_failed server state p (drop (place + 1) packets) before after (g ∙ told_one before.given (record { to = p.to; bytes = p.bytes; sending = Failed })) w));
   }
 
-  faulted : (new : ProxyState) (out : StepOut) → after ≡ and_then before (record { to = p.to; bytes = p.bytes; sending = Failed }) → TakesFault server state p.ticket out new
+  faulted : (new : ProxyState) (out : StepOut) → after.given ≡ and_then before.given (record { to = p.to; bytes = p.bytes; sending = Failed }) → TakesFault server state p.ticket out new → Notes before.written after.written (Fault state.moment p.ticket ∷ [])
       → Hands server state new (drop place packets) None (drop (place + 1) packets ++ out.packets) before after
-  faulted new out g fault =
+  faulted new out g fault noted =
       subst (λ (l : List Packet). Hands server state new l None (drop (place + 1) packets ++ out.packets) before after) (sym (at_place packets place p lt is))
-      (hands_fault server state new p (drop (place + 1) packets) out before after (g ∙ told_one before (record { to = p.to; bytes = p.bytes; sending = Failed })) fault.step fault.stands fault.no_records)
+      (hands_fault server state new p (drop (place + 1) packets) out before after (g ∙ told_one before.given (record { to = p.to; bytes = p.bytes; sending = Failed })) fault.step fault.stands fault.no_records noted)
 
-  pub faulted_all : (new : ProxyState) (out : StepOut) (more : List Packet) → after ≡ and_then before (record { to = p.to; bytes = p.bytes; sending = Failed }) → TakesFault server state p.ticket out new → more ≡ packets ++ out.packets
+  pub faulted_all : (new : ProxyState) (out : StepOut) (more : List Packet) → after.given ≡ and_then before.given (record { to = p.to; bytes = p.bytes; sending = Failed }) → TakesFault server state p.ticket out new → Notes before.written after.written (Fault state.moment p.ticket ∷ []) → more ≡ packets ++ out.packets
       → Hands server state new (drop place packets) None (drop (place + 1) more) before after
-  faulted_all new out more g fault same =
-      subst (λ (l : List Packet). Hands server state new (drop place packets) None l before after) (sym (ap (drop (place + 1)) same ∙ behind_more packets out.packets place lt)) (faulted new out g fault)
+  faulted_all new out more g fault noted same =
+      subst (λ (l : List Packet). Hands server state new (drop place packets) None l before after) (sym (ap (drop (place + 1)) same ∙ behind_more packets out.packets place lt)) (faulted new out g fault noted)
 
-  pub faulted_some : (new : ProxyState) (out : StepOut) → after ≡ and_then before (record { to = p.to; bytes = p.bytes; sending = Failed }) → TakesFault server state p.ticket out new
+  pub faulted_some : (new : ProxyState) (out : StepOut) → after.given ≡ and_then before.given (record { to = p.to; bytes = p.bytes; sending = Failed }) → TakesFault server state p.ticket out new → Notes before.written after.written (Fault state.moment p.ticket ∷ [])
       → HandsSome server state new (drop place packets) before after
-  faulted_some new out g fault = record { failed = None; waiting = drop (place + 1) packets ++ out.packets; hands = faulted new out g fault }
+  faulted_some new out g fault noted = record { failed = None; waiting = drop (place + 1) packets ++ out.packets; hands = faulted new out g fault noted }
 
-pub unsent : (server : Server) (state : ProxyState) (packets : List Packet) (before after : Option (List Given)) → after ≡ before → HandsSome server state state packets before after
-unsent server state packets before after same = record {
-  failed = None;
-  waiting = packets;
-  hands = subst (λ (g : Option (List Given)). Hands server state state packets None packets before g) (sym same) (hands_nothing server state packets before);
-}
+pub unsent : (server : Server) (state : ProxyState) (packets : List Packet) (before after : Sent) → after.given ≡ before.given → after.written ≡ before.written → HandsSome server state state packets before after
+unsent server state packets before after g w = record { failed = None; waiting = packets; hands = hands_nothing server state packets before after g w }
 
-pub hands_then : (server then_server : Server) (old middle new : ProxyState) (packets rest waiting : List Packet) (before half after : Option (List Given)) → then_server ≡ server → Hands server old middle packets None rest before half
+pub hands_then : (server then_server : Server) (old middle new : ProxyState) (packets rest waiting : List Packet) (before half after : Sent) → then_server ≡ server → Hands server old middle packets None rest before half
     → Hands then_server middle new rest None waiting half after → Hands server old new packets None waiting before after
 hands_then server then_server old middle new packets rest waiting before half after same first second =
     hands_on server old middle new packets rest None waiting before half after first (subst (λ (s : Server). Hands s middle new rest None waiting half after) same second)
 
-pub hands_some : (server then_server : Server) (old middle new : ProxyState) (packets rest : List Packet) (before half after : Option (List Given)) → then_server ≡ server → Hands server old middle packets None rest before half
+pub hands_some : (server then_server : Server) (old middle new : ProxyState) (packets rest : List Packet) (before half after : Sent) → then_server ≡ server → Hands server old middle packets None rest before half
     → HandsSome then_server middle new rest half after → HandsSome server old new packets before after
 hands_some server then_server old middle new packets rest before half after same first second = record {
   failed = second.failed;

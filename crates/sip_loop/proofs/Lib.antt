@@ -1,4 +1,5 @@
 pub mod Courses
 pub mod Handed
+pub mod Noted
 pub mod Turning
 pub mod Turns

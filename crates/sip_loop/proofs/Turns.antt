@@ -13,11 +13,12 @@ use Rattle.model_bounds.specs.state.State.{first_state}
 use Rattle.model_bounds.specs.model.Run.{Link, IsChain}
 use Rattle.model_bounds.specs.model.Access.{Access}
 use Rattle.model_bounds.specs.Bounds.{IsBounded}
+use Rattle.sip_loop.proofs.Noted.{notes_nothing}
 use Rattle.sip_loop.specs.Counts.{counted_times, IsAskedWithin}
-use Rattle.sip_loop.specs.Serving.{Turn, Silence, Arrival, Doing, Told, Progress, Whole, Read, Begun, AreDrawn, AreTold, IsServed, IsToldMore, IsUnserved, IsWaiting, Serves, begun, given_in, heard_in, passed_to, reading_of, readings_in, told_more, turns_in}
+use Rattle.sip_loop.specs.Serving.{Turn, Silence, Arrival, Doing, Told, Progress, Whole, Read, Begun, AreDrawn, AreTold, IsServed, IsToldMore, IsUnserved, IsWaiting, Serves, begun, given_in, heard_in, passed_to, reading_of, readings_in, sent_of, told_more, turns_in}
 use Rattle.sip_loop.specs.Courses.{Breaks, Course, Goes, HasRunOf, Leads, Turns}
 use Rattle.sip_loop.specs.declared.served.ServeError.{ServeError}
-use Rattle.sip_loop.proofs.Courses.{given_behind, leads_nothing, leads_on, records_both, told_both, told_none, turns_behind}
+use Rattle.sip_loop.proofs.Courses.{given_behind, leads_nothing, leads_on, noted_both, records_both, told_both, told_none, turns_behind}
 
 -- ---- what is told in two parts
 
@@ -84,6 +85,7 @@ module _ (server : Server) where
     waits = λ done h. h;
     recorded = refl;
     told = record { heard = told_none told.heard; given = told_none told.given; readings = told_if_same told.readings told.readings refl; words = refl };
+    noted = notes_nothing told.written;
     counted = refl;
   }
 
@@ -100,6 +102,7 @@ module _ (server : Server) where
         subst (λ (l : List Turn). AreTold before after progress l (given_in (second.more ++ first.more))) (sym (turns_behind second.more first.more))
         (subst (AreTold before after progress (turns_in second.more ++ turns_in first.more)) (sym (given_behind second.more first.more))
         (told_on before between after progress (turns_in first.more) (turns_in second.more) (given_in first.more) (given_in second.more) first.told second.told));
+    noted = noted_both before.written between.written after.written first.more second.more first.noted second.noted;
     counted =
         ap (λ (l : List Turn). length (readings_in progress l)) (turns_behind second.more first.more) ∙ ap length (readings_behind progress (turns_in second.more) (turns_in first.more))
         ∙ length-append (readings_in progress (turns_in second.more)) (map reading_of (turns_in first.more)) ∙ ap₂ (λ (a b : ℕ). a + b) second.counted first.counted ∙ swapped more_count count;
@@ -109,7 +112,7 @@ module _ (server : Server) where
 
   -- one turn, of its parts
   pub turn_of : (old new : ProxyState) (before after : Told) (at : ℕ) (progress : Progress) (turns : List Turn) (records : List Record) (failed : Option Packet) (waiting : List Packet)
-      → Course server old new (Some at) (passed_to progress) turns records failed waiting before.given after.given → readings_in progress turns ≡ at ∷ []
+      → Course server old new (Some at) (passed_to progress) turns records failed waiting (sent_of before) (sent_of after) → readings_in progress turns ≡ at ∷ []
       → after.heard ≡ told_more before.heard (reverse (map heard_in (begun progress turns))) → AreDrawn before.words (begun progress turns) after.words → IsToldMore before.readings (at ∷ []) after.readings
       → Turns server old new before after progress 1 records failed waiting
   turn_of old new before after at progress turns records failed waiting course one heard words readings =
@@ -121,6 +124,7 @@ module _ (server : Server) where
         recorded = course.recorded;
         told = subst (λ (l : List Turn). AreTold before after progress l (given_in course.more)) (sym same)
             (record { heard = heard; given = course.given; readings = subst (λ (l : List ℕ). IsToldMore before.readings (reverse l) after.readings) (sym one) readings; words = words });
+        noted = course.noted;
         counted = ap (λ (l : List Turn). length (readings_in progress l)) same ∙ ap length one;
       }
 
@@ -156,6 +160,7 @@ module _ (lawful : HistoriesHaveAccess) (bounded : HistoriesAreBounded) (server 
         access = λ first past chain. lawful server first (run.history ++ past) new (joined_chain server (first_state first) old new past run.history chain run.is_run.chain);
         bounded = λ first past chain. bounded server first (run.history ++ past) new (joined_chain server (first_state first) old new past run.history chain run.is_run.chain);
         told = h.told;
+        noted = h.noted;
       }
 
   all_waits : (progress : Progress) (count : ℕ) (records : List Record) (failed : Option Packet) (waiting : List Packet) → (h : Turns server old new before after progress count records failed waiting)

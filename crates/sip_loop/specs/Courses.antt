@@ -1,11 +1,11 @@
 -- How serving goes on, piece by piece: what each piece does leads on from whatever was done before it.
 use Rattle.std.specs.Prelude.{ℕ, ◌≡◌, ◌≤◌, ◌+◌, ◌⊎◌, List, [], ◌∷◌, ◌++◌, map, reverse, length, Option, Some, None}
 use Rattle.rand_core.specs.Stream.{Stream}
-use Rattle.sip_loop_link.specs.declared.datagram.Given.{Given}
 use Rattle.sip_loop_link.specs.declared.datagram.Heard.{Heard}
 use Rattle.sip_event.specs.declared.event.StepOut.{StepOut}
 use Rattle.sip_event.specs.declared.packet.Packet.{Packet}
 use Rattle.sip_audit.specs.declared.record.Record.{Record}
+use Rattle.sip_record.specs.Record.{Notes}
 use Rattle.model_bounds.specs.state.declared.server.Server.{Server}
 use Rattle.model_bounds.specs.state.declared.proxy_state.ProxyState.{ProxyState}
 use Rattle.model_bounds.specs.model.Run.{Link, IsRun}
@@ -13,7 +13,7 @@ use Rattle.model_bounds.specs.steps_model.Step.{Given as ForEvent, Passing, IsSt
 use Rattle.model_bounds.specs.model.Ends.{sends_left, steps_left}
 use Rattle.sip_event.specs.declared.event.Event.TheVariants.{Fault}
 use Rattle.sip_event.specs.declared.packet.Ticket.{Ticket}
-use Rattle.sip_loop.specs.Serving.{Turn, Doing, Told, Progress, Whole, Read, Begun, AreDrawn, AreTold, IsWaiting, IsWhy, begun}
+use Rattle.sip_loop.specs.Serving.{Turn, Doing, Sent, Told, Progress, Whole, Read, Begun, AreDrawn, AreTold, IsWaiting, IsWhy, begun}
 use Rattle.sip_loop.specs.Serving.{event_of_turn, events_in, given_in, heard_in, last_moment, passed_to, reading_of, readings_in}
 use Rattle.sip_loop.specs.Serving.{records_of, steps_in, told_more, turns_in}
 use Rattle.sip_loop.specs.declared.served.ServeError.{ServeError}
@@ -31,7 +31,7 @@ Leads server start (Some at) done state = (moment : ℕ) → (moment ≡ at) ⊎
 
 -- Packets are given to the link: of those that waited these still wait, and perhaps one failed whose fault wasn't taken.
 pub record Hands (server : Server) (old new : ProxyState) (packets : List Packet) (failed : Option Packet) (waiting : List Packet)
-    (before after : Option (List Given)) : Type 0 where
+    (before after : Sent) : Type 0 where
   pub more : List Doing
   pub no_turns : turns_in more ≡ []
   pub no_records : records_of (reverse (steps_in more)) ≡ []
@@ -39,23 +39,25 @@ pub record Hands (server : Server) (old new : ProxyState) (packets : List Packet
       → Leads server start until (more ++ done) new
   pub waits : (done : List Doing) → IsWaiting done None packets → last_moment done ≡ old.moment → IsWaiting (more ++ done) failed waiting
   pub last : (done : List Doing) → last_moment done ≡ old.moment → last_moment (more ++ done) ≡ new.moment
-  pub given : after ≡ told_more before (reverse (given_in more))
+  pub given : after.given ≡ told_more before.given (reverse (given_in more))
+  pub noted : Notes before.written after.written (reverse (events_in more))
 
 -- Some packets were given so, and some may wait.
-pub record HandsSome (server : Server) (old new : ProxyState) (packets : List Packet) (before after : Option (List Given)) : Type 0 where
+pub record HandsSome (server : Server) (old new : ProxyState) (packets : List Packet) (before after : Sent) : Type 0 where
   pub failed : Option Packet
   pub waiting : List Packet
   pub hands : Hands server old new packets failed waiting before after
 
 -- Steps are taken and what they hand out is given to the link, behind what was done when nothing waited.
 pub record Course (server : Server) (old new : ProxyState) (entry exit : Option ℕ) (turns : List Turn) (records : List Record)
-    (failed : Option Packet) (waiting : List Packet) (before after : Option (List Given)) : Type 0 where
+    (failed : Option Packet) (waiting : List Packet) (before after : Sent) : Type 0 where
   pub more : List Doing
   pub turns_are : turns_in more ≡ turns
   pub recorded : records_of (reverse (steps_in more)) ≡ records
   pub leads : (start : ProxyState) (done : List Doing) → Leads server start entry done old → Leads server start exit (more ++ done) new
   pub waits : (done : List Doing) → IsWaiting done None [] → IsWaiting (more ++ done) failed waiting
-  pub given : after ≡ told_more before (reverse (given_in more))
+  pub given : after.given ≡ told_more before.given (reverse (given_in more))
+  pub noted : Notes before.written after.written (reverse (events_in more))
 
 -- The same of whole turns and perhaps one that was begun, with all that the devices tell.
 pub record Turns (server : Server) (old new : ProxyState) (before after : Told) (progress : Progress) (count : ℕ) (records : List Record)
@@ -65,14 +67,14 @@ pub record Turns (server : Server) (old new : ProxyState) (before after : Told) 
   pub waits : (done : List Doing) → IsWaiting done None [] → IsWaiting (more ++ done) failed waiting
   pub recorded : records_of (reverse (steps_in more)) ≡ records
   pub told : AreTold before after progress (turns_in more) (given_in more)
+  pub noted : Notes before.written after.written (reverse (events_in more))
   pub counted : length (readings_in progress (turns_in more)) ≡ count
 
 -- ---- pieces of a turn
 
 -- A turn's event was taken: the link heard it, its word was drawn, and the step is its own.
 pub record TakesTurn (server : Server) (old : ProxyState) (at : ℕ) (heard heard_then : Option (List (Option Heard))) (words left : Stream)
-    (out : StepOut) (new : ProxyState) : Type 0 where
-  pub turn : Turn
+    (turn : Turn) (out : StepOut) (new : ProxyState) : Type 0 where
   pub is_at : reading_of turn ≡ at
   pub step : IsStep server old (ForEvent (event_of_turn turn)) out new
   pub hears : heard_then ≡ told_more heard (heard_in turn ∷ [])
@@ -94,7 +96,7 @@ pub record BreaksTurn (state : ProxyState) (at : ℕ) (heard heard_then : Option
   pub why : IsWhy e progress None [] state
 
 -- What is due by a moment happens, up to a refusal.
-pub record BreaksFiring (server : Server) (old new : ProxyState) (at : ℕ) (before after : Option (List Given)) (e : ServeError) : Type 0 where
+pub record BreaksFiring (server : Server) (old new : ProxyState) (at : ℕ) (before after : Sent) (e : ServeError) : Type 0 where
   pub failed : Option Packet
   pub waiting : List Packet
   pub course : Course server old new (Some at) (Some at) [] [] failed waiting before after
@@ -102,7 +104,7 @@ pub record BreaksFiring (server : Server) (old new : ProxyState) (at : ℕ) (bef
 
 -- The rest of a turn, once what was due by its reading has happened.
 pub record GoesOn (server : Server) (old new : ProxyState) (at : ℕ) (heard heard_then : Option (List (Option Heard)))
-    (given given_then : Option (List Given)) (words left : Stream) (records more : List Record) : Type 0 where
+    (given given_then : Sent) (words left : Stream) (records more : List Record) : Type 0 where
   pub turn : Turn
   pub is_at : reading_of turn ≡ at
   pub listed : List Record
@@ -113,7 +115,7 @@ pub record GoesOn (server : Server) (old new : ProxyState) (at : ℕ) (heard hea
 
 -- The same, refused: before the turn's event was taken, or behind it.
 pub record BreaksOff (server : Server) (old new : ProxyState) (at : ℕ) (heard heard_then : Option (List (Option Heard)))
-    (given given_then : Option (List Given)) (words left : Stream) (e : ServeError) : Type 0 where
+    (given given_then : Sent) (words left : Stream) (e : ServeError) : Type 0 where
   pub progress : Progress
   pub turns : List Turn
   pub records : List Record

@@ -1,18 +1,26 @@
 -- The numbers of the refusals of serving.
-use Rattle.std.specs.Prelude.{ℕ}
+use Rattle.std.specs.Prelude.{ℕ, ◌≡◌, ⊤, List, Option, None}
 use Rattle.sip_run.specs.engine.declared.error.StepError.{StepError}
 use Rattle.sip_run.specs.engine.declared.error.StepError.TheVariants as steps
 use Rattle.sip_loop.specs.declared.served.ServeError.{ServeError}
-use Rattle.sip_loop.specs.declared.served.ServeError.TheVariants.{NoMemory, Link, Step}
+use Rattle.sip_loop.specs.declared.served.ServeError.TheVariants.{NoMemory, Link, Step, Journal}
 
 -- this project's profile
 abbrev pub number_of_refusal : ServeError → ℕ
 number_of_refusal NoMemory = 1
 number_of_refusal Link = 5
 number_of_refusal Step = 6
+number_of_refusal Journal = 7
 
 -- what a refused step is to serving
 abbrev pub refusal_of_step : StepError → ServeError
 refusal_of_step steps.NoMemory = NoMemory
 refusal_of_step steps.MomentTooLarge = Step
 refusal_of_step steps.Worn = Step
+
+-- a refusal of handing out: memory ran out; or the journal failed, and tells nothing from then on
+abbrev pub IsOfHanding : ServeError → Option (Option (List ℕ)) → Type 0
+IsOfHanding NoMemory written = ⊤
+IsOfHanding Journal written = written ≡ None
+IsOfHanding Link written = ⊥
+IsOfHanding Step written = ⊥

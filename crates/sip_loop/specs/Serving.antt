@@ -12,6 +12,7 @@ use Rattle.sip_event.specs.declared.event.Event.TheVariants.{Datagram, Time, Fau
 use Rattle.sip_event.specs.declared.event.StepOut.{StepOut}
 use Rattle.sip_event.specs.declared.packet.Packet.{Packet}
 use Rattle.sip_audit.specs.declared.record.Record.{Record}
+use Rattle.sip_record.specs.Record.{Notes}
 use Rattle.model_bounds.specs.state.declared.server.Server.{Server}
 use Rattle.model_bounds.specs.state.declared.proxy_state.ProxyState.{ProxyState}
 use Rattle.model_bounds.specs.state.State.{first_state}
@@ -22,8 +23,9 @@ use Rattle.model_bounds.specs.Bounds.{IsBounded}
 use Rattle.sip_run.specs.engine.StepError.{refusal_at}
 use Rattle.sip_run.specs.Due.{NothingDueBy}
 use Rattle.sip_run.specs.Refusals.{refusal_of_event}
+use Rattle.sip_loop.specs.declared.serving.Arrived.{Arrived}
 use Rattle.sip_loop.specs.declared.served.ServeError.{ServeError}
-use Rattle.sip_loop.specs.declared.served.ServeError.TheVariants.{NoMemory, Link as LinkFailed, Step}
+use Rattle.sip_loop.specs.declared.served.ServeError.TheVariants.{NoMemory, Journal, Link as LinkFailed, Step}
 
 -- ---- turns
 
@@ -46,6 +48,11 @@ heard_in (Arrival at heard word) = Some heard
 abbrev pub event_of_turn : Turn → Event
 event_of_turn (Silence at) = Time at
 event_of_turn (Arrival at heard word) = Datagram at word heard.from heard.bytes
+
+-- what a reading brings: that alone, or a datagram of these bytes, with its source and its word
+abbrev pub turn_at : ℕ → Option Arrived → List ℕ → Turn
+turn_at at None bytes = Silence at
+turn_at at (Some arrived) bytes = Arrival at (record { from = arrived.from; bytes = bytes }) arrived.word
 
 -- the next two numbers of a source as one word, the high half first
 abbrev pub word_from : Stream → ℕ
@@ -132,12 +139,21 @@ records_of steps = flat_map (λ (out : StepOut). out.records) steps
 -- ---- what the devices tell
 
 -- What devices tell: what the link heard, call by call, and was given, and what the clock showed, oldest first, where they tell it;
--- and what a source of words will give.
+-- the bytes of the journal, where it tells them and hasn't failed; and what a source of words will give.
 pub record Told : Type 0 where
   pub heard : Option (List (Option Heard))
   pub given : Option (List Given)
   pub readings : Option (List ℕ)
+  pub written : Option (Option (List ℕ))
   pub words : Stream
+
+-- what went out of a server: what its link was given, and the bytes of its journal, where these tell it
+pub record Sent : Type 0 where
+  pub given : Option (List Given)
+  pub written : Option (Option (List ℕ))
+
+abbrev pub sent_of : Told → Sent
+sent_of told = record { given = told.given; written = told.written }
 
 -- a list that is told, with others at its end
 abbrev pub told_more : {A : Type 0} → Option (List A) → List A → Option (List A)
@@ -187,13 +203,14 @@ pub record AreTold (before after : Told) (progress : Progress) (turns : List Tur
 -- failed, from the state in which it was, and each step of that
 -- run is lawful by its history, whatever history led to that state, as `Access` says, and the whole history is bounded, as
 -- `IsBounded` says; the devices told these turns, and that the link was
--- given these packets.
+-- given these packets; and where the journal tells its bytes in the end, what was written says exactly these events, in their order.
 pub record Serves (server : Server) (old new : ProxyState) (before after : Told) (progress : Progress) (done : List Doing) : Type 0 where
   pub history : List Link
   pub is_run : IsRun server old (reverse (events_in done)) (passed_to progress) (reverse (steps_in done)) history new
   pub access : (first : ℕ) (past : List Link) → IsChain server (first_state first) past old → Access server (history ++ past)
   pub bounded : (first : ℕ) (past : List Link) → IsChain server (first_state first) past old → IsBounded server (history ++ past)
   pub told : AreTold before after progress (turns_in done) (given_in done)
+  pub noted : Notes before.written after.written (reverse (events_in done))
 
 -- So many turns were served whole: all that they hand out was given to the link, and these are the records of their steps.
 pub record IsServed (turns : ℕ) (server : Server) (old new : ProxyState) (before after : Told) (records : List Record) : Type 0 where
@@ -203,11 +220,12 @@ pub record IsServed (turns : ℕ) (server : Server) (old new : ProxyState) (befo
   pub all_sent : IsWaiting done None []
   pub recorded : records ≡ records_of (reverse (steps_in done))
 
--- Why serving ended: for want of memory at any call, what was given being a front of what the steps hand out; or, once all that was
--- handed out was given and nothing was due, since the link
+-- Why serving ended: for want of memory at any call, or since the journal failed, what was given being a front of what the steps hand
+-- out; or, once all that was handed out was given and nothing was due, since the link
 -- failed as it was asked; or since the server refuses a step at that reading.
 abbrev pub IsWhy : ServeError → Progress → Option Packet → List Packet → ProxyState → Type 0
 IsWhy NoMemory progress failed waiting last = ⊤
+IsWhy Journal progress failed waiting last = ⊤
 IsWhy LinkFailed Whole failed waiting last = ⊥
 IsWhy LinkFailed (Read at) failed waiting last = (failed ≡ None) × (waiting ≡ []) × NothingDueBy (moment_of last at) last
 IsWhy LinkFailed (Begun turn) failed waiting last = ⊥

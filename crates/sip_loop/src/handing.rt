@@ -1,6 +1,7 @@
 ghost use Rattle.std.specs.Prelude.{◌≡◌, ◌<◌, ◌≤◌, ◌+◌, ◌++◌, [], ◌∷◌, drop, length, None, IfOk, IfErr, OnOk, OnErr};
 ghost use Rattle.model_bounds.specs.model.Ends.{sends_left};
 ghost use Rattle.sip_loop.specs.Courses.{Hands, HandsSome, IsNoFurther, TakesFault};
+ghost use Rattle.sip_loop.specs.ServeErrors.{IsOfHanding};
 ghost use Rattle.sip_loop.specs.declared.served.ServeError.TheVariants.{NoMemory};
 
 use crate::served::ServeError;
@@ -10,6 +11,7 @@ use model_bounds::model::runs::failed_sends_end;
 use sip_event::{Packet, StepOut, Ticket};
 use sip_loop_link::{Link, Sending};
 use sip_policy::Rules;
+use sip_record::Journal;
 use sip_run::engine::Engine;
 use sip_text::Items;
 use sip_timers::Timers;
@@ -58,11 +60,12 @@ fn take_fault<T: Timers, R: Rules>(
     Ok(out)
 }
 
-/// Gives the packet at a place to the link. If it fails, its fault is taken at once, and the packets of that go behind those that
-/// still wait.
-fn hand_one<T: Timers, R: Rules, L: Link>(
+/// Gives the packet at a place to the link. If it fails, its fault is taken at once and noted, and the packets of that go behind
+/// those that still wait.
+fn hand_one<T: Timers, R: Rules, L: Link, J: Journal>(
     engine: &mut Engine<T, R>,
     link: &mut L,
+    journal: &mut J,
     packets: &mut Items<Packet>,
     place: usize,
 ) -> Result<(), ServeError>
@@ -72,45 +75,53 @@ fn hand_one<T: Timers, R: Rules, L: Link>(
     ensures failures { L.failures link.new ≡ L.failures link.old }
     ensures heard { L.heard link.new ≡ L.heard link.old }
     ensures handed { OnOk result (Hands engine.old.server engine.old.state engine.new.state (drop place packets.old) None
-        (drop (place + 1) packets.new) (L.given link.old) (L.given link.new)) }
+        (drop (place + 1) packets.new) (record { given = L.given link.old; written = J.written journal.old })
+        (record { given = L.given link.new; written = J.written journal.new })) }
     ensures more { OnOk result (place + 1 ≤ length packets.new) }
     ensures fewer { OnOk result (length packets.new + sends_left engine.new.state ≤ length packets.old + sends_left engine.old.state) }
     ensures no_further { OnOk result (IsNoFurther engine.old.state engine.new.state) }
-    ensures refused { IfErr result (λ e. e ≡ NoMemory) }
-    ensures broken { OnErr result (HandsSome engine.old.server engine.old.state engine.new.state (drop place packets.old) (L.given link.old)
-        (L.given link.new)) }
+    ensures refused { IfErr result (λ e. IsOfHanding e (J.written journal.new)) }
+    ensures broken { OnErr result (HandsSome engine.old.server engine.old.state engine.new.state (drop place packets.old)
+        (record { given = L.given link.old; written = J.written journal.old })
+        (record { given = L.given link.new; written = J.written journal.new })) }
 {
     let packet = &packets.as_slice()[place];
     let ticket = packet.ticket;
     match link.send(packet.to, packet.bytes.as_slice())? {
         Sending::Went => Ok(()),
         Sending::Failed => {
+            let at = engine.moment();
             let out = take_fault(engine, ticket)?;
+            journal.failed(at, ticket)?;
             add_packets(packets, out.packets.as_slice())
         }
     }
 }
 
-/// Gives all packets of a step to the link, in their order, and what faults of theirs hand out behind them. `NoMemory` is the only
-/// refusal; the packets that were given then are a front.
-pub(crate) fn hand_out<T: Timers, R: Rules, L: Link>(
+/// Gives all packets of a step to the link, in their order, and what faults of theirs hand out behind them. Refused with
+/// `NoMemory`, and with `Journal` where a fault can't be noted; the packets that were given then are a front.
+pub(crate) fn hand_out<T: Timers, R: Rules, L: Link, J: Journal>(
     engine: &mut Engine<T, R>,
     link: &mut L,
+    journal: &mut J,
     mut out: StepOut,
 ) -> Result<(), ServeError>
     ensures server { engine.new.server ≡ engine.old.server }
     ensures receives { L.receives link.new ≡ L.receives link.old }
     ensures failures { L.failures link.new ≡ L.failures link.old }
     ensures heard { L.heard link.new ≡ L.heard link.old }
-    ensures handed { OnOk result (Hands engine.old.server engine.old.state engine.new.state out.packets None [] (L.given link.old)
-        (L.given link.new)) }
+    ensures handed { OnOk result (Hands engine.old.server engine.old.state engine.new.state out.packets None []
+        (record { given = L.given link.old; written = J.written journal.old })
+        (record { given = L.given link.new; written = J.written journal.new })) }
     ensures no_further { OnOk result (IsNoFurther engine.old.state engine.new.state) }
-    ensures refused { IfErr result (λ e. e ≡ NoMemory) }
-    ensures broken { OnErr result (HandsSome engine.old.server engine.old.state engine.new.state out.packets (L.given link.old) (L.given link.new)) }
+    ensures refused { IfErr result (λ e. IsOfHanding e (J.written journal.new)) }
+    ensures broken { OnErr result (HandsSome engine.old.server engine.old.state engine.new.state out.packets
+        (record { given = L.given link.old; written = J.written journal.old })
+        (record { given = L.given link.new; written = J.written journal.new })) }
 {
     let mut place = 0;
     while place < out.packets.as_slice().len() {
-        hand_one(engine, link, &mut out.packets, place)?;
+        hand_one(engine, link, journal, &mut out.packets, place)?;
         place += 1;
     }
     Ok(())

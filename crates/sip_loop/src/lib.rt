@@ -2,11 +2,11 @@
 //! packets that it hands out are given to the link.
 //!
 //! - Used: `sipd_command`, turn by turn.
-//! - Not here: the socket itself (`sip_loop_link`).
+//! - Not here: the socket itself (`sip_loop_link`), and what a journal writes (`sip_record`).
 //! - Tried: `test_serve`, and over sockets `tests/serve.py`.
 //!
 //! ```text
-//! let served = serve(alloc, &mut engine, &mut link, &mut clock, &mut words, turns)?;
+//! let served = serve(alloc, &mut engine, &mut link, &mut journal, &mut clock, &mut words, turns)?;
 //! ```
 #![tactic(auto)]
 

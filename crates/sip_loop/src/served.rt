@@ -1,9 +1,10 @@
 ghost use Rattle.std.specs.Prelude.{◌≡◌};
 ghost use Rattle.sip_loop.specs.ServeErrors.{number_of_refusal, refusal_of_step};
-ghost use Rattle.sip_loop.specs.declared.served.ServeError.TheVariants.{NoMemory, Link};
+ghost use Rattle.sip_loop.specs.declared.served.ServeError.TheVariants.{NoMemory, Journal, Link};
 
 use sip_audit::Record;
 use sip_loop_link::LinkFault;
+use sip_record::JournalFault;
 use sip_run::engine::StepError;
 use sip_text::Items;
 use std::alloc::{AllocError, AllocFailed};
@@ -25,6 +26,8 @@ pub enum ServeError {
     Link = 5,
     /// A moment was 2^62 ms or more, or a datagram's number would have been.
     Step = 6,
+    /// The journal failed.
+    Journal = 7,
 }
 
 impl ServeError {
@@ -36,6 +39,7 @@ impl ServeError {
             ServeError::NoMemory => 1,
             ServeError::Link => 5,
             ServeError::Step => 6,
+            ServeError::Journal => 7,
         }
     }
 }
@@ -46,6 +50,7 @@ impl fmt::Display for ServeError {
             ServeError::NoMemory => write!(f, "out of memory"),
             ServeError::Link => write!(f, "the link failed"),
             ServeError::Step => write!(f, "moments or numbers are worn out"),
+            ServeError::Journal => write!(f, "the journal failed"),
         }
     }
 }
@@ -73,6 +78,14 @@ impl From<LinkFault> for ServeError {
 
     fn from(_e: LinkFault) -> ServeError {
         ServeError::Link
+    }
+}
+
+impl From<JournalFault> for ServeError {
+    ghost from_gives = { λ _ e. e ≡ Journal };
+
+    fn from(_e: JournalFault) -> ServeError {
+        ServeError::Journal
     }
 }
 

@@ -1,11 +1,13 @@
-ghost use Rattle.std.specs.Prelude.{◌≡◌, ◌≤◌, ◌+◌, [], None, Some, Err, IfOk, IfErr, IfSome, IfNone, OnOk, OnErr};
+ghost use Rattle.std.specs.Prelude.{◌≡◌, ◌≤◌, ◌+◌, ◌∷◌, [], None, Some, Err, IfOk, IfErr, IfSome, IfNone, OnOk, OnErr};
 ghost use Rattle.sip_loop_link.specs.Told.{counted};
 ghost use Rattle.sip_loop.specs.Counts.{counted_times, IsAskedWithin};
 ghost use Rattle.model_bounds.specs.model.Ends.{steps_left};
 ghost use Rattle.model_bounds.specs.steps_model.Step.{moment_of};
 ghost use Rattle.sip_run.specs.Due.{NothingDueBy};
 ghost use Rattle.sip_loop.specs.Courses.{Breaks, BreaksFiring, BreaksOff, BreaksTurn, Course, Goes, GoesOn, TakesDue, TakesTurn};
-ghost use Rattle.sip_loop.specs.Serving.{IsServed, IsUnserved, IsWhy, Read, behind_word, told_more, word_from};
+ghost use Rattle.sip_record.specs.Record.{Notes};
+ghost use Rattle.sip_loop.specs.ServeErrors.{IsOfHanding};
+ghost use Rattle.sip_loop.specs.Serving.{IsServed, IsUnserved, IsWhy, Read, behind_word, event_of_turn, told_more, turn_at, word_from};
 ghost use Rattle.sip_loop.specs.declared.served.ServeError.TheVariants as Refusal;
 
 use crate::handing::hand_out;
@@ -19,14 +21,29 @@ use sip_audit::Record;
 use sip_event::StepOut;
 use sip_loop_link::{Clock, Link};
 use sip_policy::Rules;
+use sip_record::Journal;
 use sip_run::engine::Engine;
 use sip_run::fire_next;
 use sip_text::Items;
 use sip_timers::Timers;
+use sip_uri::Addr;
 use std::alloc::Global;
 
 /// 2^64: what the high half of a word counts for.
 const HALF: u128 = 1 << 64;
+
+/// The word of a datagram that was heard, and its source.
+#[derive(Clone, Copy)]
+struct Arrived {
+    word: u128,
+    from: Addr,
+}
+
+/// The step of a turn's event, and the datagram that it was, if one was heard.
+struct Taken {
+    out: StepOut,
+    arrived: Option<Arrived>,
+}
 
 /// The next two numbers of a source as one word, the high half first.
 fn next_word<W: Rng>(words: &mut W) -> u128
@@ -50,6 +67,7 @@ fn fire_one<T: Timers, R: Rules>(
     ensures waits { IfOk result (λ fired. IfNone fired (engine.new ≡ engine.old)) }
     ensures refused { IfErr result (λ e. IsWhy e (Read at) None [] engine.old.state) }
     ensures not_link { IfErr result (λ e. ¬ (e ≡ Refusal.Link)) }
+    ensures not_journal { IfErr result (λ e. ¬ (e ≡ Refusal.Journal)) }
     ensures unchanged { OnErr result (engine.new ≡ engine.old) }
 {
     moment_rises();
@@ -60,9 +78,10 @@ fn fire_one<T: Timers, R: Rules>(
 }
 
 /// All that is due by a moment happens, each in a step at its own moment, and its packets are given to the link.
-fn fire_due<T: Timers, R: Rules, L: Link>(
+fn fire_due<T: Timers, R: Rules, L: Link, J: Journal>(
     engine: &mut Engine<T, R>,
     link: &mut L,
+    journal: &mut J,
     at: u64,
 ) -> Result<(), ServeError>
     ensures server { engine.new.server ≡ engine.old.server }
@@ -70,13 +89,17 @@ fn fire_due<T: Timers, R: Rules, L: Link>(
     ensures failures { L.failures link.new ≡ L.failures link.old }
     ensures heard { L.heard link.new ≡ L.heard link.old }
     ensures fired { OnOk result (Course engine.old.server engine.old.state engine.new.state (Some at) (Some at) [] [] None []
-        (L.given link.old) (L.given link.new)) }
+        (record { given = L.given link.old; written = J.written journal.old })
+        (record { given = L.given link.new; written = J.written journal.new })) }
     ensures none_due { OnOk result (NothingDueBy (moment_of engine.new.state at) engine.new.state) }
-    ensures broken { IfErr result (BreaksFiring engine.old.server engine.old.state engine.new.state at (L.given link.old) (L.given link.new)) }
+    ensures broken { IfErr result (BreaksFiring engine.old.server engine.old.state engine.new.state at
+        (record { given = L.given link.old; written = J.written journal.old })
+        (record { given = L.given link.new; written = J.written journal.new })) }
     ensures not_link { IfErr result (λ e. ¬ (e ≡ Refusal.Link)) }
+    ensures journal_failed { IfErr result (λ e. e ≡ Refusal.Journal → J.written journal.new ≡ None) }
 {
     while let Some(out) = fire_one(engine, at)? {
-        hand_out(engine, link, out)?;
+        hand_out(engine, link, journal, out)?;
     }
     Ok(())
 }
@@ -87,32 +110,56 @@ fn take_event<T: Timers, R: Rules, L: Link, W: Rng>(
     link: &mut L,
     words: &mut W,
     at: u64,
-) -> Result<StepOut, ServeError>
+) -> Result<Taken, ServeError>
     requires { NothingDueBy (moment_of engine.old.state at) engine.old.state }
     ensures server { engine.new.server ≡ engine.old.server }
     ensures asked { L.receives link.new ≡ counted (L.receives link.old) }
     ensures link_failed { result ≡ Err Refusal.Link → L.failures link.new ≡ counted (L.failures link.old) }
     ensures link_held { ¬ (result ≡ Err Refusal.Link) → L.failures link.new ≡ L.failures link.old }
+    ensures not_journal { IfErr result (λ e. ¬ (e ≡ Refusal.Journal)) }
     ensures given { L.given link.new ≡ L.given link.old }
-    ensures taken { IfOk result (λ out. TakesTurn engine.old.server engine.old.state at (L.heard link.old) (L.heard link.new)
-        (W.stream words.old) (W.stream words.new) out engine.new.state) }
+    ensures taken { IfOk result (λ taken. TakesTurn engine.old.server engine.old.state at (L.heard link.old) (L.heard link.new)
+        (W.stream words.old) (W.stream words.new) (turn_at at taken.arrived (L.held link.new)) taken.out engine.new.state) }
     ensures broken { IfErr result (BreaksTurn engine.old.state at (L.heard link.old) (L.heard link.new) (W.stream words.old) (W.stream words.new)) }
     ensures unchanged { OnErr result (engine.new ≡ engine.old) }
 {
     match link.receive()? {
         Some(from) => {
             let word = next_word(words);
-            Ok(engine.deliver(at, word, from, link.bytes())?)
+            let out = engine.deliver(at, word, from, link.bytes())?;
+            let arrived = Some(Arrived { word, from });
+            Ok(Taken { out, arrived })
         }
-        None => Ok(engine.fire(at)?),
+        None => {
+            let out = engine.fire(at)?;
+            Ok(Taken { out, arrived: None })
+        }
     }
 }
 
-/// The rest of a turn, once all that was due by its reading has happened: its event is taken, what that records is listed, and its
-/// packets are given to the link.
-fn take_turn<T: Timers, R: Rules, L: Link, W: Rng>(
+/// Notes the event of a turn.
+fn note_turn<J: Journal>(
+    journal: &mut J,
+    at: u64,
+    arrived: Option<Arrived>,
+    bytes: &[u8],
+) -> Result<(), ServeError>
+    ensures noted { OnOk result (Notes (J.written journal.old) (J.written journal.new) (event_of_turn (turn_at at arrived bytes.now) ∷ [])) }
+    ensures refused { IfErr result (λ e. e ≡ Refusal.Journal) }
+    ensures told { OnErr result (J.written journal.new ≡ None) }
+{
+    match arrived {
+        Some(arrived) => Ok(journal.heard(at, arrived.word, arrived.from, bytes)?),
+        None => Ok(journal.passed(at)?),
+    }
+}
+
+/// The rest of a turn, once all that was due by its reading has happened: its event is taken and noted, what that records is
+/// listed, and its packets are given to the link.
+fn take_turn<T: Timers, R: Rules, L: Link, J: Journal, W: Rng>(
     engine: &mut Engine<T, R>,
     link: &mut L,
+    journal: &mut J,
     words: &mut W,
     at: u64,
     records: &mut Items<Record>,
@@ -122,21 +169,27 @@ fn take_turn<T: Timers, R: Rules, L: Link, W: Rng>(
     ensures asked { L.receives link.new ≡ counted (L.receives link.old) }
     ensures link_failed { result ≡ Err Refusal.Link → L.failures link.new ≡ counted (L.failures link.old) }
     ensures link_held { ¬ (result ≡ Err Refusal.Link) → L.failures link.new ≡ L.failures link.old }
+    ensures journal_failed { result ≡ Err Refusal.Journal → J.written journal.new ≡ None }
     ensures goes { OnOk result (GoesOn engine.old.server engine.old.state engine.new.state at (L.heard link.old) (L.heard link.new)
-        (L.given link.old) (L.given link.new) (W.stream words.old) (W.stream words.new) records.old records.new) }
+        (record { given = L.given link.old; written = J.written journal.old }) (record { given = L.given link.new; written = J.written journal.new })
+        (W.stream words.old) (W.stream words.new) records.old records.new) }
     ensures broken { IfErr result (BreaksOff engine.old.server engine.old.state engine.new.state at (L.heard link.old) (L.heard link.new)
-        (L.given link.old) (L.given link.new) (W.stream words.old) (W.stream words.new)) }
+        (record { given = L.given link.old; written = J.written journal.old }) (record { given = L.given link.new; written = J.written journal.new })
+        (W.stream words.old) (W.stream words.new)) }
 {
     steps_stand_at_their_moments();
-    let mut out = take_event(engine, link, words, at)?;
+    let taken = take_event(engine, link, words, at)?;
+    let Taken { mut out, arrived } = taken;
+    note_turn(journal, at, arrived, link.bytes())?;
     list_records(records, &mut out.records)?;
-    hand_out(engine, link, out)
+    hand_out(engine, link, journal, out)
 }
 
 /// One turn: the clock is read once, all that is due by then happens, and the link is asked once.
-fn turn<T: Timers, R: Rules, L: Link, C: Clock, W: Rng>(
+fn turn<T: Timers, R: Rules, L: Link, J: Journal, C: Clock, W: Rng>(
     engine: &mut Engine<T, R>,
     link: &mut L,
+    journal: &mut J,
     clock: &mut C,
     words: &mut W,
     records: &mut Items<Record>,
@@ -146,53 +199,106 @@ fn turn<T: Timers, R: Rules, L: Link, C: Clock, W: Rng>(
     ensures asked { IsAskedWithin 1 (L.receives link.old) (L.receives link.new) }
     ensures link_failed { result ≡ Err Refusal.Link → L.failures link.new ≡ counted (L.failures link.old) }
     ensures link_held { ¬ (result ≡ Err Refusal.Link) → L.failures link.new ≡ L.failures link.old }
+    ensures journal_failed { result ≡ Err Refusal.Journal → J.written journal.new ≡ None }
     ensures goes { OnOk result (Goes engine.old.server engine.old.state engine.new.state
-        (record { heard = L.heard link.old; given = L.given link.old; readings = C.readings clock.old; words = W.stream words.old })
-        (record { heard = L.heard link.new; given = L.given link.new; readings = C.readings clock.new; words = W.stream words.new }) 1
+        (record {
+          heard = L.heard link.old;
+          given = L.given link.old;
+          readings = C.readings clock.old;
+          written = J.written journal.old;
+          words = W.stream words.old;
+        })
+        (record {
+          heard = L.heard link.new;
+          given = L.given link.new;
+          readings = C.readings clock.new;
+          written = J.written journal.new;
+          words = W.stream words.new;
+        }) 1
         records.old records.new) }
     ensures broken { IfErr result (Breaks engine.old.server engine.old.state engine.new.state
-        (record { heard = L.heard link.old; given = L.given link.old; readings = C.readings clock.old; words = W.stream words.old })
-        (record { heard = L.heard link.new; given = L.given link.new; readings = C.readings clock.new; words = W.stream words.new }) 1) }
+        (record {
+          heard = L.heard link.old;
+          given = L.given link.old;
+          readings = C.readings clock.old;
+          written = J.written journal.old;
+          words = W.stream words.old;
+        })
+        (record {
+          heard = L.heard link.new;
+          given = L.given link.new;
+          readings = C.readings clock.new;
+          written = J.written journal.new;
+          words = W.stream words.new;
+        }) 1) }
 {
     let at = clock.now();
-    fire_due(engine, link, at)?;
-    take_turn(engine, link, words, at, records)
+    fire_due(engine, link, journal, at)?;
+    take_turn(engine, link, journal, words, at, records)
 }
 
 /// Serves for some turns. In each the clock is read once, in milliseconds; all that is due by then happens, each at its own moment;
 /// and the link is asked once: the datagram that it heard, with the next two numbers of `words` as its word, or the moment alone,
-/// is taken at that reading. What each step hands out is given to the link at once, in its order; where a packet fails, its fault is
-/// taken before any other packet is given, and the packets of that go behind those that still wait. Each valid new request outside a
-/// dialog is sent to exactly the unexpired bindings or the configured hop that the first matching rule gives its proven user;
-/// bindings change or are listed exactly as an allowed REGISTER says; every policy denial is a 403 whose Warning names that rule; all
-/// else sent belongs to an open request or a known dialog (`access` in `Serves`). Refusals, behind which what was sent stays sent and
-/// the engine goes on from where it is: `NoMemory`; `Link`, where `receive` failed; `Step`, where a moment is 2^62 ms or more, or a
+/// is taken at that reading. Each event that was taken, a fault too, is told to the journal before anything is sent behind it. What
+/// each step hands out is given to the link at once, in its order; where a packet fails, its fault is taken before any other packet
+/// is given, and the packets of that go behind those that still wait. Each valid new request outside a dialog is sent to exactly the
+/// unexpired bindings or the configured hop that the first matching rule gives its proven user; bindings change or are listed exactly
+/// as an allowed REGISTER says; every policy denial is a 403 whose Warning names that rule; all else sent belongs to an open request
+/// or a known dialog (`access` in `Serves`). Where the journal tells what it holds, that says exactly the events that were taken
+/// (`noted` there). Refusals, behind which what was sent stays sent and the engine goes on from where it is: `NoMemory`; `Journal`,
+/// where an event couldn't be noted, which was taken; `Link`, where `receive` failed; `Step`, where a moment is 2^62 ms or more, or a
 /// datagram's number would be.
-pub fn serve<T: Timers, R: Rules, L: Link, C: Clock, W: Rng>(
+pub fn serve<T: Timers, R: Rules, L: Link, J: Journal, C: Clock, W: Rng>(
     alloc: Global,
     engine: &mut Engine<T, R>,
     link: &mut L,
+    journal: &mut J,
     clock: &mut C,
     words: &mut W,
     turns: u32,
 ) -> Result<Served, ServeError>
     ensures server { engine.new.server ≡ engine.old.server }
     ensures served { IfOk result (λ served. IsServed turns engine.old.server engine.old.state engine.new.state
-        (record { heard = L.heard link.old; given = L.given link.old; readings = C.readings clock.old; words = W.stream words.old })
-        (record { heard = L.heard link.new; given = L.given link.new; readings = C.readings clock.new; words = W.stream words.new }) served.records) }
+        (record {
+          heard = L.heard link.old;
+          given = L.given link.old;
+          readings = C.readings clock.old;
+          written = J.written journal.old;
+          words = W.stream words.old;
+        })
+        (record {
+          heard = L.heard link.new;
+          given = L.given link.new;
+          readings = C.readings clock.new;
+          written = J.written journal.new;
+          words = W.stream words.new;
+        }) served.records) }
     ensures refused { IfErr result (IsUnserved turns engine.old.server engine.old.state engine.new.state
-        (record { heard = L.heard link.old; given = L.given link.old; readings = C.readings clock.old; words = W.stream words.old })
-        (record { heard = L.heard link.new; given = L.given link.new; readings = C.readings clock.new; words = W.stream words.new })) }
+        (record {
+          heard = L.heard link.old;
+          given = L.given link.old;
+          readings = C.readings clock.old;
+          written = J.written journal.old;
+          words = W.stream words.old;
+        })
+        (record {
+          heard = L.heard link.new;
+          given = L.given link.new;
+          readings = C.readings clock.new;
+          written = J.written journal.new;
+          words = W.stream words.new;
+        })) }
     ensures asked_all { OnOk result (L.receives link.new ≡ counted_times turns (L.receives link.old)) }
     ensures asked { IsAskedWithin turns (L.receives link.old) (L.receives link.new) }
     ensures link_failed { result ≡ Err Refusal.Link → L.failures link.new ≡ counted (L.failures link.old) }
+    ensures journal_failed { result ≡ Err Refusal.Journal → J.written journal.new ≡ None }
     ensures link_held { ¬ (result ≡ Err Refusal.Link) → L.failures link.new ≡ L.failures link.old }
 {
     every_history_has_access();
     every_history_is_bounded();
     let mut records = Items::new(alloc);
     for _ in 0..turns {
-        turn(engine, link, clock, words, &mut records)?;
+        turn(engine, link, journal, clock, words, &mut records)?;
     }
     Ok(Served { records })
 }

@@ -1,5 +1,4 @@
 pub mod Calls
-pub mod Fronts
 pub mod OneList
 pub mod Refusing
 pub mod Replaying

@@ -1,8 +1,7 @@
 -- A script says one list of events, since it says each next one in one way.
 use Rattle.std.proofs.Common.{◌≡◌, ◌≢◌, ℕ, List, [], ◌∷◌, ◌++◌, drop, length, refl, sym, ◌∙◌, ap, ap₂, subst, arith, append_assoc}
 use Rattle.sip_event.specs.declared.event.Event.{Event}
-use Rattle.sip_replay_script.specs.Events.{SaysEvent, IsNoEvent}
-use Rattle.sip_replay.specs.Replays.{SaysEvents}
+use Rattle.sip_replay_script.specs.Events.{SaysEvent, SaysEvents, IsNoEvent}
 
 rest_is : (front xs ys : List ℕ) → front ++ xs ≡ front ++ ys → xs ≡ ys
 rest_is [] xs ys e = e

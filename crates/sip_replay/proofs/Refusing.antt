@@ -12,19 +12,20 @@ use Rattle.model_bounds.specs.state.declared.proxy_state.ProxyState.{ProxyState}
 use Rattle.model_bounds.specs.state.State.{first_state}
 use Rattle.model_bounds.specs.model.Access.{Access}
 use Rattle.model_bounds.specs.Bounds.{IsBounded}
-use Rattle.model_bounds.specs.model.Run.{Link, IsRun, first_moment}
+use Rattle.model_bounds.specs.model.Run.{first_moment}
 use Rattle.sip_replay_script.specs.Print.{step_text, printed}
 use Rattle.sip_replay.specs.Errors.{error_at, IsFaulted}
 use Rattle.sip_replay_script.specs.Devices.{WritesFront}
 use Rattle.sip_replay_script.specs.Lines.{Reading, is_end, pending}
 use Rattle.sip_replay_script.specs.Events.{GivesEvent, IsNoEvent, EventStops}
-use Rattle.sip_replay.specs.Replays.{SaysEvents, server_with, IsReplay}
+use Rattle.sip_replay_script.proofs.Saying.{says_all}
+use Rattle.sip_replay.specs.Replays.{server_with, IsReplay}
 use Rattle.sip_replay.specs.Refusals.{BeginsWith, NoEventBehind, ComesTo, CantGoOn, StopsWithin, Refuses, IsRefused, PlaysSome, TakingStops, history_before, moment_ahead}
 use Rattle.sip_replay.specs.declared.error.ReplayError.{ReplayError}
 use Rattle.sip_replay.specs.declared.error.ReplayError.TheVariants as errors
 use Rattle.sip_replay_script.specs.declared.stop.Stop.{Stop}
 use Rattle.sip_replay_script.specs.declared.stop.Stop.TheVariants as stops
-use Rattle.sip_replay.proofs.Fronts.{appends_kept, front_all, front_none, front_second, front_still}
+use Rattle.sip_replay_script.proofs.Fronts.{appends_kept, front_all, front_none, front_second, front_still}
 use Rattle.std.proofs.lemmas.List.Sums.{sum_by-append}
 use Rattle.sip_replay.proofs.Replaying.{AllAreLawful, Replays}
 use Rattle.sip_run.proofs.RunOn.{run_on}
@@ -151,16 +152,6 @@ taking_faulted F G server old first event a b stops.Write h = h.1
 
 -- ---- behind what was taken before
 
-says_all : (events more : List Event) (text further : List ℕ) → SaysEvents events text → SaysEvents more further → SaysEvents (events ++ more) (text ++ further)
-says_all [] more text further h says = subst (λ l. SaysEvents more (l ++ further)) (sym h) says
-says_all (e ∷ events) more text further h says = record {
-  first = h.first;
-  rest = h.rest ++ further;
-  cut = ap (λ l. l ++ further) h.cut ∙ append_assoc h.first h.rest further;
-  says = h.says;
-  others = says_all events more h.rest further h.others says;
-}
-
 begins_on : (a b : Option (List ℕ)) (text more : List ℕ) → Consumes a b text → IfSome b (BeginsWith more) → IfSome a (BeginsWith (text ++ more))
 begins_on None b text more h begins = tt
 begins_on (Some xs) None text more h begins = absurd h
@@ -233,24 +224,24 @@ pending_none : (unread : List ℕ) (script : Option (List ℕ)) → unread ≡ [
 pending_none unread None none = refl
 pending_none unread (Some xs) none = ap (λ l. Some (l ++ xs)) none
 
-pub play_refused : RunsJoin → (config : Config) (then_server : Server) (state : ProxyState) (old part : Reading) (before middle start half written : Option (List ℕ)) (e : ReplayError) → then_server ≡ server_with config
-    → old ≡ record { unread = []; asks = 4294967295; number = 0 } → Replays (server_with config) (first_state 1) state old part before middle start half
-    → Refuses then_server state part.number (pending part middle) half written e → Refuses (server_with config) (first_state 1) 0 before start written e
-play_refused join config then_server state old part before middle start half written e same is h r =
-    let on : Refuses (server_with config) (first_state 1) old.number (pending old before) start written e =
-    refuses_on join (server_with config) (first_state 1) state old part before middle start half written e h (subst (λ s. Refuses s state part.number (pending part middle) half written e) same r) in
-    subst (λ n. Refuses (server_with config) (first_state 1) n before start written e) (ap (λ (x : Reading). x.number) is)
-    (subst (λ s. Refuses (server_with config) (first_state 1) old.number s start written e) (pending_none old.unread before (ap (λ (x : Reading). x.unread) is)) on)
+pub play_refused : RunsJoin → (config : Config) (word first : ℕ) (then_server : Server) (state : ProxyState) (old part : Reading) (before middle start half written : Option (List ℕ)) (e : ReplayError) → then_server ≡ server_with config word
+    → old ≡ record { unread = []; asks = 4294967295; number = 0 } → Replays (server_with config word) (first_state first) state old part before middle start half
+    → Refuses then_server state part.number (pending part middle) half written e → Refuses (server_with config word) (first_state first) 0 before start written e
+play_refused join config word first then_server state old part before middle start half written e same is h r =
+    let on : Refuses (server_with config word) (first_state first) old.number (pending old before) start written e =
+    refuses_on join (server_with config word) (first_state first) state old part before middle start half written e h (subst (λ s. Refuses s state part.number (pending part middle) half written e) same r) in
+    subst (λ n. Refuses (server_with config word) (first_state first) n before start written e) (ap (λ (x : Reading). x.number) is)
+    (subst (λ s. Refuses (server_with config word) (first_state first) old.number s start written e) (pending_none old.unread before (ap (λ (x : Reading). x.unread) is)) on)
 
 -- what was written stays when the writer is flushed
 within_kept : (server : Server) (first : ProxyState) (script a b c : Option (List ℕ)) → StopsWithin server first script a b → Keeps b c → StopsWithin server first script a c
 within_kept server first script a b c h k = record { steps = h.steps; comes = h.comes; writes = front_still a b c (printed h.steps) h.writes k }
 
-refused_kept : (config : Config) (script a b c : Option (List ℕ)) (e : ReplayError) → Refuses (server_with config) (first_state 1) 0 script a b e → Keeps b c → Refuses (server_with config) (first_state 1) 0 script a c e
-refused_kept config script a b c errors.NoMemory h k = within_kept (server_with config) (first_state 1) script a b c h k
-refused_kept config script a b c (errors.Script line) h k = record { steps = h.steps; comes = h.comes; why = h.why; line_is = h.line_is; written = appends_kept a b c (printed h.steps) h.written k }
-refused_kept config script a b c errors.Read h k = record { steps = h.steps; comes = h.comes; none_ahead = h.none_ahead; written = appends_kept a b c (printed h.steps) h.written k }
-refused_kept config script a b c errors.Write h k = within_kept (server_with config) (first_state 1) script a b c h k
+refused_kept : (config : Config) (word first : ℕ) (script a b c : Option (List ℕ)) (e : ReplayError) → Refuses (server_with config word) (first_state first) 0 script a b e → Keeps b c → Refuses (server_with config word) (first_state first) 0 script a c e
+refused_kept config word first script a b c errors.NoMemory h k = within_kept (server_with config word) (first_state first) script a b c h k
+refused_kept config word first script a b c (errors.Script line) h k = record { steps = h.steps; comes = h.comes; why = h.why; line_is = h.line_is; written = appends_kept a b c (printed h.steps) h.written k }
+refused_kept config word first script a b c errors.Read h k = record { steps = h.steps; comes = h.comes; none_ahead = h.none_ahead; written = appends_kept a b c (printed h.steps) h.written k }
+refused_kept config word first script a b c errors.Write h k = within_kept (server_with config word) (first_state first) script a b c h k
 
 pub faulted_still : (F G H : Type 0) (e : ReplayError) → (G → H) → IsFaulted F G e → IsFaulted F H e
 faulted_still F G H errors.NoMemory f h = tt
@@ -263,14 +254,14 @@ begins_whole : (script : Option (List ℕ)) (text : List ℕ) → IfSome script 
 begins_whole None text h = tt
 begins_whole (Some xs) text h = ([], h ∙ sym (append-nil (text ++ []) ∙ append-nil text))
 
-within_refused : (config : Config) (script a b : Option (List ℕ)) (e : ReplayError) → Refuses (server_with config) (first_state 1) 0 script a b e → StopsWithin (server_with config) (first_state 1) script a b
-within_refused config script a b errors.NoMemory h = h
-within_refused config script a b (errors.Script line) h = record { steps = h.steps; comes = h.comes; writes = front_all a b (printed h.steps) h.written }
-within_refused config script a b errors.Read h = record { steps = h.steps; comes = h.comes; writes = front_all a b (printed h.steps) h.written }
-within_refused config script a b errors.Write h = h
+within_refused : (config : Config) (word first : ℕ) (script a b : Option (List ℕ)) (e : ReplayError) → Refuses (server_with config word) (first_state first) 0 script a b e → StopsWithin (server_with config word) (first_state first) script a b
+within_refused config word first script a b errors.NoMemory h = h
+within_refused config word first script a b (errors.Script line) h = record { steps = h.steps; comes = h.comes; writes = front_all a b (printed h.steps) h.written }
+within_refused config word first script a b errors.Read h = record { steps = h.steps; comes = h.comes; writes = front_all a b (printed h.steps) h.written }
+within_refused config word first script a b errors.Write h = h
 
-within_whole : (config : Config) (script a b : Option (List ℕ)) → IsReplay config script a b → StopsWithin (server_with config) (first_state 1) script a b
-within_whole config script a b h = record {
+within_whole : (config : Config) (word first : ℕ) (script a b : Option (List ℕ)) → IsReplay config word first script a b → StopsWithin (server_with config word) (first_state first) script a b
+within_whole config word first script a b h = record {
   steps = h.steps;
   comes = record {
     events = h.events;
@@ -287,30 +278,30 @@ within_whole config script a b h = record {
   writes = front_all a b (printed h.steps) h.written;
 }
 
-unflushed : {T : Type 0} (r : Result T ReplayError) (config : Config) (script a b c : Option (List ℕ)) → OnOk r (IsReplay config script a b) → IfErr r (λ e. Refuses (server_with config) (first_state 1) 0 script a b e) → Keeps b c
-    → Refuses (server_with config) (first_state 1) 0 script a c errors.Write
-unflushed (Ok x) config script a b c whole refused k = within_kept (server_with config) (first_state 1) script a b c (within_whole config script a b whole) k
-unflushed (Err e) config script a b c whole refused k = within_kept (server_with config) (first_state 1) script a b c (within_refused config script a b e refused) k
+unflushed : {T : Type 0} (r : Result T ReplayError) (config : Config) (word first : ℕ) (script a b c : Option (List ℕ)) → OnOk r (IsReplay config word first script a b) → IfErr r (λ e. Refuses (server_with config word) (first_state first) 0 script a b e) → Keeps b c
+    → Refuses (server_with config word) (first_state first) 0 script a c errors.Write
+unflushed (Ok x) config word first script a b c whole refused k = within_kept (server_with config word) (first_state first) script a b c (within_whole config word first script a b whole) k
+unflushed (Err e) config word first script a b c whole refused k = within_kept (server_with config word) (first_state first) script a b c (within_refused config word first script a b e refused) k
 
 -- ---- what was done is lawful
 
-comes_lawfully : AllAreLawful → (server : Server) (script : Option (List ℕ)) (steps : List StepOut) (comes : ComesTo server (first_state 1) script steps) → Access server comes.history × IsBounded server comes.history
-comes_lawfully law server script steps comes = law server 1 comes.events (moment_ahead comes.ahead) steps comes.history comes.last comes.is_run
+comes_lawfully : AllAreLawful → (server : Server) (first : ℕ) (script : Option (List ℕ)) (steps : List StepOut) (comes : ComesTo server (first_state first) script steps) → Access server comes.history × IsBounded server comes.history
+comes_lawfully law server first script steps comes = law server first comes.events (moment_ahead comes.ahead) steps comes.history comes.last comes.is_run
 
-refused_lawfully : AllAreLawful → (server : Server) (script a b : Option (List ℕ)) (e : ReplayError) (refusal : Refuses server (first_state 1) 0 script a b e) → Access server (history_before server (first_state 1) 0 script a b e refusal) × IsBounded server (history_before server (first_state 1) 0 script a b e refusal)
-refused_lawfully law server script a b errors.NoMemory refusal = comes_lawfully law server script refusal.steps refusal.comes
-refused_lawfully law server script a b (errors.Script line) refusal = comes_lawfully law server script refusal.steps refusal.comes
-refused_lawfully law server script a b errors.Read refusal = comes_lawfully law server script refusal.steps refusal.comes
-refused_lawfully law server script a b errors.Write refusal = comes_lawfully law server script refusal.steps refusal.comes
+refused_lawfully : AllAreLawful → (server : Server) (first : ℕ) (script a b : Option (List ℕ)) (e : ReplayError) (refusal : Refuses server (first_state first) 0 script a b e) → Access server (history_before server (first_state first) 0 script a b e refusal) × IsBounded server (history_before server (first_state first) 0 script a b e refusal)
+refused_lawfully law server first script a b errors.NoMemory refusal = comes_lawfully law server first script refusal.steps refusal.comes
+refused_lawfully law server first script a b (errors.Script line) refusal = comes_lawfully law server first script refusal.steps refusal.comes
+refused_lawfully law server first script a b errors.Read refusal = comes_lawfully law server first script refusal.steps refusal.comes
+refused_lawfully law server first script a b errors.Write refusal = comes_lawfully law server first script refusal.steps refusal.comes
 
-is_refused : AllAreLawful → (config : Config) (script a b : Option (List ℕ)) (e : ReplayError) → Refuses (server_with config) (first_state 1) 0 script a b e → IsRefused config script a b e
-is_refused law config script a b e refusal = let both = refused_lawfully law (server_with config) script a b e refusal in record { refusal = refusal; access = both.0; bounded = both.1 }
+is_refused : AllAreLawful → (config : Config) (word first : ℕ) (script a b : Option (List ℕ)) (e : ReplayError) → Refuses (server_with config word) (first_state first) 0 script a b e → IsRefused config word first script a b e
+is_refused law config word first script a b e refusal = let both = refused_lawfully law (server_with config word) first script a b e refusal in record { refusal = refusal; access = both.0; bounded = both.1 }
 
 -- behind a flush
-pub refused_flushed : AllAreLawful → (config : Config) (script a b c : Option (List ℕ)) (e : ReplayError) → Refuses (server_with config) (first_state 1) 0 script a b e → Keeps b c → IsRefused config script a c e
-refused_flushed law config script a b c e h k = is_refused law config script a c e (refused_kept config script a b c e h k)
+pub refused_flushed : AllAreLawful → (config : Config) (word first : ℕ) (script a b c : Option (List ℕ)) (e : ReplayError) → Refuses (server_with config word) (first_state first) 0 script a b e → Keeps b c → IsRefused config word first script a c e
+refused_flushed law config word first script a b c e h k = is_refused law config word first script a c e (refused_kept config word first script a b c e h k)
 
 -- and where that fails
-pub refused_unflushed : AllAreLawful → {T : Type 0} (r : Result T ReplayError) (config : Config) (script a b c : Option (List ℕ)) → OnOk r (IsReplay config script a b)
-    → IfErr r (λ e. Refuses (server_with config) (first_state 1) 0 script a b e) → Keeps b c → IsRefused config script a c errors.Write
-refused_unflushed law r config script a b c whole refused k = is_refused law config script a c errors.Write (unflushed r config script a b c whole refused k)
+pub refused_unflushed : AllAreLawful → {T : Type 0} (r : Result T ReplayError) (config : Config) (word first : ℕ) (script a b c : Option (List ℕ)) → OnOk r (IsReplay config word first script a b)
+    → IfErr r (λ e. Refuses (server_with config word) (first_state first) 0 script a b e) → Keeps b c → IsRefused config word first script a c errors.Write
+refused_unflushed law r config word first script a b c whole refused k = is_refused law config word first script a c errors.Write (unflushed r config word first script a b c whole refused k)

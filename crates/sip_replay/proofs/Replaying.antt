@@ -15,9 +15,9 @@ use Rattle.sip_replay_script.specs.Print.{printed}
 use Rattle.std.specs.Prelude.{count_by, cond}
 use Rattle.sip_replay_script.specs.Lines.{Reading, is_end, pending, IsOver}
 use Rattle.std.proofs.lemmas.List.Sums.{sum_by-append}
-use Rattle.sip_replay_script.specs.Events.{SaysEvent}
-use Rattle.sip_replay.specs.Replays.{SaysEvents, server_with, Plays, PlaysNext, IsReplay, IsLawfulReplay}
-use Rattle.sip_replay.proofs.Fronts.{appends_kept}
+use Rattle.sip_replay_script.specs.Events.{SaysEvent, SaysEvents}
+use Rattle.sip_replay.specs.Replays.{server_with, Plays, PlaysNext, IsReplay, IsLawfulReplay}
+use Rattle.sip_replay_script.proofs.Fronts.{appends_kept}
 use Rattle.sip_replay.proofs.Running.{RunsJoin, plays_nothing, plays_both}
 
 -- a text that says one event more
@@ -83,9 +83,9 @@ whole_of unread (Some xs) None c text none h k e = absurd h
 whole_of unread (Some xs) (Some ys) None text none h k e = absurd k
 whole_of unread (Some xs) (Some ys) (Some zs) text none h k e = sym (ap (λ l. l ++ xs) none) ∙ h ∙ ap (λ l. text ++ l) (sym k ∙ e) ∙ append-nil text
 
-pub replays_over : (config : Config) (state : ProxyState) (old new rest : Reading) (before middle after start written : Option (List ℕ)) → old.unread ≡ []
-    → Replays (server_with config) (first_state 1) state old new before middle start written → IsOver new rest middle after → IsReplay config before start written
-replays_over config state old new rest before middle after start written none h over = record {
+pub replays_over : (config : Config) (word first : ℕ) (state : ProxyState) (old new rest : Reading) (before middle after start written : Option (List ℕ)) → old.unread ≡ []
+    → Replays (server_with config word) (first_state first) state old new before middle start written → IsOver new rest middle after → IsReplay config word first before start written
+replays_over config word first state old new rest before middle after start written none h over = record {
   text = h.text;
   events = h.events;
   steps = h.plays.steps;
@@ -98,8 +98,8 @@ replays_over config state old new rest before middle after start written none h 
 }
 
 -- what is written stays when the writer is flushed
-pub replay_kept : (config : Config) (script a b c : Option (List ℕ)) → IsReplay config script a b → Keeps b c → IsReplay config script a c
-replay_kept config script a b c h k = record {
+pub replay_kept : (config : Config) (word first : ℕ) (script a b c : Option (List ℕ)) → IsReplay config word first script a b → Keeps b c → IsReplay config word first script a c
+replay_kept config word first script a b c h k = record {
   text = h.text;
   events = h.events;
   steps = h.steps;
@@ -122,8 +122,8 @@ pub by_laws : ((server : Server) (first : ℕ) (events : List Event) (until : Op
     → ((server : Server) (first : ℕ) (history : List Link) (last : ProxyState) → IsChain server (first_state first) history last → IsBounded server history) → AllAreLawful
 by_laws access bounded = λ server first events until steps history last run. (access server first events until steps history last run, bounded server first history last run.chain)
 
-pub lawful : AllAreLawful → (config : Config) (script a b c : Option (List ℕ)) → IsReplay config script a b → Keeps b c → IsLawfulReplay config script a c
+pub lawful : AllAreLawful → (config : Config) (word first : ℕ) (script a b c : Option (List ℕ)) → IsReplay config word first script a b → Keeps b c → IsLawfulReplay config word first script a c
 unfolding replay_kept
-lawful law config script a b c h k =
-    let both = law (server_with config) 1 h.events None h.steps h.history h.last h.is_run in
-    record { replay = replay_kept config script a b c h k; access = both.0; bounded = both.1 }
+lawful law config word first script a b c h k =
+    let both = law (server_with config word) first h.events None h.steps h.history h.last h.is_run in
+    record { replay = replay_kept config word first script a b c h k; access = both.0; bounded = both.1 }

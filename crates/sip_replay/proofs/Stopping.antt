@@ -22,7 +22,7 @@ use Rattle.sip_replay.specs.Refusals.{StepStops, PlaysPart, FiringStops, TakingS
 use Rattle.sip_replay.specs.Replays.{Plays}
 use Rattle.sip_replay_script.specs.declared.stop.Stop.{Stop}
 use Rattle.sip_replay_script.specs.declared.stop.Stop.TheVariants as stops
-use Rattle.sip_replay.proofs.Fronts.{front_all, front_second}
+use Rattle.sip_replay_script.proofs.Fronts.{front_all, front_second}
 use Rattle.sip_replay.proofs.Running.{printed_more}
 
 -- ---- a step that is refused

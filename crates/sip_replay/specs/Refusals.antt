@@ -16,8 +16,8 @@ use Rattle.sip_run.specs.Refusals.{refusal_of_event}
 use Rattle.sip_replay_script.specs.Print.{printed}
 use Rattle.sip_replay_script.specs.Devices.{WritesFront}
 use Rattle.sip_replay_script.specs.Lines.{is_end}
-use Rattle.sip_replay_script.specs.Events.{SaysEvent, IsNoEvent}
-use Rattle.sip_replay.specs.Replays.{SaysEvents, server_with, Plays}
+use Rattle.sip_replay_script.specs.Events.{SaysEvent, SaysEvents, IsNoEvent}
+use Rattle.sip_replay.specs.Replays.{server_with, Plays}
 use Rattle.sip_replay_script.specs.declared.stop.Stop.{Stop}
 use Rattle.sip_replay_script.specs.declared.stop.Stop.TheVariants as stops
 use Rattle.sip_replay.specs.declared.error.ReplayError.{ReplayError}
@@ -99,10 +99,10 @@ history_before server first lines script old new Write refusal = refusal.comes.h
 
 -- What holds at each refusal of a replay; and each step that was taken before it is lawful by its history, as `Access` says, and
 -- these steps are bounded, as `IsBounded` says.
-pub record IsRefused (config : Config) (script old new : Option (List ℕ)) (e : ReplayError) : Type 0 where
-  pub refusal : Refuses (server_with config) (first_state 1) 0 script old new e
-  pub access : Access (server_with config) (history_before (server_with config) (first_state 1) 0 script old new e refusal)
-  pub bounded : IsBounded (server_with config) (history_before (server_with config) (first_state 1) 0 script old new e refusal)
+pub record IsRefused (config : Config) (word first : ℕ) (script old new : Option (List ℕ)) (e : ReplayError) : Type 0 where
+  pub refusal : Refuses (server_with config word) (first_state first) 0 script old new e
+  pub access : Access (server_with config word) (history_before (server_with config word) (first_state first) 0 script old new e refusal)
+  pub bounded : IsBounded (server_with config word) (history_before (server_with config word) (first_state first) 0 script old new e refusal)
 
 -- ---- inside
 

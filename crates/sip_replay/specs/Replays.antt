@@ -1,5 +1,5 @@
 -- A whole replay: the script's events, a run of the server over them, and what is printed.
-use Rattle.std.specs.Prelude.{◌≡◌, ℕ, List, [], ◌∷◌, ◌++◌, Option, None, IfSome}
+use Rattle.std.specs.Prelude.{◌≡◌, ℕ, List, [], ◌∷◌, Option, None, IfSome}
 use Rattle.std.specs.Io.KnownBytes.{Appends}
 use Rattle.sip_event.specs.declared.event.Event.{Event}
 use Rattle.sip_event.specs.declared.event.StepOut.{StepOut}
@@ -12,27 +12,14 @@ use Rattle.model_bounds.specs.model.Access.{Access}
 use Rattle.model_bounds.specs.Bounds.{IsBounded}
 use Rattle.sip_replay_script.specs.Print.{printed}
 use Rattle.sip_replay_script.specs.Lines.{Reading}
-use Rattle.sip_replay_script.specs.Events.{SaysEvent, GivesEvent}
+use Rattle.sip_replay_script.specs.Events.{SaysEvents, GivesEvent}
 
--- a text that says an event, in front of one that says others
-pub record SaysFirst (text : List ℕ) (event : Event) (SaysOthers : List ℕ → Type 0) : Type 0 where
-  pub first : List ℕ
-  pub rest : List ℕ
-  pub cut : text ≡ first ++ rest
-  pub says : SaysEvent first event
-  pub others : SaysOthers rest
+-- a server with this configuration, started with a word
+abbrev pub server_with : Config → ℕ → Server
+server_with config word = record { config = config; word = word }
 
--- a text says these events, one after the other
-abbrev pub SaysEvents : List Event → List ℕ → Type 0
-SaysEvents [] text = text ≡ []
-SaysEvents (event ∷ events) text = SaysFirst text event (SaysEvents events)
-
--- a server with this configuration, started with the word 0
-abbrev pub server_with : Config → Server
-server_with config = record { config = config; word = 0 }
-
--- The script says events, for which the steps of the server, from the number 1 on, are a run, and what is printed of these steps was written.
-pub record IsReplay (config : Config) (script old new : Option (List ℕ)) : Type 0 where
+-- The script says events, for which the steps of the server, from its first number on, are a run, and what is printed of these steps was written.
+pub record IsReplay (config : Config) (word first : ℕ) (script old new : Option (List ℕ)) : Type 0 where
   pub text : List ℕ
   pub events : List Event
   pub steps : List StepOut
@@ -40,16 +27,16 @@ pub record IsReplay (config : Config) (script old new : Option (List ℕ)) : Typ
   pub last : ProxyState
   pub whole : IfSome script (λ bytes. bytes ≡ text)
   pub says : SaysEvents events text
-  pub is_run : IsRun (server_with config) (first_state 1) events None steps history last
+  pub is_run : IsRun (server_with config word) (first_state first) events None steps history last
   pub written : Appends old new (printed steps)
 
 -- The same, and each step of that run is lawful by its history: what is sent goes to whom the first rule that matches lets it go,
 -- and so on, as `Access` says; and the run is bounded, as
 -- `IsBounded` says.
-pub record IsLawfulReplay (config : Config) (script old new : Option (List ℕ)) : Type 0 where
-  pub replay : IsReplay config script old new
-  pub access : Access (server_with config) replay.history
-  pub bounded : IsBounded (server_with config) replay.history
+pub record IsLawfulReplay (config : Config) (word first : ℕ) (script old new : Option (List ℕ)) : Type 0 where
+  pub replay : IsReplay config word first script old new
+  pub access : Access (server_with config word) replay.history
+  pub bounded : IsBounded (server_with config word) replay.history
 
 -- ---- inside
 

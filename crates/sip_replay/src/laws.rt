@@ -6,8 +6,8 @@ ghost use Rattle.model_bounds.specs.model.Access.{Access};
 ghost use Rattle.model_bounds.specs.Bounds.{IsBounded};
 ghost use Rattle.model_bounds.specs.state.State.{first_state};
 ghost use Rattle.sip_replay.specs.Refusals.{ComesTo};
-ghost use Rattle.sip_replay.specs.Replays.{server_with, IsReplay, SaysEvents};
-ghost use Rattle.sip_replay_script.specs.Events.{IsNoEvent};
+ghost use Rattle.sip_replay.specs.Replays.{server_with, IsReplay};
+ghost use Rattle.sip_replay_script.specs.Events.{IsNoEvent, SaysEvents};
 
 use model_bounds::bounds::every_history_is_bounded;
 use model_bounds::model::laws::every_run_has_access;
@@ -19,10 +19,10 @@ use sip_replay_script::laws::{event_is_no_refusal, next_event_is_one};
 /// names that rule; all else sent belongs to an open request or known dialog. So is each step of a replay that is refused,
 /// as far as it came.
 pub fn every_replay_has_access()
-    ensures whole { (config : Config) (script old new : Option (List ℕ)) → (replay : IsReplay config script old new)
-        → Access (server_with config) replay.history }
-    ensures refused { (config : Config) (script : Option (List ℕ)) (steps : List StepOut)
-        → (comes : ComesTo (server_with config) (first_state 1) script steps) → Access (server_with config) comes.history }
+    ensures whole { (config : Config) (word first : ℕ) (script old new : Option (List ℕ)) → (replay : IsReplay config word first script old new)
+        → Access (server_with config word) replay.history }
+    ensures refused { (config : Config) (word first : ℕ) (script : Option (List ℕ)) (steps : List StepOut)
+        → (comes : ComesTo (server_with config word) (first_state first) script steps) → Access (server_with config word) comes.history }
 {
     every_run_has_access();
 }
@@ -31,10 +31,10 @@ pub fn every_replay_has_access()
 /// 2xx of an INVITE; nothing goes out more often than RFC 3261 lets it; and each request is closed in time. So it is over a
 /// replay that is refused, as far as it came.
 pub fn every_replay_is_bounded()
-    ensures whole { (config : Config) (script old new : Option (List ℕ)) → (replay : IsReplay config script old new)
-        → IsBounded (server_with config) replay.history }
-    ensures refused { (config : Config) (script : Option (List ℕ)) (steps : List StepOut)
-        → (comes : ComesTo (server_with config) (first_state 1) script steps) → IsBounded (server_with config) comes.history }
+    ensures whole { (config : Config) (word first : ℕ) (script old new : Option (List ℕ)) → (replay : IsReplay config word first script old new)
+        → IsBounded (server_with config word) replay.history }
+    ensures refused { (config : Config) (word first : ℕ) (script : Option (List ℕ)) (steps : List StepOut)
+        → (comes : ComesTo (server_with config word) (first_state first) script steps) → IsBounded (server_with config word) comes.history }
 {
     every_history_is_bounded();
 }

@@ -26,14 +26,8 @@ use sip_run::event_moment;
 use sip_timers::Timers;
 use std::alloc::Global;
 
-/// What a replay starts with.
-const BOOT: Boot = Boot {
-    word: 0,
-    first: 1,
-    keys: 0,
-};
-
-/// Reads a script and writes what the server hands out: the packets of each step, then the lines of its records.
+/// Reads a script and writes what a server of a configuration hands out that starts with a word and a number: the packets of each
+/// step, then the lines of its records.
 /// Before each event, what is due by its moment is fired, each at its own moment; a moment below the greatest one
 /// so far counts as that. Keeps no more than one event. Each valid new request outside a dialog is sent to exactly the
 /// unexpired bindings or the configured hop that the first matching rule gives its proven user; bindings change or are
@@ -45,12 +39,13 @@ const BOOT: Boot = Boot {
 pub fn replay<T: Timers, R: Rules, I: TellingReader, W: TellingWriter>(
     alloc: Global,
     config: Config,
+    boot: Boot,
     reader: &mut I,
     writer: &mut W,
 ) -> Result<(), ReplayError>
-    ensures replayed { OnOk result (IsReplay config (I.remaining reader.old) (W.contents writer.old) (W.contents writer.new)) }
-    ensures lawful { OnOk result (IsLawfulReplay config (I.remaining reader.old) (W.contents writer.old) (W.contents writer.new)) }
-    ensures refused { IfErr result (IsRefused config (I.remaining reader.old) (W.contents writer.old) (W.contents writer.new)) }
+    ensures replayed { OnOk result (IsReplay config boot.word boot.first (I.remaining reader.old) (W.contents writer.old) (W.contents writer.new)) }
+    ensures lawful { OnOk result (IsLawfulReplay config boot.word boot.first (I.remaining reader.old) (W.contents writer.old) (W.contents writer.new)) }
+    ensures refused { IfErr result (IsRefused config boot.word boot.first (I.remaining reader.old) (W.contents writer.old) (W.contents writer.new)) }
     ensures faulted { IfErr result (IsFaulted (I.has_failed reader.new ⊎ (I.asked reader.new ≡ later 4294967295 (I.asked reader.old)))
         (GaveUp (W.has_failed writer.new) (W.called writer.new))) }
     ensures asked { IsAsked 4294967295 (I.asked reader.old) (I.asked reader.new) }
@@ -58,7 +53,7 @@ pub fn replay<T: Timers, R: Rules, I: TellingReader, W: TellingWriter>(
 {
     every_run_has_access();
     every_history_is_bounded();
-    let outcome = play::<T, R, I, W>(alloc, config, reader, writer);
+    let outcome = play::<T, R, I, W>(alloc, config, boot, reader, writer);
     match hand_on(writer) {
         Ok(()) => outcome,
         Err(_) => Err(ReplayError::Write),
@@ -69,17 +64,18 @@ pub fn replay<T: Timers, R: Rules, I: TellingReader, W: TellingWriter>(
 fn play<T: Timers, R: Rules, I: TellingReader, W: TellingWriter>(
     alloc: Global,
     config: Config,
+    boot: Boot,
     reader: &mut I,
     writer: &mut W,
 ) -> Result<(), ReplayError>
-    ensures replayed { OnOk result (IsReplay config (I.remaining reader.old) (W.contents writer.old) (W.contents writer.new)) }
-    ensures refused { IfErr result (Refuses (server_with config) (first_state 1) 0 (I.remaining reader.old) (W.contents writer.old)
+    ensures replayed { OnOk result (IsReplay config boot.word boot.first (I.remaining reader.old) (W.contents writer.old) (W.contents writer.new)) }
+    ensures refused { IfErr result (Refuses (server_with config boot.word) (first_state boot.first) 0 (I.remaining reader.old) (W.contents writer.old)
         (W.contents writer.new)) }
     ensures faulted { IfErr result (IsFaulted (I.has_failed reader.new ⊎ (I.asked reader.new ≡ later 4294967295 (I.asked reader.old)))
         (GaveUp (W.has_failed writer.new) (W.called writer.new))) }
     ensures asked { IsAsked 4294967295 (I.asked reader.old) (I.asked reader.new) }
 {
-    let mut engine = match Engine::<T, R>::open(alloc, config, BOOT) {
+    let mut engine = match Engine::<T, R>::open(alloc, config, boot) {
         Ok(engine) => engine,
         Err(_) => return Err(ReplayError::NoMemory),
     };

@@ -29,7 +29,7 @@ pub record Gathers (old new : Reading) (before after : Option (List ℕ)) (bytes
   pub number : new.number ≡ old.number + count_by is_end text
   pub kept : bytes ≡ take 65508 whole
 
-no_lines : SaysBytes [] []
+pub no_lines : SaysBytes [] []
 no_lines = record { lines = []; text_is = refl; are_lines = λ k d lt. absurd (omega arith); no_dot = refl; bytes_are = refl }
 
 pub gathers_none : (r : Reading) (before : Option (List ℕ)) → Gathers r r before before []
@@ -54,7 +54,7 @@ neither true b h k = grind arith
 none_of_both : (p : List ℕ → Bool) (xs : List (List ℕ)) (x : List ℕ) → list_any p xs ≡ false → p x ≡ false → list_any p (xs ++ x ∷ []) ≡ false
 none_of_both p xs x none fails = list_any-append p xs (x ∷ []) ∙ or_false (list_any p xs) (p x) none fails
 
-says_more : (text whole line : List ℕ) → SaysBytes text whole → IsLine line → is_dot line ≡ false → SaysBytes (text ++ ended line) (whole ++ said line)
+pub says_more : (text whole line : List ℕ) → SaysBytes text whole → IsLine line → is_dot line ≡ false → SaysBytes (text ++ ended line) (whole ++ said line)
 says_more text whole line says is_line fails = record {
   lines = says.lines ++ line ∷ [];
   text_is = ap (λ l. l ++ ended line) says.text_is ∙ sym (flat_map-append ended says.lines (line ∷ []) ∙ ap (λ l. flat_map ended says.lines ++ l) (append-nil (ended line)));
@@ -138,7 +138,7 @@ keeps_more old mid new before middle after all one = record {
   kept = kept_more (before ++ all.whole) (said one.line) middle after all.kept one.kept ∙ ap (take 65508) (append_assoc before all.whole (said one.line));
 }
 
-says_both : (text whole more further : List ℕ) → SaysBytes text whole → SaysBytes more further → SaysBytes (text ++ more) (whole ++ further)
+pub says_both : (text whole more further : List ℕ) → SaysBytes text whole → SaysBytes more further → SaysBytes (text ++ more) (whole ++ further)
 says_both text whole more further a b = record {
   lines = a.lines ++ b.lines;
   text_is = ap₂ (λ (l m : List ℕ). l ++ m) a.text_is b.text_is ∙ sym (flat_map-append ended a.lines b.lines);

@@ -36,6 +36,20 @@ front_kept a b c text i h1 h2 = front_of a c text i (subst (λ list. Appends a c
 pub front_none : (a : Option (List ℕ)) (text : List ℕ) → WritesFront a a text
 front_none a text = record { done = []; rest = text; cut = refl; written = Appends-nil a }
 
+-- all of it
+pub front_all : (a b : Option (List ℕ)) (text : List ℕ) → Appends a b text → WritesFront a b text
+front_all a b text h = record { done = text; rest = []; cut = sym (append-nil text); written = h }
+
+-- what is kept
+pub appends_kept : (a b c : Option (List ℕ)) (text : List ℕ) → Appends a b text → Keeps b c → Appends a c text
+appends_kept None b c text h k = tt
+appends_kept (Some x) None c text h k = absurd h
+appends_kept (Some x) (Some y) None text h k = k
+appends_kept (Some x) (Some y) (Some z) text h k = k ∙ h
+
+pub front_still : (a b c : Option (List ℕ)) (text : List ℕ) → WritesFront a b text → Keeps b c → WritesFront a c text
+front_still a b c text h k = record { done = h.done; rest = h.rest; cut = h.cut; written = appends_kept a b c h.done h.written k }
+
 -- a front of the first of two texts, and of the second behind the first
 pub front_first : (a b : Option (List ℕ)) (first second : List ℕ) → WritesFront a b first → WritesFront a b (first ++ second)
 front_first a b first second h = record { done = h.done; rest = h.rest ++ second; cut = ap (λ list. list ++ second) h.cut ∙ append_assoc h.done h.rest second; written = h.written }

@@ -1,8 +1,11 @@
 pub mod Calls
+pub mod CutEvents
 pub mod Datagrams
 pub mod Fronts
 pub mod HeadLines
 pub mod Keeping
 pub mod LineEnds
 pub mod OneReading
+pub mod Saying
 pub mod Written
+pub mod WrittenEvents

@@ -61,6 +61,19 @@ pub record SaysHead (text : List ℕ) (event : Event) : Type 0 where
 abbrev pub SaysEvent : List ℕ → Event → Type 0
 SaysEvent text event = SaysWhole text event ⊎ SaysHead text event
 
+-- a text that says an event, in front of one that says others
+pub record SaysFirst (text : List ℕ) (event : Event) (SaysOthers : List ℕ → Type 0) : Type 0 where
+  pub first : List ℕ
+  pub rest : List ℕ
+  pub cut : text ≡ first ++ rest
+  pub says : SaysEvent first event
+  pub others : SaysOthers rest
+
+-- a text says these events, one after the other
+abbrev pub SaysEvents : List Event → List ℕ → Type 0
+SaysEvents [] text = text ≡ []
+SaysEvents (event ∷ events) text = SaysFirst text event (SaysEvents events)
+
 -- ---- what says no event
 
 -- lines, none of which is a dot, and no line behind them

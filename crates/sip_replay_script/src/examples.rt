@@ -1,5 +1,6 @@
 ghost use Rattle.std.specs.Prelude.{◌≡◌, [], ◌∷◌, codes, true, Some, None};
-ghost use Rattle.sip_event.specs.declared.event.Event.TheVariants.{Time, Fault};
+ghost use Rattle.sip_event.specs.declared.event.Event.TheVariants.{Datagram, Time, Fault};
+ghost use Rattle.sip_replay_script.specs.EventText.{event_text};
 ghost use Rattle.sip_replay_script.specs.Print.{head_text};
 ghost use Rattle.sip_replay_script.specs.Script.{line_of};
 ghost use Rattle.sip_replay_script.specs.declared.script.Line.TheVariants.{Whole};
@@ -20,4 +21,14 @@ pub fn head_text_example()
           ticket = record { datagram = 1; branch = 0 };
           again = true;
         }) ≡ codes "packet 1000 127.0.0.1:5062 1/0 again 2\n" }
+{}
+
+/// What is written of a datagram, of one without bytes, of a moment and of a fault.
+pub fn event_text_example()
+    ensures bytes { event_text (Datagram 5 255 (record { ip = 127 ∷ 0 ∷ 0 ∷ 1 ∷ []; port = 5062 }) (codes "OK"))
+        ≡ codes "hex 5 127.0.0.1:5062 000000000000000000000000000000ff 4f4b\n" }
+    ensures none { event_text (Datagram 5 255 (record { ip = 127 ∷ 0 ∷ 0 ∷ 1 ∷ []; port = 5062 }) [])
+        ≡ codes "datagram 5 127.0.0.1:5062 000000000000000000000000000000ff\n.\n" }
+    ensures time { event_text (Time 1000) ≡ codes "time 1000\n" }
+    ensures failed { event_text (Fault 70 (record { datagram = 3; branch = 1 })) ≡ codes "fault 70 3/1\n" }
 {}

@@ -1,6 +1,7 @@
-ghost use Rattle.std.specs.Prelude.{◌≡◌, ◌≢◌, ◌++◌, ℕ, List, []};
+ghost use Rattle.std.specs.Prelude.{◌≡◌, ◌≢◌, ◌∷◌, ◌++◌, ℕ, List, [], true};
 ghost use Rattle.sip_event.specs.declared.event.Event.{Event};
-ghost use Rattle.sip_replay_script.specs.Events.{SaysEvent, IsNoEvent};
+ghost use Rattle.sip_replay_script.specs.EventText.{event_text, is_sayable, HasTypes};
+ghost use Rattle.sip_replay_script.specs.Events.{SaysEvent, SaysEvents, IsNoEvent};
 
 /// A script says its next event in one way: where it begins with a text that says one, no other text that it
 /// begins with says an event, and this text no other event.
@@ -14,4 +15,21 @@ pub fn next_event_is_one()
 pub fn event_is_no_refusal()
     ensures none { (text more : List ℕ) (event : Event) → SaysEvent text event → IsNoEvent (text ++ more) → ⊥ }
     ensures something { (rest : List ℕ) → IsNoEvent rest → rest ≢ [] }
+{}
+
+/// What says an event, cut before its end, says none: a script that ends so is refused there.
+pub fn cut_event_is_none()
+    ensures { (event : Event) (front rest : List ℕ) → SaysEvent (front ++ rest) event → front ≢ [] → rest ≢ [] → IsNoEvent front }
+{}
+
+/// A text that says some events, in front of one that says others, says both. What says an event says it alone.
+pub fn texts_join()
+    ensures both { (events others : List Event) (text more : List ℕ) → SaysEvents events text → SaysEvents others more
+        → SaysEvents (events ++ others) (text ++ more) }
+    ensures one { (text : List ℕ) (event : Event) → SaysEvent text event → SaysEvents (event ∷ []) text }
+{}
+
+/// What is written of an event says that event, and so no other.
+pub fn written_event_is_read()
+    ensures { (event : Event) → HasTypes event → is_sayable event ≡ true → SaysEvent (event_text event) event }
 {}

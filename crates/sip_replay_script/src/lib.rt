@@ -8,6 +8,7 @@
 
 mod device;
 mod event;
+mod event_text;
 pub mod examples;
 mod head_line;
 pub mod laws;
@@ -19,9 +20,10 @@ mod writing;
 
 pub use device::{TellingReader, TellingWriter};
 pub use event::next_event;
+pub use event_text::{empty_text, fault_text, hex_front, time_text};
 pub use head_line::HeadLine;
 pub use lines::Lines;
 pub use print::{head_text, print_step};
 pub use script::{DatagramHead, Line, line_of};
 pub use stop::Stop;
-pub use writing::hand_on;
+pub use writing::{hand_on, put};

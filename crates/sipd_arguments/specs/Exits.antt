@@ -3,7 +3,7 @@ use Rattle.std.specs.Prelude.{ℕ}
 use Rattle.sip_config.specs.declared.error.ConfigError.{ConfigError}
 use Rattle.sip_config.specs.declared.error.ConfigError.TheVariants as configurations
 use Rattle.sipd_arguments.specs.declared.exit.Exit.{Exit}
-use Rattle.sipd_arguments.specs.declared.exit.Exit.TheVariants.{Usage, Configuration, Script, Device, Memory}
+use Rattle.sipd_arguments.specs.declared.exit.Exit.TheVariants.{Usage, Configuration, Script, Device, Memory, Question, NoRecord, OtherConfiguration, NewRecord, Recording}
 
 -- exit statuses (this project's profile)
 abbrev pub status_of : Exit → ℕ
@@ -12,6 +12,11 @@ status_of (Configuration number) = 2
 status_of (Script line) = 3
 status_of Device = 4
 status_of Memory = 5
+status_of (Question text) = 1
+status_of NoRecord = 3
+status_of OtherConfiguration = 3
+status_of NewRecord = 4
+status_of Recording = 4
 
 -- what a refused configuration is to the program
 abbrev pub exit_of_config : ConfigError → Exit

@@ -1,117 +1,90 @@
-use crate::exit::Exit;
-use clap::error::ErrorKind;
-use clap::{Arg, ArgAction, ArgMatches, Command, value_parser};
-use std::alloc::{AllocError, Global};
-
 /// What is to be done.
 #[derive(Drop)]
 pub enum Call {
-    /// Check the configuration of this file.
-    Check(String),
-    /// Replay the script on standard input, with the configuration of this file, or the sample.
-    Replay(Option<String>),
-    /// Serve with the configuration of this file, for so many turns, or until it is ended.
-    Serve(String, Option<u32>),
+    Check(CheckCall),
+    Replay(ReplayCall),
+    Serve(ServeCall),
+    Decide(DecideCall),
+    Report(ReportCall),
+    User(UserCall),
 }
 
-/// What a command line says.
+/// `check`: a configuration is checked.
 #[derive(Drop)]
-pub enum Parsed {
-    /// It asks for this text.
-    Text(String),
-    Call(Call),
+pub struct CheckCall {
+    /// The file of the configuration.
+    pub config: String,
+    /// Whether what was understood is printed, or what is wrong.
+    pub show: bool,
 }
 
-/// `--config FILE`.
-fn config_argument<'a>(alloc: Global, required: bool) -> Arg<'a> {
-    Arg::new(alloc, "config")
-        .long("config")
-        .value_name("FILE")
-        .help("The configuration file")
-        .required(required)
-        .action(ArgAction::Set)
+/// `replay`: a script on standard input is replayed, or a record.
+#[derive(Drop)]
+pub struct ReplayCall {
+    /// The file of the configuration; the sample where none is named.
+    pub config: Option<String>,
+    /// The file of the record.
+    pub record: Option<String>,
 }
 
-fn check_command<'a>(alloc: Global) -> Result<Command<'a>, AllocError> {
-    Command::new(alloc, "check")
-        .about("Checks a configuration")
-        .arg(config_argument(alloc, true))
+/// What becomes of a server whose record can't be written.
+#[derive(Clone, Copy, PartialEq, Eq)]
+pub enum RecordFault {
+    /// It goes on, and records nothing more.
+    GoOn,
+    /// It ends.
+    End,
 }
 
-fn replay_command<'a>(alloc: Global) -> Result<Command<'a>, AllocError> {
-    Command::new(alloc, "replay")
-        .about(
-            "Replays a script from standard input, with the sample configuration or that of a file",
-        )
-        .arg(config_argument(alloc, false))
+/// `serve`: phones are served.
+#[derive(Drop)]
+pub struct ServeCall {
+    /// The file of the configuration.
+    pub config: String,
+    /// How many turns; until it is ended, where none is named.
+    pub turns: Option<u32>,
+    /// The file of the record that is made.
+    pub record: Option<String>,
+    pub record_fault: RecordFault,
+    /// The file of the record from which the server goes on.
+    pub resume: Option<String>,
+    /// How many datagrams a second are heard from one address.
+    pub per_source: Option<u32>,
 }
 
-/// `--turns N`.
-fn turns_argument<'a>(alloc: Global) -> Arg<'a> {
-    Arg::new(alloc, "turns")
-        .long("turns")
-        .value_name("N")
-        .help("How many turns to serve; until it is ended, if not given")
-        .action(ArgAction::Set)
-        .value_parser(value_parser!(u32))
+/// `decide`: which rule would decide.
+#[derive(Drop)]
+pub struct DecideCall {
+    /// The file of the configuration.
+    pub config: String,
+    /// The user who is proven; nobody where none is named.
+    pub user: Option<String>,
+    /// The minute of the office's day, from 0; the present one where none is named.
+    pub minute: Option<u16>,
+    /// A method, or `register` or `list`.
+    pub method: String,
+    /// `USER@HOST`, or a SIP URI.
+    pub target: String,
 }
 
-fn serve_command<'a>(alloc: Global) -> Result<Command<'a>, AllocError> {
-    Command::new(alloc, "serve")
-        .about("Serves at the address of a configuration")
-        .arg(config_argument(alloc, true))?
-        .arg(turns_argument(alloc))
+/// `report`: audit lines on standard input are made a table.
+#[derive(Drop)]
+pub struct ReportCall {
+    /// The file of the configuration whose time of day it is; UTC where none is named.
+    pub config: Option<String>,
+    /// The user whose lines are shown; everybody's where none is named.
+    pub user: Option<String>,
+    /// The rule whose lines are shown; all where none is named.
+    pub rule: Option<u32>,
+    /// Whether denials alone are shown.
+    pub denied: bool,
+    /// Whether comma-separated values are printed.
+    pub csv: bool,
 }
 
-/// The commands that the program knows.
-fn commands<'a>(alloc: Global) -> Result<Command<'a>, AllocError> {
-    Command::new(alloc, "sipd")
-        .version("0.1.0")
-        .about("A SIP registrar and proxy")
-        .subcommand_required(true)
-        .subcommand(check_command(alloc)?)?
-        .subcommand(replay_command(alloc)?)?
-        .subcommand(serve_command(alloc)?)
-}
-
-/// The file that `--config` names.
-fn config_of(alloc: Global, matches: &ArgMatches<'_>) -> Result<Option<String>, AllocError> {
-    match matches.get_str("config") {
-        Some(path) => Ok(Some(String::from_str(alloc, path)?)),
-        None => Ok(None),
-    }
-}
-
-/// The number that `--turns` names.
-fn turns_of(matches: &ArgMatches<'_>) -> Option<u32> {
-    matches.get_one::<u32>("turns")
-}
-
-/// What a command asks for.
-fn call_of(alloc: Global, matches: &ArgMatches<'_>) -> Result<Call, AllocError> {
-    let Some((name, inner)) = matches.subcommand() else {
-        // A command is required.
-        return Ok(Call::Replay(None));
-    };
-    match (name, config_of(alloc, inner)?) {
-        // These two require their file.
-        ("check", Some(path)) => Ok(Call::Check(path)),
-        ("serve", Some(path)) => Ok(Call::Serve(path, turns_of(inner))),
-        (_, path) => Ok(Call::Replay(path)),
-    }
-}
-
-/// What the words say, the program's own name first.
-pub fn parse(alloc: Global, words: &[String]) -> Result<Parsed, Exit> {
-    match commands(alloc)?.try_get_matches_from(words) {
-        Ok(matches) => Ok(Parsed::Call(call_of(alloc, &matches)?)),
-        Err(e) => {
-            let text = e.to_string(alloc)?;
-            match e.kind() {
-                ErrorKind::OutOfMemory => Err(Exit::Memory),
-                ErrorKind::DisplayHelp | ErrorKind::DisplayVersion => Ok(Parsed::Text(text)),
-                _ => Err(Exit::Usage(text)),
-            }
-        }
-    }
+/// `user`: the table of a user, whose password is on standard input.
+#[derive(Drop)]
+pub struct UserCall {
+    pub name: String,
+    pub realm: String,
 }

@@ -17,6 +17,16 @@ pub enum Exit {
     Script(u64),
     Device,
     Memory,
+    /// What is asked can't be answered; the text says why.
+    Question(String),
+    /// A file that is to be a record has no first line of one.
+    NoRecord,
+    /// A record was made with another configuration.
+    OtherConfiguration,
+    /// The file of a new record can't be made.
+    NewRecord,
+    /// A record couldn't be written, and the server was to end then.
+    Recording,
 }
 
 impl Exit {
@@ -25,10 +35,10 @@ impl Exit {
         ensures { result ≡ status_of self.now }
     {
         match self {
-            Exit::Usage(_) => 1,
+            Exit::Usage(_) | Exit::Question(_) => 1,
             Exit::Configuration(_) => 2,
-            Exit::Script(_) => 3,
-            Exit::Device => 4,
+            Exit::Script(_) | Exit::NoRecord | Exit::OtherConfiguration => 3,
+            Exit::Device | Exit::NewRecord | Exit::Recording => 4,
             Exit::Memory => 5,
         }
     }
@@ -43,6 +53,16 @@ impl fmt::Display for Exit {
             Exit::Script(line) => write!(f, "sipd: script line {line}"),
             Exit::Device => write!(f, "sipd: device"),
             Exit::Memory => write!(f, "sipd: memory"),
+            Exit::Question(text) => write!(f, "sipd: {text}"),
+            Exit::NoRecord => write!(f, "sipd: no record"),
+            Exit::OtherConfiguration => {
+                write!(f, "sipd: the record was made with another configuration")
+            }
+            Exit::NewRecord => write!(
+                f,
+                "sipd: the record can't be made: its file is there already, or its folder isn't"
+            ),
+            Exit::Recording => write!(f, "sipd: the record can't be written"),
         }
     }
 }

@@ -7,11 +7,15 @@
 #![tactic(auto)]
 
 mod call;
+mod commands;
 mod exit;
 mod files;
 mod summary;
 
-pub use call::{Call, Parsed, parse};
+pub use call::{
+    Call, CheckCall, DecideCall, RecordFault, ReplayCall, ReportCall, ServeCall, UserCall,
+};
+pub use commands::{Parsed, parse};
 pub use exit::Exit;
-pub use files::config_of;
+pub use files::{Stated, bytes_in, config_of, config_of_bytes, stated_in};
 pub use summary::summary_of;

@@ -4,7 +4,7 @@ use Rattle.sip_loop.specs.declared.served.ServeError.TheVariants as serving
 use Rattle.sip_replay.specs.declared.error.ReplayError.{ReplayError}
 use Rattle.sip_replay.specs.declared.error.ReplayError.TheVariants as replays
 use Rattle.sipd_arguments.specs.declared.exit.Exit.{Exit}
-use Rattle.sipd_arguments.specs.declared.exit.Exit.TheVariants.{Script, Device, Memory}
+use Rattle.sipd_arguments.specs.declared.exit.Exit.TheVariants.{Script, Device, Memory, Recording}
 
 -- what a refused replay is to the program
 abbrev pub exit_of_replay : ReplayError → Exit
@@ -18,3 +18,4 @@ abbrev pub exit_of_serve : ServeError → Exit
 exit_of_serve serving.NoMemory = Memory
 exit_of_serve serving.Link = Device
 exit_of_serve serving.Step = Device
+exit_of_serve serving.Journal = Recording

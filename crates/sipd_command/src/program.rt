@@ -1,33 +1,28 @@
 ghost use Rattle.std.specs.Prelude.{◌≡◌, ◌≤◌};
 ghost use Rattle.sipd_command.specs.Exits;
 
+use crate::old_record::old_record;
 use crate::printing::print;
-use crate::service::serve_turns;
+use crate::serving::serve_file;
+use crate::tools::{check, decide, make_report, make_user};
+use sip_event::Boot;
 use sip_policy::Rules;
 use sip_replay::{ReplayError, replay};
-use sip_text::Bytes;
 use sip_timers::Timers;
-use sipd_arguments::{Call, Exit, Parsed, config_of, parse, summary_of};
+use sipd_arguments::{
+    Call, Exit, Parsed, ReplayCall, config_of, config_of_bytes, parse, stated_in,
+};
 use std::io::{Read, Write};
 use std::net::Net;
 use std::random::RandomSource;
 use std::rt::{Clock, Files};
 
-/// What is printed of the configuration of a file.
-fn summary_in<R: Files + AllocGlobal>(rt: &R, path: &str) -> Result<Bytes, Exit> {
-    let config = config_of(rt, Some(path))?;
-    Ok(summary_of(rt.alloc(), &config)?)
-}
-
-/// Checks the configuration of a file, and prints what it has.
-fn check_file<R: Files + AllocGlobal, W: Write>(
-    rt: &R,
-    path: &str,
-    output: &mut W,
-) -> Result<(), Exit> {
-    let summary = summary_in(rt, path)?;
-    print(summary.as_slice(), output)
-}
+/// What a script is replayed from.
+const SCRIPT: Boot = Boot {
+    word: 0,
+    first: 1,
+    keys: 0,
+};
 
 /// How the program ends where a replay is refused.
 fn exit_of_replay(e: ReplayError) -> Exit
@@ -48,21 +43,56 @@ pub fn replay_script<T: Timers, P: Rules, R: Files + AllocGlobal, I: Read, W: Wr
     output: &mut W,
 ) -> Result<(), Exit> {
     let config = config_of(rt, path)?;
-    match replay::<T, P, I, W>(rt.alloc(), config, input, output) {
+    match replay::<T, P, I, W>(rt.alloc(), config, SCRIPT, input, output) {
         Ok(()) => Ok(()),
         Err(e) => Err(exit_of_replay(e)),
     }
 }
 
-/// Serves with the configuration of a file.
-fn serve_file<T: Timers, P: Rules, R: Files + Net + Clock + RandomSource + AllocGlobal, W: Write>(
+/// How the program ends where the replay of a record is refused: its first line is a line, too.
+fn exit_of_record(e: ReplayError) -> Exit {
+    match e {
+        ReplayError::Script(line) => Exit::Script(line.saturating_add(1)),
+        e => exit_of_replay(e),
+    }
+}
+
+/// Replays a record with the configuration of the file with which it was made.
+fn replay_record<T: Timers, P: Rules, R: Files + AllocGlobal, W: Write>(
     rt: &R,
-    path: &str,
-    turns: Option<u32>,
+    config: &str,
+    record: &str,
     output: &mut W,
 ) -> Result<(), Exit> {
-    let config = config_of(rt, Some(path))?;
-    serve_turns::<T, P, R, W>(rt, config, turns, output)
+    let alloc = rt.alloc();
+    let stated = stated_in(rt, config)?;
+    let config = config_of_bytes(alloc, stated.bytes.as_slice())?;
+    let mut record = old_record(rt, alloc, record, &stated.digest)?;
+    let boot = Boot {
+        word: record.head.word,
+        first: record.head.first,
+        keys: 0,
+    };
+    match replay::<T, P, _, W>(alloc, config, boot, &mut record.events, output) {
+        Ok(()) => Ok(()),
+        Err(e) => Err(exit_of_record(e)),
+    }
+}
+
+/// Replays a record, or else the script of the input.
+fn replay_call<T: Timers, P: Rules, R: Files + AllocGlobal, I: Read, W: Write>(
+    rt: &R,
+    call: &ReplayCall,
+    input: &mut I,
+    output: &mut W,
+) -> Result<(), Exit> {
+    let config = call.config.as_ref().map(String::as_str);
+    match (config, &call.record) {
+        (Some(config), Some(record)) => {
+            replay_record::<T, P, R, W>(rt, config, record.as_str(), output)
+        }
+        (config, _) => replay_script::<T, P, R, I, W>(rt, config, input, output),
+    }
 }
 
 fn carry_out<
@@ -71,27 +101,29 @@ fn carry_out<
     R: Files + Net + Clock + RandomSource + AllocGlobal,
     I: Read,
     W: Write,
->(rt: &R, call: &Call, input: &mut I, output: &mut W) -> Result<(), Exit> {
+    C: Write,
+>(rt: &R, call: &Call, input: &mut I, output: &mut W, complaints: &mut C) -> Result<(), Exit> {
     match call {
-        Call::Check(path) => check_file(rt, path.as_str(), output),
-        Call::Replay(Some(path)) => {
-            let path = Some(path.as_str());
-            replay_script::<T, P, R, I, W>(rt, path, input, output)
-        }
-        Call::Replay(None) => replay_script::<T, P, R, I, W>(rt, None, input, output),
-        Call::Serve(path, turns) => { serve_file::<T, P, R, W>(rt, path.as_str(), *turns, output) }
+        Call::Check(call) => check(rt, call, output),
+        Call::Replay(call) => replay_call::<T, P, R, I, W>(rt, call, input, output),
+        Call::Serve(call) => serve_file::<T, P, R, W, C>(rt, call, output, complaints),
+        Call::Decide(call) => decide(rt, call, output),
+        Call::Report(call) => make_report(rt, call, input, output, complaints),
+        Call::User(call) => make_user(rt, call, input, output),
     }
 }
 
-fn run<T: Timers, P: Rules, R: Files + Net + Clock + RandomSource + AllocGlobal, I: Read, W: Write>(
-    rt: &R,
-    words: &[String],
-    input: &mut I,
-    output: &mut W,
-) -> Result<(), Exit> {
+fn run<
+    T: Timers,
+    P: Rules,
+    R: Files + Net + Clock + RandomSource + AllocGlobal,
+    I: Read,
+    W: Write,
+    C: Write,
+>(rt: &R, words: &[String], input: &mut I, output: &mut W, complaints: &mut C) -> Result<(), Exit> {
     match parse(rt.alloc(), words)? {
         Parsed::Text(text) => print(text.as_bytes(), output),
-        Parsed::Call(call) => carry_out::<T, P, R, I, W>(rt, &call, input, output),
+        Parsed::Call(call) => carry_out::<T, P, R, I, W, C>(rt, &call, input, output, complaints),
     }
 }
 
@@ -108,7 +140,7 @@ pub fn command<
 >(rt: &R, words: &[String], input: &mut I, output: &mut W, complaints: &mut C) -> u8
     ensures { result ≤ 5 }
 {
-    match run::<T, P, R, I, W>(rt, words, input, output) {
+    match run::<T, P, R, I, W, C>(rt, words, input, output, complaints) {
         Ok(()) => 0,
         Err(exit) => {
             let _ = writeln!(complaints, "{exit}");

@@ -17,7 +17,7 @@ const WORN: u64 = 4_611_686_018_427_387_904;
 const READINGS: [u64; 6] = [1_000, 2_000, 3_000, 62_000, 62_499, 62_500];
 
 /// A trial of the call whose link fails at the receives and sends of these numbers.
-fn called(
+pub fn called(
     alloc: Global,
     receive_fails: &[u64],
     send_fails: &[u64],
@@ -26,7 +26,7 @@ fn called(
     over_memory(alloc, 1, &heard, receive_fails, send_fails, &READINGS)
 }
 
-/// The sends of both INVITEs fail: the answer goes out behind them.
+/// The sends of both INVITEs fail: the answer goes out behind them, and both faults are recorded.
 pub fn both_sends_fail(alloc: Global) -> bool {
     const GIVEN: [(Datagram, Sending); 4] = [
         (TRYING, Went),
@@ -34,8 +34,11 @@ pub fn both_sends_fail(alloc: Global) -> bool {
         (INVITE_2, Failed),
         (FAILED, Went),
     ];
+    const FAULTS: &[u8] = b"\nfault 62000 4/1\nfault 62000 4/2\n";
     match called(alloc, &[], &[5, 6]) {
-        Ok(mut trial) => trial.is_served(4) && trial.gave(3, &GIVEN),
+        Ok(mut trial) => {
+            trial.is_served(4) && trial.gave(3, &GIVEN) && trial.recorded().ends_with(FAULTS)
+        }
         Err(_) => false,
     }
 }

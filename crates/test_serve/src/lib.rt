@@ -8,11 +8,13 @@ mod datagrams;
 mod failing;
 mod on_loopback;
 mod phone;
+mod resuming;
 mod trial;
 
 use clocks::{clock_goes_back, clock_jumps};
 use failing::{both_sends_fail, final_send_fails, numbers_worn, receive_fails, trying_send_fails};
 use on_loopback::{call_on_loopback, loopback};
+use resuming::{call_goes_on, cut_and_damaged};
 use std::io;
 use std::net::Net;
 use test_forms::tell;
@@ -27,6 +29,8 @@ pub fn tell_all<R: Print + AllocGlobal + Net>(rt: &R) -> io::Result<()> {
     tell(rt, "numbers_worn", numbers_worn(alloc))?;
     tell(rt, "clock_goes_back", clock_goes_back(alloc))?;
     tell(rt, "clock_jumps", clock_jumps(alloc))?;
+    tell(rt, "call_goes_on", call_goes_on(alloc))?;
+    tell(rt, "cut_and_damaged", cut_and_damaged(alloc))?;
     tell(rt, "loopback", loopback(rt, alloc))?;
     tell(rt, "call_on_loopback", call_on_loopback(rt, alloc))
 }

@@ -6,6 +6,8 @@ use sip_loop::engine::Engine;
 use sip_loop::{ServeError, Served, serve};
 use sip_loop_link::{Given, Link, MemoryClock, MemoryLink, Sending};
 use sip_policy_index::IndexedRules;
+use sip_record::{OnFault, Recorder};
+use sip_resume::{ResumeError, resume};
 use sip_timers_wheel::WheelTimers;
 use std::alloc::{AllocError, Global};
 
@@ -17,6 +19,7 @@ pub struct Trial<L: Link> {
     alloc: Global,
     engine: Server,
     pub link: L,
+    pub record: Recorder<Vec<u8>>,
     clock: MemoryClock,
     words: Counting,
 }
@@ -28,6 +31,7 @@ impl<L: Link> Drop for Trial<L> {
             alloc: _,
             engine: _,
             link: _,
+            record: _,
             clock: _,
             words: _,
         } = self;
@@ -39,10 +43,12 @@ impl<L: Link> Trial<L> {
     pub fn new(alloc: Global, first: u64, link: L, readings: &[u64]) -> Result<Self, AllocError> {
         let engine = opened(alloc, first)?;
         let readings = numbers(alloc, readings)?;
+        let record = Recorder::new(alloc, Vec::new(alloc), OnFault::End)?;
         Ok(Trial {
             alloc,
             engine,
             link,
+            record,
             clock: MemoryClock::new(readings),
             words: Counting::new(),
         })
@@ -53,10 +59,21 @@ impl<L: Link> Trial<L> {
             self.alloc,
             &mut self.engine,
             &mut self.link,
+            &mut self.record,
             &mut self.clock,
             &mut self.words,
             turns,
         )
+    }
+
+    /// Takes the events of a record; how many of its lines were taken.
+    pub fn resume(&mut self, mut record: &[u8]) -> Result<u64, ResumeError> {
+        resume(self.alloc, &mut self.engine, &mut record, &mut self.record)
+    }
+
+    /// What was recorded.
+    pub fn recorded(&self) -> &[u8] {
+        self.record.writer.as_slice()
     }
 
     /// Whether serving for so many turns goes well.

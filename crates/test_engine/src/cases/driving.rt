@@ -48,5 +48,10 @@ pub fn replayed<I: Read, W: Write>(
     let Ok(config) = sample(alloc) else {
         return Err(ReplayError::NoMemory);
     };
-    replay::<ServerTimers, ServerRules, I, W>(alloc, config, reader, writer)
+    let boot = Boot {
+        word: 0,
+        first: 1,
+        keys: 0,
+    };
+    replay::<ServerTimers, ServerRules, I, W>(alloc, config, boot, reader, writer)
 }

@@ -5,7 +5,7 @@ use sip_policy::ListRules;
 use sip_policy_index::IndexedRules;
 use sip_timers::ListTimers;
 use sip_timers_wheel::WheelTimers;
-use sipd_arguments::{Call, Exit, Parsed, parse};
+use sipd_arguments::{Call, Exit, Parsed, ReplayCall, parse};
 use sipd_command::{command, replay_script};
 use std::alloc::{AllocError, Global};
 use std::fs;
@@ -111,12 +111,16 @@ fn replay_on_lists<R: Files + AllocGlobal>(
 ) -> Result<(), Exit> {
     let mut input = script;
     match parse(rt.alloc(), words)? {
-        Parsed::Call(Call::Replay(Some(path))) => {
-            let path = Some(path.as_str());
+        Parsed::Call(
+            Call::Replay(
+                ReplayCall {
+                    config,
+                    record: None,
+                },
+            ),
+        ) => {
+            let path = config.as_ref().map(String::as_str);
             replay_script::<ListTimers, ListRules, R, &[u8], Vec<u8>>(rt, path, &mut input, output)
-        }
-        Parsed::Call(Call::Replay(None)) => {
-            replay_script::<ListTimers, ListRules, R, &[u8], Vec<u8>>(rt, None, &mut input, output)
         }
         _ => Err(Exit::Device),
     }
@@ -152,6 +156,14 @@ fn script_of<R: Files + AllocGlobal>(rt: &R, name: &str) -> Option<Vec<u8>> {
     file_of(rt, name, "script")
 }
 
+/// What a run that replays no script reads from its standard input.
+fn input_of<R: Files + AllocGlobal>(rt: &R, name: &str) -> Vec<u8> {
+    match file_of(rt, name, "input") {
+        Some(input) => input,
+        None => Vec::new(rt.alloc()),
+    }
+}
+
 /// Whether a run agrees with its files, by the program, and, where it has a script, on plain lists of timers and rules.
 #[derive(Clone, Copy)]
 pub struct Agreement {
@@ -176,7 +188,7 @@ pub fn agreement_of<R: Files + Net + Clock + RandomSource + AllocGlobal>(
             on_lists: Some(gives_on_lists(rt, name, words.as_slice(), script.as_slice())),
         },
         None => Agreement {
-            by_program: gives(rt, name, words.as_slice(), b""),
+            by_program: gives(rt, name, words.as_slice(), input_of(rt, name).as_slice()),
             on_lists: None,
         },
     }

@@ -14,4 +14,5 @@ invariant-loop-place g l =
     × (g.L.Link.heard l.link ≡ g.L.Link.heard l.initial.link)
     × (l.place ≤ length l.out.packets)
     × IsNoFurther l.initial.engine.state l.engine.state
-    × Hands l.initial.engine.server l.initial.engine.state l.engine.state l.initial.out.packets None (drop l.place l.out.packets) (g.L.Link.given l.initial.link) (g.L.Link.given l.link)
+    × Hands l.initial.engine.server l.initial.engine.state l.engine.state l.initial.out.packets None (drop l.place l.out.packets)
+    (record { given = g.L.Link.given l.initial.link; written = g.J.Journal.written l.initial.journal }) (record { given = g.L.Link.given l.link; written = g.J.Journal.written l.journal })

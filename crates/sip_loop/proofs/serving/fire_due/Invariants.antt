@@ -12,4 +12,5 @@ invariant-loop-out g l =
     × (g.L.Link.receives l.link ≡ g.L.Link.receives l.initial.link)
     × (g.L.Link.failures l.link ≡ g.L.Link.failures l.initial.link)
     × (g.L.Link.heard l.link ≡ g.L.Link.heard l.initial.link)
-    × Course l.initial.engine.server l.initial.engine.state l.engine.state (Some l.at) (Some l.at) [] [] None [] (g.L.Link.given l.initial.link) (g.L.Link.given l.link)
+    × Course l.initial.engine.server l.initial.engine.state l.engine.state (Some l.at) (Some l.at) [] [] None []
+    (record { given = g.L.Link.given l.initial.link; written = g.J.Journal.written l.initial.journal }) (record { given = g.L.Link.given l.link; written = g.J.Journal.written l.journal })

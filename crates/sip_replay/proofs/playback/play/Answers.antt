@@ -12,8 +12,8 @@ use Rattle.sip_replay.proofs.playback.play.Goals as goal
 pub loop-line-init : goal.loop-line-init
 loop-line-init g c = (
   c.in-Ok.ensures.server,
-  subst (λ s. Replays (server_with c.args.config) (first_state 1) s c.in-Ok-new.lines c.in-Ok-new.lines (g.I.TellingReader.remaining c.args.reader.now) (g.I.TellingReader.remaining c.args.reader.now) (g.W.TellingWriter.contents c.args.writer.now) (g.W.TellingWriter.contents c.args.writer.now)) (sym c.in-Ok.ensures.state)
-      (replays_nothing (server_with c.args.config) (first_state 1) c.in-Ok-new.lines (g.I.TellingReader.remaining c.args.reader.now) (g.W.TellingWriter.contents c.args.writer.now)),
+  subst (λ s. Replays (server_with c.args.config c.args.boot.word) (first_state c.args.boot.first) s c.in-Ok-new.lines c.in-Ok-new.lines (g.I.TellingReader.remaining c.args.reader.now) (g.I.TellingReader.remaining c.args.reader.now) (g.W.TellingWriter.contents c.args.writer.now) (g.W.TellingWriter.contents c.args.writer.now)) (sym c.in-Ok.ensures.state)
+      (replays_nothing (server_with c.args.config c.args.boot.word) (first_state c.args.boot.first) c.in-Ok-new.lines (g.I.TellingReader.remaining c.args.reader.now) (g.W.TellingWriter.contents c.args.writer.now)),
   omega arith,
   refl,
 )
@@ -21,7 +21,7 @@ loop-line-init g c = (
 pub loop-line-preserved : goal.loop-line-preserved
 loop-line-preserved g c = (
   c.take_next.ensures.server ∙ c.loop-line.invariant.0,
-  replays_next c.runs_join.ensures (server_with c.args.config) c.loop-line.engine.server (first_state 1) c.loop-line.engine.state c.take_next.new.engine.state c.in-Ok-new.lines c.loop-line.lines c.take_next.new.lines
+  replays_next c.runs_join.ensures (server_with c.args.config c.args.boot.word) c.loop-line.engine.server (first_state c.args.boot.first) c.loop-line.engine.state c.take_next.new.engine.state c.in-Ok-new.lines c.loop-line.lines c.take_next.new.lines
       (g.I.TellingReader.remaining c.args.reader.now) (g.I.TellingReader.remaining c.loop-line.reader) (g.I.TellingReader.remaining c.take_next.new.reader) (g.W.TellingWriter.contents c.args.writer.now) (g.W.TellingWriter.contents c.loop-line.writer) (g.W.TellingWriter.contents c.take_next.new.writer)
       c.loop-line.invariant.0 c.loop-line.invariant.1 (c.in_ok-take_next.ensures.taken c.if-branch.true),
   omega (arith, c.take_next.ensures.less, c.loop-line.invariant.2),
@@ -31,7 +31,7 @@ loop-line-preserved g c = (
 pub returns-in_err-take_next-clause-refused : goal.returns-in_err-take_next-clause-refused
 returns-in_err-take_next-clause-refused g c =
     let p = err_from_is_err_and c.from_residual.result c.from_residual.ensures.1 in
-    rw (p.1, p.2) (play_refused c.runs_join.ensures c.args.config c.loop-line.engine.server c.loop-line.engine.state c.in-Ok-new.lines c.loop-line.lines (g.I.TellingReader.remaining c.args.reader.now) (g.I.TellingReader.remaining c.loop-line.reader)
+    rw (p.1, p.2) (play_refused c.runs_join.ensures c.args.config c.args.boot.word c.args.boot.first c.loop-line.engine.server c.loop-line.engine.state c.in-Ok-new.lines c.loop-line.lines (g.I.TellingReader.remaining c.args.reader.now) (g.I.TellingReader.remaining c.loop-line.reader)
     (g.W.TellingWriter.contents c.args.writer.now) (g.W.TellingWriter.contents c.loop-line.writer) (g.W.TellingWriter.contents c.take_next.new.writer) c.in_err-take_next.field-0.0
     c.loop-line.invariant.0 c.in-Ok-new.ensures c.loop-line.invariant.1 c.in_err-take_next.ensures.refused)
 
@@ -57,13 +57,13 @@ returns-clause-asked g c =
 
 -- nothing was taken yet
 pub returns-in-Err-clause-refused : goal.returns-in-Err-clause-refused
-returns-in-Err-clause-refused g c = refuses_at_once (server_with c.args.config) (first_state 1) 0 (g.I.TellingReader.remaining c.args.reader.now) (g.W.TellingWriter.contents c.args.writer.now)
+returns-in-Err-clause-refused g c = refuses_at_once (server_with c.args.config c.args.boot.word) (first_state c.args.boot.first) 0 (g.I.TellingReader.remaining c.args.reader.now) (g.W.TellingWriter.contents c.args.writer.now)
 
 pub returns-in-Err-new-clause-refused : goal.returns-in-Err-new-clause-refused
-returns-in-Err-new-clause-refused g c = refuses_at_once (server_with c.args.config) (first_state 1) 0 (g.I.TellingReader.remaining c.args.reader.now) (g.W.TellingWriter.contents c.args.writer.now)
+returns-in-Err-new-clause-refused g c = refuses_at_once (server_with c.args.config c.args.boot.word) (first_state c.args.boot.first) 0 (g.I.TellingReader.remaining c.args.reader.now) (g.W.TellingWriter.contents c.args.writer.now)
 
 pub returns-clause-replayed : goal.returns-clause-replayed
 returns-clause-replayed g c =
-    subst (λ (o : Option (List ℕ)). IsReplay c.args.config (g.I.TellingReader.remaining c.args.reader.now) (g.W.TellingWriter.contents c.args.writer.now) o) (sym (c.in_ok-take_next.ensures.silent c.if-branch.false))
-    (replays_over c.args.config c.loop-line.engine.state c.in-Ok-new.lines c.loop-line.lines c.take_next.new.lines (g.I.TellingReader.remaining c.args.reader.now) (g.I.TellingReader.remaining c.loop-line.reader)
+    subst (λ (o : Option (List ℕ)). IsReplay c.args.config c.args.boot.word c.args.boot.first (g.I.TellingReader.remaining c.args.reader.now) (g.W.TellingWriter.contents c.args.writer.now) o) (sym (c.in_ok-take_next.ensures.silent c.if-branch.false))
+    (replays_over c.args.config c.args.boot.word c.args.boot.first c.loop-line.engine.state c.in-Ok-new.lines c.loop-line.lines c.take_next.new.lines (g.I.TellingReader.remaining c.args.reader.now) (g.I.TellingReader.remaining c.loop-line.reader)
     (g.I.TellingReader.remaining c.take_next.new.reader) (g.W.TellingWriter.contents c.args.writer.now) (g.W.TellingWriter.contents c.loop-line.writer) (ap (λ (x : Reading). x.unread) c.in-Ok-new.ensures) c.loop-line.invariant.1 (c.in_ok-take_next.ensures.over c.if-branch.false))

@@ -8,8 +8,8 @@ use Rattle.sip_replay.proofs.playback.play.Given as goal
 
 abbrev pub invariant-loop-line : goal.invariant-loop-line
 invariant-loop-line g l =
-    (l.engine.server ≡ server_with l.fn.config)
-    × Replays (server_with l.fn.config) (first_state 1) l.engine.state l.initial.lines l.lines (g.I.TellingReader.remaining l.initial.reader) (g.I.TellingReader.remaining l.reader)
+    (l.engine.server ≡ server_with l.fn.config l.fn.boot.word)
+    × Replays (server_with l.fn.config l.fn.boot.word) (first_state l.fn.boot.first) l.engine.state l.initial.lines l.lines (g.I.TellingReader.remaining l.initial.reader) (g.I.TellingReader.remaining l.reader)
     (g.W.TellingWriter.contents l.initial.writer) (g.W.TellingWriter.contents l.writer)
     × (l.lines.asks ≤ l.initial.lines.asks)
     × (later l.lines.asks (g.I.TellingReader.asked l.reader) ≡ later l.initial.lines.asks (g.I.TellingReader.asked l.initial.reader))

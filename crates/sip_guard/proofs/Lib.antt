@@ -1,0 +1,4 @@
+pub mod Counting
+pub mod Parting
+pub mod Passing
+pub mod Rating

@@ -1,0 +1,23 @@
+-- What the worked examples are about.
+use Rattle.std.specs.Prelude.{ℕ, List, [], ◌∷◌, replicate}
+use Rattle.sip_guard.specs.Sources.{SourceTable, half}
+use Rattle.sip_guard.specs.declared.limit.Limit.{Limit}
+
+-- one datagram a second, and two at once
+abbrev pub one_a_second : Limit
+one_a_second = record { per_second = 1; burst = 2 }
+
+-- three datagrams at once, one a second later, one half a second behind that, one another half later; the newest first
+abbrev pub six_moments : List ℕ
+six_moments = 2000 ∷ 1500 ∷ 1000 ∷ 0 ∷ 0 ∷ 0 ∷ []
+
+-- two IP addresses
+abbrev pub desk : List ℕ
+desk = 192 ∷ 0 ∷ 2 ∷ 1 ∷ []
+
+abbrev pub scanner : List ℕ
+scanner = 198 ∷ 51 ∷ 100 ∷ 7 ∷ []
+
+-- two full tables, of which no number is past 7
+abbrev pub full : SourceTable
+full = record { recent = replicate half (desk, 7); earlier = replicate half (desk, 7); recent_until = 7; earlier_until = 7 }

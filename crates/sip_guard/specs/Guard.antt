@@ -1,0 +1,133 @@
+-- A link that hears no more of a source than its allowance.
+use Rattle.std.specs.Prelude.{◌≡◌, ◌≤◌, ℕ, zero, suc, Bool, true, not, max, List, [], ◌∷◌, length, Option, Some, None, Result, Ok, Err, ◌⊎◌}
+use Rattle.std.specs.List.{list_all}
+use Rattle.sip_loop_link.specs.Told.{counted, heard_of, and_then, and_counted}
+use Rattle.sip_loop_link.specs.declared.datagram.Given.{Given}
+use Rattle.sip_loop_link.specs.declared.datagram.Heard.{Heard}
+use Rattle.sip_loop_link.specs.declared.datagram.LinkFault.{LinkFault}
+use Rattle.sip_uri.specs.declared.addr.Addr.{Addr}
+use Rattle.sip_guard.specs.Allowance.{admits}
+use Rattle.sip_guard.specs.Sources.{SourceTable, AreFew, used_of, IsCharged}
+use Rattle.sip_guard.specs.Unheard.{UnheardCounts, most_sources, none_unheard, noted}
+use Rattle.sip_guard.specs.declared.limit.Limit.{Limit}
+
+-- what is kept of the sources: their limit, the latest moment that is known, their numbers, and how much of whom wasn't handed on
+pub record AllowanceState : Type 0 where
+  pub limit : Limit
+  pub present : ℕ
+  pub sources : SourceTable
+  pub unheard : UnheardCounts
+
+-- what a link tells: what it heard and was given, where it tells that, what it holds, how often it was asked for a datagram, and
+-- how often that failed
+pub record LinkState : Type 0 where
+  pub heard : Option (List (Option Heard))
+  pub given : Option (List Given)
+  pub held : List ℕ
+  pub receives : ℕ
+  pub failures : ℕ
+
+-- what a guard is seen as: what it keeps where there is a limit; what the link under it tells, and its clock; how often it was
+-- asked for a datagram itself, and how often that failed
+pub record GuardState : Type 0 where
+  pub allowances : Option AllowanceState
+  pub link : LinkState
+  pub readings : Option (List ℕ)
+  pub receives : ℕ
+  pub failures : ℕ
+
+-- no more of all this is kept than there is room for
+abbrev pub IsBounded : AllowanceState → Type 0
+IsBounded allowances = AreFew allowances.sources × (length allowances.unheard.sources ≤ most_sources)
+
+-- what is kept at first
+abbrev pub allowances_of : Limit → AllowanceState
+allowances_of limit = record { limit = limit; present = 0; sources = record { recent = []; earlier = []; recent_until = 0; earlier_until = 0 }; unheard = none_unheard }
+
+-- the same with nothing unheard
+abbrev pub told_all : AllowanceState → AllowanceState
+told_all allowances = record allowances { unheard = none_unheard }
+
+-- the same at a reading, unless that is earlier than the latest moment
+abbrev pub reached : AllowanceState → ℕ → AllowanceState
+reached allowances reading = record allowances { present = max allowances.present reading }
+
+-- whether a datagram of a source is within its allowance at the latest moment
+abbrev pub is_within : AllowanceState → List ℕ → Bool
+is_within allowances ip = admits allowances.limit (used_of ip allowances.sources) allowances.present
+
+-- a datagram of a source was handed on
+abbrev pub IsAdmitted : AllowanceState → List ℕ → AllowanceState → Type 0
+IsAdmitted old ip new = (new ≡ record old { sources = new.sources }) × IsCharged old.limit old.present ip old.sources new.sources
+
+-- what a link tells when it heard these datagrams too, the newest first
+abbrev pub and_passed : Option (List (Option Heard)) → List Heard → Option (List (Option Heard))
+and_passed told [] = told
+and_passed told (datagram ∷ before) = and_then (and_passed told before) (Some datagram)
+
+-- what isn't handed on, with these datagrams too, the newest first
+abbrev pub noted_all : UnheardCounts → List Heard → UnheardCounts
+noted_all unheard [] = unheard
+noted_all unheard (datagram ∷ before) = noted (noted_all unheard before) datagram.from.ip
+
+-- a number counted up so often
+abbrev pub counted_times : ℕ → ℕ → ℕ
+counted_times zero number = number
+counted_times (suc n) number = counted (counted_times n number)
+
+-- the link heard so many datagrams, each beyond the allowance of its source; they were counted and not handed on. The newest first
+pub record PassesOver (old new : AllowanceState) (before after : LinkState) (count : ℕ) : Type 0 where
+  pub passed : List Heard
+  pub number : length passed ≡ count
+  pub told : after.heard ≡ and_passed before.heard passed
+  pub given : after.given ≡ before.given
+  pub asked : after.receives ≡ counted_times count before.receives
+  pub whole : after.failures ≡ before.failures
+  pub beyond : list_all (λ datagram. not (is_within old datagram.from.ip)) passed ≡ true
+  pub noted : new ≡ record old { unheard = noted_all old.unheard passed }
+
+-- a receive of a link: what it answers is what it heard, and if it failed, nothing
+abbrev pub Receives : LinkState → LinkState → Result (Option Addr) LinkFault → Type 0
+Receives before after (Ok from) = (after.heard ≡ and_then before.heard (heard_of from after.held)) × (after.given ≡ before.given)
+    × (after.receives ≡ counted before.receives) × (after.failures ≡ before.failures)
+Receives before after (Err fault) = (after.heard ≡ before.heard) × (after.given ≡ before.given)
+    × (after.receives ≡ counted before.receives) × (after.failures ≡ counted before.failures)
+
+-- how many datagrams in a row are passed over at most
+abbrev pub most_passed : ℕ
+most_passed = 64
+
+-- what becomes of the allowances behind what a receive answers: a datagram was within the allowance of its source
+abbrev pub Answers : AllowanceState → AllowanceState → Result (Option Addr) LinkFault → Type 0
+Answers old new (Ok (Some from)) = (is_within old from.ip ≡ true) × IsAdmitted old from.ip new
+Answers old new (Ok None) = new ≡ old
+Answers old new (Err fault) = new ≡ old
+
+-- a receive under a limit: some datagrams are passed over; then the link's next answer is handed on, or nothing, once that many
+-- were passed over
+pub record Hears (old new : AllowanceState) (before after : LinkState) (result : Result (Option Addr) LinkFault) : Type 0 where
+  pub between : AllowanceState
+  pub link : LinkState
+  pub count : ℕ
+  pub passes : PassesOver old between before link count
+  pub answers : Answers between new result
+  pub ends : Receives link after result ⊎ ((count ≡ most_passed) × (result ≡ Ok None) × (after ≡ link))
+
+-- a receive of a guard with a limit: its clock is read once
+pub record HearsWithin (allowances : AllowanceState) (old new : GuardState) (result : Result (Option Addr) LinkFault) : Type 0 where
+  pub reading : ℕ
+  pub behind : AllowanceState
+  pub read : new.readings ≡ and_counted old.readings reading
+  pub kept : new.allowances ≡ Some behind
+  pub hears : Hears (reached allowances reading) behind old.link new.link result
+
+-- a receive of a guard without a limit is one of the link
+pub record HearsAll (old new : GuardState) (result : Result (Option Addr) LinkFault) : Type 0 where
+  pub read : new.readings ≡ old.readings
+  pub kept : new.allowances ≡ None
+  pub hears : Receives old.link new.link result
+
+-- a receive of a guard
+abbrev pub Guards : Option AllowanceState → GuardState → GuardState → Result (Option Addr) LinkFault → Type 0
+Guards None old new result = HearsAll old new result
+Guards (Some allowances) old new result = HearsWithin allowances old new result

@@ -1,0 +1,79 @@
+ghost use Rattle.std.specs.Prelude.{◌≡◌, true, false, IfOk};
+ghost use Rattle.sip_guard.specs.Guard.{allowances_of, reached, told_all, IsBounded, is_within, IsAdmitted};
+ghost use Rattle.sip_guard.specs.Unheard.{noted};
+
+use crate::limit::Limit;
+use crate::sources::Sources;
+use crate::unheard::Unheard;
+use std::alloc::{AllocError, Global};
+use std::marker::Model;
+
+/// What each source used of its allowance, and how much of whom wasn't handed on.
+#[derive(Drop)]
+pub(crate) struct Allowances {
+    limit: Limit,
+    /// The latest moment that is known, in milliseconds.
+    present: u64,
+    sources: Sources,
+    unheard: Unheard,
+}
+
+impl Model for Allowances {
+    ghost use Rattle.sip_guard.specs.Guard.{AllowanceState, IsBounded};
+
+    ghost Value = { AllowanceState };
+
+    ghost view = { λ a. record { limit = a.limit; present = a.present; sources = a.sources; unheard = a.unheard } };
+
+    ghost invariant = { λ a. IsBounded (record { limit = a.limit; present = a.present; sources = a.sources; unheard = a.unheard }) };
+}
+
+impl Allowances {
+    /// No source yet. Makes room for all. `AllocError` is the only refusal.
+    pub(crate) fn new(alloc: Global, keys: u128, limit: Limit) -> Result<Allowances, AllocError>
+        ensures { IfOk result (λ allowances. allowances ≡ allowances_of limit) }
+    {
+        Ok(Allowances {
+            limit,
+            present: 0,
+            sources: Sources::new(alloc, keys)?,
+            unheard: Unheard::new(alloc)?,
+        })
+    }
+
+    /// The clock says this, in milliseconds. It doesn't go back here.
+    pub(crate) fn reach(&mut self, reading: u64)
+        ensures reached { self.new ≡ reached self.old reading }
+        ensures bounded { IsBounded self.new }
+    {
+        self.present = self.present.max(reading);
+    }
+
+    /// Whether a datagram of a source is handed on now. One that isn't is counted as unheard.
+    pub(crate) fn admit(&mut self, ip: [u8; 4]) -> bool
+        ensures bounded { IsBounded self.new }
+        ensures within { result ≡ is_within self.old ip }
+        ensures beyond { result ≡ false → self.new ≡ record self.old { unheard = noted self.old.unheard ip } }
+        ensures admitted { result ≡ true → IsAdmitted self.old ip self.new }
+    {
+        let is_within = self.sources.admit(self.limit, ip, self.present);
+        if !is_within {
+            self.unheard.note(ip);
+        }
+        is_within
+    }
+
+    /// How much of whom wasn't handed on.
+    pub(crate) fn unheard(&self) -> &Unheard
+        ensures { result.now ≡ self.now.unheard }
+    {
+        &self.unheard
+    }
+
+    /// Counts of the unheard begin anew.
+    pub(crate) fn clear_unheard(&mut self)
+        ensures { self.new ≡ told_all self.old }
+    {
+        self.unheard.clear();
+    }
+}

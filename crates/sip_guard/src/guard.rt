@@ -1,0 +1,203 @@
+ghost use Rattle.std.specs.Prelude.{◌≡◌, None, IfOk, IfSome, OnOk, OnErr, option_map};
+ghost use Rattle.std.specs.Borrow.{Lends, sem};
+ghost use Rattle.sip_guard.specs.contracts.guard.Guard.{the_row};
+ghost use Rattle.sip_loop_link.specs.Told.{counted, and_then};
+ghost use Rattle.sip_guard.specs.Guard.{allowances_of, told_all, IsBounded, Hears, Guards};
+
+use crate::allowances::Allowances;
+use crate::limit::Limit;
+use crate::unheard::Unheard;
+use sip_loop_link::{Clock, Link, LinkFault, Sending};
+use sip_uri::Addr;
+use std::alloc::{AllocError, Global};
+use std::marker::Model;
+
+/// How many datagrams in a row are passed over at most.
+const MOST_PASSED: u64 = 64;
+
+/// A link over a link, which hands on what comes within the allowance of its source, an IP address, and counts the rest. It keeps
+/// 4,096 sources at most; a datagram of one that finds no room is handed on. Phones behind one address share its allowance.
+#[derive(Drop)]
+pub struct Guard<L: Link, C: Clock> {
+    link: L,
+    clock: C,
+    /// None where there is no limit.
+    allowances: Option<Allowances>,
+    receives: u64,
+    failures: u64,
+}
+
+impl<L: Link, C: Clock> Model for Guard<L, C> {
+    ghost use Rattle.sip_guard.specs.Guard.{GuardState};
+
+    ghost Value = { GuardState };
+
+    ghost view = { λ g. record {
+      allowances = g.allowances;
+      link = record {
+        heard = L.heard g.link;
+        given = L.given g.link;
+        held = L.held g.link;
+        receives = L.receives g.link;
+        failures = L.failures g.link;
+      };
+      readings = C.readings g.clock;
+      receives = g.receives;
+      failures = g.failures;
+    } };
+}
+
+/// Asks a link until it heard a datagram within its source's allowance, or nothing.
+fn hear_within<L: Link>(
+    link: &mut L,
+    allowances: &mut Allowances,
+) -> Result<Option<Addr>, LinkFault>
+    requires { IsBounded allowances.old }
+    ensures bounded { IsBounded allowances.new }
+    ensures hears { Hears allowances.old allowances.new
+        (record { heard = L.heard link.old; given = L.given link.old; held = L.held link.old; receives = L.receives link.old; failures = L.failures link.old })
+        (record { heard = L.heard link.new; given = L.given link.new; held = L.held link.new; receives = L.receives link.new; failures = L.failures link.new })
+        result }
+{
+    let mut passed = 0;
+    while passed < MOST_PASSED {
+        let Some(from) = link.receive()? else {
+            return Ok(None);
+        };
+        if allowances.admit(from.ip) {
+            return Ok(Some(from));
+        }
+        passed += 1;
+    }
+    Ok(None)
+}
+
+impl<L: Link, C: Clock> Guard<L, C> {
+    /// A guard of a link, which reads the moment from a clock. Without a limit it hands on all that the link hears. The keys are a
+    /// secret, since who sends may choose the addresses that it sends from. `AllocError` is the only refusal; no other call
+    /// takes memory.
+    pub fn new(
+        alloc: Global,
+        keys: u128,
+        link: L,
+        clock: C,
+        limit: Option<Limit>,
+    ) -> Result<Guard<L, C>, AllocError>
+        ensures { IfOk result (λ guard. guard ≡ record {
+          allowances = option_map allowances_of limit;
+          link = record { heard = L.heard link; given = L.given link; held = L.held link; receives = L.receives link; failures = L.failures link };
+          readings = C.readings clock;
+          receives = 0;
+          failures = 0;
+        }) }
+    {
+        let allowances = match limit {
+            Some(limit) => Some(Allowances::new(alloc, keys, limit)?),
+            None => None,
+        };
+        Ok(Guard {
+            link,
+            clock,
+            allowances,
+            receives: 0,
+            failures: 0,
+        })
+    }
+
+    /// The link under it.
+    pub fn link(&self) -> &L
+        ensures { self.now.link ≡ record { heard = L.heard result.now; given = L.given result.now; held = L.held result.now; receives = L.receives result.now; failures = L.failures result.now } }
+    {
+        &self.link
+    }
+
+    /// The link under it, for what only that link can do, as to wait.
+    pub fn link_mut(&mut self) -> &mut L
+        ensures* writes_back { sem 𝓛 (Lends (the_row L.row C.row L.Link C.Clock) L.row self.entry result
+            (λ link. record self.old { link = record { heard = L.heard link; given = L.given link; held = L.held link; receives = L.receives link; failures = L.failures link } })) }
+        ensures link { self.old.link ≡ record { heard = L.heard result.now; given = L.given result.now; held = L.held result.now; receives = L.receives result.now; failures = L.failures result.now } }
+    {
+        &mut self.link
+    }
+
+    /// How much of whom it didn't hand on since these counts began. None where there is no limit.
+    pub fn unheard(&self) -> Option<&Unheard>
+        ensures { option_map (λ unheard. unheard.now) result ≡ option_map (λ allowances. allowances.unheard) self.now.allowances }
+    {
+        match &self.allowances {
+            Some(allowances) => Some(allowances.unheard()),
+            None => None,
+        }
+    }
+
+    /// These counts begin anew.
+    pub fn clear_unheard(&mut self)
+        ensures { self.new ≡ record self.old { allowances = option_map told_all self.old.allowances } }
+    {
+        if let Some(allowances) = &mut self.allowances {
+            allowances.clear_unheard();
+        }
+    }
+
+    /// The next datagram that is handed on.
+    fn hear(&mut self) -> Result<Option<Addr>, LinkFault>
+        ensures receives { self.new.receives ≡ self.old.receives }
+        ensures failures { self.new.failures ≡ self.old.failures }
+        ensures bounded { IfSome self.new.allowances IsBounded }
+        ensures guards { Guards self.old.allowances self.old self.new result }
+    {
+        match &mut self.allowances {
+            None => self.link.receive(),
+            Some(allowances) => {
+                allowances.reach(self.clock.now());
+                hear_within(&mut self.link, allowances)
+            }
+        }
+    }
+}
+
+impl<L: Link, C: Clock> Link for Guard<L, C> {
+    ghost receives = { λ g. g.receives };
+
+    ghost failures = { λ g. g.failures };
+
+    ghost heard = { λ _. None };
+
+    ghost given = { λ _. None };
+
+    ghost held = { λ g. g.link.held };
+
+    fn receive(&mut self) -> Result<Option<Addr>, LinkFault>
+        ensures counted { self.new.receives ≡ counted self.old.receives }
+        ensures ok { OnOk result (self.new.failures ≡ self.old.failures) }
+        ensures err { OnErr result (self.new.failures ≡ counted self.old.failures) }
+        ensures bounded { IfSome self.new.allowances IsBounded }
+        ensures guards { Guards self.old.allowances self.old self.new result }
+    {
+        self.receives = self.receives.saturating_add(1);
+        let found = self.hear();
+        if found.is_err() {
+            self.failures = self.failures.saturating_add(1);
+        }
+        found
+    }
+
+    fn bytes(&self) -> &[u8] {
+        self.link.bytes()
+    }
+
+    fn send(&mut self, to: Addr, bytes: &[u8]) -> Result<Sending, AllocError>
+        ensures receives { self.new.receives ≡ self.old.receives }
+        ensures failures { self.new.failures ≡ self.old.failures }
+        ensures allowances { self.new.allowances ≡ self.old.allowances }
+        ensures readings { self.new.readings ≡ self.old.readings }
+        ensures heard { self.new.link.heard ≡ self.old.link.heard }
+        ensures asked { self.new.link.receives ≡ self.old.link.receives }
+        ensures whole { self.new.link.failures ≡ self.old.link.failures }
+        ensures sent { IfOk result (λ sending. self.new.link.given
+            ≡ and_then self.old.link.given (record { to = to; bytes = bytes.now; sending = sending })) }
+        ensures refused { OnErr result (self.new.link.given ≡ self.old.link.given) }
+    {
+        self.link.send(to, bytes)
+    }
+}

@@ -1,0 +1,29 @@
+-- What a recorder makes of an event.
+use Rattle.std.specs.Prelude.{◌≡◌, ◌⊎◌, ℕ, Bool, true, false, List, Option, Some, None, Result, Ok, Err}
+use Rattle.std.specs.Io.KnownBytes.{Appends}
+use Rattle.sip_event.specs.declared.event.Event.{Event}
+use Rattle.sip_replay_script.specs.EventText.{event_text, is_sayable}
+use Rattle.sip_record.specs.declared.journal.JournalFault.{JournalFault}
+use Rattle.sip_record.specs.declared.on_fault.OnFault.{OnFault}
+use Rattle.sip_record.specs.declared.on_fault.OnFault.TheVariants.{End, GoOn}
+
+-- what is told of a writer's bytes: nothing once it has failed
+abbrev pub told : Bool → Option (List ℕ) → Option (Option (List ℕ))
+told true contents = None
+told false contents = Some contents
+
+-- it says that it has failed where the server is to end then
+abbrev pub answer_of : OnFault → Bool → Result (Unit {0}) JournalFault
+answer_of End true = Err (record {})
+answer_of End false = Ok tt
+answer_of GoOn failed = Ok tt
+
+-- exactly an event's text was written, and handed on
+pub record WritesEvent (old new : Option (List ℕ)) (flushed : Type 0) (event : Event) : Type 0 where
+  pub sayable : is_sayable event ≡ true
+  pub written : Appends old new (event_text event)
+  pub handed_on : flushed
+
+-- why it wasn't: no script says the event, or the writer gave up
+abbrev pub CantWrite : Type 0 → Event → Type 0
+CantWrite gave_up event = (is_sayable event ≡ false) ⊎ gave_up

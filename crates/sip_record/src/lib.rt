@@ -1,0 +1,24 @@
+//! What keeps a record of the events that a server takes, and a recorder that writes each as a line of a script, so that they can
+//! be replayed.
+//!
+//! - Used: `sip_loop` tells it each event before the packets of its step go, `sipd_command` opens the file.
+//! - Not here: what reads a record as events (`sip_replay_script`).
+//! - Tried: worked examples in `src/examples.rt`, as contracts that compute; `test_server`.
+#![tactic(auto)]
+
+pub mod examples;
+mod journal;
+pub mod laws;
+mod line_room;
+mod no_journal;
+mod on_fault;
+mod record_head;
+mod recorder;
+mod types;
+mod writing;
+
+pub use journal::{Journal, JournalFault};
+pub use no_journal::NoJournal;
+pub use on_fault::OnFault;
+pub use record_head::{RecordHead, head_text, read_head};
+pub use recorder::Recorder;

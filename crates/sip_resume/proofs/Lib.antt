@@ -1,0 +1,2 @@
+pub mod Retaken
+pub mod Running

@@ -1,0 +1,42 @@
+use Rattle.std.proofs.Common.{◌∙◌, ap, refl}
+use Rattle.std.proofs.lemmas.Result.{err_from_is_err_and}
+use Rattle.sip_replay_script.specs.Lines.{Reading}
+use Rattle.sip_run.specs.engine.Engine.{Engine}
+use Rattle.sip_resume.specs.declared.error.ResumeError.TheVariants as Refusal
+use Rattle.sip_resume.proofs.Retaken.{resumed, resumes_next, resumes_nothing, unresumed, unresumed_at_once}
+use Rattle.sip_resume.proofs.resuming.resume.Goals as goal
+
+pub loop-line-init : goal.loop-line-init
+loop-line-init g c = (
+  refl,
+  resumes_nothing c.args.engine.now.server c.args.engine.now.state c.in_ok-lines.lines (g.I.TellingReader.remaining c.args.reader.now) (g.J.Journal.written c.args.journal.now),
+)
+
+pub loop-line-preserved : goal.loop-line-preserved
+loop-line-preserved g c = (
+  c.resume_next.ensures.server ∙ c.loop-line.invariant.0,
+  resumes_next c.runs_join.ensures c.args.engine.now.server c.loop-line.engine.server c.args.engine.now.state c.loop-line.engine.state c.resume_next.new.engine.state c.in_ok-lines.lines c.loop-line.lines c.resume_next.new.lines
+      (g.I.TellingReader.remaining c.args.reader.now) (g.I.TellingReader.remaining c.loop-line.reader) (g.I.TellingReader.remaining c.resume_next.new.reader) (g.J.Journal.written c.args.journal.now)
+      (g.J.Journal.written c.loop-line.journal) (g.J.Journal.written c.resume_next.new.journal) c.loop-line.taken c.number-taken.result c.loop-line.invariant.0
+      (ap (λ (r : Reading). r.number) c.in_ok-lines.ensures) c.number-taken.ensures.value c.loop-line.invariant.1 (c.in_ok-resume_next.ensures.taken c.if-branch.true),
+)
+
+pub returns-in_err-lines-clause-refused : goal.returns-in_err-lines-clause-refused
+returns-in_err-lines-clause-refused g c =
+    let p = err_from_is_err_and c.from_residual.result c.from_residual.ensures.1 in
+    rw (p.1, p.2) (unresumed_at_once (g.I.TellingReader.remaining c.args.reader.now) (g.J.Journal.written c.args.journal.now) Refusal.NoMemory tt)
+
+pub returns-in_err-resume_next-clause-refused : goal.returns-in_err-resume_next-clause-refused
+returns-in_err-resume_next-clause-refused g c =
+    let p = err_from_is_err_and c.from_residual-in_err-resume_next.result c.from_residual-in_err-resume_next.ensures.1 in
+    rw (p.1, p.2)
+    (unresumed c.args.engine.now.server c.args.engine.now.state c.loop-line.engine.state c.in_ok-lines.lines c.loop-line.lines (g.I.TellingReader.remaining c.args.reader.now) (g.I.TellingReader.remaining c.loop-line.reader)
+    (g.J.Journal.written c.args.journal.now) (g.J.Journal.written c.loop-line.journal) (g.J.Journal.written c.resume_next.new.journal) c.loop-line.taken c.in_err-resume_next.field-0.0
+    (ap (λ (r : Reading). r.unread) c.in_ok-lines.ensures) c.loop-line.invariant.1 c.in_err-resume_next.ensures.refused)
+
+pub returns-clause-resumed : goal.returns-clause-resumed
+returns-clause-resumed g c =
+    resumed c.args.engine.now.server c.args.engine.now.state c.loop-line.engine.state c.resume_next.new.engine.state c.in_ok-lines.lines c.loop-line.lines (g.I.TellingReader.remaining c.args.reader.now)
+    (g.I.TellingReader.remaining c.loop-line.reader) (g.J.Journal.written c.args.journal.now) (g.J.Journal.written c.loop-line.journal) (g.J.Journal.written c.resume_next.new.journal) c.loop-line.taken
+    (ap (λ (r : Reading). r.unread) c.in_ok-lines.ensures) (ap (λ (e : Engine). e.state) (c.in_ok-resume_next.ensures.waits c.if-branch.false).0) (c.in_ok-resume_next.ensures.waits c.if-branch.false).1
+    c.loop-line.invariant.1 (c.in_ok-resume_next.ensures.over c.if-branch.false)

@@ -1,0 +1,20 @@
+-- Why a server isn't brought to where a record leads.
+use Rattle.std.specs.Prelude.{ℕ}
+use Rattle.sip_run.specs.engine.declared.error.StepError.{StepError}
+use Rattle.sip_run.specs.engine.declared.error.StepError.TheVariants as steps
+use Rattle.sip_resume.specs.declared.error.ResumeError.{ResumeError}
+use Rattle.sip_resume.specs.declared.error.ResumeError.TheVariants.{NoMemory, Damaged, Read, Step, Journal}
+
+-- this project's profile
+abbrev pub number_of_error : ResumeError → ℕ
+number_of_error NoMemory = 1
+number_of_error (Damaged line) = 2
+number_of_error Read = 3
+number_of_error Step = 4
+number_of_error Journal = 5
+
+-- what a refused step is to it
+abbrev pub error_of_step : StepError → ResumeError
+error_of_step steps.NoMemory = NoMemory
+error_of_step steps.MomentTooLarge = Step
+error_of_step steps.Worn = Step

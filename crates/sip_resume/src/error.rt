@@ -1,0 +1,89 @@
+ghost use Rattle.std.specs.Prelude.{◌≡◌};
+ghost use Rattle.sip_resume.specs.Errors.{error_of_step, number_of_error};
+ghost use Rattle.sip_resume.specs.declared.error.ResumeError.TheVariants.{NoMemory, Journal};
+
+use sip_record::JournalFault;
+use sip_run::engine::StepError;
+use std::alloc::{AllocError, AllocFailed};
+use std::error::Error;
+use std::fmt;
+
+/// Why a server wasn't brought to where a record leads.
+#[derive(Clone, Copy, Debug, PartialEq, Eq)]
+pub enum ResumeError {
+    /// Memory ran out.
+    NoMemory,
+    /// The lines that begin with this one, counted from 1 behind the first line of the record, say no event, and others stand behind
+    /// them.
+    Damaged(u64),
+    /// The reader failed, or was asked 4,294,967,295 times.
+    Read,
+    /// A moment is 2^62 ms or more, or a datagram's number would be.
+    Step,
+    /// The journal failed.
+    Journal,
+}
+
+impl ResumeError {
+    /// The number of this refusal.
+    pub fn number(&self) -> u8
+        ensures { result ≡ number_of_error self.now }
+    {
+        match self {
+            ResumeError::NoMemory => 1,
+            ResumeError::Damaged(_) => 2,
+            ResumeError::Read => 3,
+            ResumeError::Step => 4,
+            ResumeError::Journal => 5,
+        }
+    }
+}
+
+impl fmt::Display for ResumeError {
+    fn fmt<W: fmt::Write>(&self, f: &mut fmt::Formatter<W>) -> fmt::Result {
+        match self {
+            ResumeError::NoMemory => write!(f, "out of memory"),
+            ResumeError::Damaged(line) => write!(f, "line {line} begins no event"),
+            ResumeError::Read => write!(f, "the record could not be read"),
+            ResumeError::Step => write!(f, "moments or numbers are worn out"),
+            ResumeError::Journal => write!(f, "the journal failed"),
+        }
+    }
+}
+
+impl Error for ResumeError {}
+
+impl From<AllocError> for ResumeError {
+    ghost from_gives = { λ _ e. e ≡ NoMemory };
+
+    fn from(_e: AllocError) -> ResumeError {
+        ResumeError::NoMemory
+    }
+}
+
+impl<T: Drop> From<AllocFailed<T>> for ResumeError {
+    ghost from_gives = { λ _ e. e ≡ NoMemory };
+
+    fn from(_e: AllocFailed<T>) -> ResumeError {
+        ResumeError::NoMemory
+    }
+}
+
+impl From<JournalFault> for ResumeError {
+    ghost from_gives = { λ _ e. e ≡ Journal };
+
+    fn from(_e: JournalFault) -> ResumeError {
+        ResumeError::Journal
+    }
+}
+
+impl From<StepError> for ResumeError {
+    ghost from_gives = { λ refusal e. e ≡ error_of_step refusal };
+
+    fn from(e: StepError) -> ResumeError {
+        match e {
+            StepError::NoMemory => ResumeError::NoMemory,
+            StepError::MomentTooLarge | StepError::Worn => ResumeError::Step,
+        }
+    }
+}

@@ -1,0 +1,23 @@
+//! A server brought to where a record leads: the events that the record says are taken again, nothing of which is sent, so that a
+//! run goes on behind them.
+//!
+//! - Used: `sipd_command`, where `serve` is to go on from a record.
+//! - Not here: what writes a record (`sip_record`), and what prints what a record led to (`sip_replay`).
+//! - Tried: `test_serve`, and over sockets `tests/serve.py`.
+//!
+//! ```text
+//! let lines = resume(alloc, &mut engine, &mut reader, &mut journal)?;
+//! ```
+#![tactic(auto)]
+
+mod error;
+pub mod laws;
+mod resuming;
+
+pub use error::ResumeError;
+pub use resuming::resume;
+
+/// Of `sip_engine`.
+pub mod engine {
+    pub use sip_run::engine::Engine;
+}

@@ -1,0 +1,135 @@
+ghost use Rattle.std.specs.Prelude.{◌≡◌, ◌≤◌, [], ◌∷◌, Some, None, true, false, IfOk, IfErr, IfSome, OnOk, OnErr};
+ghost use Rattle.model_bounds.specs.steps_model.Step.{moment_of};
+ghost use Rattle.sip_run.specs.Due.{NothingDueBy};
+ghost use Rattle.sip_replay_script.specs.Lines.{pending};
+ghost use Rattle.sip_record.specs.Record.{Notes};
+ghost use Rattle.sip_resume.specs.Resumes.{IsResumed, IsUnresumed, HasNoEvent, ResumeStops, Runs, TakesNext};
+ghost use Rattle.sip_resume.specs.declared.error.ResumeError.TheVariants as Refusal;
+
+use crate::error::ResumeError;
+use model_bounds::model::runs::runs_join;
+use sip_event::{Event, StepOut};
+use sip_policy::Rules;
+use sip_record::Journal;
+use sip_replay_script::{Lines, Stop, TellingReader, next_event};
+use sip_run::engine::{Engine, StepError};
+use sip_run::{event_moment, fire_next, take_event};
+use sip_timers::Timers;
+use std::alloc::Global;
+
+/// Takes the events of a record, which stand behind its first line, so that a server goes on from where they lead: what is due by the
+/// moment of each happens first, nothing that is handed out is sent, and each is told to the journal. A record that was cut in its
+/// last event is taken up to the last whole one. Gives how many lines were taken. Refusals: `NoMemory`; `Damaged` with the line that
+/// begins no event, where others stand behind it; `Read`; `Step`, where a moment is 2^62 ms or more, or a datagram's number would be;
+/// `Journal`. The engine has taken some of the events then.
+pub fn resume<T: Timers, R: Rules, I: TellingReader, J: Journal>(
+    alloc: Global,
+    engine: &mut Engine<T, R>,
+    reader: &mut I,
+    journal: &mut J,
+) -> Result<u64, ResumeError>
+    ensures server { engine.new.server ≡ engine.old.server }
+    ensures resumed { IfOk result (λ lines. IsResumed engine.old.server engine.old.state engine.new.state (I.remaining reader.old)
+        (J.written journal.old) (J.written journal.new) lines) }
+    ensures refused { IfErr result (IsUnresumed (I.remaining reader.old) (J.written journal.new)) }
+{
+    runs_join();
+    let mut lines = Lines::new(alloc)?;
+    let mut line = Vec::new(alloc);
+    let mut taken = 0;
+    while resume_next(alloc, engine, &mut lines, &mut line, reader, journal)? {
+        taken = lines.number();
+    }
+    Ok(taken)
+}
+
+/// Takes the next event of a record, if a whole one stands there.
+fn resume_next<T: Timers, R: Rules, I: TellingReader, J: Journal>(
+    alloc: Global,
+    engine: &mut Engine<T, R>,
+    lines: &mut Lines,
+    line: &mut Vec<u8>,
+    reader: &mut I,
+    journal: &mut J,
+) -> Result<bool, ResumeError>
+    ensures server { engine.new.server ≡ engine.old.server }
+    ensures taken { IfOk result (λ more. more ≡ true → TakesNext engine.old.server engine.old.state engine.new.state lines.old lines.new
+        (I.remaining reader.old) (I.remaining reader.new) (J.written journal.old) (J.written journal.new)) }
+    ensures over { IfOk result (λ more. more ≡ false → IfSome (pending lines.old (I.remaining reader.old)) HasNoEvent) }
+    ensures waits { IfOk result (λ more. more ≡ false → (engine.new ≡ engine.old) × (J.written journal.new ≡ J.written journal.old)) }
+    ensures refused { IfErr result (ResumeStops (pending lines.old (I.remaining reader.old)) (J.written journal.new)) }
+{
+    let first = lines.number() + 1;
+    let event = match next_event(alloc, lines, reader, line) {
+        Ok(Some(event)) => event,
+        Ok(None) => return Ok(false),
+        Err(Stop::NoMemory) => return Err(ResumeError::NoMemory),
+        Err(Stop::Script) => return end_at(first, lines, reader, line),
+        Err(Stop::Read | Stop::Write) => return Err(ResumeError::Read),
+    };
+    take_in_turn(engine, &event)?;
+    note(journal, &event)?;
+    Ok(true)
+}
+
+/// Whether a record ends where no event stands: it was cut there; or lines stand behind those that begin with this one, and it is
+/// damaged.
+fn end_at<I: TellingReader>(
+    first: u64,
+    lines: &mut Lines,
+    reader: &mut I,
+    line: &mut Vec<u8>,
+) -> Result<bool, ResumeError>
+    ensures end { IfOk result (λ more. more ≡ false) }
+    ensures damaged { IfErr result (λ e. e ≡ Refusal.Damaged first) }
+{
+    match lines.next(reader, line) {
+        Ok(true) => Err(ResumeError::Damaged(first)),
+        _ => Ok(false),
+    }
+}
+
+/// Takes an event, behind all that is due by its moment. Gives its own step.
+fn take_in_turn<T: Timers, R: Rules>(
+    engine: &mut Engine<T, R>,
+    event: &Event,
+) -> Result<StepOut, StepError>
+    ensures server { engine.new.server ≡ engine.old.server }
+    ensures taken { OnOk result (Runs engine.old.server engine.old.state engine.new.state (event.now ∷ []) None) }
+{
+    let at = event_moment(event);
+    fire_due(engine, at)?;
+    let out = take_event(engine, event)?;
+    Ok(out)
+}
+
+/// Lets all happen that is due by a moment.
+fn fire_due<T: Timers, R: Rules>(engine: &mut Engine<T, R>, at: u64) -> Result<(), StepError>
+    ensures server { engine.new.server ≡ engine.old.server }
+    ensures fired { OnOk result (Runs engine.old.server engine.old.state engine.new.state [] (Some at)) }
+    ensures none_due { OnOk result (NothingDueBy (moment_of engine.new.state at) engine.new.state) }
+{
+    while let Some(out) = fire_next(engine, at)? {
+        let _unsent = out;
+    }
+    Ok(())
+}
+
+/// Tells an event to a journal.
+fn note<J: Journal>(journal: &mut J, event: &Event) -> Result<(), ResumeError>
+    ensures noted { OnOk result (Notes (J.written journal.old) (J.written journal.new) (event.now ∷ [])) }
+    ensures refused { IfErr result (λ e. e ≡ Refusal.Journal) }
+    ensures told { OnErr result (J.written journal.new ≡ None) }
+{
+    match event {
+        Event::Datagram {
+            at,
+            word,
+            from,
+            bytes,
+        } => journal.heard(*at, *word, *from, bytes.as_slice())?,
+        Event::Time { at } => journal.passed(*at)?,
+        Event::Fault { at, ticket } => journal.failed(*at, *ticket)?,
+    }
+    Ok(())
+}

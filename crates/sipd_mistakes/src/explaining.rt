@@ -1,0 +1,214 @@
+use crate::fault::{Cause, Fault, fault_of, items_of, version_of};
+use crate::faulty_keys::{strayed, unknown_key};
+use crate::keys::Kind;
+use crate::line_number::{line_at, line_number};
+use crate::wanted::Wanted;
+use sip_config::ConfigError;
+use sip_text::Bytes;
+use std::alloc::{AllocError, Global};
+use toml::Table;
+
+/// A text that is TOML, with its keys.
+#[derive(Clone, Copy)]
+struct Source<'a> {
+    text: &'a [u8],
+    whole: &'a Table,
+}
+
+/// The table of a fault.
+fn table_of<'a>(whole: &'a Table, fault: &Fault<'_>) -> Option<&'a Table> {
+    if fault.kind == Kind::Head {
+        return Some(whole);
+    }
+    let at = fault.number.checked_sub(1)?;
+    items_of(whole, fault.kind).get(at)?.as_table()
+}
+
+/// Where a key is missing, one of its table that isn't known, and may be that key misspelt.
+fn misspelt<'a>(whole: &'a Table, fault: &Fault<'_>) -> Option<&'a str> {
+    let table = table_of(whole, fault)?;
+    match fault.cause {
+        Cause::Missing(_) => unknown_key(version_of(whole), fault.kind, table),
+        _ => None,
+    }
+}
+
+/// The number of the line that a fault is in, of a key that is missing that of the key which may be it.
+fn number_of(source: Source<'_>, fault: &Fault<'_>) -> Option<usize> {
+    match misspelt(source.whole, fault) {
+        Some(key) => line_number(source.text, &Fault { key, ..*fault }),
+        None => line_number(source.text, fault),
+    }
+}
+
+/// Adds a line by its number, if it was found.
+fn put_line(text: &mut Bytes, number: Option<usize>) -> Result<(), AllocError> {
+    if let Some(number) = number {
+        text.extend(b"line ")?;
+        text.push_decimal(number as u64)?;
+        text.extend(b": ")?;
+    }
+    Ok(())
+}
+
+/// Adds the table of a fault.
+fn put_table(text: &mut Bytes, fault: &Fault<'_>) -> Result<(), AllocError> {
+    text.extend(b"[[")?;
+    text.extend(fault.kind.list_key().as_bytes())?;
+    text.extend(b"]] number ")?;
+    text.push_decimal(fault.number as u64)
+}
+
+/// Adds the line and the table of a fault.
+fn put_place(text: &mut Bytes, source: Source<'_>, fault: &Fault<'_>) -> Result<(), AllocError> {
+    put_line(text, number_of(source, fault))?;
+    if fault.kind == Kind::Head {
+        return Ok(());
+    }
+    put_table(text, fault)?;
+    text.extend(b": ")
+}
+
+/// Adds the keys that a table may have.
+fn put_known(text: &mut Bytes, whole: &Table, kind: Kind) -> Result<(), AllocError> {
+    let version = version_of(whole);
+    text.extend(b"; known are")?;
+    for key in kind.keys() {
+        if key.is_of(version) {
+            text.push(b' ')?;
+            text.extend(key.name().as_bytes())?;
+        }
+    }
+    if kind == Kind::Head {
+        text.extend(b" user hop host_address rule")?;
+    }
+    Ok(())
+}
+
+/// Adds the key of a fault behind a word.
+fn put_key(text: &mut Bytes, before: &[u8], fault: &Fault<'_>) -> Result<(), AllocError> {
+    text.extend(before)?;
+    text.extend(fault.key.as_bytes())
+}
+
+/// Adds the key that may be the missing one, if there is one.
+fn put_misspelt(text: &mut Bytes, whole: &Table, fault: &Fault<'_>) -> Result<(), AllocError> {
+    if let Some(key) = misspelt(whole, fault) {
+        text.extend(b"; not known: ")?;
+        text.extend(key.as_bytes())?;
+    }
+    Ok(())
+}
+
+/// Adds that a key which is to stand before all tables stands in one, if it does.
+fn put_strayed(text: &mut Bytes, source: Source<'_>, fault: &Fault<'_>) -> Result<(), AllocError> {
+    if fault.kind != Kind::Head {
+        return Ok(());
+    }
+    let Some(stray) = strayed(source.whole, fault.key) else {
+        return Ok(());
+    };
+    text.extend(b"; it belongs above all tables, and stands in ")?;
+    put_line(text, line_number(source.text, &stray))?;
+    put_table(text, &stray)
+}
+
+/// Adds what would do.
+fn put_wanted(text: &mut Bytes, wanted: Wanted) -> Result<(), AllocError> {
+    text.extend(b"; wanted: ")?;
+    text.extend(wanted.words().as_bytes())
+}
+
+fn put_missing(
+    text: &mut Bytes,
+    source: Source<'_>,
+    fault: &Fault<'_>,
+    wanted: Wanted,
+) -> Result<(), AllocError> {
+    put_key(text, b"missing: ", fault)?;
+    put_misspelt(text, source.whole, fault)?;
+    put_strayed(text, source, fault)?;
+    put_wanted(text, wanted)
+}
+
+/// Adds what is wrong, and what would do.
+fn put_cause(text: &mut Bytes, source: Source<'_>, fault: &Fault<'_>) -> Result<(), AllocError> {
+    match fault.cause {
+        Cause::Missing(wanted) => put_missing(text, source, fault, wanted),
+        Cause::Bad(wanted) => {
+            put_key(text, b"bad value of ", fault)?;
+            put_wanted(text, wanted)
+        }
+        Cause::Unknown => {
+            put_key(text, b"not known: ", fault)?;
+            put_known(text, source.whole, fault.kind)
+        }
+        Cause::NoTables => {
+            put_key(text, b"bad value of ", fault)?;
+            put_key(text, b"; wanted: one or more tables [[", fault)?;
+            text.extend(b"]]")
+        }
+        Cause::TooMany(most) => {
+            put_key(text, b"too many of ", fault)?;
+            text.extend(b"; wanted: at most ")?;
+            text.push_decimal(u64::from(most))
+        }
+        Cause::Twice => {
+            put_key(text, b"bad value of ", fault)?;
+            text.extend(b"; one before has the same")
+        }
+        Cause::UnknownHop => {
+            put_key(text, b"bad value of ", fault)?;
+            text.extend(b"; no [[hop]] has this name")
+        }
+        Cause::UnknownGroup => {
+            put_key(text, b"bad value of ", fault)?;
+            text.extend(b"; no [[user]] is in this group")
+        }
+    }
+}
+
+/// What is wrong with a text that is TOML.
+fn explain_table(
+    alloc: Global,
+    source: &str,
+    whole: &Table,
+    error: ConfigError,
+) -> Result<Bytes, AllocError> {
+    let mut text = Bytes::new(alloc);
+    let Some(fault) = fault_of(whole, error) else {
+        return Ok(text);
+    };
+    let source = Source {
+        text: source.as_bytes(),
+        whole,
+    };
+    put_place(&mut text, source, &fault)?;
+    put_cause(&mut text, source, &fault)?;
+    text.push(b'\n')?;
+    Ok(text)
+}
+
+/// What is wrong with a text that isn't TOML.
+fn explain_toml(alloc: Global, source: &str, error: &toml::de::Error) -> Result<Bytes, AllocError> {
+    let mut text = Bytes::new(alloc);
+    let Some(span) = error.span() else {
+        return Err(AllocError);
+    };
+    text.extend(b"line ")?;
+    text.push_decimal(line_at(source.as_bytes(), span.start) as u64)?;
+    text.extend(b": not TOML: ")?;
+    text.extend(error.message().as_bytes())?;
+    text.push(b'\n')?;
+    Ok(text)
+}
+
+/// Of the text of a configuration that is refused with this error, as a line: the line, the table and the key of its
+/// first fault, what is wrong with it, and what would do; empty where no fault is found. It is advice: what counts is the
+/// error. `AllocError` is the only refusal.
+pub fn explain(alloc: Global, text: &str, error: ConfigError) -> Result<Bytes, AllocError> {
+    match toml::table_from_str(alloc, text) {
+        Ok(table) => explain_table(alloc, text, &table, error),
+        Err(e) => explain_toml(alloc, text, &e),
+    }
+}

@@ -1,0 +1,24 @@
+//! What is wrong with a configuration that is refused: the line, the table and the key of its first fault, and what would do. It is
+//! advice: what counts is the refusal itself.
+//!
+//! - Used: `sipd_command`, for `check --show`.
+//! - Not here: the refusal (`sip_config`), whose values are checked anew here; what a configuration that is taken says
+//!   (`sipd_questions`).
+//! - Tried: `tests/mistakes.py`, fifty changed files.
+//!
+//! ```text
+//! let line = explain(alloc, text, error)?;
+//! ```
+#![tactic(auto)]
+
+mod explaining;
+mod fault;
+mod faulty_keys;
+mod faulty_lists;
+mod faulty_names;
+mod faulty_values;
+mod keys;
+mod line_number;
+mod wanted;
+
+pub use explaining::explain;

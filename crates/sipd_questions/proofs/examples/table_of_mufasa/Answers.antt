@@ -1,0 +1,8 @@
+use Rattle.std.proofs.Common.{refl}
+use Rattle.md5.specs.Md5.{block_words, rounds, compress, hash_after, digest_bytes, md5}
+use Rattle.hex.specs.Hex.{encode_with}
+use Rattle.sipd_questions.proofs.examples.table_of_mufasa.Goals as goal
+
+pub returns : goal.returns
+unfolding encode_with block_words rounds compress hash_after digest_bytes md5
+returns c = refl

@@ -1,0 +1,96 @@
+-- What is answered to a question: the rule that decides, its verdict, and where the request goes.
+use Rattle.std.specs.Prelude.{ℕ, ◌==◌, nat_lt, if◌then◌else◌, List, [], ◌++◌, codes, decimal, Option, Some, None, Result, Ok}
+use Rattle.std.specs.List.{slice_get}
+use Rattle.sip_uri.specs.declared.aor.Aor.{Aor}
+use Rattle.sip_uri.specs.Aor.{aor_of}
+use Rattle.sip_uri.specs.Addresses.{addr_text}
+use Rattle.sip_policy.specs.declared.decision.Decision.{Decision}
+use Rattle.sip_policy.specs.declared.operation.Operation.{Operation}
+use Rattle.sip_policy.specs.declared.rule.Rule.{Rule}
+use Rattle.sip_policy.specs.Decision.{deciding_rule, decision_of}
+use Rattle.sip_hops.specs.declared.hop.Hop.{Hop as ConfiguredHop}
+use Rattle.sip_config_types.specs.declared.config.Config.{Config}
+use Rattle.sipd_questions.specs.declared.error.QuestionError.{QuestionError}
+use Rattle.sipd_questions.specs.declared.error.QuestionError.TheVariants.{BadMinute, UnknownUser}
+use Rattle.sipd_questions.specs.declared.destination.Destination.{Destination}
+use Rattle.sipd_questions.specs.declared.destination.Destination.TheVariants.{Nowhere, Registrar, Bindings, Hop, NotFound}
+use Rattle.sipd_questions.specs.Refusals.{◌>>=◌, confirmed}
+use Rattle.sipd_questions.specs.Question.{Question, is_configured, operation_asked, uri_asked}
+use Rattle.sipd_questions.specs.Destination.{destination_of}
+
+-- a number between two texts
+abbrev pub numbered : List ℕ → ℕ → List ℕ → List ℕ
+numbered before number behind = before ++ decimal number ++ behind
+
+-- ---- the verdict
+
+-- a challenge with its status (RFC 3261 22.2, 22.3)
+abbrev pub challenge_text : Operation → List ℕ
+challenge_text Operation.Register = codes "challenged, 401: rule "
+challenge_text Operation.List = codes "challenged, 401: rule "
+challenge_text (Operation.Send method) = codes "challenged, 407: rule "
+
+-- the number of a rule, 0 without one
+abbrev pub number_of : Option Rule → ℕ
+number_of None = 0
+number_of (Some rule) = rule.id
+
+-- a denial by the rule of a number, 0 where none matches
+abbrev pub denial_text : ℕ → List ℕ
+denial_text id = if id == 0 then codes "no rule matches: denied, 403, rule 0" else numbered (codes "rule ") id (codes " denies: 403")
+
+-- what the rule says; a challenge names the rule that asks for proof
+abbrev pub verdict_text : Operation → Option Rule → Decision → List ℕ
+verdict_text operation rule (Decision.Allow id) = numbered (codes "rule ") id (codes " allows: ")
+verdict_text operation rule (Decision.Via id place) = numbered (codes "rule ") id (codes " allows: ")
+verdict_text operation rule (Decision.Deny id) = denial_text id
+verdict_text operation rule Decision.Challenge = numbered (challenge_text operation) (number_of rule)
+    (codes " may match once the caller has proved who he is")
+
+-- ---- the destination
+
+-- `USER@HOST`
+abbrev pub aor_text : Aor → List ℕ
+aor_text aor = aor.user ++ codes "@" ++ aor.host
+
+abbrev pub hop_text : Option ConfiguredHop → List ℕ
+hop_text None = codes "404, no such hop"
+hop_text (Some hop) = codes "to the hop " ++ hop.name ++ codes ", " ++ addr_text hop.address
+
+abbrev pub destination_text : Config → Aor → Destination → List ℕ
+destination_text config aor Nowhere = []
+destination_text config aor Registrar = codes "to the registrar, for " ++ aor_text aor
+destination_text config aor Bindings = codes "to the bindings of " ++ aor_text aor
+destination_text config aor (Hop place) = hop_text (slice_get config.hops place)
+destination_text config aor NotFound = codes "404, no user of an own domain: " ++ aor_text aor
+
+-- ---- the answer
+
+-- the first rule that holds at the minute and matches
+abbrev pub rule_for : Config → Option (List ℕ) → Operation → Aor → ℕ → Option Rule
+rule_for config proven operation aor minute =
+    deciding_rule config.rules config.users config.own.domains proven operation aor minute
+
+-- what the server decides
+abbrev pub decision_for : Config → Option (List ℕ) → Operation → Aor → ℕ → Decision
+decision_for config proven operation aor minute =
+    decision_of config.rules config.users config.own.domains proven operation aor minute
+
+-- a decision by a rule, as a line
+abbrev pub line_by : Config → Operation → Aor → Option Rule → Decision → List ℕ
+line_by config operation aor rule decision =
+    verdict_text operation rule decision ++ destination_text config aor (destination_of config operation aor decision) ++ codes "\n"
+
+-- what the server decides of a request for an address of record at a minute, as a line
+abbrev pub line_for : Config → Option (List ℕ) → Operation → Aor → ℕ → List ℕ
+line_for config proven operation aor minute =
+    line_by config operation aor (rule_for config proven operation aor minute) (decision_for config proven operation aor minute)
+
+-- the answer to a question, or why there is none
+abbrev pub answer_to : Config → Question → Result (List ℕ) QuestionError
+answer_to config question = do
+  _ ← confirmed (nat_lt question.minute 1440) BadMinute
+  operation ← operation_asked question.operation
+  _ ← confirmed (is_configured config.users question.user) UnknownUser
+  uri ← uri_asked question.target
+  Ok (line_for config question.user operation (aor_of uri) question.minute)

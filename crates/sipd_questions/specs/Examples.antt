@@ -1,0 +1,13 @@
+-- Questions about the sample, and a user.
+use Rattle.std.specs.Prelude.{ℕ, List, codes, Option, Result}
+use Rattle.sip_config_types.specs.Sample.{sample}
+use Rattle.sipd_questions.specs.declared.error.QuestionError.{QuestionError}
+use Rattle.sipd_questions.specs.Decide.{answer_to}
+
+-- what is answered to a question about the sample, at midnight; its rules hold at every minute
+abbrev pub asked : Option (List ℕ) → List ℕ → List ℕ → Result (List ℕ) QuestionError
+asked user operation target = answer_to sample (record { user = user; minute = 0; operation = operation; target = target })
+
+-- SHA-256 of `Mufasa:testrealm@host.com:Circle Of Life`, the words of RFC 2617 3.5
+abbrev pub mufasas_sha256 : List ℕ
+mufasas_sha256 = codes "3ba6cd94661c5ef34598040c868f13b8775df29109986be50ad35ae537dd3aa4"

@@ -1,0 +1,10 @@
+pub mod QuestionError
+pub mod Refusals
+pub mod Fronts
+pub mod Question
+pub mod Destination
+pub mod Decide
+pub mod User
+pub mod Warnings
+pub mod Show
+pub mod Examples

@@ -1,0 +1,122 @@
+ghost use Rattle.std.specs.Prelude.{◌≡◌, ◌++◌, [], ◌∷◌, codes, Some, None, Ok, Err, pos, negsuc};
+ghost use Rattle.sip_digest.specs.Answers.{a1_of};
+ghost use Rattle.sip_digest.specs.declared.algorithm.Algorithm.TheVariants as By;
+ghost use Rattle.sipd_questions.specs.declared.error.QuestionError.TheVariants as Refusal;
+ghost use Rattle.sipd_questions.specs.User.{user_table, table_with, first_line};
+ghost use Rattle.sip_config_types.specs.Sample.{sample};
+ghost use Rattle.sip_config.specs.Configuration.{stated_in};
+ghost use Rattle.sip_config.specs.Examples.{sample_head};
+ghost use Rattle.sip_policy.specs.Examples.{mufasas_a1};
+ghost use Rattle.sipd_questions.specs.Examples.{mufasas_sha256};
+ghost use Rattle.sipd_questions.specs.Examples.{asked};
+ghost use Rattle.sipd_questions.specs.Show.{shown_lines, clock_text, signed};
+ghost use Rattle.sipd_questions.specs.Warnings.{port_warning, register_warning};
+
+/// On the sample: a rule without a user allows, a rule denies, none matches.
+#[tactic(auto, unfolding(sip_uri::specs::Reading::reading_of, sip_uri::specs::Reading::rest_of))]
+pub fn anyone()
+    ensures allowed { asked None (codes "INVITE") (codes "help@host.com") ≡ Ok (codes "rule 4 allows: to the bindings of help@host.com\n") }
+    ensures denied { asked None (codes "INVITE") (codes "vault@host.com") ≡ Ok (codes "rule 3 denies: 403\n") }
+    ensures none { asked (Some (codes "alice")) (codes "MESSAGE") (codes "x@other.net") ≡ Ok (codes "no rule matches: denied, 403, rule 0\n") }
+    ensures challenged { asked None (codes "INVITE") (codes "alice@host.com")
+        ≡ Ok (codes "challenged, 407: rule 6 may match once the caller has proved who he is\n") }
+{}
+
+/// A user of the group staff calls by the gateway, and another user, by the same words, nobody; a URI says the same as an
+/// address, without case of the host.
+#[tactic(auto, unfolding(sip_uri::specs::Reading::reading_of, sip_uri::specs::Reading::rest_of))]
+pub fn users()
+    ensures gateway { asked (Some (codes "Mufasa")) (codes "INVITE") (codes "911@host.com") ≡ Ok (codes "rule 5 allows: to the hop gw, 127.0.0.1:5090\n") }
+    ensures nobody { asked (Some (codes "alice")) (codes "INVITE") (codes "911@host.com")
+        ≡ Ok (codes "rule 6 allows: 404, no user of an own domain: 911@host.com\n") }
+    ensures uri { asked (Some (codes "alice")) (codes "INVITE") (codes "sip:%68elp@HOST.com:5070;transport=udp")
+        ≡ Ok (codes "rule 4 allows: to the bindings of help@host.com\n") }
+{}
+
+/// A user registers his own address and lists it; nobody is asked for proof with 401.
+#[tactic(auto, unfolding(sip_uri::specs::Reading::reading_of, sip_uri::specs::Reading::rest_of))]
+pub fn registration()
+    ensures registers { asked (Some (codes "alice")) (codes "register") (codes "alice@host.com")
+        ≡ Ok (codes "rule 1 allows: to the registrar, for alice@host.com\n") }
+    ensures lists { asked (Some (codes "alice")) (codes "list") (codes "alice@host.com")
+        ≡ Ok (codes "rule 2 allows: to the registrar, for alice@host.com\n") }
+    ensures other { asked (Some (codes "alice")) (codes "register") (codes "help@host.com") ≡ Ok (codes "no rule matches: denied, 403, rule 0\n") }
+    ensures unproven { asked None (codes "register") (codes "help@host.com")
+        ≡ Ok (codes "challenged, 401: rule 1 may match once the caller has proved who he is\n") }
+{}
+
+/// A method that isn't sent on, a user who isn't configured, and a target that is none are refused, in this order.
+#[tactic(auto, unfolding(sip_uri::specs::Reading::reading_of, sip_uri::specs::Reading::rest_of))]
+pub fn refusals()
+    ensures method { asked (Some (codes "zazu")) (codes "ACK") (codes "a b") ≡ Err Refusal.BadMethod }
+    ensures user { asked (Some (codes "zazu")) (codes "INVITE") (codes "a b") ≡ Err Refusal.UnknownUser }
+    ensures target { asked None (codes "INVITE") (codes "a b") ≡ Err Refusal.BadTarget }
+    ensures scheme { asked None (codes "INVITE") (codes "mailto:help@host.com") ≡ Err Refusal.BadTarget }
+{}
+
+/// The table of the user of RFC 2617 3.5, whose digest stands there.
+pub fn table_of_mufasa()
+    ensures { user_table (codes "Mufasa") (codes "testrealm@host.com") (codes "Circle Of Life")
+        ≡ Ok (codes "[[user]]\nname = \"Mufasa\"\na1 = \"939e7578ed9e3c518a452acee763bce9\"\na1_sha256 = \""
+        ++ a1_of By.Sha256 (codes "Mufasa") (codes "testrealm@host.com") (codes "Circle Of Life") ++ codes "\"\n") }
+{}
+
+/// The digest by SHA-256 of the same words.
+pub fn sha256_of_mufasa()
+    ensures { a1_of By.Sha256 (codes "Mufasa") (codes "testrealm@host.com") (codes "Circle Of Life") ≡ mufasas_sha256 }
+{}
+
+/// Behind the sample's first keys, the table states that user.
+pub fn table_is_read()
+    ensures { stated_in (sample_head ++ table_with (codes "Mufasa") mufasas_a1 mufasas_sha256)
+        ≡ Ok (record sample {
+          users = record { name = codes "Mufasa"; a1 = mufasas_a1; a1_sha256 = Some mufasas_sha256; groups = [] } ∷ [];
+          rules = [];
+          hops = [];
+          addresses = [];
+        }) }
+{}
+
+/// No table with a `:` in the realm, with a name or a realm that no configuration takes, or without a password.
+pub fn no_table()
+    ensures name { user_table (codes "a b") (codes "office") (codes "x") ≡ Err Refusal.BadName }
+    ensures name_with_colon { user_table (codes "a:b") (codes "office") (codes "x") ≡ Err Refusal.BadName }
+    ensures realm { user_table (codes "alice") (codes "the \"office\"") (codes "x") ≡ Err Refusal.BadRealm }
+    ensures realm_with_colon { user_table (codes "alice") (codes "office:1") (codes "x") ≡ Err Refusal.BadRealm }
+    ensures password { user_table (codes "alice") (codes "office") (codes "") ≡ Err Refusal.EmptyPassword }
+{}
+
+/// A password is the first line, whichever its end is, with its blanks.
+pub fn first_lines()
+    ensures lf { first_line (codes " wonder land \nmore\n") ≡ codes " wonder land " }
+    ensures crlf { first_line (codes "wonderland\r\n") ≡ codes "wonderland" }
+    ensures end { first_line (codes "wonderland") ≡ codes "wonderland" }
+    ensures none { first_line (codes "\r\nmore") ≡ codes "" }
+{}
+
+/// The sample, line by line.
+pub fn sample_is_shown()
+    ensures { shown_lines sample ≡ codes "realm testrealm@host.com\nhost sip.host.com\nport 5060\naddress 127.0.0.1:5060\noffset 0\n"
+        ++ codes "domain host.com\nuser Mufasa, group staff\nuser alice\nuser help\nhop gw at 127.0.0.1:5090\n"
+        ++ codes "host_address pc.host.com:5060 at 127.0.0.1:5091\nrule 1: proven, register, self: allow\n"
+        ++ codes "rule 2: proven, list, self: allow\nrule 3: anyone, send *, vault@host.com: deny\n"
+        ++ codes "rule 4: anyone, send *, help@host.com: allow\nrule 5: group staff, send INVITE, 9*@host.com: via gw\n"
+        ++ codes "rule 6: proven, send *, @host.com: allow\n"
+        ++ codes "warning: host is no IPv4 address and has no host_address: phones need DNS for it\n" }
+{}
+
+/// Minutes have two digits, and offsets behind UTC a sign.
+pub fn numbers_are_shown()
+    ensures morning { clock_text 485 ≡ codes "8:05" }
+    ensures midnight { clock_text 0 ≡ codes "0:00" }
+    ensures last { clock_text 1439 ≡ codes "23:59" }
+    ensures behind { signed (negsuc 299) ≡ codes "-300" }
+    ensures ahead { signed (pos 60) ≡ codes "60" }
+{}
+
+/// Nobody may register without a rule, and another port than the one that is bound is told.
+pub fn warnings_are_told()
+    ensures rules { register_warning [] ≡ codes "warning: no rule lets anybody register\n" }
+    ensures port { port_warning 5070 5060 ≡ codes "warning: port isn't the port of address\n" }
+    ensures same { port_warning 5060 5060 ≡ [] }
+{}

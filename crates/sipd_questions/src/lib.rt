@@ -1,0 +1,31 @@
+//! What is asked of a configuration without a server: who may call whom, and where the call goes; the table of a user; and
+//! what a file was understood to say.
+//!
+//! - Used: `sipd_command`, for `decide`, `user` and `check --show`.
+//! - Not here: the decision of a running server (`sip_core`), which is the same definition; reading a file (`sip_config`), and what is
+//!   wrong with one that is refused (`sipd_mistakes`).
+//! - Tried: worked examples in `src/examples.rt`, as contracts that compute; `test_server`.
+//!
+//! ```text
+//! let line = decision_text(alloc, &config, question)?;
+//! ```
+#![tactic(auto)]
+
+mod asked;
+mod deciding;
+mod destination;
+mod error;
+pub mod examples;
+mod fronts;
+pub mod laws;
+mod question;
+mod showing;
+mod telling;
+mod user;
+mod warning;
+
+pub use deciding::decision_text;
+pub use error::QuestionError;
+pub use question::Question;
+pub use showing::show;
+pub use user::{first_line, user_table};

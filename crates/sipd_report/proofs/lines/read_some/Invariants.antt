@@ -1,0 +1,11 @@
+use Rattle.std.proofs.Common.{◌≡◌, ◌≤◌, vec_len}
+use Rattle.std.specs.Io.KnownBytes.{Keeps}
+use Rattle.sipd_report.proofs.lines.read_some.Given as goal
+
+-- nothing was given yet
+abbrev pub invariant-loop-asks : goal.invariant-loop-asks
+invariant-loop-asks g l =
+    Keeps (g.R.Read.remaining l.initial.reader) (g.R.Read.remaining l.reader) × (vec_len l.buffer ≡ vec_len l.initial.buffer) × (l.asks ≤ l.initial.asks)
+
+abbrev pub decreases-loop-asks : goal.decreases-loop-asks
+decreases-loop-asks g l = l.asks

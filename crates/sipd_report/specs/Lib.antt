@@ -1,0 +1,10 @@
+pub mod Calendar
+pub mod Times
+pub mod Cells
+pub mod Entries
+pub mod Rows
+pub mod Totals
+pub mod Lines
+pub mod Report
+pub mod Steps
+pub mod Examples

@@ -1,0 +1,73 @@
+-- What one line more changes of what is counted.
+use Rattle.std.specs.Prelude.{◌≡◌, ℕ, ◌+◌, nat_lt, if◌then◌else◌, List, [], ◌++◌, Option, Some, None}
+use Rattle.std.specs.Io.KnownBytes.{Appends}
+use Rattle.sip_audit.specs.Lines.{who_text}
+use Rattle.sip_audit.specs.declared.record.Record.{Record}
+use Rattle.sipd_report.specs.declared.query.Query.{Query}
+use Rattle.sipd_report.specs.declared.tally.Tally.{Tally}
+use Rattle.sipd_report.specs.Cells.{row_text}
+use Rattle.sipd_report.specs.Entries.{entry_of, is_asked, is_filled, ruling_of}
+use Rattle.sipd_report.specs.Rows.{cells_of, ruling_text, outcome_kind}
+use Rattle.sipd_report.specs.Totals.{capped, one_more}
+use Rattle.sipd_report.specs.Report.{numbered_text}
+use Rattle.sipd_report.specs.Lines.{Reading, GivesLine}
+
+-- nothing counted yet
+abbrev pub no_tally : Tally
+no_tally = record { users = []; rules = []; outcomes = []; lines = 0; filled = 0; asked = 0; none = 0; shown = [] }
+
+-- one line more
+abbrev pub with_line : Tally → Tally
+with_line t = record t { lines = capped (t.lines + 1) }
+
+-- something stands in it
+abbrev pub with_filled : Tally → Tally
+with_filled t = record t { filled = capped (t.filled + 1) }
+
+-- it is no audit line
+abbrev pub with_no_entry : List ℕ → Tally → Tally
+with_no_entry line t = record t {
+  none = capped (t.none + 1);
+  shown = if nat_lt t.none 20 then t.shown ++ numbered_text t.lines line else t.shown;
+}
+
+-- its record is asked for
+abbrev pub with_record : Record → Tally → Tally
+with_record r t = record t {
+  users = one_more t.users (who_text r.who);
+  rules = one_more t.rules (ruling_text (ruling_of r.outcome));
+  outcomes = one_more t.outcomes (outcome_kind r.outcome);
+  asked = capped (t.asked + 1);
+}
+
+-- a record, if it is asked for
+abbrev pub with_asked : Query → Record → Tally → Tally
+with_asked q r t = if is_asked q r then with_record r t else t
+
+-- what a line says that something stands in
+abbrev pub with_entry : Query → List ℕ → Option Record → Tally → Tally
+with_entry q line None t = with_no_entry line t
+with_entry q line (Some r) t = with_asked q r t
+
+-- all that a line changes
+abbrev pub after_line : Query → List ℕ → Tally → Tally
+after_line q line t = if is_filled line then with_entry q line (entry_of line) (with_filled (with_line t)) else with_line t
+
+-- a row, if the record is asked for
+abbrev pub record_text : Query → Record → List ℕ
+record_text q r = if is_asked q r then row_text q.form (cells_of q.form q.offset r) else []
+
+abbrev pub entry_text : Query → Option Record → List ℕ
+entry_text q None = []
+entry_text q (Some r) = record_text q r
+
+-- what is written for a line
+abbrev pub line_text : Query → List ℕ → List ℕ
+line_text q line = if is_filled line then entry_text q (entry_of line) else []
+
+-- a line was taken: it was given, counted, and its row was written
+pub record TakesLine (q : Query) (old new : Reading) (before after : Option (List ℕ)) (t u : Tally) (written output : Option (List ℕ)) : Type 0 where
+  pub line : List ℕ
+  pub given : GivesLine old new before after line
+  pub counted : u ≡ after_line q line t
+  pub appended : Appends written output (line_text q line)

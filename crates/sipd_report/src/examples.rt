@@ -1,0 +1,67 @@
+ghost use Rattle.std.specs.Prelude.{◌≡◌, Some, None, true, false, pos, negsuc, ◌++◌, ◌∷◌, [], codes};
+ghost use Rattle.sipd_report.specs.declared.query.Form.TheVariants.{Table, Csv};
+ghost use Rattle.sipd_report.specs.Calendar.{date_of};
+ghost use Rattle.sipd_report.specs.Cells.{row_text, field_text};
+ghost use Rattle.sipd_report.specs.Examples.{answered};
+ghost use Rattle.sipd_report.specs.Rows.{cells_of};
+ghost use Rattle.sipd_report.specs.Entries.{lines_of, is_by_rule, is_of_user, is_denial, ruling_of};
+ghost use Rattle.sipd_report.specs.Times.{offset_text, shown_seconds};
+ghost use Rattle.sip_audit.specs.declared.record.Outcome.TheVariants.{Challenge, Deny, Answer};
+ghost use Rattle.sipd_report.specs.Totals.{totals_of};
+
+/// Dates by their number of days since 1 January 1970.
+pub fn dates()
+    ensures first { date_of 0 ≡ record { year = 1970; month = 1; day = 1 } }
+    ensures leap { date_of 11016 ≡ record { year = 2000; month = 2; day = 29 } }
+    ensures behind { date_of 11017 ≡ record { year = 2000; month = 3; day = 1 } }
+    ensures later { date_of 20784 ≡ record { year = 2026; month = 11; day = 27 } }
+    ensures no_leap { date_of 47540 ≡ record { year = 2100; month = 2; day = 28 } }
+    ensures behind_it { date_of 47541 ≡ record { year = 2100; month = 3; day = 1 } }
+{}
+
+/// A row of CSV, where the office is an hour ahead of UTC.
+pub fn csv_row()
+    ensures { row_text Csv (cells_of Csv (pos 60) answered)
+        ≡ codes "2026-11-27T14:03:36+01:00,7,INVITE,alice,help@host.com,send,4,answer 480,08:00" ++ 13 ∷ 10 ∷ [] }
+{}
+
+/// A row of a table, there.
+pub fn table_row()
+    ensures { row_text Table (cells_of Table (pos 60) answered)
+        ≡ codes "2026-11-27 14:03:36  7         INVITE     alice             help@host.com                     send       4       answer 480      08:00" ++ 10 ∷ [] }
+{}
+
+/// Fields that are quoted, and one that isn't.
+pub fn csv_field()
+    ensures quote { field_text (codes "a\"b") ≡ codes "\"a\"\"b\"" }
+    ensures comma { field_text (codes "a,b") ≡ codes "\"a,b\"" }
+    ensures plain { field_text (codes "a b") ≡ codes "a b" }
+{}
+
+/// Totals, each text at its first place.
+pub fn totals()
+    ensures { totals_of (codes "b" ∷ codes "a" ∷ codes "b" ∷ []) ≡ (codes "b", 2) ∷ (codes "a", 1) ∷ [] }
+{}
+
+/// Which lines there are: an empty one is one, and the last may have no LF.
+pub fn lines()
+    ensures unended { lines_of (codes "a\n\nb") ≡ codes "a" ∷ [] ∷ codes "b" ∷ [] }
+    ensures ended { lines_of (codes "a\nb\n") ≡ codes "a" ∷ codes "b" ∷ [] }
+{}
+
+/// Rule 0 asks for what no rule matched, which no challenge is; a name asks for that user's alone.
+pub fn selection()
+    ensures no_rule { is_by_rule (Some 0) (ruling_of (Deny 0)) ≡ true }
+    ensures challenge { is_by_rule (Some 0) (ruling_of (Challenge 401)) ≡ false }
+    ensures user { is_of_user (Some (codes "alice")) (Some (codes "alice")) ≡ true }
+    ensures nobody { is_of_user (Some (codes "alice")) None ≡ false }
+    ensures denied { is_denial (Deny 4) ≡ true }
+    ensures refused { is_denial (Answer 4 480) ≡ false }
+{}
+
+/// A clock that is behind UTC, and one that would show a time before 1970.
+pub fn offsets()
+    ensures behind { offset_text (negsuc 89) ≡ codes "-01:30" }
+    ensures ahead { offset_text (pos 345) ≡ codes "+05:45" }
+    ensures start { shown_seconds 3600000 (negsuc 119) ≡ 0 }
+{}

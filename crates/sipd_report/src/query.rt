@@ -1,0 +1,90 @@
+ghost use Rattle.std.specs.Prelude.{◌≡◌, option_map};
+ghost use Rattle.sipd_report.specs.Entries as Definitions;
+
+use sip_audit::{Outcome, Record};
+use sip_text::{Bytes, same_bytes};
+
+/// The form of a report.
+#[derive(Clone, Copy)]
+pub enum Form {
+    /// A table for people, with totals behind it.
+    Table,
+    /// Comma-separated values for programs (RFC 4180): the rows alone, under the names of the columns.
+    Csv,
+}
+
+/// What a report is asked for: the records that meet all of what is given.
+#[derive(Drop)]
+pub struct Query<'q> {
+    /// The name of the proven user.
+    pub user: Option<&'q [u8]>,
+    /// The rule that decided; 0 is that none matched.
+    pub rule: Option<u32>,
+    /// Those alone that policy denied.
+    pub denied: bool,
+    /// How many minutes the office's clock is ahead of UTC.
+    pub offset: i16,
+    /// The form.
+    pub form: Form,
+}
+
+impl Query<'_> {
+    /// Whether a record is asked for.
+    pub(crate) fn asks_for(&self, record: &Record) -> bool
+        ensures { result ≡ Definitions.is_asked self.now «record».now }
+    {
+        is_of_user(self.user, &record.who)
+            && is_by_rule(self.rule, ruling_of(record.outcome))
+            && (!self.denied || is_denial(record.outcome))
+    }
+}
+
+fn is_of_user(wanted: Option<&[u8]>, who: &Option<Bytes>) -> bool
+    ensures { result ≡ Definitions.is_of_user (option_map (λ name. name.now) wanted.entry) who.now }
+{
+    let Some(name) = wanted else {
+        return true;
+    };
+    match who {
+        Some(who) => same_bytes(who.as_slice(), name),
+        None => false,
+    }
+}
+
+/// The rule that decided, if one did.
+pub(crate) fn ruling_of(outcome: Outcome) -> Option<u32>
+    ensures { result ≡ Definitions.ruling_of outcome }
+{
+    match outcome {
+        Outcome::Challenge { status: _ } => None,
+        Outcome::Deny { rule } => Some(rule),
+        Outcome::Sent { rule, targets: _ } => Some(rule),
+        Outcome::Answer { rule, status: _ } => Some(rule),
+    }
+}
+
+fn is_by_rule(wanted: Option<u32>, ruling: Option<u32>) -> bool
+    ensures { result ≡ Definitions.is_by_rule wanted ruling }
+{
+    let Some(wanted) = wanted else {
+        return true;
+    };
+    match ruling {
+        Some(rule) => rule == wanted,
+        None => false,
+    }
+}
+
+fn is_denial(outcome: Outcome) -> bool
+    ensures { result ≡ Definitions.is_denial outcome }
+{
+    match outcome {
+        Outcome::Challenge { status: _ } => false,
+        Outcome::Deny { rule: _ } => true,
+        Outcome::Sent {
+            rule: _,
+            targets: _,
+        } => false,
+        Outcome::Answer { rule: _, status: _ } => false,
+    }
+}

@@ -1,0 +1,136 @@
+ghost use Rattle.std.specs.Prelude.{◌≡◌, ◌++◌, map, OnOk};
+ghost use Rattle.sipd_report.specs.Report.{numbered_text, shown_byte};
+ghost use Rattle.sipd_report.specs.Steps as Definitions;
+
+use crate::query::ruling_of;
+use crate::row::{outcome_kind, ruling_text, who_text};
+use crate::totals::Totals;
+use sip_audit::Record;
+use sip_text::Bytes;
+use std::alloc::{AllocError, Global};
+
+/// How many lines are shown that are no audit lines.
+const SHOWN: u64 = 20;
+
+/// How many bytes are shown of each.
+const SHOWN_BYTES: usize = 120;
+
+/// What is counted of the lines of an input. No count goes beyond the greatest that it holds.
+pub(crate) struct Tally {
+    pub users: Totals,
+    pub rules: Totals,
+    pub outcomes: Totals,
+    /// All lines.
+    pub lines: u64,
+    /// Those in which something stands.
+    pub filled: u64,
+    /// Those whose record is asked for.
+    pub asked: u64,
+    /// Those that are no audit lines.
+    pub none: u64,
+    /// The first of these, as they are shown.
+    pub shown: Bytes,
+}
+
+/// Written out, so that it is proved once and not wherever one is dropped.
+impl Drop for Tally {
+    fn drop(self) {
+        let Tally {
+            users: _,
+            rules: _,
+            outcomes: _,
+            lines: _,
+            filled: _,
+            asked: _,
+            none: _,
+            shown: _,
+        } = self;
+    }
+}
+
+impl Tally {
+    /// Nothing counted yet.
+    pub(crate) fn new(alloc: Global) -> Tally
+        ensures { result ≡ Definitions.no_tally }
+    {
+        Tally {
+            users: Totals::new(alloc),
+            rules: Totals::new(alloc),
+            outcomes: Totals::new(alloc),
+            lines: 0,
+            filled: 0,
+            asked: 0,
+            none: 0,
+            shown: Bytes::new(alloc),
+        }
+    }
+
+    /// One line more.
+    pub(crate) fn add_line(&mut self)
+        ensures { self.new ≡ Definitions.with_line self.old }
+    {
+        self.lines = self.lines.saturating_add(1);
+    }
+
+    /// Something stands in it.
+    pub(crate) fn add_filled(&mut self)
+        ensures { self.new ≡ Definitions.with_filled self.old }
+    {
+        self.filled = self.filled.saturating_add(1);
+    }
+
+    /// It is no audit line.
+    pub(crate) fn add_no_entry(&mut self, line: &[u8]) -> Result<(), AllocError>
+        ensures { OnOk result (self.new ≡ Definitions.with_no_entry line.now self.old) }
+    {
+        if self.none < SHOWN {
+            push_no_entry(&mut self.shown, self.lines, line)?;
+        }
+        self.none = self.none.saturating_add(1);
+        Ok(())
+    }
+
+    /// Its record is asked for.
+    pub(crate) fn add_record(&mut self, alloc: Global, record: &Record) -> Result<(), AllocError>
+        ensures { OnOk result (self.new ≡ Definitions.with_record «record».now self.old) }
+    {
+        let rule = ruling_text(alloc, ruling_of(record.outcome))?;
+        let outcome = outcome_kind(alloc, record.outcome)?;
+        self.users.add(alloc, who_text(&record.who))?;
+        self.rules.add(alloc, rule.as_slice())?;
+        self.outcomes.add(alloc, outcome.as_slice())?;
+        self.asked = self.asked.saturating_add(1);
+        Ok(())
+    }
+}
+
+/// Adds a line that is no audit line as it is shown.
+fn push_no_entry(text: &mut Bytes, number: u64, line: &[u8]) -> Result<(), AllocError>
+    ensures { OnOk result (text.new ≡ text.old ++ numbered_text number line.now) }
+{
+    text.extend(b"line ")?;
+    text.push_decimal(number)?;
+    text.extend(b": ")?;
+    push_shown(text, &line[..line.len().min(SHOWN_BYTES)])?;
+    text.push(b'\n')
+}
+
+/// Adds bytes, with a point for each that doesn't print.
+fn push_shown(text: &mut Bytes, bytes: &[u8]) -> Result<(), AllocError>
+    ensures { OnOk result (text.new ≡ text.old ++ map shown_byte bytes.now) }
+{
+    for byte in bytes {
+        text.push(shown(*byte))?;
+    }
+    Ok(())
+}
+
+fn shown(byte: u8) -> u8
+    ensures { result ≡ shown_byte byte }
+{
+    if byte >= b' ' && byte < 127 {
+        byte
+    } else {
+        b'.'
+    }
+}
