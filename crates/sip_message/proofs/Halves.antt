@@ -3,11 +3,10 @@ use Rattle.std.proofs.Common.{◌≡◌, ℕ, zero, suc, ◌+◌, ◌-◌, ◌�
 use Rattle.std.specs.Prelude.{reverse, ◌==◌}
 use Rattle.std.specs.List.{take_while, prefix_len, list_all}
 use Rattle.std.proofs.Math.Seq.{drop-append_seam}
-use Rattle.std.proofs.lemmas.List.{take-append-le, take_all, drop-drop, length-drop, length-take, take-append-drop}
+use Rattle.std.proofs.lemmas.List.{take-append-le, take_all, drop-drop, length-drop, length-take}
 use Rattle.sip_text.specs.Lists.{is_blank, trimmed, front_trimmed, end_trimmed}
-use Rattle.sip_text.specs.Words.{is_token_byte, is_token_text, token_at, behind_token}
+use Rattle.sip_text.specs.Words.{is_token_byte, is_token_text}
 use Rattle.sip_text.specs.Splits.{split_at_byte}
-use Rattle.sip_message.specs.Named.{IsNamed}
 use Rattle.sip_message.proofs.FieldsAgain.{split_is}
 
 pub fits : (mark : ℕ) (bytes front back : List ℕ) → Some (front, back) ≡ split_at_byte mark bytes → length front + 1 ≤ length bytes
@@ -24,7 +23,7 @@ none_of : (n : ℕ) → take {A = ℕ} n [] ≡ []
 none_of zero = refl
 none_of (suc n) = refl
 
-front_cut : (k : ℕ) (xs : List ℕ) → take k xs ≡ take (length (take k xs)) xs
+pub front_cut : (k : ℕ) (xs : List ℕ) → take k xs ≡ take (length (take k xs)) xs
 front_cut zero xs = refl
 front_cut (suc k) [] = refl
 front_cut (suc k) (x ∷ xs) = ap (λ (w : List ℕ). x ∷ w) (front_cut k xs)
@@ -63,22 +62,10 @@ while_one p x xs true is rest =
     ap (list_all p) here ∙ all
 while_one p x xs false is rest = rw is refl
 
-while_all : (p : ℕ → Bool) (xs : List ℕ) → list_all p (take_while p xs) ≡ true
+pub while_all : (p : ℕ → Bool) (xs : List ℕ) → list_all p (take_while p xs) ≡ true
 while_all p [] = refl
 while_all p (x ∷ xs) = while_one p x xs (p x) refl (while_all p xs)
 
-token_all : (name : List ℕ) → (length name == 0) ≡ false → list_all is_token_byte name ≡ true → is_token_text name ≡ true
+pub token_all : (name : List ℕ) → (length name == 0) ≡ false → list_all is_token_byte name ≡ true → is_token_text name ≡ true
 token_all [] some all = absurd cc
 token_all (b ∷ bs) some all = all
-
--- a token, and a `:` at once behind it
-pub named_is : (line name rest first value back : List ℕ) → name ≡ token_at line → rest ≡ behind_token line → (length name == 0) ≡ false → rest ≡ 58 ∷ back → first ≡ take (length name) line → value ≡ drop (length name + 1) line → IsNamed line first value
-named_is line name rest first value back n r some b f v =
-    let token : is_token_text name ≡ true = token_all name some (ap (list_all is_token_byte) n ∙ while_all is_token_byte line) in
-    let front : take (length name) line ≡ name = ap (λ (w : List ℕ). take (length w) line) n ∙ sym (front_cut (prefix_len is_token_byte line) line) ∙ sym n in
-    let behind : drop (length name) line ≡ rest = ap (λ (w : List ℕ). drop (length w) line) n ∙ sym r in
-    let whole : line ≡ name ++ 58 ∷ back = sym (take-append-drop (length name) line) ∙ ap (λ (w : List ℕ). w ++ drop (length name) line) front ∙ ap (λ (w : List ℕ). name ++ w) (behind ∙ b) in
-    let last : value ≡ back = v ∙ sym (drop-drop 1 (length name) line) ∙ ap (drop 1) (behind ∙ b) in record {
-      whole = whole ∙ ap (λ (w : List ℕ). w ++ 58 ∷ back) (sym (f ∙ front)) ∙ ap (λ (w : List ℕ). first ++ 58 ∷ w) (sym last);
-      is_token = ap is_token_text (f ∙ front) ∙ token;
-    }

@@ -33,13 +33,13 @@ flags_first : (line : List ℕ) (o : Option (List (List ℕ) × List ℕ)) → o
 flags_first line None = refl
 flags_first line (Some x) = refl
 
-head_first : (rest line after : List ℕ) → Some (line, after) ≡ line_at rest → is_empty line ≡ false → head_at rest ≡ heads_on line (lines_at false after)
+pub head_first : (rest line after : List ℕ) → Some (line, after) ≡ line_at rest → is_empty line ≡ false → head_at rest ≡ heads_on line (lines_at false after)
 head_first rest line after is full = ap (λ o. option_map (λ x. (unfolded x.0, x.1)) o) (lines_behind rest line after is full) ∙ heads_first line (lines_at false after)
 
 flag_first : (rest line after : List ℕ) → Some (line, after) ≡ line_at rest → is_empty line ≡ false → flags_at rest ≡ flags_on false (lines_at false after)
 flag_first rest line after is full = ap (λ o. option_map (λ x. folds_of x.0) o) (lines_behind rest line after is full) ∙ flags_first line (lines_at false after)
 
-before_before : (front lines : List (List ℕ)) (o : Option (List (List ℕ) × List ℕ)) → before front (before lines o) ≡ before (front ++ lines) o
+pub before_before : (front lines : List (List ℕ)) (o : Option (List (List ℕ) × List ℕ)) → before front (before lines o) ≡ before (front ++ lines) o
 before_before front lines None = refl
 before_before front lines (Some x) = ap (λ (w : List (List ℕ)). Some (w, x.1)) (sym (append_assoc front lines x.0))
 
@@ -47,7 +47,7 @@ flags_again : (front flags : List Bool) (o : Option (List Bool)) → flags_befor
 flags_again front flags None = refl
 flags_again front flags (Some x) = ap (λ (w : List Bool). Some w) (sym (append_assoc front flags x))
 
-before_none : (o : Option (List (List ℕ) × List ℕ)) → before [] o ≡ o
+pub before_none : (o : Option (List (List ℕ) × List ℕ)) → before [] o ≡ o
 before_none None = refl
 before_none (Some x) = refl
 
@@ -151,7 +151,7 @@ all_cut head rest line after content s is none after_cut = record {
 
 -- ---- what is refused
 
-without_end : (bytes : List ℕ) → head_at bytes ≡ None → head_said bytes ≡ Err NotSip
+pub without_end : (bytes : List ℕ) → head_at bytes ≡ None → head_said bytes ≡ Err NotSip
 unfolding head_said
 without_end bytes none = rw none refl
 
@@ -168,28 +168,28 @@ bad_head : (head : List ℕ) (lines more : List (List ℕ)) (entries : List Fiel
 unfolding head_said
 bad_head head lines more entries line rest n is said one none = rw is (bad_line lines more entries line n rest said one none)
 
-pub line_refused : (head rest : Bor (List ℕ)) (line after : List ℕ) (content : Content) (e : ReadError) → IsReadSoFar head content rest → Some (line, after) ≡ line_at rest.now → is_empty line ≡ false → IsLineRefused content.length line after
-    → MatchOption (head_at after) (e ≡ NotSip) (λ x. e ≡ BadField) → head_said head.now ≡ Err e
-line_refused head rest line after content e s is full r told = by_end (lines_at false after) refl told
+pub refused_line : (head rest line after : List ℕ) (lines : List (List ℕ)) (entries : List Field) (n : Option ℕ) (e : ReadError) → head_at head ≡ before lines (head_at rest) → entries_of lines ≡ Some entries → one_length (lengths entries) ≡ Some n
+    → Some (line, after) ≡ line_at rest → is_empty line ≡ false → IsLineRefused n line after → MatchOption (head_at after) (e ≡ NotSip) (λ x. e ≡ BadField) → head_said head ≡ Err e
+refused_line head rest line after lines entries n e so_far said one is full r told = by_end (lines_at false after) refl told
   where
-    heads : head_at rest.now ≡ before (r.whole ∷ []) r.more
-    heads = head_first rest.now line after is full ∙ r.bytes
+    heads : head_at rest ≡ before (r.whole ∷ []) r.more
+    heads = head_first rest line after is full ∙ r.bytes
 
-    by_more : (o : Option (List (List ℕ) × List ℕ)) (x : List (List ℕ) × List ℕ) → r.more ≡ o → lines_at false after ≡ Some x → e ≡ BadField → head_said head.now ≡ Err e
+    by_more : (o : Option (List (List ℕ) × List ℕ)) (x : List (List ℕ) × List ℕ) → r.more ≡ o → lines_at false after ≡ Some x → e ≡ BadField → head_said head ≡ Err e
     by_more None x so here bad =
         let no : heads_on line (Some x) ≡ before (r.whole ∷ []) None = ap (heads_on line) (sym here) ∙ r.bytes ∙ ap (before (r.whole ∷ [])) so in
         absurd cc
     by_more (Some y) x so here bad =
-        let all : head_at head.now ≡ Some (s.lines ++ r.whole ∷ y.0, y.1) = s.heads ∙ ap (before s.lines) (heads ∙ ap (before (r.whole ∷ [])) so) in
-        bad_head head.now s.lines y.0 s.entries r.whole y.1 content.length all s.said s.one r.none ∙ ap (λ (w : ReadError). Err w) (sym bad)
+        let all : head_at head ≡ Some (lines ++ r.whole ∷ y.0, y.1) = so_far ∙ ap (before lines) (heads ∙ ap (before (r.whole ∷ [])) so) in
+        bad_head head lines y.0 entries r.whole y.1 n all said one r.none ∙ ap (λ (w : ReadError). Err w) (sym bad)
 
-    by_end : (o : Option (List (List ℕ) × List ℕ)) → lines_at false after ≡ o → MatchOption (option_map {T = List (List ℕ) × List ℕ} {U = List (List ℕ) × List ℕ} (λ x. (unfolded x.0, x.1)) o) (e ≡ NotSip) (λ x. e ≡ BadField) → head_said head.now ≡ Err e
+    by_end : (o : Option (List (List ℕ) × List ℕ)) → lines_at false after ≡ o → MatchOption (option_map {T = List (List ℕ) × List ℕ} {U = List (List ℕ) × List ℕ} (λ x. (unfolded x.0, x.1)) o) (e ≡ NotSip) (λ x. e ≡ BadField) → head_said head ≡ Err e
     by_end None here why =
-        without_end head.now (s.heads ∙ ap (before s.lines) (head_first rest.now line after is full ∙ ap (heads_on line) here)) ∙ ap (λ (w : ReadError). Err w) (sym why)
+        without_end head (so_far ∙ ap (before lines) (head_first rest line after is full ∙ ap (heads_on line) here)) ∙ ap (λ (w : ReadError). Err w) (sym why)
     by_end (Some x) here why = by_more r.more x refl here why
 
 pub refusal : (head rest : Bor (List ℕ)) (line after : List ℕ) (content : Content) (fault : LineFault) (e : ReadError) → IsReadSoFar head content rest → Some (line, after) ≡ line_at rest.now → is_empty line ≡ false
     → (fault ≡ Fault.NoMemory) ⊎ IsLineRefused content.length line after → (fault ≡ Fault.NoMemory → e ≡ NoMemory) → (fault ≡ Fault.BadField → MatchOption (head_at after) (e ≡ NotSip) (λ x. e ≡ BadField)) → (e ≡ NoMemory) ⊎ (head_said head.now ≡ Err e)
 refusal head rest line after content fault e s is full (inl none) memory bad = inl (memory none)
 refusal head rest line after content Fault.NoMemory e s is full (inr r) memory bad = inl (memory refl)
-refusal head rest line after content Fault.BadField e s is full (inr r) memory bad = inr (line_refused head rest line after content e s is full r (bad refl))
+refusal head rest line after content Fault.BadField e s is full (inr r) memory bad = inr (refused_line head.now rest.now line after s.lines s.entries content.length e s.heads s.said s.one is full r (bad refl))

@@ -19,3 +19,8 @@ pub mod Standing
 pub mod Halves
 pub mod Limits
 pub mod TextBytes
+pub mod TextRuns
+pub mod Spaced
+pub mod Names
+pub mod HeadFills
+pub mod ViewLaws

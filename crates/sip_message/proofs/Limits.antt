@@ -1,11 +1,11 @@
 -- What is read is what the parts say, within the last limits.
-use Rattle.std.proofs.Common.{◌≡◌, ℕ, Bool, true, false, cond, List, Result, Ok, Err, refl, sym, ap, ◌∙◌, inl, inr, length}
-use Rattle.std.specs.Prelude.{◌⊎◌, nat_lt}
+use Rattle.std.proofs.Common.{◌≡◌, ℕ, Bool, true, false, cond, List, Result, Ok, Err, refl, sym, ap, ◌∙◌, length}
+use Rattle.std.specs.Prelude.{nat_lt}
 use Rattle.std.specs.Option.{ok_or}
 use Rattle.sip_message_form.specs.declared.message.Start.{Start}
 use Rattle.sip_message_form.specs.declared.message.Message.{Message}
 use Rattle.sip_message_form.specs.declared.error.ReadError.{ReadError}
-use Rattle.sip_message_form.specs.declared.error.ReadError.TheVariants.{NoMemory, TooLong, NotSip, BadField}
+use Rattle.sip_message_form.specs.declared.error.ReadError.TheVariants.{TooLong, NotSip, BadField}
 use Rattle.sip_message.specs.Lines.{after_blanks, line_at, head_at}
 use Rattle.sip_message.specs.Start.{start_of}
 use Rattle.sip_message.specs.Field.{entries_of, kept}
@@ -23,7 +23,7 @@ contents_limited : (start : Start) (lines : List (List ℕ)) (rest : List ℕ) �
 unfolding message_from content_from
 contents_limited start lines rest = step (ok_or (entries_of lines) BadField) _ _ (λ entries. step (ok_or (one_length (lengths entries)) BadField) _ _ (λ n. step (ok_or (kept entries) BadField) _ _ (λ fields. refl)))
 
-datagram_limited : (bytes : List ℕ) → datagram_of bytes ≡ content_of bytes >>= within
+pub datagram_limited : (bytes : List ℕ) → datagram_of bytes ≡ content_of bytes >>= within
 unfolding datagram_of content_of
 datagram_limited bytes = step (ok_or (line_at (after_blanks bytes)) NotSip) _ _ (λ first. step (ok_or (start_of first.0) NotSip) _ _ (λ start. step (ok_or (head_at first.1) NotSip) _ _ (λ head. contents_limited start head.0 head.1)))
 
@@ -34,10 +34,3 @@ either false a b same = same
 pub limits_last : (bytes : List ℕ) → reading_of bytes ≡ parts_of bytes >>= within
 unfolding reading_of parts_of
 limits_last bytes = either (nat_lt 65507 (length bytes)) (datagram_of bytes) (content_of bytes) (datagram_limited bytes)
-
-pub fault_first : (e : ReadError) (bytes : List ℕ) → (e ≡ NoMemory) ⊎ (parts_of bytes ≡ Err e) → (e ≡ NoMemory) ⊎ (reading_of bytes ≡ Err e)
-fault_first e bytes (inl none) = inl none
-fault_first e bytes (inr is) = inr (limits_last bytes ∙ ap (λ (r : Result (Bool × Message) ReadError). r >>= within) is)
-
-pub reading_limited : (bytes : List ℕ) (said : Bool × Message) (view : Message) → parts_of bytes ≡ Ok said → view ≡ said.1 → limited said.0 view ≡ reading_of bytes
-reading_limited bytes said view is same = ap (limited said.0) same ∙ sym (limits_last bytes ∙ ap (λ (r : Result (Bool × Message) ReadError). r >>= within) is)

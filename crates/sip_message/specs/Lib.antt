@@ -10,3 +10,4 @@ pub mod Named
 pub mod Line
 pub mod Parts
 pub mod HeadContent
+pub mod Filled

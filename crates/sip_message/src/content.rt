@@ -17,7 +17,21 @@ use sip_text::{decimal, is_one_item};
 use std::alloc::Global;
 
 /// Room for the fields of most messages.
-const USUAL_FIELDS: usize = 16;
+pub(crate) const USUAL_FIELDS: usize = 16;
+
+/// The length, once one more is written behind others: a second one, and what is none below 2^64, is refused
+/// (RFC 3261 20.14).
+pub(crate) fn length_behind(length: Option<u64>, value: &[u8]) -> Result<u64, LineFault>
+    ensures { MatchResult result (λ n. next_length length value.now ≡ Some (Some n)) (λ _. next_length length value.now ≡ None) }
+{
+    if length.is_some() {
+        return Err(LineFault::BadField);
+    }
+    let Some(length) = decimal(value) else {
+        return Err(LineFault::BadField);
+    };
+    Ok(length)
+}
 
 /// What the lines of a head say so far: the fields that are kept, and the one Content-Length (RFC 3261 20.14).
 #[derive(Drop)]
@@ -33,13 +47,7 @@ impl<'a> Content<'a> {
         ensures length { MatchResult result (λ _. next_length self.old.length value.now ≡ Some self.new.length)
             (λ _. next_length self.old.length value.now ≡ None) }
     {
-        if self.length.is_some() {
-            return Err(LineFault::BadField);
-        }
-        let Some(length) = decimal(value) else {
-            return Err(LineFault::BadField);
-        };
-        self.length = Some(length);
+        self.length = Some(length_behind(self.length, value)?);
         Ok(())
     }
 
@@ -94,7 +102,7 @@ impl<'a> Content<'a> {
     }
 
     /// Takes a line, which isn't empty, with its folds, and gives what follows them.
-    fn take_line(
+    pub(crate) fn take_line(
         &mut self,
         alloc: Global,
         line: &'a [u8],
@@ -115,7 +123,7 @@ impl<'a> Content<'a> {
 }
 
 /// Why a head is refused of which a line isn't taken: without an end it is no head, whatever its lines say.
-fn refusal_of<'a>(fault: LineFault, after: &[u8]) -> ViewError<'a>
+pub(crate) fn refusal_of<'a>(fault: LineFault, after: &[u8]) -> ViewError<'a>
     ensures memory { fault ≡ LineFault.NoMemory → result ≡ NoMemory }
     ensures bad { fault ≡ LineFault.BadField → MatchOption (head_at after.now) (result ≡ NotSip) (λ _. result ≡ BadField) }
 {

@@ -16,10 +16,11 @@ use crate::joined_line::JoinedLine;
 use crate::line::Line;
 use crate::line_fault::LineFault;
 use crate::part_field::PartField;
+use crate::text_run::name_length;
 use httparse::is_header_value;
 use sip_message_fields::{Piece, ViewName, slice_before, slice_from};
 use sip_text::{
-    Buffer, is_token, split_once, split_token, without_end_blanks, without_front_blanks,
+    Buffer, is_space_or_tab, is_token, split_once, without_end_blanks, without_front_blanks,
 };
 use std::alloc::{AllocError, Global};
 
@@ -42,11 +43,38 @@ fn halves(bytes: &[u8], mark: u8) -> Option<(&[u8], &[u8])>
     Some((slice_before(bytes, at), slice_from(bytes, at + 1)))
 }
 
+/// What stands behind a space at the front, where no other blank stands at either end, as of most values.
+#[inline]
+#[tactic(auto, using(crate::proofs::Spaced::spaced))]
+fn behind_space(bytes: &[u8]) -> Option<&[u8]>
+    ensures value { IfSome result (λ x. x.now ≡ trimmed bytes.now) }
+    ensures cut { IfSome result (λ x. IsCutFrom bytes.entry x) }
+{
+    let length = bytes.len();
+    if length < 2 {
+        return None;
+    }
+    if bytes[0] != b' ' {
+        return None;
+    }
+    if is_space_or_tab(bytes[1]) {
+        return None;
+    }
+    if is_space_or_tab(bytes[length - 1]) {
+        return None;
+    }
+    Some(slice_from(bytes, 1))
+}
+
 /// Bytes without the spaces and tabs at both ends, where they stand.
+#[inline]
 fn trimmed_slice(bytes: &[u8]) -> &[u8]
     ensures value { result.now ≡ trimmed bytes.now }
     ensures cut { IsCutFrom bytes.entry result }
 {
+    if let Some(value) = behind_space(bytes) {
+        return value;
+    }
     let start = bytes.len() - without_front_blanks(bytes).len();
     let end = without_end_blanks(bytes).len();
     slice_before(slice_from(bytes, start), end.saturating_sub(start))
@@ -69,18 +97,22 @@ fn field_from_parts<'a>(front: &'a [u8], value: &'a [u8]) -> Option<(&'a [u8], &
 }
 
 /// The name at the front of a line that a `:` follows at once, as in most, and what stands behind it. None says nothing.
+#[inline]
+#[tactic(auto, using(crate::proofs::Names::named))]
 fn plain_halves(line: &[u8]) -> Option<(&[u8], &[u8])>
     ensures halves { IfSome result (λ x. IsNamed line.now x.0.now x.1.now) }
     ensures cut { IfSome result (λ x. IsCutFrom line.entry x.1) }
 {
-    let (name, rest) = split_token(line);
-    if name.is_empty() {
+    let at = name_length(line);
+    if at == 0 {
         return None;
     }
-    let Some((b':', _)) = rest.split_first() else {
+    if at >= line.len() {
         return None;
-    };
-    let at = name.len();
+    }
+    if line[at] != b':' {
+        return None;
+    }
     Some((slice_before(line, at), slice_from(line, at + 1)))
 }
 
@@ -106,6 +138,19 @@ pub(crate) fn parts_of_line(line: &[u8]) -> Option<(&[u8], &[u8])>
     if !is_text_value(value) {
         return None;
     }
+    Some((name, trimmed_slice(value)))
+}
+
+/// The written name and the value of the field that a line writes, where each byte of it may stand in a value and a `:`
+/// follows the name at once, as in most. None says nothing.
+#[inline]
+pub(crate) fn usual_parts(line: &[u8]) -> Option<(&[u8], &[u8])>
+    requires text { list_all is_text line.now ≡ true }
+    ensures { IfSome result (λ x. Some (seen_field x.0.now x.1.now) ≡ field_of line.now) }
+{
+    let Some((name, value)) = plain_halves(line) else {
+        return None;
+    };
     Some((name, trimmed_slice(value)))
 }
 

@@ -16,6 +16,7 @@ mod content;
 mod datagram_parts;
 mod entries;
 pub mod examples;
+mod filling;
 mod joined_line;
 mod keeping;
 pub mod laws;
@@ -26,6 +27,7 @@ mod part_field;
 mod parting;
 mod reading;
 mod start_line;
+mod text_run;
 mod viewing;
 
 pub use datagram_parts::Parts;

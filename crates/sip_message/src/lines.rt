@@ -1,10 +1,13 @@
-ghost use Rattle.std.specs.Prelude.{◌≡◌, ◌+◌, ◌<◌, slice_index, ◌∷◌, [], length, IfOk, IfSome, ℕ, MatchOption, option_map, true, false};
+ghost use Rattle.std.specs.Prelude.{◌≡◌, ◌+◌, ◌<◌, slice_index, ◌∷◌, [], length, IfOk, IfSome, ℕ, MatchOption, option_map, true, false, Some};
 ghost use Rattle.memchr.specs.Find.{OccursAt, FindsNeedle};
 ghost use Rattle.sip_message_fields.specs.Slice.{IsCutFrom};
+ghost use Rattle.std.specs.List.{list_all};
+ghost use Rattle.sip_message.specs.Field.{is_text};
 ghost use Rattle.sip_message.specs.HeadContent.{IsWhole};
 ghost use Rattle.sip_message.specs.Lines.{after_blanks, line_at, is_fold, head_at};
 
 use crate::line::Line;
+use crate::text_run::text_length;
 use memchr::memchr;
 use sip_message_fields::{slice_before, slice_from};
 use sip_text::is_space_or_tab;
@@ -15,6 +18,14 @@ use std::alloc::{AllocError, Global};
 #[derive(Clone, Copy)]
 pub(crate) struct Slice<'a> {
     pub bytes: &'a [u8],
+}
+
+/// A line of a head, what follows its CRLF, and whether it was seen that each byte of it may stand in a value.
+#[derive(Clone, Copy)]
+pub(crate) struct HeadLine<'a> {
+    pub line: &'a [u8],
+    pub after: &'a [u8],
+    pub is_text: bool,
 }
 
 /// What follows a CRLF at the front.
@@ -84,6 +95,47 @@ pub(crate) fn first_line(bytes: &[u8]) -> Option<(&[u8], &[u8])>
 {
     let at = find_crlf(bytes)?;
     Some((slice_before(bytes, at), slice_from(bytes, at + 2)))
+}
+
+/// The first line, and what follows its CRLF, where each byte of it may stand in a value and none is a tab, as of most
+/// lines. None says nothing.
+#[inline]
+fn text_line(bytes: &[u8]) -> Option<(&[u8], &[u8])>
+    ensures line { IfSome result (λ x. Some (x.0.now, x.1.now) ≡ line_at bytes.now) }
+    ensures text { IfSome result (λ x. list_all is_text x.0.now ≡ true) }
+{
+    let end = text_length(bytes);
+    if bytes.len() - end < 2 {
+        return None;
+    }
+    if bytes[end] != b'\r' {
+        return None;
+    }
+    if bytes[end + 1] != b'\n' {
+        return None;
+    }
+    Some((slice_before(bytes, end), slice_from(bytes, end + 2)))
+}
+
+/// The first line of a head, and what follows its CRLF.
+#[inline]
+pub(crate) fn head_line(bytes: &[u8]) -> Option<HeadLine<'_>>
+    ensures line { option_map (λ x. (x.line.now, x.after.now)) result ≡ line_at bytes.now }
+    ensures text { IfSome result (λ x. x.is_text ≡ true → list_all is_text x.line.now ≡ true) }
+{
+    if let Some((line, after)) = text_line(bytes) {
+        return Some(HeadLine {
+            line,
+            after,
+            is_text: true,
+        });
+    }
+    let (line, after) = first_line(bytes)?;
+    Some(HeadLine {
+        line,
+        after,
+        is_text: false,
+    })
 }
 
 /// Whether a line goes on with the line before it.

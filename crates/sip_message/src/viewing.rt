@@ -1,16 +1,15 @@
 ghost use Rattle.std.specs.Prelude.{◌≡◌, ◌⊎◌, IfOk, IfErr, Some, Ok};
 ghost use Rattle.sip_message.specs.Says.{Says, IsWithinLimits};
-ghost use Rattle.sip_message.specs.Reading.{Gives, limited, reading_of, fault_of};
-ghost use Rattle.sip_message.specs.Parts.{fields_seen, parts_seen};
+ghost use Rattle.sip_message.specs.Reading.{Gives, limited, datagram_of, reading_of, fault_of};
 ghost use Rattle.sip_message_form.specs.declared.message.Message.{Message};
 ghost use Rattle.sip_message_form.specs.declared.error.ReadError.TheVariants.{NoMemory};
 
-use crate::datagram_parts::Parts;
-use crate::part_field::PartField;
-use crate::parting::parts;
-use sip_message_fields::{Value, ViewField, ViewFields};
+use crate::body::{body_part, is_cut_short};
+use crate::filling::{Filling, filling_of_head};
+use crate::lines::{first_line, without_blank_lines};
+use crate::start_line::start_of_line;
 use sip_message_form::{View, ViewError, ViewRefusal};
-use std::alloc::{AllocError, Global};
+use std::alloc::Global;
 
 /// The view, if it is within the limits and its body is whole.
 fn within_limits<'a>(short: bool, view: View<'a>) -> Result<View<'a>, ViewError<'a>>
@@ -28,38 +27,29 @@ fn within_limits<'a>(short: bool, view: View<'a>) -> Result<View<'a>, ViewError<
     Ok(view)
 }
 
-/// The fields of parts.
-fn view_fields<'a>(alloc: Global, fields: Vec<PartField<'a>>) -> Result<ViewFields<'a>, AllocError>
-    ensures { IfOk result (λ views. views ≡ fields_seen fields.entry.items) }
+/// The view of bytes that aren't too many.
+#[tactic(auto, unfolding(crate::specs::Reading::datagram_of))]
+fn view_of_datagram<'a>(alloc: Global, bytes: &'a [u8]) -> Result<View<'a>, ViewError<'a>>
+    ensures { Gives (λ m. m) result (datagram_of bytes.now) }
 {
-    let mut views = ViewFields::with_room(alloc, fields.len())?;
-    for field in fields {
-        let PartField { name, value } = field;
-        views.push(ViewField::new(name, Value::of_piece(value)))?;
-    }
-    Ok(views)
+    let Some((line, head)) = first_line(without_blank_lines(bytes)) else {
+        return Err(ViewError::new(ViewRefusal::NotSip));
+    };
+    let start = start_of_line(alloc, line)?;
+    let (Filling { fields, length }, rest) = filling_of_head(alloc, head)?;
+    let view = View::new(start, fields, body_part(length, rest));
+    within_limits(is_cut_short(length, rest), view)
 }
 
-/// The view of parts.
-fn view_of_parts<'a>(alloc: Global, parts: Parts<'a>) -> Result<View<'a>, AllocError>
-    ensures { IfOk result (λ view. view ≡ (parts_seen parts.entry).1) }
-{
-    let Parts {
-        start,
-        fields,
-        body,
-        is_short: _,
-    } = parts;
-    Ok(View::new(start, view_fields(alloc, fields)?, body))
-}
-
-/// The view of bytes: their parts, within the limits.
+/// The view of bytes.
+#[tactic(auto, unfolding(crate::specs::Reading::reading_of))]
 fn view_bytes<'a>(alloc: Global, bytes: &'a [u8]) -> Result<View<'a>, ViewError<'a>>
     ensures { Gives (λ m. m) result (reading_of bytes.now) }
 {
-    let said = parts(alloc, bytes)?;
-    let is_short = said.is_short;
-    within_limits(is_short, view_of_parts(alloc, said)?)
+    if bytes.len() > 65_507 {
+        return Err(ViewError::new(ViewRefusal::TooLong));
+    }
+    view_of_datagram(alloc, bytes)
 }
 
 /// The message that a datagram says (RFC 3261 7), as parts of the datagram. The refusals are those of `read`, in the

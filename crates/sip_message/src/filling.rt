@@ -1,0 +1,145 @@
+ghost use Rattle.std.specs.Prelude.{◌≡◌, ◌⊎◌, ◌++◌, [], ◌∷◌, true, MatchResult, OnOk, Some, None};
+ghost use Rattle.std.specs.List.{list_all};
+ghost use Rattle.sip_message.specs.Field.{is_text};
+ghost use Rattle.sip_message.specs.Filled.{IsFieldFilled, IsLineFilled, filled_seen};
+ghost use Rattle.sip_message.specs.HeadContent.{IsFault, IsLineRefused, next_length, field_taken};
+ghost use Rattle.sip_message.specs.Parts.{fields_seen};
+ghost use Rattle.sip_message.specs.Reading.{Gives, head_said};
+ghost use Rattle.sip_message_fields.specs.FieldName.{is_list};
+ghost use Rattle.sip_text.specs.Lists.{cut};
+
+use crate::content::{Content, USUAL_FIELDS, length_behind, refusal_of};
+use crate::entries::usual_parts;
+use crate::line_fault::LineFault;
+use crate::lines::{HeadLine, Slice, head_line, is_fold_line};
+use crate::part_field::PartField;
+use sip_message_fields::{Value, ViewField, ViewFields, ViewName};
+use sip_message_form::{ViewError, ViewRefusal};
+use sip_text::is_one_item;
+use std::alloc::{AllocError, Global};
+
+/// What the lines of a head say so far, as a view has it: the fields that are kept, and the one Content-Length
+/// (RFC 3261 20.14).
+#[derive(Drop)]
+pub(crate) struct Filling<'a> {
+    pub fields: ViewFields<'a>,
+    pub length: Option<u64>,
+}
+
+/// Puts fields that stand in a datagram behind those of a view.
+fn put_parts<'a>(fields: &mut ViewFields<'a>, parts: Vec<PartField<'a>>) -> Result<(), AllocError>
+    ensures { OnOk result (fields.new ≡ fields.old ++ fields_seen parts.entry.items) }
+{
+    for part in parts {
+        let PartField { name, value } = part;
+        fields.push(ViewField::new(name, Value::of_piece(value)))?;
+    }
+    Ok(())
+}
+
+/// Whether a field is kept as one field: a list is seen at once to be of one item.
+#[inline]
+fn is_one_field(name: &ViewName<'_>, value: &[u8]) -> bool
+    ensures { result ≡ true → is_list name.now ≡ true → cut value.now ≡ Some (value.now ∷ []) }
+{
+    if !name.is_list() {
+        return true;
+    }
+    is_one_item(value)
+}
+
+impl<'a> Filling<'a> {
+    /// Takes the value of a Content-Length behind the others.
+    fn take_length(&mut self, value: &[u8]) -> Result<(), LineFault>
+        ensures fields { self.new.fields ≡ self.old.fields }
+        ensures length { MatchResult result (λ _. next_length self.old.length value.now ≡ Some self.new.length)
+            (λ _. next_length self.old.length value.now ≡ None) }
+    {
+        self.length = Some(length_behind(self.length, value)?);
+        Ok(())
+    }
+
+    /// Takes a field of one item whose value stands in the datagram.
+    #[inline]
+    fn take_field(&mut self, name: ViewName<'a>, value: &'a [u8]) -> Result<(), LineFault>
+        requires one { is_list name ≡ true → cut value.now ≡ Some (value.now ∷ []) }
+        ensures { MatchResult result
+            (λ _. IsFieldFilled self.old (record { name = name.entry; value = value.now }) self.new)
+            (λ e. IsFault e (field_taken self.old.length (record { name = name.entry; value = value.now }))) }
+    {
+        if name.is_content_length() {
+            return self.take_length(value);
+        }
+        self.fields
+            .push(ViewField::new(name, Value::of_part(value)))?;
+        Ok(())
+    }
+
+    /// Takes a line of any form with its folds, and gives what follows them.
+    #[inline(never)]
+    fn take_any(&mut self, alloc: Global, next: HeadLine<'a>) -> Result<&'a [u8], LineFault>
+        ensures { MatchResult result (λ rest. IsLineFilled self.old next.entry.line.now next.entry.after.now self.new rest.now)
+            (λ e. (e ≡ LineFault.NoMemory) ⊎ IsLineRefused self.old.length next.entry.line.now next.entry.after.now) }
+    {
+        let mut content = Content {
+            fields: Vec::new(alloc),
+            length: self.length,
+        };
+        let rest = content.take_line(alloc, next.line, next.after)?;
+        let Content { fields, length } = content;
+        put_parts(&mut self.fields, fields)?;
+        self.length = length;
+        Ok(rest)
+    }
+
+    /// Takes a line, which isn't empty, with its folds, and gives what follows them.
+    #[inline]
+    fn take_line(&mut self, alloc: Global, next: HeadLine<'a>) -> Result<&'a [u8], LineFault>
+        requires text { next.is_text ≡ true → list_all is_text next.line.now ≡ true }
+        ensures { MatchResult result (λ rest. IsLineFilled self.old next.entry.line.now next.entry.after.now self.new rest.now)
+            (λ e. (e ≡ LineFault.NoMemory) ⊎ IsLineRefused self.old.length next.entry.line.now next.entry.after.now) }
+    {
+        if !next.is_text {
+            return self.take_any(alloc, next);
+        }
+        if is_fold_line(next.after) {
+            return self.take_any(alloc, next);
+        }
+        let Some((name, value)) = usual_parts(next.line) else {
+            return self.take_any(alloc, next);
+        };
+        let name = ViewName::of_part(name);
+        if !is_one_field(&name, value) {
+            return self.take_any(alloc, next);
+        }
+        self.take_field(name, value)?;
+        Ok(next.after)
+    }
+}
+
+/// What the lines of a head say, as a view has it, and what follows the empty line at its end (RFC 3261 7.3). It stands
+/// apart, so that what is done for each line is done in registers.
+#[inline(never)]
+pub(crate) fn filling_of_head<'a>(
+    alloc: Global,
+    head: &'a [u8],
+) -> Result<(Filling<'a>, &'a [u8]), ViewError<'a>>
+    ensures { Gives filled_seen result (head_said head.now) }
+{
+    let fields = ViewFields::with_room(alloc, USUAL_FIELDS)?;
+    let mut filling = Filling {
+        fields,
+        length: None,
+    };
+    let mut rest = Slice { bytes: head };
+    while let Some(next) = head_line(rest.bytes) {
+        if next.line.is_empty() {
+            return Ok((filling, next.after));
+        }
+        match filling.take_line(alloc, next) {
+            Ok(after) => rest = Slice { bytes: after },
+            Err(fault) => return Err(refusal_of(fault, next.after)),
+        }
+    }
+    Err(ViewError::new(ViewRefusal::NotSip))
+}

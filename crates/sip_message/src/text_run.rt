@@ -1,0 +1,92 @@
+ghost use Rattle.std.specs.Prelude.{◌≡◌, ◌+◌, ◌≤◌, true, length, take};
+ghost use Rattle.std.specs.List.{list_all};
+ghost use Rattle.httparse.specs.Pieces.{PassesIn, first_set};
+ghost use Rattle.sip_message.specs.Field.{is_text};
+ghost use Rattle.sip_text.specs.Words.{is_token_byte};
+
+use sip_text::split_token;
+use std::simd::prelude::*;
+
+/// So many bytes are looked at at once.
+const LANES: usize = 16;
+
+/// The place of the lowest bit that is set, or the number of lanes where none is.
+#[inline(always)]
+fn first_set(mask: u64) -> usize
+    ensures { result ≡ first_set mask 16 }
+{
+    if mask == 0 {
+        LANES
+    } else {
+        mask.trailing_zeros() as usize
+    }
+}
+
+/// How many of the bytes from a place on, of those that are looked at at once, may stand in a value, up to a tab or the
+/// first that may not.
+#[inline(always)]
+fn text_in_lanes(bytes: &[u8], at: usize) -> usize
+    requires { at + 16 ≤ length bytes.now }
+    ensures { PassesIn is_text bytes.now at 16 result }
+{
+    let lanes = u8x16::from_slice(&bytes[at..]);
+    let stops = lanes.simd_lt(u8x16::splat(b' ')) | lanes.simd_eq(u8x16::splat(0x7f));
+    first_set(stops.to_bitmask())
+}
+
+/// Whether a byte may stand in a value and is no tab.
+#[inline]
+fn is_text_byte(byte: u8) -> bool
+    ensures { result ≡ true → is_text byte ≡ true }
+{
+    byte >= b' ' && byte != 0x7f
+}
+
+/// How many bytes at the front may stand in a value, up to a tab or the first that may not.
+#[inline]
+pub(crate) fn text_length(bytes: &[u8]) -> usize
+    ensures within { result ≤ length bytes.now }
+    ensures text { list_all is_text (take result bytes.now) ≡ true }
+{
+    let mut end = 0;
+    'by_lanes: while bytes.len() - end >= LANES {
+        let run = text_in_lanes(bytes, end);
+        if run < LANES {
+            return end + run;
+        }
+        end += LANES;
+    }
+    while end < bytes.len() && is_text_byte(bytes[end]) {
+        end += 1;
+    }
+    end
+}
+
+/// How many letters and dashes stand at the front of bytes, of those that are looked at at once.
+#[inline(always)]
+fn letters_in_lanes(bytes: &[u8]) -> usize
+    requires { 16 ≤ length bytes.now }
+    ensures { PassesIn is_token_byte bytes.now 0 16 result }
+{
+    let lanes = u8x16::from_slice(bytes);
+    let behind_a = (lanes | u8x16::splat(0x20)) - u8x16::splat(b'a');
+    let stops = behind_a.simd_ge(u8x16::splat(26)) & lanes.simd_ne(u8x16::splat(b'-'));
+    first_set(stops.to_bitmask())
+}
+
+/// How many bytes of a token stand at the front of a line: all of them, where no `:` follows at once.
+#[inline]
+#[tactic(auto, using(crate::proofs::Names::letters, crate::proofs::Names::token))]
+pub(crate) fn name_length(line: &[u8]) -> usize
+    ensures within { result ≤ length line.now }
+    ensures token { list_all is_token_byte (take result line.now) ≡ true }
+{
+    if line.len() >= LANES {
+        let run = letters_in_lanes(line);
+        if run < LANES && line[run] == b':' {
+            return run;
+        }
+    }
+    let (name, _) = split_token(line);
+    name.len()
+}
