@@ -1,11 +1,10 @@
 -- A value with no comma, no quote and at most one pair of brackets is one item.
 use Rattle.std.proofs.Common.{◌≡◌, ℕ, zero, suc, ◌+◌, ◌-◌, ◌<◌, ◌≤◌, Bool, true, false, List, [], ◌∷◌, length, take, drop, get_or, Option, Some, refl, sym, ap, subst, ◌∙◌, arith}
-use Rattle.std.specs.Prelude.{◌||◌, ◌==◌, option_map, reverse}
-use Rattle.std.specs.List.{take_while}
-use Rattle.std.proofs.lemmas.List.{length-drop, length-take, take_all}
+use Rattle.std.specs.Prelude.{◌||◌, ◌==◌, option_map}
 use Rattle.memchr.specs.Find.{NoneBefore, Nowhere, Passes, is_byte, is_byte3}
 use Rattle.sip_text.specs.declared.lists.Place.TheVariants.{Outside, Bracketed}
 use Rattle.sip_text.specs.Lists.{is_blank, is_nil, trimmed, onto, between_cuts, cut}
+use Rattle.sip_text.proofs.Trims.{IsTight, ends_full, tight_again}
 
 none_of : (b : ℕ) → (is_byte3 44 34 60 b ≡ true → ⊥) → ((b == 44) ≡ false) × ((b == 34) ≡ false) × ((b == 60) ≡ false)
 none_of b none = by_tests (b == 44) (b == 34) (b == 60) none
@@ -70,18 +69,22 @@ one_front value bracket start p is inner =
 
 -- ---- as an item
 
-whole_drop : (b k : ℕ) (xs : List ℕ) → 0 < length xs → length (drop b (take k xs)) ≡ length xs → drop b (take k xs) ≡ xs
-whole_drop b k xs full e =
-    let none : b ≡ 0 = omega (arith, e, full, length-drop b (take k xs), length-take k xs) in
-    let all : length xs ≤ k = omega (arith, e, full, length-drop b (take k xs), length-take k xs) in
-    ap (λ (n : ℕ). drop n (take k xs)) none ∙ take_all k xs all
+not_nil : (xs : List ℕ) → 0 < length xs → is_nil xs ≡ false
+not_nil [] lt = absurd (omega arith)
+not_nil (x ∷ xs) lt = refl
 
-pub one_item : (value short : List ℕ) → 0 < length value → short ≡ trimmed value → length short ≡ length value → between_cuts Outside value ≡ Some (value ∷ []) → cut value ≡ Some (value ∷ [])
-one_item value short full is same one =
-    let kept : trimmed value ≡ value = whole_drop (length (take_while is_blank value)) (length value - length (take_while is_blank (reverse value))) value full (sym (ap length is) ∙ same) in
+last_full : (b : ℕ) (bs : List ℕ) → is_blank (get_or (b ∷ bs) (length bs) 0) ≡ false → ends_full (b ∷ bs)
+last_full b [] e = e
+last_full b (c ∷ bs) e = last_full c bs e
+
+tight : (value : List ℕ) → 0 < length value → is_blank (get_or value 0 0) ≡ false → is_blank (get_or value (length value - 1) 0) ≡ false → IsTight value
+tight [] full first last = absurd (omega arith)
+tight (b ∷ bs) full first last =
+    let at : length (b ∷ bs) - 1 ≡ length bs = omega arith in
+    (first, last_full b bs (subst (λ (n : ℕ). is_blank (get_or (b ∷ bs) n 0) ≡ false) at last))
+
+pub tight_item : (value : List ℕ) → 0 < length value → is_blank (get_or value 0 0) ≡ false → is_blank (get_or value (length value - 1) 0) ≡ false → between_cuts Outside value ≡ Some (value ∷ []) → cut value ≡ Some (value ∷ [])
+tight_item value full first last one =
+    let kept : trimmed value ≡ value = tight_again value (tight value full first last) in
     let some : is_nil value ≡ false = not_nil value full in
     rw one (rw kept (rw some refl))
-  where
-    not_nil : (xs : List ℕ) → 0 < length xs → is_nil xs ≡ false
-    not_nil [] lt = absurd (omega arith)
-    not_nil (x ∷ xs) lt = refl

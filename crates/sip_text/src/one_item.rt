@@ -2,7 +2,7 @@ ghost use Rattle.std.specs.Prelude.{◌≡◌, ◌<◌, true, Some, [], ◌∷�
 ghost use Rattle.sip_text.specs.Lists.{cut, between_cuts};
 ghost use Rattle.sip_text.specs.declared.lists.Place.TheVariants.{Outside};
 
-use crate::lists::without_blanks;
+use crate::lists::is_space_or_tab;
 use memchr::{memchr, memchr3};
 
 /// Whether nothing in bytes cuts a list, or begins a quote or a bracket.
@@ -46,14 +46,17 @@ fn has_no_cut(text: &[u8]) -> bool
 }
 
 /// Whether a text is seen at once to be a list of one item, which is all of it; `false` says nothing. Takes no memory.
-#[tactic(auto, using(crate::proofs::OneItem::one_item))]
+#[tactic(auto, using(crate::proofs::OneItem::tight_item))]
 pub fn is_one_item(text: &[u8]) -> bool
     ensures { result ≡ true → cut text.now ≡ Some (text.now ∷ []) }
 {
     if text.is_empty() {
         return false;
     }
-    if without_blanks(text).len() != text.len() {
+    if is_space_or_tab(text[0]) {
+        return false;
+    }
+    if is_space_or_tab(text[text.len() - 1]) {
         return false;
     }
     has_no_cut(text)
