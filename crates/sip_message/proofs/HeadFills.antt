@@ -1,9 +1,11 @@
 -- A head, read line by line for a view.
-use Rattle.std.proofs.Common.{◌≡◌, ◌⊎◌, ℕ, ◌≤◌, Bool, true, false, List, [], ◌∷◌, ◌++◌, length, Option, Some, None, Result, Ok, Err, refl, sym, ap, subst, ◌∙◌, inl, inr, arith}
+use Rattle.std.proofs.Common.{◌≡◌, ◌⊎◌, ℕ, Bool, true, false, List, [], ◌∷◌, ◌++◌, length, map, Option, Some, None, Result, Ok, Err, refl, sym, ap, subst, ◌∙◌, append_assoc, inl, inr, arith}
 use Rattle.std.specs.Prelude.{option_map, MatchOption, MatchResult}
 use Rattle.std.specs.Option.{option_and_then}
-use Rattle.std.proofs.lemmas.List.{append-nil}
+use Rattle.std.proofs.lemmas.List.{append-nil, map-append}
 use denote.Ref.{Bor}
+use Rattle.sip_text.specs.declared.span.Span.{Span}
+use Rattle.sip_text.specs.Span.{part}
 use Rattle.sip_text.specs.Lists.{cut}
 use Rattle.sip_message_fields.specs.declared.field.Field.{Field}
 use Rattle.sip_message_fields.specs.FieldName.{is_length, is_list}
@@ -20,10 +22,11 @@ use Rattle.sip_message.specs.Field.{field_of, entries_of, pieces, kept}
 use Rattle.sip_message.specs.Body.{lengths, one_length}
 use Rattle.sip_message.specs.Parts.{field_seen, fields_seen}
 use Rattle.sip_message.specs.HeadContent.{before, next_length, length_behind, field_taken, IsFault, IsLineTaken, IsLineRefused}
-use Rattle.sip_message.specs.Filled.{filled_seen, IsFieldFilled, IsLineFilled}
+use Rattle.sip_message.specs.Filled.{item_of, filled_seen, IsFieldFilled, IsLineFilled}
 use Rattle.sip_message.specs.Reading.{head_said}
 use Rattle.sip_message.proofs.Rows.{is_empty}
 use Rattle.sip_message.proofs.Wholes.{lines_end, no_lines, without_folds, cut_length}
+use Rattle.sip_message.proofs.Keeps.{kept_list}
 use Rattle.sip_message.proofs.Behind.{entries_more, one_more, kept_more}
 use Rattle.sip_message.proofs.HeadLines.{head_first, before_before, before_none, without_end, refused_line}
 
@@ -50,6 +53,22 @@ one_filled old new field not_length item same more = by_list (is_list field.name
     by_list true is =
         let one : cut field.value ≡ Some (field.value ∷ []) = item is in
         made (rw (not_length, is, one) refl)
+
+pub items_filled : (old new : Filling) (field : Field) (spans : List Span) → is_length field.name ≡ false → is_list field.name ≡ true → cut field.value ≡ Some (map (part field.value) spans) → new.length ≡ old.length
+    → new.fields ≡ old.fields ++ map (item_of field.name field.value) spans → IsFieldFilled old field new
+items_filled old new field spans not_length listed is_cut same more = record {
+  kept = kept_list old.fields new.fields field spans not_length listed is_cut more;
+  next = rw not_length (ap (λ (n : Option ℕ). Some n) (sym same));
+}
+
+pub items_more : (old mid new : List Field) (make : Span → Field) (front : List Span) (span : Span) (all : List Span) → mid ≡ old ++ map make front → new ≡ mid ++ make span ∷ [] → all ≡ front ++ span ∷ [] → new ≡ old ++ map make all
+items_more old mid new make front span all so_far here more =
+    here ∙ ap (λ (w : List Field). w ++ make span ∷ []) so_far ∙ append_assoc old (map make front) (make span ∷ [])
+    ∙ ap (λ (w : List Field). old ++ w) (sym (map-append make front (span ∷ []))) ∙ ap (λ (w : List Span). old ++ map make w) (sym more)
+
+pub items_refused : (n : Option ℕ) (field : Field) (e : LineFault) → is_length field.name ≡ false → is_list field.name ≡ true → IsFault e (cut field.value) → IsFault e (field_taken n field)
+items_refused n field e not_length listed (inl none) = inl none
+items_refused n field e not_length listed (inr none) = inr (rw (not_length, listed, none) refl)
 
 length_refused : (n : Option ℕ) (field : Field) → is_length field.name ≡ true → next_length n field.value ≡ None → field_taken n field ≡ None
 length_refused n field is none =

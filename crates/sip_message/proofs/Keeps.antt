@@ -74,7 +74,7 @@ map-map : {A B C : Type 0} (f : B → C) (g : A → B) (xs : List A) → map f (
 map-map f g [] = refl
 map-map f g (x ∷ xs) = ap (λ ys. f (g x) ∷ ys) (map-map f g xs)
 
-kept_list : (done new : List Field) (field : Field) (spans : List Span) → is_length field.name ≡ false → is_list field.name ≡ true → cut field.value ≡ Some (map (part field.value) spans)
+pub kept_list : (done new : List Field) (field : Field) (spans : List Span) → is_length field.name ≡ false → is_list field.name ≡ true → cut field.value ≡ Some (map (part field.value) spans)
     → new ≡ done ++ map (λ span. record field { value = part field.value span }) spans → option_map (λ items. done ++ items) (pieces field) ≡ Some new
 kept_list done new field spans not_length listed is_cut e =
     let one : pieces field ≡ Some (map (λ item. record field { value = item }) (map (part field.value) spans)) = rw (not_length, listed, is_cut) refl in

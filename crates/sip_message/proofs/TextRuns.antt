@@ -1,9 +1,9 @@
 -- A front of bytes of which each may stand in a value.
-use Rattle.std.proofs.Common.{◌≡◌, ℕ, zero, suc, ◌+◌, ◌-◌, ◌<◌, ◌≤◌, Bool, true, false, List, [], ◌∷◌, ◌++◌, length, take, drop, get_or, Some, refl, sym, ap, subst, ◌∙◌, arith, inl, inr}
+use Rattle.std.proofs.Common.{◌≡◌, ℕ, ◌+◌, ◌-◌, ◌<◌, ◌≤◌, Bool, true, false, List, [], ◌∷◌, ◌++◌, length, take, drop, get_or, Some, refl, sym, ap, subst, ◌∙◌, arith, inl, inr}
 use Rattle.std.specs.Prelude.{◌==◌, ◌&&◌}
 use Rattle.std.specs.List.{list_all}
 use Rattle.std.proofs.lemmas.Bool.{cases_lt}
-use Rattle.std.proofs.lemmas.List.{get_or-take, length-take, take-append-drop, drop_more, drop-drop}
+use Rattle.std.proofs.lemmas.List.{get_or-take, length-take, take-append-drop, drop_more}
 use Rattle.httparse.specs.Pieces.{AllPassBetween, PassesIn}
 use Rattle.httparse.proofs.LaneLemmas.{all_pass}
 use Rattle.sip_message.specs.Field.{is_text}

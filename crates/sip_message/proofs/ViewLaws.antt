@@ -1,5 +1,5 @@
 -- What is read of a datagram, by what its first line and its head say.
-use Rattle.std.proofs.Common.{◌≡◌, ◌⊎◌, ℕ, Bool, List, Option, Some, Result, Ok, Err, refl, sym, ap, ◌∙◌, inl, inr}
+use Rattle.std.proofs.Common.{◌≡◌, ◌⊎◌, ℕ, Bool, List, Option, Some, Result, Ok, Err, sym, ap, ◌∙◌, inl, inr}
 use Rattle.std.specs.Option.{ok_or}
 use Rattle.sip_message_fields.specs.declared.field.Field.{Field}
 use Rattle.sip_message_form.specs.declared.message.Start.{Start}

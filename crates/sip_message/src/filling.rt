@@ -1,21 +1,25 @@
-ghost use Rattle.std.specs.Prelude.{◌≡◌, ◌⊎◌, ◌++◌, [], ◌∷◌, true, MatchResult, OnOk, Some, None};
+ghost use Rattle.std.specs.Prelude.{◌≡◌, ◌⊎◌, ◌++◌, [], ◌∷◌, true, false, map, All, MatchResult, OnOk, Some, None};
 ghost use Rattle.std.specs.List.{list_all};
-ghost use Rattle.sip_message.specs.Field.{is_text};
-ghost use Rattle.sip_message.specs.Filled.{IsFieldFilled, IsLineFilled, filled_seen};
+ghost use Rattle.sip_message.specs.Field.{is_text, field_of};
+ghost use Rattle.sip_message.specs.Filled.{item_of, IsFieldFilled, IsLineFilled, filled_seen};
 ghost use Rattle.sip_message.specs.HeadContent.{IsFault, IsLineRefused, next_length, field_taken};
 ghost use Rattle.sip_message.specs.Parts.{fields_seen};
 ghost use Rattle.sip_message.specs.Reading.{Gives, head_said};
-ghost use Rattle.sip_message_fields.specs.FieldName.{is_list};
+ghost use Rattle.sip_message_fields.specs.FieldName.{is_length, is_list};
 ghost use Rattle.sip_text.specs.Lists.{cut};
+ghost use Rattle.sip_text.specs.Span.{IsWithin};
+ghost use Rattle.sip_message.specs.Lines.{is_fold};
+ghost use Rattle.sip_message.specs.Seen.{seen_field};
 
 use crate::content::{Content, USUAL_FIELDS, length_behind, refusal_of};
-use crate::entries::usual_parts;
+use crate::entries::{parts_of_line, usual_parts};
+use crate::keeping::items_of;
 use crate::line_fault::LineFault;
 use crate::lines::{HeadLine, Slice, head_line, is_fold_line};
 use crate::part_field::PartField;
-use sip_message_fields::{Value, ViewField, ViewFields, ViewName};
+use sip_message_fields::{Value, ViewField, ViewFields, ViewName, slice_of};
 use sip_message_form::{ViewError, ViewRefusal};
-use sip_text::is_one_item;
+use sip_text::{Span, is_one_item};
 use std::alloc::{AllocError, Global};
 
 /// What the lines of a head say so far, as a view has it: the fields that are kept, and the one Content-Length
@@ -37,10 +41,41 @@ fn put_parts<'a>(fields: &mut ViewFields<'a>, parts: Vec<PartField<'a>>) -> Resu
     Ok(())
 }
 
+/// Puts a field with a part of a value behind those of a view.
+fn put_item<'a>(
+    fields: &mut ViewFields<'a>,
+    name: &ViewName<'a>,
+    value: &'a [u8],
+    span: Span,
+) -> Result<(), AllocError>
+    requires { IsWithin span value.now }
+    ensures { OnOk result (fields.new ≡ fields.old ++ item_of name.now value.now span ∷ []) }
+{
+    let name = name.clone()?;
+    fields.push(ViewField::new(name, Value::of_part(slice_of(value, span))))
+}
+
+/// Puts a field for each of these parts of a value behind those of a view.
+fn put_items<'a>(
+    fields: &mut ViewFields<'a>,
+    name: &ViewName<'a>,
+    value: &'a [u8],
+    spans: &[Span],
+) -> Result<(), AllocError>
+    requires { All (λ span. IsWithin span value.now) spans.now }
+    ensures { OnOk result (fields.new ≡ fields.old ++ map (item_of name.now value.now) spans.now) }
+{
+    for span in spans {
+        put_item(fields, name, value, *span)?;
+    }
+    Ok(())
+}
+
 /// Whether a field is kept as one field: a list is seen at once to be of one item.
 #[inline]
 fn is_one_field(name: &ViewName<'_>, value: &[u8]) -> bool
-    ensures { result ≡ true → is_list name.now ≡ true → cut value.now ≡ Some (value.now ∷ []) }
+    ensures one { result ≡ true → is_list name.now ≡ true → cut value.now ≡ Some (value.now ∷ []) }
+    ensures list { result ≡ false → is_list name.now ≡ true }
 {
     if !name.is_list() {
         return true;
@@ -59,10 +94,33 @@ impl<'a> Filling<'a> {
         Ok(())
     }
 
-    /// Takes a field of one item whose value stands in the datagram.
+    /// Takes a field for each item of a list whose value stands in the datagram (RFC 3261 7.3.1).
+    #[inline(never)]
+    fn take_items(
+        &mut self,
+        alloc: Global,
+        name: &ViewName<'a>,
+        value: &'a [u8],
+    ) -> Result<(), LineFault>
+        requires not_length { is_length name.now ≡ false }
+        requires list { is_list name.now ≡ true }
+        ensures { MatchResult result
+            (λ _. IsFieldFilled self.old (record { name = name.now; value = value.now }) self.new)
+            (λ e. IsFault e (field_taken self.old.length (record { name = name.now; value = value.now }))) }
+    {
+        let spans = items_of(alloc, value)?;
+        put_items(&mut self.fields, name, value, &spans)?;
+        Ok(())
+    }
+
+    /// Takes a field whose value stands in the datagram.
     #[inline]
-    fn take_field(&mut self, name: ViewName<'a>, value: &'a [u8]) -> Result<(), LineFault>
-        requires one { is_list name ≡ true → cut value.now ≡ Some (value.now ∷ []) }
+    fn take_field(
+        &mut self,
+        alloc: Global,
+        name: ViewName<'a>,
+        value: &'a [u8],
+    ) -> Result<(), LineFault>
         ensures { MatchResult result
             (λ _. IsFieldFilled self.old (record { name = name.entry; value = value.now }) self.new)
             (λ e. IsFault e (field_taken self.old.length (record { name = name.entry; value = value.now }))) }
@@ -70,14 +128,17 @@ impl<'a> Filling<'a> {
         if name.is_content_length() {
             return self.take_length(value);
         }
+        if !is_one_field(&name, value) {
+            return self.take_items(alloc, &name, value);
+        }
         self.fields
             .push(ViewField::new(name, Value::of_part(value)))?;
         Ok(())
     }
 
-    /// Takes a line of any form with its folds, and gives what follows them.
+    /// Takes a line with its folds, and gives what follows them.
     #[inline(never)]
-    fn take_any(&mut self, alloc: Global, next: HeadLine<'a>) -> Result<&'a [u8], LineFault>
+    fn take_folded(&mut self, alloc: Global, next: HeadLine<'a>) -> Result<&'a [u8], LineFault>
         ensures { MatchResult result (λ rest. IsLineFilled self.old next.entry.line.now next.entry.after.now self.new rest.now)
             (λ e. (e ≡ LineFault.NoMemory) ⊎ IsLineRefused self.old.length next.entry.line.now next.entry.after.now) }
     {
@@ -92,6 +153,37 @@ impl<'a> Filling<'a> {
         Ok(rest)
     }
 
+    /// Takes a line without folds by the name and the value that it writes, and gives what follows it.
+    #[inline]
+    fn take_parts(
+        &mut self,
+        alloc: Global,
+        next: HeadLine<'a>,
+        name: &'a [u8],
+        value: &'a [u8],
+    ) -> Result<&'a [u8], LineFault>
+        requires no_fold { is_fold next.after.now ≡ false }
+        requires says { Some (seen_field name.now value.now) ≡ field_of next.line.now }
+        ensures { MatchResult result (λ rest. IsLineFilled self.old next.entry.line.now next.entry.after.now self.new rest.now)
+            (λ e. (e ≡ LineFault.NoMemory) ⊎ IsLineRefused self.old.length next.entry.line.now next.entry.after.now) }
+    {
+        self.take_field(alloc, ViewName::of_part(name), value)?;
+        Ok(next.after)
+    }
+
+    /// Takes a line without folds of any form, and gives what follows it.
+    #[inline(never)]
+    fn take_other(&mut self, alloc: Global, next: HeadLine<'a>) -> Result<&'a [u8], LineFault>
+        requires no_fold { is_fold next.after.now ≡ false }
+        ensures { MatchResult result (λ rest. IsLineFilled self.old next.entry.line.now next.entry.after.now self.new rest.now)
+            (λ e. (e ≡ LineFault.NoMemory) ⊎ IsLineRefused self.old.length next.entry.line.now next.entry.after.now) }
+    {
+        let Some((name, value)) = parts_of_line(next.line) else {
+            return Err(LineFault::BadField);
+        };
+        self.take_parts(alloc, next, name, value)
+    }
+
     /// Takes a line, which isn't empty, with its folds, and gives what follows them.
     #[inline]
     fn take_line(&mut self, alloc: Global, next: HeadLine<'a>) -> Result<&'a [u8], LineFault>
@@ -99,21 +191,16 @@ impl<'a> Filling<'a> {
         ensures { MatchResult result (λ rest. IsLineFilled self.old next.entry.line.now next.entry.after.now self.new rest.now)
             (λ e. (e ≡ LineFault.NoMemory) ⊎ IsLineRefused self.old.length next.entry.line.now next.entry.after.now) }
     {
-        if !next.is_text {
-            return self.take_any(alloc, next);
-        }
         if is_fold_line(next.after) {
-            return self.take_any(alloc, next);
+            return self.take_folded(alloc, next);
+        }
+        if !next.is_text {
+            return self.take_other(alloc, next);
         }
         let Some((name, value)) = usual_parts(next.line) else {
-            return self.take_any(alloc, next);
+            return self.take_other(alloc, next);
         };
-        let name = ViewName::of_part(name);
-        if !is_one_field(&name, value) {
-            return self.take_any(alloc, next);
-        }
-        self.take_field(name, value)?;
-        Ok(next.after)
+        self.take_parts(alloc, next, name, value)
     }
 }
 

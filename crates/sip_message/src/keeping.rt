@@ -59,7 +59,7 @@ fn keep_parts<'a>(
 }
 
 /// The items of a list (RFC 3261 7.3.1).
-fn items_of(alloc: Global, value: &[u8]) -> Result<Vec<Span>, LineFault>
+pub(crate) fn items_of(alloc: Global, value: &[u8]) -> Result<Vec<Span>, LineFault>
     ensures items { MatchResult result (λ spans. cut value.now ≡ Some (map (part value.now) spans.items)) (λ e. IsFault e (cut value.now)) }
     ensures within { IfOk result (λ spans. All (λ span. IsWithin span value.now) spans.items) }
 {

@@ -1,6 +1,6 @@
 use Rattle.std.proofs.Common.{refl, rules}
 use Rattle.sip_message.proofs.HeadFills.{others_taken}
-use Rattle.sip_message.proofs.filling.Filling.take_any.Goals as goal
+use Rattle.sip_message.proofs.filling.Filling.take_folded.Goals as goal
 
 pub returns : goal.returns
 returns c =
