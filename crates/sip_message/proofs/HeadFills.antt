@@ -1,8 +1,8 @@
 -- A head, read line by line for a view.
-use Rattle.std.proofs.Common.{◌≡◌, ◌⊎◌, ℕ, Bool, true, false, List, [], ◌∷◌, ◌++◌, length, map, Option, Some, None, Result, Ok, Err, refl, sym, ap, subst, ◌∙◌, append_assoc, inl, inr, arith}
+use Rattle.std.proofs.Common.{◌≡◌, ◌⊎◌, ℕ, Bool, true, false, List, [], ◌∷◌, ◌++◌, map, Option, Some, None, Result, Ok, Err, refl, sym, ap, subst, ◌∙◌, inl, inr, arith}
 use Rattle.std.specs.Prelude.{option_map, MatchOption, MatchResult}
 use Rattle.std.specs.Option.{option_and_then}
-use Rattle.std.proofs.lemmas.List.{append-nil, map-append}
+use Rattle.std.proofs.lemmas.List.{append-nil}
 use denote.Ref.{Bor}
 use Rattle.sip_text.specs.declared.span.Span.{Span}
 use Rattle.sip_text.specs.Span.{part}
@@ -60,11 +60,6 @@ items_filled old new field spans not_length listed is_cut same more = record {
   kept = kept_list old.fields new.fields field spans not_length listed is_cut more;
   next = rw not_length (ap (λ (n : Option ℕ). Some n) (sym same));
 }
-
-pub items_more : (old mid new : List Field) (make : Span → Field) (front : List Span) (span : Span) (all : List Span) → mid ≡ old ++ map make front → new ≡ mid ++ make span ∷ [] → all ≡ front ++ span ∷ [] → new ≡ old ++ map make all
-items_more old mid new make front span all so_far here more =
-    here ∙ ap (λ (w : List Field). w ++ make span ∷ []) so_far ∙ append_assoc old (map make front) (make span ∷ [])
-    ∙ ap (λ (w : List Field). old ++ w) (sym (map-append make front (span ∷ []))) ∙ ap (λ (w : List Span). old ++ map make w) (sym more)
 
 pub items_refused : (n : Option ℕ) (field : Field) (e : LineFault) → is_length field.name ≡ false → is_list field.name ≡ true → IsFault e (cut field.value) → IsFault e (field_taken n field)
 items_refused n field e not_length listed (inl none) = inl none

@@ -1,6 +1,6 @@
 ghost use Rattle.std.specs.Prelude.{◌≡◌, ◌⊎◌, ◌++◌, [], ◌∷◌, true, false, map, All, MatchResult, OnOk, Some, None};
 ghost use Rattle.std.specs.List.{list_all};
-ghost use Rattle.sip_message.specs.Field.{is_text, field_of};
+ghost use Rattle.sip_message.specs.Field.{is_text};
 ghost use Rattle.sip_message.specs.Filled.{item_of, IsFieldFilled, IsLineFilled, filled_seen};
 ghost use Rattle.sip_message.specs.HeadContent.{IsFault, IsLineRefused, next_length, field_taken};
 ghost use Rattle.sip_message.specs.Parts.{fields_seen};
@@ -9,7 +9,6 @@ ghost use Rattle.sip_message_fields.specs.FieldName.{is_length, is_list};
 ghost use Rattle.sip_text.specs.Lists.{cut};
 ghost use Rattle.sip_text.specs.Span.{IsWithin};
 ghost use Rattle.sip_message.specs.Lines.{is_fold};
-ghost use Rattle.sip_message.specs.Seen.{seen_field};
 
 use crate::content::{Content, USUAL_FIELDS, length_behind, refusal_of};
 use crate::entries::{parts_of_line, usual_parts};
@@ -113,9 +112,25 @@ impl<'a> Filling<'a> {
         Ok(())
     }
 
-    /// Takes a field whose value stands in the datagram.
+    /// Takes a field of one item whose value stands in the datagram.
     #[inline]
-    fn take_field(
+    fn take_field(&mut self, name: ViewName<'a>, value: &'a [u8]) -> Result<(), LineFault>
+        requires one { is_list name ≡ true → cut value.now ≡ Some (value.now ∷ []) }
+        ensures { MatchResult result
+            (λ _. IsFieldFilled self.old (record { name = name.entry; value = value.now }) self.new)
+            (λ e. IsFault e (field_taken self.old.length (record { name = name.entry; value = value.now }))) }
+    {
+        if name.is_content_length() {
+            return self.take_length(value);
+        }
+        self.fields
+            .push(ViewField::new(name, Value::of_part(value)))?;
+        Ok(())
+    }
+
+    /// Takes a field of any form whose value stands in the datagram.
+    #[inline(never)]
+    fn take_any(
         &mut self,
         alloc: Global,
         name: ViewName<'a>,
@@ -153,24 +168,6 @@ impl<'a> Filling<'a> {
         Ok(rest)
     }
 
-    /// Takes a line without folds by the name and the value that it writes, and gives what follows it.
-    #[inline]
-    fn take_parts(
-        &mut self,
-        alloc: Global,
-        next: HeadLine<'a>,
-        name: &'a [u8],
-        value: &'a [u8],
-    ) -> Result<&'a [u8], LineFault>
-        requires no_fold { is_fold next.after.now ≡ false }
-        requires says { Some (seen_field name.now value.now) ≡ field_of next.line.now }
-        ensures { MatchResult result (λ rest. IsLineFilled self.old next.entry.line.now next.entry.after.now self.new rest.now)
-            (λ e. (e ≡ LineFault.NoMemory) ⊎ IsLineRefused self.old.length next.entry.line.now next.entry.after.now) }
-    {
-        self.take_field(alloc, ViewName::of_part(name), value)?;
-        Ok(next.after)
-    }
-
     /// Takes a line without folds of any form, and gives what follows it.
     #[inline(never)]
     fn take_other(&mut self, alloc: Global, next: HeadLine<'a>) -> Result<&'a [u8], LineFault>
@@ -181,7 +178,8 @@ impl<'a> Filling<'a> {
         let Some((name, value)) = parts_of_line(next.line) else {
             return Err(LineFault::BadField);
         };
-        self.take_parts(alloc, next, name, value)
+        self.take_any(alloc, ViewName::of_part(name), value)?;
+        Ok(next.after)
     }
 
     /// Takes a line, which isn't empty, with its folds, and gives what follows them.
@@ -200,7 +198,12 @@ impl<'a> Filling<'a> {
         let Some((name, value)) = usual_parts(next.line) else {
             return self.take_other(alloc, next);
         };
-        self.take_parts(alloc, next, name, value)
+        let name = ViewName::of_part(name);
+        if !is_one_field(&name, value) {
+            return self.take_other(alloc, next);
+        }
+        self.take_field(name, value)?;
+        Ok(next.after)
     }
 }
 

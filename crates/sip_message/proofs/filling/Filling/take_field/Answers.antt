@@ -9,4 +9,4 @@ returns-then-is_content_length c =
 
 pub returns : goal.returns
 returns c =
-    one_filled c.args.self.now _ (record { name = c.args.name; value = c.args.value.now }) (sym c.is_content_length.ensures ∙ c.if-is_content_length.false) (c.is_one_field.ensures.one c.if-not-is_one_field.false) refl (search rules)
+    one_filled c.args.self.now _ (record { name = c.args.name; value = c.args.value.now }) (sym c.is_content_length.ensures ∙ c.if-is_content_length.false) c.requires.one refl (search rules)
