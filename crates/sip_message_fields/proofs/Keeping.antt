@@ -1,5 +1,5 @@
 -- What stands in a store stays as it is where more is put behind it.
-use Rattle.std.proofs.Common.{◌≡◌, ℕ, suc, ◌+◌, ◌-◌, ◌<◌, List, [], ◌∷◌, ◌++◌, length, map, take, drop, get_or, Option, refl, sym, ap, subst, ◌∙◌, arith, length-append}
+use Rattle.std.proofs.Common.{◌≡◌, ℕ, suc, ◌+◌, ◌-◌, ◌<◌, List, [], ◌∷◌, ◌++◌, length, map, take, drop, get_or, Option, refl, sym, ap, subst, ◌∙◌, arith, length-append, append-nil}
 use Rattle.std.specs.Prelude.{All}
 use Rattle.std.proofs.Math.Seq.{drop-append_seam}
 use Rattle.std.proofs.lemmas.List.{drop-append-le, take-append-le, take_all, length-drop, map-append, take_more}
@@ -40,6 +40,9 @@ keeps_again a b c first second = record {
   within = λ span w. second.within span (first.within span w);
   bytes = λ span w. second.bytes span (first.within span w) ∙ first.bytes span w;
 }
+
+pub nothing_put : (old more : List ℕ) (span : Span) → more ≡ [] → span.start ≡ length old → span.end ≡ length old → IsPut old more old span
+nothing_put old more span none begins ends = put_is old more old span (sym (ap (λ (w : List ℕ). old ++ w) none ∙ append-nil old)) begins ends
 
 abbrev made : Option KnownName → List ℕ → List ℕ → Field
 made known written value = record { name = name_seen known written; value = value }

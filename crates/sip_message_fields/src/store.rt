@@ -21,12 +21,24 @@ pub fn put(store: &mut Buffer, more: &[u8]) -> Result<Span, AllocError>
     Ok(Span { start, end })
 }
 
+/// Puts the spelling of a name at the end of a store; of a name that this project knows there is none.
+#[tactic(auto, using(crate::proofs::Keeping::nothing_put))]
+fn put_spelling(store: &mut Buffer, written: &[u8]) -> Result<Span, AllocError>
+    ensures { IfOk result (λ span. IsPut store.old written.now store.new span) }
+{
+    if !written.is_empty() {
+        return put(store, written);
+    }
+    let end = store.as_slice().len();
+    Ok(Span { start: end, end })
+}
+
 /// Puts a field at the end of a store.
 fn put_field(store: &mut Buffer, field: &ViewField<'_>) -> Result<KeptField, AllocError>
     ensures { IfOk result (λ kept. IsFieldPut store.old field.now store.new kept) }
 {
     let (known, written) = field.name().known_or_written();
-    let spelling = put(store, written)?;
+    let spelling = put_spelling(store, written)?;
     let value = put(store, field.value().as_slice())?;
     Ok(KeptField {
         known,
