@@ -18,6 +18,7 @@ mod extras;
 pub mod laws;
 mod reasons;
 mod reply;
+mod reply_text;
 mod tags;
 
 pub use challenges::{challenge, challenge_fields};

@@ -6,14 +6,18 @@ ghost use Rattle.sip_edit_response.specs.Reply;
 ghost use Rattle.sip_header.specs.NameAddr.{name_addr_of};
 
 use crate::reasons::reason_of;
+use crate::reply_text::{put_reply_fields, room_of};
 use sip_header::{bracketed_place, name_addr_of, tag_of};
 use sip_message_fields::{FieldName, Fields, Value, ViewField, ViewFields};
-use sip_message_form::{View, ViewStart, write_view};
-use sip_text::Bytes;
+use sip_message_form::{View, ViewStart, put_body, put_status_line};
+use sip_text::{Buffer, Bytes};
 use std::alloc::{AllocError, Global};
 
 /// The most fields of a response that stand once: From, To, Call-ID, CSeq and Timestamp.
 const SINGLE_FIELDS: usize = 5;
+
+/// The most bytes of a response beside its reason, its fields and its tag: its version, its status and `;tag=`.
+const REST_OF_REPLY: usize = 20;
 
 /// Whether the value of a To is an address in brackets and nothing else, which has no tag, as most are. `false` says
 /// nothing.
@@ -24,7 +28,7 @@ fn is_plain_to(to: &[u8]) -> bool
 }
 
 /// Whether the value of a To takes a tag.
-fn lacks_tag(alloc: Global, to: &[u8]) -> Result<bool, AllocError>
+pub(crate) fn lacks_tag(alloc: Global, to: &[u8]) -> Result<bool, AllocError>
     ensures { IfOk result (λ lacks. lacks ≡ Reply.lacks_tag (name_addr_of to.now)) }
 {
     if is_plain_to(to) {
@@ -135,7 +139,7 @@ pub fn reply_view<'v>(
     Ok(View::new(start, fields, b""))
 }
 
-/// The text of that response. It is written once, into a buffer of its length. `AllocError` is the only refusal.
+/// The text of that response, written straight from the fields of the request. `AllocError` is the only refusal.
 pub fn respond(
     alloc: Global,
     request: &View<'_>,
@@ -145,6 +149,18 @@ pub fn respond(
 ) -> Result<Bytes, AllocError>
     ensures { IfOk result (λ text. text ≡ text_of (Reply.reply_of request.now status to_tag.now extras.now)) }
 {
-    let answer = reply_view(alloc, request, status, to_tag, extras)?;
-    write_view(alloc, &answer)
+    let reason = reason_of(status);
+    let room = request
+        .written_length()
+        .saturating_sub(request.body().len())
+        .saturating_add(room_of(extras.as_slice()))
+        .saturating_add(to_tag.len())
+        .saturating_add(reason.len())
+        .saturating_add(REST_OF_REPLY);
+    let mut out = Buffer::with_room(alloc, room)?;
+    put_status_line(&mut out, status, reason)?;
+    out.extend(b"\r\n")?;
+    put_reply_fields(alloc, &mut out, status, to_tag, request.fields(), extras)?;
+    put_body(&mut out, b"")?;
+    Ok(out.into_bytes())
 }
