@@ -9,6 +9,9 @@ use Rattle.sip_message_form.specs.Text.{start_text, field_text}
 use Rattle.sip_route.specs.declared.own.Own.{Own}
 use Rattle.sip_route.specs.declared.routes_kept.RoutesKept.{RoutesKept}
 use Rattle.sip_edit.specs.Onward.{with_uri, record_route_field}
+use Rattle.sip_header.specs.declared.max_forwards.MaxForwards.{MaxForwards}
+use Rattle.sip_header.specs.declared.max_forwards.MaxForwards.TheVariants.{Absent, Hops, Malformed}
+use Rattle.sip_edit.specs.OwnRequests.{seventy}
 use Rattle.sip_edit.specs.Lowering.{fields_by}
 
 -- fields, the length of the body, the empty line, the body (RFC 3261 7)
@@ -27,3 +30,9 @@ recorded own records_route = if records_route then field_text (record_route_fiel
 abbrev pub head_of : Own → Bool → List ℕ → List ℕ → Start → List ℕ
 head_of own records_route uri via start =
     start_text (with_uri uri start) ++ codes "\r\n" ++ field_text (record { name = Name.Via; value = via }) ++ recorded own records_route
+
+-- the line of a Max-Forwards, where a request gets one
+abbrev pub default_text : MaxForwards → List ℕ
+default_text Absent = field_text seventy
+default_text (Hops n) = []
+default_text Malformed = []

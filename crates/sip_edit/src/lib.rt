@@ -24,13 +24,15 @@ mod own_via;
 mod received_request;
 mod record_route;
 mod tail;
+mod tail_text;
 mod top_via;
 
 pub use branch_id::{BranchId, branch_of_text};
 pub use onward::{onward_base, onward_base_by, onward_uri, to_target};
 pub use own_requests::{ack_of, ack_with, cancel_of};
-pub use own_via::{branch_text, own_via_value, pop_via};
+pub use own_via::{branch_text, own_via_to, own_via_value, pop_via};
 pub use received_request::{response_address, with_top_via};
 pub use record_route::push_record_route;
-pub use tail::{tail_of, text_to_target};
+pub use tail::{text_onward, text_to_target};
+pub use tail_text::tail_of;
 pub use top_via::received_via;

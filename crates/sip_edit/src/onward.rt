@@ -72,7 +72,11 @@ fn is_realm(realm: &[u8], said: &Option<Value<'_>>) -> bool
 }
 
 /// Whether a field has well-formed Digest credentials for a proxy of this realm.
-fn is_for_realm(alloc: Global, realm: &[u8], field: &ViewField<'_>) -> Result<bool, AllocError>
+pub(crate) fn is_for_realm(
+    alloc: Global,
+    realm: &[u8],
+    field: &ViewField<'_>,
+) -> Result<bool, AllocError>
     ensures { IfOk result (λ is_for. is_for ≡ Spec.is_for_realm realm.now field.now) }
 {
     if !field.name().is_same(&FieldName::ProxyAuthorization) {
@@ -144,7 +148,7 @@ fn put_onward<'v>(
 }
 
 /// The hops that are left to a request, if it says how many it has.
-fn hops_left(hops: MaxForwards) -> Option<u8>
+pub(crate) fn hops_left(hops: MaxForwards) -> Option<u8>
     ensures { result ≡ Lowering.hops_left hops }
 {
     match hops {

@@ -1,11 +1,11 @@
-ghost use Rattle.std.specs.Prelude.{◌≡◌, IfOk};
+ghost use Rattle.std.specs.Prelude.{◌≡◌, ◌++◌, codes, decimal, IfOk, OnOk};
 ghost use Rattle.sip_message_fields.specs.Values;
 ghost use Rattle.sip_edit.specs.OwnVia;
 
 use sip_message_fields::{FieldName, ViewField, ViewFields};
 use sip_message_form::View;
 use sip_route::Own;
-use sip_text::{Bytes, hex_text};
+use sip_text::{Buffer, Bytes, hex_text};
 use std::alloc::{AllocError, Global};
 
 /// The most bytes of a branch: the magic cookie, 16 hexadecimal digits, and two numbers, each behind a `.`.
@@ -14,35 +14,66 @@ const LONGEST_BRANCH: usize = 55;
 /// The most bytes of a Via of this server's besides its host and its branch.
 const REST_OF_VIA: usize = 26;
 
+/// Adds the branch of this server's Via to a target.
+fn put_branch(out: &mut Buffer, boot: u64, number: u64, target: u32) -> Result<(), AllocError>
+    ensures { OnOk result (out.new ≡ out.old ++ OwnVia.branch_text boot number target) }
+{
+    out.extend(b"z9hG4bK")?;
+    out.extend(hex_text(boot).as_slice())?;
+    out.extend(b".")?;
+    out.push_decimal(number)?;
+    out.extend(b".")?;
+    out.push_decimal(u64::from(target))
+}
+
+/// Adds what stands before the branch in a Via of this server's.
+fn put_place(out: &mut Buffer, own: &Own) -> Result<(), AllocError>
+    ensures { OnOk result (out.new ≡ out.old ++ codes "SIP/2.0/UDP " ++ own.now.host ++ codes ":" ++ decimal own.now.port ++ codes ";branch=") }
+{
+    out.extend(b"SIP/2.0/UDP ")?;
+    out.extend(own.host.as_slice())?;
+    out.extend(b":")?;
+    out.push_decimal(u64::from(own.port))?;
+    out.extend(b";branch=")
+}
+
 /// The branch of this server's Via to a target of the request that the datagram with this number brought, of the run of
 /// the server that began with this boot word (RFC 3261 8.1.1.7, 16.6 step 8). `AllocError` is the only refusal.
 pub fn branch_text(alloc: Global, boot: u64, number: u64, target: u32) -> Result<Bytes, AllocError>
     ensures { IfOk result (λ branch. branch ≡ OwnVia.branch_text boot number target) }
 {
-    let mut branch = Bytes::with_room(alloc, LONGEST_BRANCH)?;
-    branch.extend(b"z9hG4bK")?;
-    branch.extend(hex_text(boot).as_slice())?;
-    branch.extend(b".")?;
-    branch.push_decimal(number)?;
-    branch.extend(b".")?;
-    branch.push_decimal(u64::from(target))?;
-    Ok(branch)
+    let mut branch = Buffer::with_room(alloc, LONGEST_BRANCH)?;
+    put_branch(&mut branch, boot, number, target)?;
+    Ok(branch.into_bytes())
 }
 
 /// The value of this server's Via with a branch (RFC 3261 16.6 step 8, 18.1.1). `AllocError` is the only refusal.
 pub fn own_via_value(alloc: Global, own: &Own, branch: &[u8]) -> Result<Bytes, AllocError>
     ensures { IfOk result (λ value. value ≡ OwnVia.own_via own.now branch.now) }
 {
-    let host = own.host.as_slice();
-    let room = host.len().saturating_add(branch.len());
-    let mut value = Bytes::with_room(alloc, room.saturating_add(REST_OF_VIA))?;
-    value.extend(b"SIP/2.0/UDP ")?;
-    value.extend(host)?;
-    value.extend(b":")?;
-    value.push_decimal(u64::from(own.port))?;
-    value.extend(b";branch=")?;
+    let room = own.host.as_slice().len().saturating_add(branch.len());
+    let mut value = Buffer::with_room(alloc, room.saturating_add(REST_OF_VIA))?;
+    put_place(&mut value, own)?;
     value.extend(branch)?;
-    Ok(value)
+    Ok(value.into_bytes())
+}
+
+/// The value of this server's Via with that branch, as the two give it, without a text of the branch alone. `AllocError` is
+/// the only refusal.
+pub fn own_via_to(
+    alloc: Global,
+    own: &Own,
+    boot: u64,
+    number: u64,
+    target: u32,
+) -> Result<Bytes, AllocError>
+    ensures { IfOk result (λ value. value ≡ OwnVia.own_via own.now (OwnVia.branch_text boot number target)) }
+{
+    let room = own.host.as_slice().len().saturating_add(LONGEST_BRANCH);
+    let mut value = Buffer::with_room(alloc, room.saturating_add(REST_OF_VIA))?;
+    put_place(&mut value, own)?;
+    put_branch(&mut value, boot, number, target)?;
+    Ok(value.into_bytes())
 }
 
 /// Views of some fields without the first of a name.

@@ -1,7 +1,6 @@
-ghost use Rattle.std.specs.Prelude.{◌≡◌, ◌++◌, ℕ, List, length, decimal, codes, IfOk, OnOk};
-ghost use Rattle.std.specs.List.{flat_map};
+ghost use Rattle.std.specs.Prelude.{◌≡◌, ◌++◌, ℕ, List, codes, IfOk, OnOk};
 ghost use Rattle.sip_message_form.specs.declared.message.Message.{Message};
-ghost use Rattle.sip_message_form.specs.Text.{start_text, field_text, text_of};
+ghost use Rattle.sip_message_form.specs.Text.{start_text, text_of};
 ghost use Rattle.sip_message_form.specs.ViewStart.{start_seen};
 ghost use Rattle.sip_route.specs.declared.routes_kept.RoutesKept as Routes;
 ghost use Rattle.sip_route.specs.RoutesKept.{fields_kept};
@@ -9,68 +8,15 @@ ghost use Rattle.sip_route.specs.Way.{fields_left, request_uri};
 ghost use Rattle.sip_edit.specs.Onward as Spec;
 ghost use Rattle.sip_edit.specs.Tail as Tails;
 
-use crate::onward::put_onward_fields;
 use crate::record_route::record_route;
-use sip_message_fields::{ViewField, ViewFields};
-use sip_message_form::{
-    View, ViewStart, put_body, put_field, put_fields, put_line, put_request_line, put_status_line,
-};
-use sip_route::{Own, RoutesKept};
+use crate::tail_text::tail_of;
+use sip_message_form::{View, ViewStart, put_field, put_line, put_request_line, put_status_line};
+use sip_route::{Own, kept_routes};
 use sip_text::{Buffer, Bytes};
 use std::alloc::{AllocError, Global};
 
-/// The most bytes of the line that tells a body's length, with the empty line behind it.
-const LENGTH_LINE: usize = 40;
-
 /// The most bytes of a head beside its parts: blanks, ends of lines, names of fields, a status.
 const REST_OF_HEAD: usize = 48;
-
-/// Adds fields, the length of a body, the empty line and the body.
-fn put_behind(out: &mut Buffer, fields: &[ViewField<'_>], body: &[u8]) -> Result<(), AllocError>
-    ensures { OnOk result (out.new ≡ out.old ++ Tails.behind fields.now body.now) }
-{
-    put_fields(out, fields)?;
-    put_body(out, body)
-}
-
-/// How many bytes some fields have with their CRLFs.
-fn room_of(fields: &[ViewField<'_>]) -> usize {
-    let mut room: usize = 0;
-    for field in fields {
-        let name = field.name().spelling().len().saturating_add(4);
-        let value = field.value().as_slice().len();
-        room = room.saturating_add(name).saturating_add(value);
-    }
-    room
-}
-
-/// The text of fields and a body, in a buffer of its length.
-fn written_behind(alloc: Global, fields: &[ViewField<'_>], body: &[u8]) -> Result<Bytes, AllocError>
-    ensures { IfOk result (λ text. text ≡ Tails.behind fields.now body.now) }
-{
-    let room = room_of(fields)
-        .saturating_add(body.len())
-        .saturating_add(LENGTH_LINE);
-    let mut out = Buffer::with_room(alloc, room)?;
-    put_behind(&mut out, fields, body)?;
-    Ok(out.into_bytes())
-}
-
-/// The tail of a request that goes on, which is the same for each of its targets: all behind this server's own fields, if
-/// these Routes are left of it, from a server of this realm (RFC 3261 16.4, 16.6). `AllocError` is the only refusal.
-pub fn tail_of(
-    alloc: Global,
-    realm: &[u8],
-    routes: RoutesKept,
-    request: &View<'_>,
-) -> Result<Bytes, AllocError>
-    ensures { IfOk result (λ tail. tail ≡ Tails.tail_of routes realm.now request.now) }
-{
-    let room = request.fields().as_slice().len().saturating_add(1);
-    let mut fields = ViewFields::with_room(alloc, room)?;
-    put_onward_fields(alloc, &mut fields, realm, routes, request)?;
-    written_behind(alloc, fields.as_slice(), request.body())
-}
 
 /// Adds a first line with another Request-URI, and its CRLF.
 fn put_start(out: &mut Buffer, start: &ViewStart<'_>, uri: &[u8]) -> Result<(), AllocError>
@@ -159,4 +105,24 @@ pub fn text_to_target(
     put_head(alloc, &mut out, own, records_route, start, uri, via)?;
     out.extend(tail)?;
     Ok(out.into_bytes())
+}
+
+/// The text of a request that goes on to one target: with the target's Request-URI, this server's Via of this value on top, and
+/// its Record-Route where it gets one (RFC 3261 16.4, 16.6). `AllocError` is the only refusal.
+pub fn text_onward(
+    alloc: Global,
+    own: &Own,
+    realm: &[u8],
+    records_route: bool,
+    request: &View<'_>,
+    uri: &[u8],
+    via: &[u8],
+) -> Result<Bytes, AllocError>
+    ensures { IfOk result
+        (λ text. text ≡ text_of (Spec.to_target uri.now via.now (Spec.onward_base own.now realm.now records_route request.now))) }
+{
+    let routes = kept_routes(alloc, own, request)?;
+    let tail = tail_of(alloc, realm, routes, request)?;
+    let start = request.start();
+    text_to_target(alloc, own, records_route, start, uri, via, tail.as_slice())
 }

@@ -1,5 +1,6 @@
 ghost use Rattle.std.specs.Prelude.{◌≡◌, ◌++◌, length, decimal, codes, option_map, IfOk, OnOk};
 ghost use Rattle.sip_text.specs.Cuts.{parts_at};
+ghost use Rattle.sip_text.specs.Lists.{trimmed};
 ghost use Rattle.sip_edit.specs.TopVia;
 
 use sip_header::Via;
@@ -26,20 +27,26 @@ fn before_equals(piece: &[u8]) -> &[u8]
     front
 }
 
-/// Whether a piece is the parameter of this name.
-fn is_parameter(name: &[u8], piece: &[u8]) -> bool
-    ensures { result ≡ TopVia.is_parameter name.now piece.now }
+/// The name of a parameter.
+fn parameter_name(piece: &[u8]) -> &[u8]
+    ensures { result.now ≡ trimmed (TopVia.before_equals piece.now) }
 {
-    same_no_case(without_blanks(before_equals(piece)), name)
+    without_blanks(before_equals(piece))
 }
 
-/// Adds a parameter, of which it is known whether it is `rport`, as it is written in the Via of a request that was
-/// received.
-fn put_edited(out: &mut Buffer, port: u16, piece: &[u8], is_port: bool) -> Result<(), AllocError>
-    requires { is_port ≡ TopVia.is_parameter (codes "rport") piece.now }
+/// Adds a parameter of this name as it is written in the Via of a request that was received. Whether it is `rport` is known.
+fn put_edited(
+    out: &mut Buffer,
+    port: u16,
+    name: &[u8],
+    piece: &[u8],
+    is_port: bool,
+) -> Result<(), AllocError>
+    requires name { name.now ≡ trimmed (TopVia.before_equals piece.now) }
+    requires port { is_port ≡ TopVia.is_parameter (codes "rport") piece.now }
     ensures { OnOk result (out.new ≡ out.old ++ TopVia.edited port piece.now) }
 {
-    if is_parameter(b"received", piece) {
+    if same_no_case(name, b"received") {
         return Ok(());
     }
     if is_port {
@@ -78,11 +85,12 @@ fn with_source(alloc: Global, value: &[u8], host: &[u8], from: Addr) -> Result<B
     let mut asks = false;
     while let Some(text) = rest {
         let (piece, behind) = first_part(text, b';');
-        let is_port = is_parameter(b"rport", piece);
+        let name = parameter_name(piece);
+        let is_port = same_no_case(name, b"rport");
         if is_port {
             asks = true;
         }
-        put_edited(&mut out, from.port, piece, is_port)?;
+        put_edited(&mut out, from.port, name, piece, is_port)?;
         rest = behind;
     }
     put_source(alloc, &mut out, host, from, asks)?;

@@ -1,0 +1,147 @@
+ghost use Rattle.std.specs.Prelude.{◌≡◌, ◌++◌, decimal, IfOk, OnOk};
+ghost use Rattle.std.specs.List.{flat_map};
+ghost use Rattle.sip_message_form.specs.Text.{field_text};
+ghost use Rattle.sip_edit.specs.Lowering as Lowering;
+ghost use Rattle.sip_edit.specs.OwnRequests;
+ghost use Rattle.sip_edit.specs.Tail as Tails;
+
+use crate::onward::{hops_left, is_for_realm};
+use sip_header::{MaxForwards, max_forwards_of};
+use sip_message_fields::{FieldName, KnownName, Value, ViewField, ViewName};
+use sip_message_form::{View, put_body, put_field};
+use sip_route::RoutesKept;
+use sip_text::{Buffer, Bytes};
+use std::alloc::{AllocError, Global};
+
+/// The most bytes of a tail beside its fields and its body: the line that tells the body's length, with the empty line behind
+/// it.
+const REST_OF_TAIL: usize = 40;
+
+/// Adds a field with a number as its value.
+fn put_number(out: &mut Buffer, field: &ViewField<'_>, number: u8) -> Result<(), AllocError>
+    ensures { OnOk result (out.new ≡ out.old ++ field_text (record field.now { value = decimal number })) }
+{
+    out.extend(field.name().spelling())?;
+    out.extend(b": ")?;
+    out.push_decimal(u64::from(number))?;
+    out.extend(b"\r\n")
+}
+
+/// Adds a field: a Max-Forwards with the hops that are left, if they are still to be written, any other as it is.
+fn put_lowered(
+    out: &mut Buffer,
+    hops: &mut Option<u8>,
+    field: &ViewField<'_>,
+) -> Result<(), AllocError>
+    ensures field { OnOk result (out.new ≡ out.old ++ field_text (Lowering.lowered_field hops.old field.now)) }
+    ensures hops { OnOk result (hops.new ≡ Lowering.hops_behind hops.old field.now) }
+{
+    let Some(left) = *hops else {
+        return put_field(out, field);
+    };
+    if !field.name().is_same(&FieldName::MaxForwards) {
+        return put_field(out, field);
+    }
+    *hops = None;
+    put_number(out, field, left)
+}
+
+/// Adds fields as they go on: without Routes that are taken off and credentials for this realm.
+#[tactic(auto, using(crate::proofs::TailTexts::taken_off, crate::proofs::TailTexts::dropped, crate::proofs::TailTexts::passed_on, crate::proofs::TailTexts::none_left))]
+fn put_onward(
+    alloc: Global,
+    out: &mut Buffer,
+    realm: &[u8],
+    routes: RoutesKept,
+    hops: Option<u8>,
+    fields: &[ViewField<'_>],
+) -> Result<(), AllocError>
+    ensures { OnOk result (out.new ≡ out.old ++ flat_map field_text (Lowering.fields_on hops routes realm.now fields.now)) }
+{
+    let mut routes = routes;
+    let mut hops = hops;
+    for field in fields {
+        if !routes.takes(field) {
+            continue;
+        }
+        if !is_for_realm(alloc, realm, field)? {
+            put_lowered(out, &mut hops, field)?;
+        }
+    }
+    Ok(())
+}
+
+/// The Max-Forwards of a request that came without one.
+fn seventy<'v>() -> ViewField<'v>
+    ensures { result ≡ OwnRequests.seventy }
+{
+    let name = ViewName::of_name(KnownName::MaxForwards);
+    ViewField::new(name, Value::of_part(b"70"))
+}
+
+/// Adds a Max-Forwards of 70.
+fn put_seventy(out: &mut Buffer) -> Result<(), AllocError>
+    ensures { OnOk result (out.new ≡ out.old ++ field_text OwnRequests.seventy) }
+{
+    let field = seventy();
+    put_field(out, &field)
+}
+
+/// Adds a Max-Forwards of 70 where a request has none (RFC 3261 16.6 step 3).
+fn put_default(out: &mut Buffer, hops: MaxForwards) -> Result<(), AllocError>
+    ensures { OnOk result (out.new ≡ out.old ++ Tails.default_text hops) }
+{
+    match hops {
+        MaxForwards::Absent => put_seventy(out),
+        MaxForwards::Hops(_) | MaxForwards::Malformed => Ok(()),
+    }
+}
+
+/// How many bytes some fields have with their CRLFs.
+fn room_of(fields: &[ViewField<'_>]) -> usize {
+    let mut room: usize = 0;
+    for field in fields {
+        let name = field.name().spelling().len().saturating_add(4);
+        let value = field.value().as_slice().len();
+        room = room.saturating_add(name).saturating_add(value);
+    }
+    room
+}
+
+/// A text for which there was so much room, in no more memory than it needs: it is copied where much was taken off, or where
+/// more was added than there was room for.
+fn in_its_room(alloc: Global, text: Buffer, room: usize) -> Result<Bytes, AllocError>
+    ensures { IfOk result (λ bytes. bytes ≡ text) }
+{
+    let length = text.as_slice().len();
+    if room < length {
+        return Bytes::copy(alloc, text.as_slice());
+    }
+    if length.saturating_add(REST_OF_TAIL) < room {
+        return Bytes::copy(alloc, text.as_slice());
+    }
+    Ok(text.into_bytes())
+}
+
+/// The tail of a request that goes on, which is the same for each of its targets: all behind this server's own fields, if
+/// these Routes are left of it, from a server of this realm (RFC 3261 16.4, 16.6). `AllocError` is the only refusal.
+#[tactic(auto, using(crate::proofs::TailTexts::whole_is))]
+pub fn tail_of(
+    alloc: Global,
+    realm: &[u8],
+    routes: RoutesKept,
+    request: &View<'_>,
+) -> Result<Bytes, AllocError>
+    ensures { IfOk result (λ tail. tail ≡ Tails.tail_of routes realm.now request.now) }
+{
+    let fields = request.fields().as_slice();
+    let hops = max_forwards_of(request.fields());
+    let room = room_of(fields)
+        .saturating_add(request.body().len())
+        .saturating_add(REST_OF_TAIL);
+    let mut out = Buffer::with_room(alloc, room)?;
+    put_onward(alloc, &mut out, realm, routes, hops_left(hops), fields)?;
+    put_default(&mut out, hops)?;
+    put_body(&mut out, request.body())?;
+    in_its_room(alloc, out, room)
+}
