@@ -40,7 +40,7 @@ place_sender b e = by_test (is_token_byte b) refl
     by_test true is = rw is refl
     by_test false is = rw (is, e) refl
 
-all_behind : (p : ℕ → Bool) (xs ys : List ℕ) → AllPassing p xs → AllPassing p ys → AllPassing p (xs ++ ys)
+pub all_behind : (p : ℕ → Bool) (xs ys : List ℕ) → AllPassing p xs → AllPassing p ys → AllPassing p (xs ++ ys)
 all_behind p [] ys x y = y
 all_behind p (c ∷ xs) ys x y = (x.0, all_behind p xs ys x.1 y)
 

@@ -12,3 +12,4 @@ pub mod Route
 pub mod PlainAddress
 pub mod FieldExamples
 pub mod HeaderError
+pub mod AddressParts

@@ -1,8 +1,10 @@
 ghost use Rattle.std.specs.Prelude.{◌≡◌, IfOk, option_map, if◌then◌else◌, Some, None};
 ghost use Rattle.std.specs.List.{list_all};
 ghost use Rattle.sip_text.specs.Cuts.{parts_at, split_outside};
-ghost use Rattle.sip_header.specs.NameAddr.{is_opaque_byte, is_opaque, other_of, any_uri_of, with_parameters, is_bare_byte, bare_in};
+ghost use Rattle.sip_header.specs.NameAddr.{is_opaque_byte, is_opaque, other_of, with_parameters, is_bare_byte, bare_in};
 ghost use Rattle.sip_header.specs.NameAddr.{is_word_byte, is_display, behind_bracket, bracketed_by, name_addr_of};
+ghost use Rattle.sip_header.specs.AddressParts.{parts_say};
+ghost use Rattle.sip_header.specs.Route.{route_of};
 
 use crate::parameters::{Parameters, parameters_from};
 use sip_message_fields::Value;
@@ -144,30 +146,41 @@ fn other_uri(bytes: &[u8]) -> Option<AnyUri<'_>>
     Some(AnyUri::Other(Text::new(bytes)))
 }
 
-/// An address of a URI of another scheme, and of these parameters.
-fn other_address<'v>(bytes: &'v [u8], parameters: Parameters<'v>) -> Option<NameAddr<'v>>
-    ensures { result ≡ with_parameters (Some parameters.entry) (other_of bytes.now) }
-{
-    let uri = other_uri(bytes)?;
-    Some(NameAddr { uri, parameters })
+/// The text of an address's URI, and its parameters: what stands where in a value, of whose URI nothing is known.
+#[derive(Drop)]
+pub(crate) struct Parts<'v> {
+    uri: &'v [u8],
+    parameters: Parameters<'v>,
 }
 
-/// An address of a URI of any scheme, and of these parameters, which are read before it, since it is the larger to move.
-#[inline(always)]
-fn addressed<'v>(
-    alloc: Global,
-    bytes: &'v [u8],
-    parameters: Parameters<'v>,
-) -> Result<Option<NameAddr<'v>>, AllocError>
-    ensures { IfOk result (λ found. found ≡ with_parameters (Some parameters.entry) (any_uri_of bytes.now)) }
+/// An address of a URI of another scheme, and of these parameters.
+fn other_address(parts: Parts<'_>) -> Option<NameAddr<'_>>
+    ensures { result ≡ with_parameters (Some parts.entry.parameters) (other_of parts.entry.uri.now) }
 {
-    match parse_uri(alloc, bytes) {
+    let uri = other_uri(parts.uri)?;
+    Some(NameAddr {
+        uri,
+        parameters: parts.parameters,
+    })
+}
+
+/// The address of these parts, if their URI is one of any scheme.
+pub(crate) fn address_of<'v>(
+    alloc: Global,
+    parts: Option<Parts<'v>>,
+) -> Result<Option<NameAddr<'v>>, AllocError>
+    ensures { IfOk result (λ found. found ≡ parts_say parts.entry) }
+{
+    let Some(parts) = parts else {
+        return Ok(None);
+    };
+    match parse_uri(alloc, parts.uri) {
         Ok(uri) => Ok(Some(NameAddr {
             uri: AnyUri::Sip(uri),
-            parameters,
+            parameters: parts.parameters,
         })),
         Err(UriError::NoMemory) => Err(AllocError),
-        Err(UriError::Scheme) => Ok(other_address(bytes, parameters)),
+        Err(UriError::Scheme) => Ok(other_address(parts)),
         Err(UriError::Syntax) => Ok(None),
     }
 }
@@ -184,17 +197,16 @@ fn is_display_name(bytes: &[u8]) -> bool
 
 /// A URI without brackets, and parameters.
 #[tactic(auto, using(crate::proofs::Unread::no_parameters))]
-fn bare(alloc: Global, bytes: &[u8]) -> Result<Option<NameAddr<'_>>, AllocError>
-    ensures { IfOk result (λ found. found ≡ bare_in (parts_at 59 bytes.now)) }
+fn bare(bytes: &[u8]) -> Option<Parts<'_>>
+    ensures { parts_say result ≡ bare_in (parts_at 59 bytes.now) }
 {
     let (uri, behind) = first_part(bytes, b';');
     if !all_bare_bytes(uri) {
-        return Ok(None);
+        return None;
     }
-    let Some(parameters) = parameters_from(behind) else {
-        return Ok(None);
-    };
-    addressed(alloc, without_blanks(uri), parameters)
+    let parameters = parameters_from(behind)?;
+    let uri = without_blanks(uri);
+    Some(Parts { uri, parameters })
 }
 
 /// The parameters behind a `>`.
@@ -210,30 +222,41 @@ fn parameters_behind_bracket(bytes: &[u8]) -> Option<Parameters<'_>>
 
 /// A URI up to its `>`, and parameters.
 #[tactic(auto, using(crate::proofs::Unread::no_parameters))]
-fn bracketed(alloc: Global, bytes: &[u8]) -> Result<Option<NameAddr<'_>>, AllocError>
-    ensures { IfOk result (λ found. found ≡ bracketed_by (split_outside 62 bytes.now)) }
+fn bracketed(bytes: &[u8]) -> Option<Parts<'_>>
+    ensures { parts_say result ≡ bracketed_by (split_outside 62 bytes.now) }
 {
-    let Some((uri, behind)) = split_outside(bytes, b'>') else {
-        return Ok(None);
-    };
-    let Some(parameters) = parameters_behind_bracket(behind) else {
-        return Ok(None);
-    };
-    addressed(alloc, without_blanks(uri), parameters)
+    let (uri, behind) = split_outside(bytes, b'>')?;
+    let parameters = parameters_behind_bracket(behind)?;
+    let uri = without_blanks(uri);
+    Some(Parts { uri, parameters })
 }
 
-/// An address in brackets: what stands before its `<`, and what stands behind.
-pub(crate) fn in_brackets<'v>(
-    alloc: Global,
-    display: &[u8],
-    rest: &'v [u8],
-) -> Result<Option<NameAddr<'v>>, AllocError>
-    ensures { IfOk result (λ found. found ≡ (if is_display display.now then bracketed_by (split_outside 62 rest.now) else None)) }
+/// The parts of an address in brackets: what stands before its `<`, and what stands behind.
+fn in_brackets<'v>(display: &[u8], rest: &'v [u8]) -> Option<Parts<'v>>
+    ensures { parts_say result ≡ (if is_display display.now then bracketed_by (split_outside 62 rest.now) else None) }
 {
     if !is_display_name(display) {
-        return Ok(None);
+        return None;
     }
-    bracketed(alloc, rest)
+    bracketed(rest)
+}
+
+/// The parts of the value of a field that holds an address.
+fn parts_in(value: &[u8]) -> Option<Parts<'_>>
+    ensures { parts_say result ≡ name_addr_of value.now }
+{
+    match split_outside(value, b'<') {
+        Some((display, rest)) => in_brackets(display, rest),
+        None => bare(value),
+    }
+}
+
+/// The parts of a value that is an address in brackets.
+pub(crate) fn bracketed_parts_in(value: &[u8]) -> Option<Parts<'_>>
+    ensures { parts_say result ≡ route_of value.now }
+{
+    let (display, rest) = split_outside(value, b'<')?;
+    in_brackets(display, rest)
 }
 
 /// What the value of a field says that holds an address, as From and To: a name-addr or a URI without brackets,
@@ -241,8 +264,5 @@ pub(crate) fn in_brackets<'v>(
 pub fn name_addr_of(alloc: Global, value: &[u8]) -> Result<Option<NameAddr<'_>>, AllocError>
     ensures { IfOk result (λ found. found ≡ name_addr_of value.now) }
 {
-    let Some((display, rest)) = split_outside(value, b'<') else {
-        return bare(alloc, value);
-    };
-    in_brackets(alloc, display, rest)
+    address_of(alloc, parts_in(value))
 }

@@ -19,25 +19,35 @@ pub struct Parameter<'a> {
     pub value: Option<Text<'a>>,
 }
 
+/// A parameter of two tokens with nothing round them: a name and its value.
+#[derive(Drop)]
+pub(crate) struct Assigned<'a> {
+    name: &'a [u8],
+    value: &'a [u8],
+}
+
 /// The parameters of a value, each behind a `;`. They were read once, and are looked up where they stand.
 #[derive(Drop)]
 pub struct Parameters<'a> {
     /// What follows the first `;`, if one stands there.
     behind: Option<&'a [u8]>,
+    /// The first of them, if it is of two tokens, as `branch` and `tag` are, which are looked up most.
+    first: Option<Assigned<'a>>,
 }
 
 impl<'a> Model for Parameters<'a> {
-    ghost use Rattle.std.specs.Prelude.{◌≡◌, List, Some, option_map};
+    ghost use Rattle.std.specs.Prelude.{◌≡◌, List, Some, IfSome, option_map};
     ghost use Rattle.sip_text.specs.Cuts.{parts_behind};
-    ghost use Rattle.sip_header.specs.Parameters.{parameters_in, said_in};
+    ghost use Rattle.sip_header.specs.Parameters.{parameters_in, said_in, IsFirst};
     ghost use Rattle.sip_header.specs.declared.parameters.Parameter.{Parameter};
 
     ghost Value = { List Parameter };
 
     ghost view = { λ p. said_in (parts_behind 59 (option_map (λ x. x.now) p.behind)) };
 
-    ghost invariant = { λ p. parameters_in (parts_behind 59 (option_map (λ x. x.now) p.behind))
-        ≡ Some (said_in (parts_behind 59 (option_map (λ x. x.now) p.behind))) };
+    ghost invariant = { λ p. (parameters_in (parts_behind 59 (option_map (λ x. x.now) p.behind))
+        ≡ Some (said_in (parts_behind 59 (option_map (λ x. x.now) p.behind))))
+        × IfSome p.first (λ f. IsFirst (said_in (parts_behind 59 (option_map (λ x. x.now) p.behind))) f.name.now f.value.now) };
 }
 
 /// The parameter that a text of one writes.
@@ -152,9 +162,18 @@ fn first_named<'v>(behind: Option<&'v [u8]>, name: &[u8]) -> Option<Parameter<'v
 }
 
 /// The first parameter of a name, which is compared without case. Takes no memory.
+#[tactic(auto, using(crate::proofs::Plain::first_is))]
 pub fn parameter_of<'v>(parameters: &Parameters<'v>, name: &[u8]) -> Option<Parameter<'v>>
     ensures { result ≡ parameter_of name.now parameters.now }
 {
+    if let Some(first) = &parameters.first {
+        if same_no_case(first.name, name) {
+            return Some(Parameter {
+                name: Text::new(first.name),
+                value: Some(Text::new(first.value)),
+            });
+        }
+    }
     first_named(parameters.behind, name)
 }
 
@@ -272,13 +291,67 @@ fn are_parameters(behind: Option<&[u8]>) -> bool
     true
 }
 
-/// The parameters that the rest of a value writes, each behind a `;`.
+/// The parameters that the rest of a value writes, each behind a `;`, of any form.
 #[tactic(auto, using(crate::proofs::Lookup::some_said, crate::proofs::Lookup::none_said))]
-pub(crate) fn parameters_from<'v>(behind: Option<&'v [u8]>) -> Option<Parameters<'v>>
+fn any_parameters<'v>(behind: Option<&'v [u8]>) -> Option<Parameters<'v>>
     ensures { result ≡ parameters_in (parts_behind 59 (option_map (λ x. x.now) behind.entry)) }
 {
     if !are_parameters(behind) {
         return None;
     }
-    Some(Parameters { behind })
+    Some(Parameters {
+        behind,
+        first: None,
+    })
+}
+
+/// A parameter of two tokens at the front of a text, and what follows its `;`: so each byte is read once. None says
+/// nothing.
+fn assigned_at(text: &[u8]) -> Option<(Assigned<'_>, Option<&[u8]>)>
+    ensures { IfSome result (λ x. Begins text.now (record { name = x.0.name.now; value = Some x.0.value.now }) (option_map (λ y. y.now) x.1)) }
+{
+    let (name, rest) = split_token(text);
+    if name.is_empty() {
+        return None;
+    }
+    let Some((b'=', given)) = rest.split_first() else {
+        return None;
+    };
+    let (value, rest) = split_token(given);
+    if value.is_empty() {
+        return None;
+    }
+    let behind = plain_end(rest)?;
+    Some((Assigned { name, value }, behind))
+}
+
+/// The parameters of a text, of which the first is of two tokens, if each behind it is one.
+#[tactic(auto, using(crate::proofs::Plain::none_begun, crate::proofs::Plain::some_begun, crate::proofs::Plain::first_begun))]
+fn parameters_behind<'v>(
+    text: &'v [u8],
+    first: Assigned<'v>,
+    rest: Option<&'v [u8]>,
+) -> Option<Parameters<'v>>
+    requires { Begins text.now (record { name = first.name.now; value = Some first.value.now }) (option_map (λ y. y.now) rest) }
+    ensures { result ≡ parameters_in (parts_at 59 text.now) }
+{
+    if !are_parameters(rest) {
+        return None;
+    }
+    Some(Parameters {
+        behind: Some(text),
+        first: Some(first),
+    })
+}
+
+/// The parameters that the rest of a value writes, each behind a `;`.
+pub(crate) fn parameters_from<'v>(behind: Option<&'v [u8]>) -> Option<Parameters<'v>>
+    ensures { result ≡ parameters_in (parts_behind 59 (option_map (λ x. x.now) behind.entry)) }
+{
+    if let Some(text) = behind {
+        if let Some((first, rest)) = assigned_at(text) {
+            return parameters_behind(text, first, rest);
+        }
+    }
+    any_parameters(behind)
 }

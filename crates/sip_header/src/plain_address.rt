@@ -1,13 +1,39 @@
-ghost use Rattle.std.specs.Prelude.{IfSome};
+ghost use Rattle.std.specs.Prelude.{◌≡◌, ◌⊎◌, IfSome, codes, true};
 ghost use Rattle.sip_header.specs.PlainAddress.{IsBracketedPlace};
 
-use sip_text::{split_outside, without_blanks};
-use sip_uri::plain_place;
+use sip_text::{same_bytes, split_outside, without_blanks};
+use sip_uri::{plain_place, plain_uri_at};
 
-/// The host and the number of the port, if one is written, of an address that is a URI in brackets and nothing else, in
-/// the form that `plain_place` reads: as most values of Route, Record-Route and Contact are. None says nothing. Takes no
-/// memory.
-pub fn bracketed_place(value: &[u8]) -> Option<(&[u8], Option<u16>)>
+/// Whether a text ends an address in brackets that has no header parameters: by `>` alone, or by `;lr>`.
+#[inline]
+#[tactic(auto, using(crate::proofs::PlainAddresses::ends_alone, crate::proofs::PlainAddresses::ends_loose))]
+fn ends_place(text: &[u8]) -> bool
+    ensures { result ≡ true → (text.now ≡ codes ">") ⊎ (text.now ≡ codes ";lr>") }
+{
+    match text.split_first() {
+        Some((b'>', rest)) => rest.is_empty(),
+        Some((b';', rest)) => same_bytes(rest, b"lr>"),
+        _ => false,
+    }
+}
+
+/// The host and the number of the port of an address that `bracketed_place` reads, without blanks, and whose user, if it
+/// has one, is of bytes of a host name: each byte is read once. None says nothing.
+fn usual_place(value: &[u8]) -> Option<(&[u8], Option<u16>)>
+    ensures { IfSome result (λ x. IsBracketedPlace value.now x.0.now x.1) }
+{
+    let Some((b'<', text)) = value.split_first() else {
+        return None;
+    };
+    let (host, port, end) = plain_uri_at(text)?;
+    if !ends_place(end) {
+        return None;
+    }
+    Some((host, port))
+}
+
+/// The same of an address in any form.
+fn any_place(value: &[u8]) -> Option<(&[u8], Option<u16>)>
     ensures { IfSome result (λ x. IsBracketedPlace value.now x.0.now x.1) }
 {
     let (display, rest) = split_outside(value, b'<')?;
@@ -19,4 +45,16 @@ pub fn bracketed_place(value: &[u8]) -> Option<(&[u8], Option<u16>)>
         return None;
     }
     plain_place(without_blanks(uri))
+}
+
+/// The host and the number of the port, if one is written, of an address that is a URI in brackets and nothing else, in
+/// the form that `plain_place` reads: as most values of Route, Record-Route and Contact are. None says nothing. Takes no
+/// memory.
+pub fn bracketed_place(value: &[u8]) -> Option<(&[u8], Option<u16>)>
+    ensures { IfSome result (λ x. IsBracketedPlace value.now x.0.now x.1) }
+{
+    match usual_place(value) {
+        Some(place) => Some(place),
+        None => any_place(value),
+    }
 }

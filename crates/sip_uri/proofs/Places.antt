@@ -5,7 +5,7 @@ use Rattle.std.proofs.lemmas.Bool.{eqb-true}
 use Rattle.std.proofs.lemmas.List.{append-nil, take_at, drop_at, take-append-drop}
 use Rattle.std.specs.Option.{option_and_then}
 use Rattle.std.specs.List.{list_all, prefix_len}
-use Rattle.sip_uri.specs.Host.{is_host_byte, is_host, begins_bracket, is_not, host_length, place_of, is_place_byte, IsPlaceAt}
+use Rattle.sip_uri.specs.Host.{is_host_byte, is_host, begins_bracket, is_not, host_length, place_of, is_place_byte, IsPlaceAt, IsNameAt}
 use Rattle.sip_uri.specs.Port.{port_of, port_value}
 
 -- a host with the port that is written behind it
@@ -201,6 +201,14 @@ host_at n text name rest long front behind some =
       whole = sym (take-append-drop n text) ∙ ap (λ (w : List ℕ). w ++ drop n text) (sym front) ∙ ap (λ (w : List ℕ). name ++ w) (sym behind);
       plain = name_plain name all;
       is_place = sym (ap place_of (append-nil name)) ∙ sym (place_there name [] all some refl);
+    }
+
+pub name_at : (n : ℕ) (text name rest : List ℕ) → n ≡ prefix_len is_host_byte text → name ≡ take n text → rest ≡ drop n text → (length name == 0) ≡ false → IsNameAt text name rest
+name_at n text name rest long front behind some =
+    record {
+      whole = sym (take-append-drop n text) ∙ ap (λ (w : List ℕ). w ++ drop n text) (sym front) ∙ ap (λ (w : List ℕ). name ++ w) (sym behind);
+      bytes = name_run n text name long front;
+      some = some;
     }
 
 port_is : (digits : List ℕ) (number : ℕ) → port_value digits ≡ Some number → port_of (58 ∷ digits) ≡ Some (Some digits)

@@ -39,7 +39,7 @@ is_one (b ∷ bs) some all = all_escaped (b ∷ bs) all
 valid_there : (user : List ℕ) → is_user user ≡ true → valid_userinfo (record { user = user; password = None }) ≡ Some (record { user = user; password = None })
 valid_there user is = rw is refl
 
-user_there : (user rest : List ℕ) → (length user == 0) ≡ false → list_all is_user_byte user ≡ true → user_of (user ++ 64 ∷ rest) ≡ Ok (Some (record { user = user; password = None }), rest)
+pub user_there : (user rest : List ℕ) → (length user == 0) ≡ false → list_all is_user_byte user ≡ true → user_of (user ++ 64 ∷ rest) ≡ Ok (Some (record { user = user; password = None }), rest)
 user_there user rest some all =
     let cut : split_at_byte 64 (user ++ 64 ∷ rest) ≡ Some (user, rest) = split_again 64 user rest (others is_user_byte 64 refl user all) refl in
     let whole : userinfo_of user ≡ Some (record { user = user; password = None }) =

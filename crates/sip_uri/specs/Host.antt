@@ -1,5 +1,5 @@
 -- Hosts, and the port behind one.
-use Rattle.std.specs.Prelude.{◌≡◌, ℕ, ◌+◌, Bool, true, false, ◌||◌, ◌&&◌, ◌==◌, not, List, [], ◌∷◌, ◌++◌, take, drop, codes, Option, Some}
+use Rattle.std.specs.Prelude.{◌≡◌, ℕ, ◌+◌, Bool, true, false, ◌||◌, ◌&&◌, ◌==◌, not, List, [], ◌∷◌, ◌++◌, length, take, drop, codes, Option, Some}
 use Rattle.std.specs.Prelude.{None, option_map, if◌then◌else◌}
 use Rattle.std.specs.Option.{option_and_then}
 use Rattle.std.specs.List.{list_all, list_any, prefix_len}
@@ -67,3 +67,9 @@ pub record IsPlaceAt (text host : List ℕ) (port : Option (List ℕ)) (rest : L
   pub whole : text ≡ front ++ rest
   pub plain : list_all is_place_byte front ≡ true
   pub is_place : place_of front ≡ Some (host, port)
+
+-- A text begins with one or more bytes of a host name, and a rest follows them.
+pub record IsNameAt (text name rest : List ℕ) : Type 0 where
+  pub whole : text ≡ name ++ rest
+  pub bytes : list_all is_host_byte name ≡ true
+  pub some : (length name == 0) ≡ false

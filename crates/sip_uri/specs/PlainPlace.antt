@@ -1,5 +1,8 @@
 -- SIP URIs in the form that most have.
-use Rattle.std.specs.Prelude.{◌≡◌, ◌⊎◌, ℕ, List, [], ◌∷◌, codes, Option, Some, None, option_map, Ok}
+use Rattle.std.specs.Prelude.{◌≡◌, ◌⊎◌, ℕ, Bool, true, ◌||◌, ◌==◌, List, [], ◌∷◌, ◌++◌, codes, Option, Some, None, option_map, Ok}
+use Rattle.std.specs.Str.{byte}
+use Rattle.std.specs.List.{list_all}
+use Rattle.sip_uri.specs.Host.{is_place_byte}
 use Rattle.sip_uri.specs.Port.{port_value}
 use Rattle.sip_uri.specs.declared.user.UserInfo.{UserInfo}
 use Rattle.sip_uri.specs.declared.parameters.Parameter.{Parameter}
@@ -24,3 +27,19 @@ pub record IsPlain (text host : List ℕ) (port : Option ℕ) : Type 0 where
   pub has_host : uri.host ≡ host
   pub has_port : option_map port_value uri.port ≡ option_map (λ n. Some n) port
   pub parameters : (uri.parameters ≡ []) ⊎ (uri.parameters ≡ loose_routing)
+
+-- a byte of a URI without parameters and headers, whose user is of bytes of a host name
+abbrev pub is_plain_byte : ℕ → Bool
+is_plain_byte b = is_place_byte b || b == byte "@"
+
+-- A text begins with a `sip` URI that has this host and this number of a port, if it has one, and this follows it. Alone it has no parameters,
+-- and with `;lr` behind it that one (RFC 3261 19.1.1).
+pub record IsUriAt (text host : List ℕ) (port : Option ℕ) (rest : List ℕ) : Type 0 where
+  pub front : List ℕ
+  pub whole : text ≡ front ++ rest
+  pub plain : list_all is_plain_byte front ≡ true
+  pub info : Option UserInfo
+  pub digits : Option (List ℕ)
+  pub numbered : option_map port_value digits ≡ option_map (λ n. Some n) port
+  pub alone : reading_of front ≡ Ok (record { scheme = Scheme.Sip; userinfo = info; host = host; port = digits; parameters = []; headers = [] })
+  pub loose : reading_of (front ++ codes ";lr") ≡ Ok (record { scheme = Scheme.Sip; userinfo = info; host = host; port = digits; parameters = loose_routing; headers = [] })

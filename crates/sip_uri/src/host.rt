@@ -1,8 +1,8 @@
-ghost use Rattle.std.specs.Prelude.{◌≡◌, ◌≤◌, false, length, take, drop, option_map, Some, IfSome};
+ghost use Rattle.std.specs.Prelude.{◌≡◌, ◌≤◌, false, length, take, drop, option_map, Some, IfSome, is_some};
 ghost use Rattle.std.specs.List.{list_all, prefix_len};
 ghost use Rattle.std.specs.Option.{option_and_then};
 ghost use Rattle.sip_uri.specs.Host;
-ghost use Rattle.sip_uri.specs.Host.{place_of, host_port_of, IsPlaceAt};
+ghost use Rattle.sip_uri.specs.Host.{place_of, host_port_of, IsPlaceAt, IsNameAt};
 ghost use Rattle.sip_uri.specs.Port.{port_of, port_value};
 
 use crate::port::{port_behind, port_value};
@@ -204,6 +204,7 @@ pub fn host_port(text: &[u8]) -> Option<(&[u8], Option<u16>)>
 pub fn place_at(text: &[u8]) -> Option<(&[u8], Option<(&[u8], u16)>, &[u8])>
     ensures place { IfSome result (λ x. IsPlaceAt text.now x.0.now (option_map (λ port. port.0.now) x.1) x.2.now) }
     ensures number { IfSome result (λ x. IfSome x.1 (λ port. port_value port.0.now ≡ Some port.1)) }
+    ensures name { IfSome result (λ x. is_some x.1 ≡ false → IsNameAt text.now x.0.now x.2.now) }
 {
     let (host, rest) = text.split_at(name_length(text));
     if host.is_empty() {

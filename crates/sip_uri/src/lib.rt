@@ -38,7 +38,7 @@ pub use error::UriError;
 pub use headers::UriHeader;
 pub use host::{begins_bracket, host_port, is_host, place_at, place_in};
 pub use parameters::Parameter;
-pub use plain::plain_place;
+pub use plain::{plain_place, plain_uri_at};
 pub use port::port_value;
 pub use reading::parse_uri;
 pub use scheme::Scheme;

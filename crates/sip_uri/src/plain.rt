@@ -1,5 +1,5 @@
 ghost use Rattle.std.specs.Prelude.{◌≡◌, ◌⊎◌, true, codes, option_map, IfSome, Some, None};
-ghost use Rattle.sip_uri.specs.PlainPlace.{HasUser, IsPlain};
+ghost use Rattle.sip_uri.specs.PlainPlace.{HasUser, IsPlain, IsUriAt};
 
 use crate::parts::behind_place;
 use crate::place_at;
@@ -31,6 +31,17 @@ fn is_loose_or_none(parameters: Option<&[u8]>) -> bool
     }
 }
 
+/// The number of a port, if there is one.
+#[inline]
+fn number_of(port: Option<(&[u8], u16)>) -> Option<u16>
+    ensures { result ≡ option_map (λ x. x.1) port.entry }
+{
+    match port {
+        Some((_, number)) => Some(number),
+        None => None,
+    }
+}
+
 /// The host and the number of the port, if one is written, of a `sip` URI whose parameters are none or `lr` alone, and
 /// that has neither headers nor, in its user, escapes or a password: where they stand, so that nothing is made of the
 /// URI. None says nothing: `parse_uri` reads every URI. Takes no memory.
@@ -43,8 +54,24 @@ pub fn plain_place(text: &[u8]) -> Option<(&[u8], Option<u16>)>
     if headers.is_some() || !is_loose_or_none(parameters) {
         return None;
     }
-    match port {
-        Some((_, number)) => Some((host, Some(number))),
-        None => Some((host, None)),
+    Some((host, number_of(port)))
+}
+
+/// The host, the number of the port, if one is written, and what follows, of a `sip` URI at the front of a text that has
+/// neither parameters nor headers, and whose user, if it has one, is of bytes of a host name: so each byte is read once.
+/// None says nothing. Takes no memory.
+#[inline]
+pub fn plain_uri_at(text: &[u8]) -> Option<(&[u8], Option<u16>, &[u8])>
+    ensures { IfSome result (λ x. IsUriAt text.now x.0.now x.1 x.2.now) }
+{
+    let text = behind_sip(text)?;
+    let (name, port, rest) = place_at(text)?;
+    if port.is_some() {
+        return Some((name, number_of(port), rest));
     }
+    let Some((b'@', place)) = rest.split_first() else {
+        return Some((name, None, rest));
+    };
+    let (host, port, rest) = place_at(place)?;
+    Some((host, number_of(port), rest))
 }

@@ -1,10 +1,14 @@
 use Rattle.std.proofs.Common.{◌≡◌, ◌∷◌, sym, ◌∙◌, rules}
-use Rattle.sip_uri.proofs.Places.{host_at, port_at}
+use Rattle.sip_uri.proofs.Places.{host_at, name_at, port_at}
 use Rattle.sip_uri.proofs.host.place_at.Goals as goal
 
 pub returns-in_default-clause-place : goal.returns-in_default-clause-place
 returns-in_default-clause-place c =
     host_at c.name_length.result c.args.text.now c.split_at.result.0.now c.split_at.result.1.now c.name_length.ensures.value c.split_at.ensures.front c.split_at.ensures.back (sym c.is_empty.ensures ∙ c.if-is_empty.false)
+
+pub returns-in_default-clause-name : goal.returns-in_default-clause-name
+returns-in_default-clause-name c =
+    λ none. name_at c.name_length.result c.args.text.now c.split_at.result.0.now c.split_at.result.1.now c.name_length.ensures.value c.split_at.ensures.front c.split_at.ensures.back (sym c.is_empty.ensures ∙ c.if-is_empty.false)
 
 pub returns-clause-place : goal.returns-clause-place
 returns-clause-place c =

@@ -1,14 +1,8 @@
 use Rattle.std.proofs.Common.{ap, sym, ◌∙◌}
-use Rattle.std.specs.Prelude.{option_map}
 use Rattle.sip_uri.proofs.PlainPlaces.{plain_from}
 use Rattle.sip_uri.proofs.plain.plain_place.Goals as goal
 
-pub returns-in-Some : goal.returns-in-Some
-returns-in-Some c =
-    plain_from c.args.text.now c.in_ok-behind_sip.field-0.now c.in_ok-rest.rest.now c.in_ok-host.host.now c.in_ok-host.behind.now c.in_ok-host.port c.in_ok-parameters.parameters c.in_ok-parameters.headers _ c.in_ok-behind_sip.ensures c.in_ok-rest.ensures
-    c.in_ok-host.ensures.place c.in_ok-host.ensures.number c.in_ok-parameters.ensures (sym c.is_some.ensures ∙ c.if-is_some.false) (c.is_loose_or_none.ensures c.if-not-is_loose_or_none.false) (ap (option_map (λ p. p.1)) c.in-Some.is)
-
-pub returns-in-None : goal.returns-in-None
-returns-in-None c =
-    plain_from c.args.text.now c.in_ok-behind_sip.field-0.now c.in_ok-rest.rest.now c.in_ok-host.host.now c.in_ok-host.behind.now c.in_ok-host.port c.in_ok-parameters.parameters c.in_ok-parameters.headers _ c.in_ok-behind_sip.ensures c.in_ok-rest.ensures
-    c.in_ok-host.ensures.place c.in_ok-host.ensures.number c.in_ok-parameters.ensures (sym c.is_some.ensures ∙ c.if-is_some.false) (c.is_loose_or_none.ensures c.if-not-is_loose_or_none.false) (ap (option_map (λ p. p.1)) c.in-None.is)
+pub returns : goal.returns
+returns c =
+    plain_from c.args.text.now c.in_ok-behind_sip.field-0.now c.in_ok-rest.rest.now c.in_ok-host.host.now c.in_ok-host.behind.now c.in_ok-host.port c.in_ok-parameters.parameters c.in_ok-parameters.headers c.number_of.result c.in_ok-behind_sip.ensures
+    c.in_ok-rest.ensures c.in_ok-host.ensures.place c.in_ok-host.ensures.number c.in_ok-parameters.ensures (sym c.is_some.ensures ∙ c.if-is_some.false) (c.is_loose_or_none.ensures c.if-not-is_loose_or_none.false) (sym c.number_of.ensures)

@@ -1,6 +1,6 @@
 use Rattle.std.proofs.Common.{sym, ◌∙◌}
 use Rattle.sip_header.proofs.PlainAddresses.{place_there}
-use Rattle.sip_header.proofs.plain_address.bracketed_place.Goals as goal
+use Rattle.sip_header.proofs.plain_address.any_place.Goals as goal
 
 pub returns : goal.returns
 returns c =
