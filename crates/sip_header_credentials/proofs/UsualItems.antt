@@ -5,19 +5,20 @@ use Rattle.std.specs.Option.{option_and_then}
 use Rattle.std.proofs.lemmas.List.{append-nil}
 use Rattle.std.proofs.lemmas.List.Sums.{take_while-cons}
 use Rattle.std.proofs.lemmas.Bool.{eqb-true}
-use Rattle.sip_text.specs.Words.{is_token_text}
-use Rattle.sip_text.specs.Lists.{is_blank, trimmed, onto}
+use Rattle.sip_text.specs.Words.{is_token_byte, is_token_text, token_at, behind_token}
+use Rattle.sip_text.specs.Lists.{is_blank, trimmed, front_trimmed, onto}
 use Rattle.sip_text.specs.Escapes.{inside_quotes, unquoted, stands_for_itself, plain_front}
 use Rattle.sip_text.specs.Splits.{split_at_byte, in_front}
 use Rattle.sip_text.specs.declared.cuts.Quoting.TheVariants.{Outside, Inside}
 use Rattle.sip_text.specs.Cuts.{parts_from, parts_at, parts_behind}
 use Rattle.sip_text.proofs.Trims as Trims
-use Rattle.sip_header.proofs.Words.{AllPassing}
+use Rattle.sip_header.proofs.Words.{AllPassing, IsSplit, split_of, rest_is}
+use Rattle.sip_header.proofs.Plain.{tokens, is_token_here, token_whole, token_not_blank}
 use Rattle.sip_header.proofs.ParameterLaws.{is_plain, plain_text}
 use Rattle.sip_header.proofs.Collecting.{behind, behind_more}
 use Rattle.sip_header_credentials.specs.declared.credentials.Item.{Item}
 use Rattle.sip_header_credentials.specs.Credentials.{value_said, item_in, items_in}
-use Rattle.sip_header_credentials.specs.UsualItems.{comma_and, IsValueFirst}
+use Rattle.sip_header_credentials.specs.UsualItems.{comma_and, IsNameFirst, IsValueFirst}
 use Rattle.sip_header_credentials.proofs.CredentialLaws.{read_item}
 
 -- ---- a text cut at the first of a byte
@@ -185,16 +186,37 @@ quoted_first text inside tail said rest whole is behind ends =
 
 -- ---- an item
 
-pub usual_first : (text left right name said : List ℕ) (rest : Option (List ℕ)) (item : Item) → Some (left, right) ≡ split_at_byte 61 text → name ≡ trimmed left → is_token_text name ≡ true → IsValueFirst right said rest
+ends_token : (b : ℕ) (bs : List ℕ) → AllPassing is_token_byte (b ∷ bs) → Trims.ends_full (b ∷ bs)
+ends_token b [] all = token_not_blank b all.0
+ends_token b (c ∷ bs) all = ends_token c bs all.1
+
+tight_token : (bytes : List ℕ) → AllPassing is_token_byte bytes → Trims.IsTight bytes
+tight_token [] all = tt
+tight_token (b ∷ bs) all = (token_not_blank b all.0, ends_token b bs all)
+
+pub name_first : (text inner name rest right : List ℕ) → inner ≡ front_trimmed text → name ≡ token_at inner → rest ≡ behind_token inner → (length name == 0) ≡ false → rest ≡ 61 ∷ right → IsNameFirst text name right
+name_first text inner name rest right trim front back some mark =
+    let s : IsSplit is_blank text = split_of is_blank text in
+    let token : is_token_text name ≡ true = is_token_here inner name front some in
+    let whole : inner ≡ name ++ 61 ∷ right = token_whole inner name rest front back ∙ ap (λ (w : List ℕ). name ++ w) mark in
+    let cut : text ≡ s.front ++ (name ++ 61 ∷ right) = s.whole ∙ ap (λ (w : List ℕ). s.front ++ w) (sym (trim ∙ rest_is is_blank text s) ∙ whole) in
+    record {
+      left = s.front ++ name;
+      whole = cut ∙ sym (append_assoc s.front name (61 ∷ right));
+      is_name = sym (ap trimmed (append-nil (s.front ++ name))) ∙ Trims.trimmed_is s.front name [] s.passing (tight_token name (tokens name token)) tt;
+      is_token = token;
+    }
+
+pub usual_first : (text right name said : List ℕ) (rest : Option (List ℕ)) (item : Item) → IsNameFirst text name right → IsValueFirst right said rest
     → item ≡ record { name = name; value = said } → items_in (parts_at 44 text) ≡ option_map (λ (others : List Item). item ∷ others) (items_in (parts_behind 44 rest))
-usual_first text left right name said rest item split is token value made =
-    ap (λ (w : List ℕ). items_in (parts_at 44 w)) (split_whole 61 text left right (sym split)) ∙ value.items left (ap is_token_text (sym is) ∙ token)
-    ∙ ap (λ (n : List ℕ). option_map (λ (others : List Item). record { name = n; value = said } ∷ others) (items_in (parts_behind 44 rest))) (sym is)
+usual_first text right name said rest item n value made =
+    ap (λ (w : List ℕ). items_in (parts_at 44 w)) n.whole ∙ value.items n.left (ap is_token_text n.is_name ∙ n.is_token)
+    ∙ ap (λ (m : List ℕ). option_map (λ (others : List Item). record { name = m; value = said } ∷ others) (items_in (parts_behind 44 rest))) n.is_name
     ∙ ap (λ (i : Item). option_map (λ (others : List Item). i ∷ others) (items_in (parts_behind 44 rest))) (sym made)
 
-pub usual_shorter : (text left right said : List ℕ) (rest : Option (List ℕ)) → Some (left, right) ≡ split_at_byte 61 text → IsValueFirst right said rest → length (comma_and rest) ≤ length text
-usual_shorter text left right said rest split value =
-    let size : length text ≡ length left + length (61 ∷ right) = ap length (split_whole 61 text left right (sym split)) ∙ length-append left (61 ∷ right) in
+pub usual_shorter : (text right name said : List ℕ) (rest : Option (List ℕ)) → IsNameFirst text name right → IsValueFirst right said rest → length (comma_and rest) ≤ length text
+usual_shorter text right name said rest n value =
+    let size : length text ≡ length n.left + length (61 ∷ right) = ap length n.whole ∙ length-append n.left (61 ∷ right) in
     omega (arith, size, value.shorter)
 
 -- ---- one item more

@@ -12,6 +12,13 @@ abbrev pub comma_and : Option (List ℕ) → List ℕ
 comma_and None = []
 comma_and (Some rest) = byte "," ∷ rest
 
+-- A text begins with a name, blanks before it, and `=`, and this follows.
+pub record IsNameFirst (text name right : List ℕ) : Type 0 where
+  pub left : List ℕ
+  pub whole : text ≡ left ++ byte "=" ∷ right
+  pub is_name : trimmed left ≡ name
+  pub is_token : is_token_text name ≡ true
+
 -- A text begins with a value, which says this, and goes on so behind a comma: behind a name and `=` they are its first item and what follows it.
 pub record IsValueFirst (text said : List ℕ) (rest : Option (List ℕ)) : Type 0 where
   pub items : (left : List ℕ) → is_token_text (trimmed left) ≡ true

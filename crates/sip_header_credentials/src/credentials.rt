@@ -3,12 +3,12 @@ ghost use Rattle.sip_text.specs.Cuts.{parts_at, parts_behind};
 ghost use Rattle.sip_text.specs.Escapes.{plain_front};
 ghost use Rattle.sip_header_credentials.specs.Credentials.{value_said, item_from, item_in, items_in, item_value, names_differ};
 ghost use Rattle.sip_header_credentials.specs.Credentials.{credentials_from, from_items, credentials_of};
-ghost use Rattle.sip_header_credentials.specs.UsualItems.{comma_and, IsValueFirst};
+ghost use Rattle.sip_header_credentials.specs.UsualItems.{comma_and, IsNameFirst, IsValueFirst};
 
 use sip_message_fields::Value;
 use sip_text::{
     Text, TextError, all_differ, first_part, is_token, plain_quoted, same_no_case, split_once,
-    split_outside, split_word, unquote, without_blanks,
+    split_outside, split_token, split_word, unquote, without_blanks, without_front_blanks,
 };
 use std::alloc::{AllocError, Global};
 
@@ -169,17 +169,28 @@ fn plain_item<'v>(name: &'v [u8], value: &'v [u8]) -> Item<'v>
     Item { name, value }
 }
 
+/// The token that stands, but for blanks, at the front of a text, and what follows the `=` behind it: so each byte is read
+/// once.
+fn usual_name(text: &[u8]) -> Option<(&[u8], &[u8])>
+    ensures { IfSome result (λ x. IsNameFirst text.now x.0.now x.1.now) }
+{
+    let (name, rest) = split_token(without_front_blanks(text));
+    if name.is_empty() {
+        return None;
+    }
+    let Some((b'=', right)) = rest.split_first() else {
+        return None;
+    };
+    Some((name, right))
+}
+
 /// The first item of a list, and what follows its comma, if the item is in its usual form: then one pass reads it.
 fn usual_item(text: &[u8]) -> Option<(Item<'_>, Option<&[u8]>)>
     ensures items { IfSome result (λ x. items_in (parts_at 44 text.now)
         ≡ option_map (λ others. x.0 ∷ others) (items_in (parts_behind 44 (option_map (λ y. y.now) x.1)))) }
     ensures shorter { IfSome result (λ x. length (comma_and (option_map (λ y. y.now) x.1)) ≤ length text.now) }
 {
-    let (left, right) = split_once(text, b'=')?;
-    let name = without_blanks(left);
-    if !is_token(name) {
-        return None;
-    }
+    let (name, right) = usual_name(text)?;
     let value = usual_value(right)?;
     Some((plain_item(name, value.said), value.rest))
 }
