@@ -17,6 +17,7 @@ use Rattle.sip_header.specs.declared.name_addr.NameAddr.{NameAddr}
 use Rattle.sip_header.specs.declared.contact_item.ContactItem.TheVariants.{Address}
 use Rattle.sip_header.specs.NameAddr.{IsAnyUri, IsNameAddr}
 use Rattle.sip_header.specs.ContactItem.{contact_of}
+use Rattle.sip_header.specs.Route.{route_of}
 use Rattle.sip_header.proofs.NameAddrLaws.{written_contact}
 use Rattle.sip_header.specs.PlainAddress.{IsBracketedPlace}
 use Rattle.sip_validate.specs.Faults.{is_sip, may_be_bound, is_bindable}
@@ -72,3 +73,11 @@ short_bound value address is le = by_uri value address address.uri (written_cont
 -- an address in brackets and nothing else, of at most 512 bytes, may be bound
 pub plain_bound : (value host : List ℕ) (port : Option ℕ) → IsBracketedPlace value host port → length value ≤ 512 → (is_some (contact_of value) && is_bindable (contact_of value)) ≡ true
 plain_bound value host port place le = ap (λ item. is_some item && is_bindable item) place.is_contact ∙ short_bound value place.address place.is_contact le ∙ ap is_sip place.has_uri
+
+-- ---- a value that is an address in brackets
+
+pub plain_contact : (value host : List ℕ) (port : Option ℕ) → IsBracketedPlace value host port → true ≡ is_some (contact_of value)
+plain_contact value host port place = sym (ap is_some place.is_contact)
+
+pub plain_route : (value host : List ℕ) (port : Option ℕ) → IsBracketedPlace value host port → true ≡ is_some (route_of value)
+plain_route value host port place = sym (ap is_some place.is_route)

@@ -58,16 +58,24 @@ fn is_own_via(alloc: Global, own: &Own, value: &[u8]) -> Result<Option<bool>, Al
 }
 
 /// Whether a value is an item of Route or Record-Route.
+#[tactic(auto, using(crate::proofs::Lengths::plain_route))]
 fn is_route(alloc: Global, value: &[u8]) -> Result<bool, AllocError>
     ensures { IfOk result (λ is_route. is_route ≡ is_some (Routes.route_of value.now)) }
 {
+    if bracketed_place(value).is_some() {
+        return Ok(true);
+    }
     Ok(route_of(alloc, value)?.is_some())
 }
 
 /// Whether a value is an item of Contact.
+#[tactic(auto, using(crate::proofs::Lengths::plain_contact))]
 fn is_contact(alloc: Global, value: &[u8]) -> Result<bool, AllocError>
     ensures { IfOk result (λ is_contact. is_contact ≡ is_some (Contacts.contact_of value.now)) }
 {
+    if bracketed_place(value).is_some() {
+        return Ok(true);
+    }
     Ok(contact_of(alloc, value)?.is_some())
 }
 
