@@ -1,13 +1,20 @@
 -- Each digest is found where it stands, whatever happens to the list of them.
-use Rattle.std.proofs.Common.{◌≡◌, ◌≢◌, ℕ, ◌+◌, ◌-◌, ◌<◌, zero, suc, List, [], ◌∷◌, ◌++◌, length, cond, Bool, true, false, refl, sym, ◌∙◌, ap, subst, arith, slice_get, get_or, Option, Some, None, is_some, swap, swap_remove, length-append, length-take, length-set, eqb-true}
+use Rattle.std.proofs.Common.{◌≡◌, ◌≢◌, ℕ, ◌+◌, ◌-◌, ◌<◌, zero, suc, List, [], ◌∷◌, ◌++◌, length, cond, Bool, true, false, refl, sym, ◌∙◌, ap, subst, set, arith, slice_get, get_or, Option, Some, None, is_some, swap, swap_remove, length-append, length-take, length-set, eqb-true}
 use Rattle.std.specs.Prelude.{◌&&◌, count_by, nat_eq}
 use Rattle.std.proofs.lemmas.Bool.Decides.{nat_tests}
-use Rattle.std.proofs.lemmas.List.{get_or_at}
+use Rattle.std.proofs.lemmas.List.{get_or_at, set-get_or}
 use Rattle.std.proofs.lemmas.List.Edits.{length-swap}
 use Rattle.std.proofs.lemmas.List.Sums.{sum_by_push, sum_by-swap_remove}
 use Rattle.std.proofs.lemmas.Option.{slice_get_within, slice_get-get_or, get_or_from_slice_get}
 use Rattle.sip_dialog.specs.Digests.{IsPlace, AreFound}
 use Rattle.sip_dialog.proofs.Places.{count_swapped, swapped_first, swapped_second, swapped_other, last_there, others_stay}
+
+-- what changes places with itself stays
+pub swap_self : (list : List ℕ) (a b : ℕ) → a ≡ b → list ≡ swap list a b
+swap_self [] a b e = refl
+swap_self (x ∷ xs) a b e =
+    sym (ap (λ (l : List ℕ). set l a (get_or (x ∷ xs) a x)) (set-get_or (x ∷ xs) a x) ∙ set-get_or (x ∷ xs) a x)
+    ∙ ap (λ (n : ℕ). swap (x ∷ xs) a n) e
 
 -- what a test of one digest counts of another
 counted_same : (d q : ℕ) → nat_eq d q ≡ true → cond {A = ℕ} (nat_eq q d) 1 0 ≡ 1

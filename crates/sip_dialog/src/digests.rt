@@ -98,6 +98,7 @@ impl Digests {
         Ok(())
     }
 
+    #[tactic(auto, using(crate::proofs::Finding::swap_self))]
     /// Two digests change places.
     pub(crate) fn swap(&mut self, a: usize, b: usize)
         requires a { a < length self.old.list }
@@ -105,6 +106,9 @@ impl Digests {
         ensures list { self.new.list ≡ swap self.old.list a b }
         ensures room { self.old.room ≤ self.new.room }
     {
+        if a == b {
+            return;
+        }
         let (first, second) = (self.list[a], self.list[b]);
         self.list.swap(a, b);
         move_to(&mut self.places, first, b);
