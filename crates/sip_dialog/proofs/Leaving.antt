@@ -36,6 +36,7 @@ module _ (leaves : Standing → Bool) where
     pub left : (test : Row → Bool) → count_by (stay test) new.entries ≡ count_by (stay test) old.entries
     pub len : length new.entries ≤ length old.entries
     pub room : old.room ≤ new.room
+    pub secret : new.secret ≡ old.secret
 
   -- one row further
   module _ (at : ℕ) (old now : Entries) (x : Row) (first : 0 < at) (h : Leaves at old now) (there : slice_get now.entries (at - 1) ≡ Some x) where
@@ -50,6 +51,7 @@ module _ (leaves : Standing → Bool) where
       left = h.left;
       len = h.len;
       room = h.room;
+      secret = h.secret;
     } where
       by_place : (k : ℕ) (d : Row) → at - 1 ≤ k → k < length now.entries → (k ≡ at - 1) ⊎ (k ≢ at - 1) → leaves (get_or now.entries k d).1 ≡ false
       by_place k d from lt (inl e) = ap (λ (r : Row). leaves r.1) (ap (λ (n : ℕ). get_or now.entries n d) e ∙ get_or_from_slice_get now.entries (at - 1) x d there) ∙ fails
@@ -58,8 +60,8 @@ module _ (leaves : Standing → Bool) where
     -- or is taken out
     pub row_left : (new : Entries) → leaves x.1 ≡ true → IsTakenOut now.entries (at - 1) new.entries
         → ((k : ℕ) → at - 1 ≤ k → k < length new.entries → StoodBehind now.entries (at - 1) new.entries k)
-        → length new.entries + 1 ≡ length now.entries → now.room ≤ new.room → Leaves (at - 1) old new
-    row_left new passes taken behind len room = record {
+        → length new.entries + 1 ≡ length now.entries → now.room ≤ new.room → new.secret ≡ now.secret → Leaves (at - 1) old new
+    row_left new passes taken behind len room secret = record {
       within = omega (arith, h.within, first, len);
       none = λ k d from lt.
           let stood = behind k from lt in
@@ -69,6 +71,7 @@ module _ (leaves : Standing → Bool) where
           omega (arith, taken x there (stay test), here, h.left test);
       len = omega (arith, h.len, len);
       room = omega (arith, h.room, room);
+      secret = secret ∙ h.secret;
     }
 
   all_stay : (test : Row → Bool) (rows : List Row) → NoneFrom 0 rows → count_by (stay test) rows ≡ count_by test rows

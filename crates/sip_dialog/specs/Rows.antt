@@ -44,10 +44,11 @@ pub record IsKnownAt (now : ℕ) (id : DialogId) (rows : List (DialogId × Stand
 abbrev pub HaveSuccessFrom : ℕ → List (DialogId × Standing) → Type 0
 HaveSuccessFrom early rows = (at : ℕ) (d : DialogId × Standing) → early ≤ at → at < length rows → (get_or rows at d).1.has_success ≡ true
 
--- the rows of a table, and how many more can be put in with no memory
+-- the rows of a table, how many more can be put in with no memory, and the secret of its digests
 pub record Entries : Type 0 where
   pub entries : List (DialogId × Standing)
   pub room : ℕ
+  pub secret : WordHasher
 
 -- so many rows stand in front, and behind them all are of dialogs with a 2xx
 pub record IsFront (early : ℕ) (rows : List (DialogId × Standing)) : Type 0 where

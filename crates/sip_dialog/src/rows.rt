@@ -25,7 +25,7 @@ const KNOWN: usize = 4096;
 
 /// The dialogs that stand in a table, by their names: those without a 2xx in front, so that these alone are
 /// looked at where an INVITE leaves the open requests. A name is found by its digest under a secret. Seen as all
-/// of them, in any order, and how many more can be put in with no memory.
+/// of them, in any order, how many more can be put in with no memory, and the secret.
 #[derive(Drop)]
 pub(crate) struct Rows {
     rows: Vec<(DialogId, Standing)>,
@@ -44,7 +44,11 @@ impl Model for Rows {
     ghost use Rattle.std.specs.Prelude.{◌-◌, min, vec_len, vec_capacity};
     ghost use Rattle.sip_dialog.specs.Rows.{AreNamed, IsFront};
 
-    ghost view = { λ r. record { entries = r.rows.items; room = min (vec_capacity r.rows - vec_len r.rows) r.digests.room } };
+    ghost view = { λ r. record {
+      entries = r.rows.items;
+      room = min (vec_capacity r.rows - vec_len r.rows) r.digests.room;
+      secret = r.keyed;
+    } };
 
     ghost invariant = { λ r. AreNamed r.keyed r.digests.list r.rows.items × IsFront r.early r.rows.items };
 }
@@ -89,14 +93,22 @@ impl Rows {
         self.digests.reserve()
     }
 
-    /// Where the row of a name stands.
-    fn find(&self, id: &DialogId) -> Option<usize>
+    /// The digest of a name, by which its row is found.
+    fn digest(&self, id: &DialogId) -> u64
+        ensures { result ≡ digest_of self.now.secret id.now }
+    {
+        digest_of(&self.keyed, id)
+    }
+
+    /// Where the row of a name stands, which has this digest.
+    fn find(&self, id: &DialogId, digest: u64) -> Option<usize>
+        requires { digest ≡ digest_of self.now.secret id.now }
         ensures { MatchOption result (StandsNowhere id.now self.now.entries) (StandsAt id.now self.now.entries) }
     {
         if self.digests.is_shared() {
             return search(self.rows.as_slice(), id);
         }
-        let at = self.digests.find(digest_of(&self.keyed, id))?;
+        let at = self.digests.find(digest)?;
         if is_same_dialog(&self.rows[at].0, id) {
             Some(at)
         } else {
@@ -112,6 +124,7 @@ impl Rows {
         ensures behind { (k : ℕ) → at ≤ k → k < length self.new.entries → StoodBehind self.old.entries at self.new.entries k }
         ensures len { length self.new.entries + 1 ≡ length self.old.entries }
         ensures room { self.old.room ≤ self.new.room }
+        ensures secret { self.new.secret ≡ self.old.secret }
     {
         if at >= self.early {
             let _taken = self.rows.swap_remove(at);
@@ -144,14 +157,17 @@ impl Rows {
     pub(crate) fn allows(&self, id: &DialogId, address: Addr, now: u64) -> bool
         ensures { result ≡ is_in_dialog now (dialogs_in self.now.entries) id.now address }
     {
-        match self.find(id) {
+        let digest = self.digest(id);
+        match self.find(id, digest) {
             Some(at) => self.rows[at].1.allows(address, now),
             None => false,
         }
     }
 
-    /// Where the row of a dialog stands, if the dialog is known. A row that isn't known any more is forgotten.
-    fn meet(&mut self, id: &DialogId, now: u64) -> Option<usize>
+    /// Where the row of a dialog stands, whose name has this digest, if the dialog is known. A row that isn't known any
+    /// more is forgotten.
+    fn meet(&mut self, id: &DialogId, digest: u64, now: u64) -> Option<usize>
+        requires { digest ≡ digest_of self.old.secret id.now }
         ensures known { is_some result ≡ knows now id.now (dialogs_in self.old.entries) }
         ensures same { SameDialogs now (dialogs_in self.new.entries) (dialogs_in self.old.entries) }
         ensures met { IfSome result (IsKnownAt now id.now self.new.entries) }
@@ -159,8 +175,9 @@ impl Rows {
         ensures unmet { IfNone result (StandsNowhere id.now self.new.entries) }
         ensures len { length self.new.entries ≤ length self.old.entries }
         ensures room { self.old.room ≤ self.new.room }
+        ensures secret { self.new.secret ≡ self.old.secret }
     {
-        let at = match self.find(id) {
+        let at = match self.find(id, digest) {
             Some(at) => at,
             None => return None,
         };
@@ -177,7 +194,8 @@ impl Rows {
         ensures len { length self.new.entries ≤ length self.old.entries }
         ensures room { self.old.room ≤ self.new.room }
     {
-        if let Some(at) = self.meet(id, now) {
+        let digest = self.digest(id);
+        if let Some(at) = self.meet(id, digest, now) {
             self.rows[at].1.tell(addresses);
         }
     }
@@ -188,7 +206,8 @@ impl Rows {
         ensures len { length self.new.entries ≤ length self.old.entries }
         ensures room { self.old.room ≤ self.new.room }
     {
-        if let Some(at) = self.meet(id, now) {
+        let digest = self.digest(id);
+        if let Some(at) = self.meet(id, digest, now) {
             self.rows[at].1.renew(addresses, now);
         }
     }
@@ -199,7 +218,8 @@ impl Rows {
         ensures len { length self.new.entries ≤ length self.old.entries }
         ensures room { self.old.room ≤ self.new.room }
     {
-        if let Some(at) = self.find(id) {
+        let digest = self.digest(id);
+        if let Some(at) = self.find(id, digest) {
             self.take_out(at);
         }
     }
@@ -225,6 +245,7 @@ impl Rows {
         ensures absent { (id : DialogId) → StandsNowhere id self.old.entries → StandsNowhere id self.new.entries }
         ensures len { length self.new.entries ≤ length self.old.entries }
         ensures room { self.old.room ≤ self.new.room }
+        ensures secret { self.new.secret ≡ self.old.secret }
     {
         let mut place = self.rows.len();
         while place > 0 {
@@ -245,6 +266,7 @@ impl Rows {
         ensures few { result ≡ true → length self.new.entries < 4096 }
         ensures len { length self.new.entries ≤ length self.old.entries }
         ensures room { self.old.room ≤ self.new.room }
+        ensures secret { self.new.secret ≡ self.old.secret }
     {
         if self.rows.len() < KNOWN {
             return true;
@@ -253,9 +275,11 @@ impl Rows {
         self.rows.len() < KNOWN
     }
 
-    /// Makes a dialog known that no row has. Of want of memory it says `NoMemory`, and leaves the rows.
-    fn begin(&mut self, answer: InviteAnswer) -> Result<(), DialogError>
-        requires { StandsNowhere answer.id self.old.entries }
+    /// Makes a dialog known that no row has, and whose name has this digest. Of want of memory it says `NoMemory`, and
+    /// leaves the rows.
+    fn begin(&mut self, answer: InviteAnswer, digest: u64) -> Result<(), DialogError>
+        requires new { StandsNowhere answer.id self.old.entries }
+        requires digest { digest ≡ digest_of self.old.secret answer.id }
         ensures ok { OnOk result ((p : Dialog → Bool) → count_by p (dialogs_in self.new.entries)
             ≡ count_by p (dialogs_in self.old.entries ++ begun answer ∷ [])) }
         ensures len { OnOk result (length self.new.entries ≡ length self.old.entries + 1) }
@@ -265,7 +289,7 @@ impl Rows {
         ensures left { self.old.room ≤ self.new.room + 1 }
     {
         self.rows.reserve(1)?;
-        self.digests.push(digest_of(&self.keyed, &answer.id))?;
+        self.digests.push(digest)?;
         let last = self.rows.len();
         let is_success = answer.is_success;
         self.rows.push_reserved(Standing::begin(answer));
@@ -287,7 +311,8 @@ impl Rows {
         ensures left { self.old.room ≤ self.new.room + 1 }
         ensures len { length self.new.entries ≤ 4096 }
     {
-        if let Some(at) = self.meet(&answer.id, now) {
+        let digest = self.digest(&answer.id);
+        if let Some(at) = self.meet(&answer.id, digest, now) {
             self.rows[at].1.answer_again(&answer);
             self.settle(at);
             return Ok(());
@@ -295,6 +320,6 @@ impl Rows {
         if !self.has_place(now) {
             return Err(DialogError::Full);
         }
-        self.begin(answer)
+        self.begin(answer, digest)
     }
 }
