@@ -22,8 +22,8 @@ use Rattle.sip_state.specs.declared.open_request.Upward.{Upward}
 use Rattle.sip_state.specs.State.{is_invite, is_success, has_left}
 use Rattle.sip_state.specs.Dialogs as Dialogs
 use Rattle.sip_dialog_lessons.specs.declared.lesson.Lesson.{Lesson}
-use Rattle.sip_dialog_lessons.specs.declared.lesson.Lesson.TheVariants.{Renew, Expire}
-use Rattle.sip_dialog_lessons.specs.Lessons.{after_lesson, after_one, after_lessons, may_begin, beginnings}
+use Rattle.sip_dialog_lessons.specs.declared.lesson.Lesson.TheVariants.{Learn, Teach, Renew, End, Expire}
+use Rattle.sip_dialog_lessons.specs.Lessons.{after_lesson, after_lessons, may_begin, beginnings}
 use Rattle.sip_dialog_lessons.specs.Telling.{is_early_or_success}
 use Rattle.sip_dialog_lessons.proofs.Order.{after_more}
 
@@ -75,14 +75,33 @@ pub within_told : (server : Server) (now : ℕ) (r : OpenRequest) (u : Upward) (
 within_told server now r u id after dialogs lt named is =
     is ∙ ap (λ (o : Option DialogId). Dialogs.after_answer_of server now r u o dialogs) named ∙ if_false (nat_le u.status 100) _ _ (is_above u.status 100 lt)
 
--- what there is does what was said of it
-pub some_told : (now : ℕ) (o : Option Lesson) (lesson : Lesson) (dialogs after : List Dialog) → o ≡ Some lesson → after_one now o dialogs ≡ after → after_lesson now lesson dialogs ≡ after
-some_told now o lesson dialogs after e is = ap (λ (x : Option Lesson). after_one now x dialogs) (sym e) ∙ is
-
 -- ---- lists
 
 pub one_more : (now : ℕ) (old new : List Lesson) (lesson : Lesson) (dialogs : List Dialog) → new ≡ old ++ lesson ∷ [] → after_lessons now new dialogs ≡ after_lesson now lesson (after_lessons now old dialogs)
 one_more now old new lesson dialogs e = ap (λ (lessons : List Lesson). after_lessons now lessons dialogs) e ∙ after_more now old (lesson ∷ []) dialogs
+
+pub ended_more : (server : Server) (now : ℕ) (r : OpenRequest) (u : Upward) (id : DialogId) (old new : List Lesson) (dialogs : List Dialog) → new ≡ old ++ End id ∷ []
+    → (bytes_eq r.key.method (codes "BYE") && is_success u.status) ≡ true → after_lessons now new dialogs ≡ Dialogs.after_answer_within server now r u id (after_lessons now old dialogs)
+ended_more server now r u id old new dialogs pushed ends =
+    one_more now old new (End id) dialogs pushed ∙ if_true (bytes_eq r.key.method (codes "BYE") && is_success u.status) _ _ ends
+
+pub taught_more_within : (server : Server) (now : ℕ) (r : OpenRequest) (u : Upward) (id : DialogId) (rows : List HostAddress) (addresses : List Addr) (old new : List Lesson) (dialogs : List Dialog)
+    → server.config.addresses ≡ rows → addresses ≡ addresses_in (address_of rows) u.message.fields → (bytes_eq r.key.method (codes "BYE") && is_success u.status) ≡ false
+    → new ≡ old ++ Teach id addresses ∷ [] → after_lessons now new dialogs ≡ Dialogs.after_answer_within server now r u id (after_lessons now old dialogs)
+taught_more_within server now r u id rows addresses old new dialogs e is ends pushed =
+    one_more now old new (Teach id addresses) dialogs pushed ∙ taught_within server now r u id rows addresses (after_lessons now old dialogs) e is ends
+
+pub learnt_more : (server : Server) (now : ℕ) (r : OpenRequest) (u : Upward) (id : DialogId) (answer : InviteAnswer) (old new : List Lesson) (dialogs : List Dialog)
+    → answer ≡ Dialogs.invite_answer server r u id → u.status ≤ 299 → new ≡ old ++ Learn answer ∷ []
+    → after_lessons now new dialogs ≡ Dialogs.after_invite_answer server now r u id (after_lessons now old dialogs)
+learnt_more server now r u id answer old new dialogs is le pushed =
+    one_more now old new (Learn answer) dialogs pushed ∙ learnt_by server now r u id answer (after_lessons now old dialogs) is le
+
+pub taught_more : (server : Server) (now : ℕ) (r : OpenRequest) (u : Upward) (id : DialogId) (rows : List HostAddress) (addresses : List Addr) (old new : List Lesson) (dialogs : List Dialog)
+    → server.config.addresses ≡ rows → addresses ≡ addresses_in (address_of rows) u.message.fields → 299 < u.status → new ≡ old ++ Teach id addresses ∷ []
+    → after_lessons now new dialogs ≡ Dialogs.after_invite_answer server now r u id (after_lessons now old dialogs)
+taught_more server now r u id rows addresses old new dialogs e is lt pushed =
+    one_more now old new (Teach id addresses) dialogs pushed ∙ taught_by server now r u id rows addresses (after_lessons now old dialogs) e is lt
 
 pub renewed_by : (server : Server) (now : ℕ) (id : DialogId) (m : Message) (rows : List HostAddress) (addresses : List Addr) (old new : List Lesson) (dialogs : List Dialog)
     → server.config.addresses ≡ rows → addresses ≡ addresses_in (address_of rows) m.fields → new ≡ old ++ Renew id addresses ∷ []

@@ -1,4 +1,4 @@
-ghost use Rattle.std.specs.Prelude.{◌≡◌, ◌&&◌, ◌++◌, ◌∷◌, true, false, nat_le, codes, IfOk};
+ghost use Rattle.std.specs.Prelude.{◌≡◌, ◌≤◌, ◌<◌, ◌+◌, ◌&&◌, ◌++◌, ◌∷◌, nat_le, codes, if◌then◌else◌, IfOk, OnOk};
 ghost use Rattle.std.specs.Option.{option_to_list};
 ghost use Rattle.std.specs.Str.{bytes_eq};
 ghost use Rattle.sip_hops.specs.HostAddress.{address_of};
@@ -6,21 +6,22 @@ ghost use Rattle.sip_dialog.specs.Addresses.{addresses_in};
 ghost use Rattle.sip_state.specs.declared.server.Server.{Server};
 ghost use Rattle.sip_state.specs.State as States;
 ghost use Rattle.sip_state.specs.Dialogs as Dialogs;
-ghost use Rattle.sip_dialog_lessons.specs.Lessons.{may_begin, begins};
-ghost use Rattle.sip_dialog_lessons.specs.Telling.{Does, DoesOr, is_early_or_success};
+ghost use Rattle.sip_dialog_lessons.specs.Lessons.{beginnings};
+ghost use Rattle.sip_dialog_lessons.specs.Telling.{Adds, is_early_or_success};
 
 use crate::calls::is_bye;
-use crate::given::{addresses_of, given_by, put_addresses};
+use crate::given::{given_by, put_kept};
 use crate::lesson::Lesson;
 use crate::naming::answered_dialog;
 use sip_dialog::{DialogId, InviteAnswer};
 use sip_hops::Hops;
-use sip_message_fields::ViewField;
-use sip_message_form::View;
 use sip_state::{OpenRequest, Upward, is_invite, is_success};
 use sip_text::Items;
 use sip_uri::Addr;
 use std::alloc::{AllocError, Global};
+
+/// For how many addresses room is made at once: an INVITE and its answer mostly give no more.
+const USUAL: usize = 8;
 
 /// Whether an answer ends the dialog of its request: a 2xx to a BYE (RFC 3261 15).
 fn ends_dialog(request: &OpenRequest, up: &Upward) -> bool
@@ -29,30 +30,33 @@ fn ends_dialog(request: &OpenRequest, up: &Upward) -> bool
     is_bye(request) && is_success(up.status)
 }
 
-/// What an answer to a request of a dialog tells it (RFC 3261 15).
-fn lesson_within(
+/// Adds what an answer to a request of a dialog tells it (RFC 3261 15).
+fn put_within(
     alloc: Global,
     hops: &Hops,
+    list: &mut Vec<Lesson>,
     request: &OpenRequest,
     up: &Upward,
     id: DialogId,
-) -> Result<Lesson, AllocError>
-    ensures does { IfOk result (λ lesson. Does hops.now.addresses lesson
+) -> Result<(), AllocError>
+    ensures told { OnOk result (Adds hops.now.addresses list.old.items list.new.items
         (λ server now dialogs. Dialogs.after_answer_within server now request.now up.now id dialogs)) }
-    ensures room { IfOk result (λ lesson. may_begin lesson ≡ false) }
+    ensures room { OnOk result (beginnings list.new.items ≡ beginnings list.old.items) }
 {
     if ends_dialog(request, up) {
-        return Ok(Lesson::End(id));
+        list.push(Lesson::End(id))?;
+        return Ok(());
     }
     let addresses = given_by(alloc, hops, up.message.get())?;
-    Ok(Lesson::Teach { id, addresses })
+    list.push(Lesson::Teach { id, addresses })?;
+    Ok(())
 }
 
 /// The address that an INVITE came from, and that of the branch which answered it, if it is known.
 fn both_ends(alloc: Global, request: &OpenRequest, up: &Upward) -> Result<Items<Addr>, AllocError>
     ensures { IfOk result (λ addresses. addresses ≡ request.now.source ∷ option_to_list up.now.target) }
 {
-    let mut addresses = Items::new(alloc);
+    let mut addresses = Items::with_room(alloc, USUAL)?;
     addresses.push(request.source)?;
     if let Some(target) = up.target {
         addresses.push(target)?;
@@ -60,41 +64,36 @@ fn both_ends(alloc: Global, request: &OpenRequest, up: &Upward) -> Result<Items<
     Ok(addresses)
 }
 
-/// The addresses that an answer to an INVITE tells the dialog that it begins, by its fields.
+/// The addresses that an answer to an INVITE tells the dialog that it begins.
 fn invite_addresses(
     alloc: Global,
     hops: &Hops,
     request: &OpenRequest,
     up: &Upward,
-    fields: &[ViewField<'_>],
 ) -> Result<Items<Addr>, AllocError>
     ensures { IfOk result (λ addresses. addresses ≡ request.now.source ∷ option_to_list up.now.target
-        ++ addresses_in (address_of hops.now.addresses) request.now.request.fields ++ addresses_in (address_of hops.now.addresses) fields.now) }
+        ++ addresses_in (address_of hops.now.addresses) request.now.request.fields
+        ++ addresses_in (address_of hops.now.addresses) up.now.message.fields) }
 {
     let mut addresses = both_ends(alloc, request, up)?;
-    request
-        .request
-        .get()
-        .put_addresses(alloc, hops, &mut addresses)?;
-    put_addresses(alloc, hops, &mut addresses, fields)?;
+    let invite = request.request.get();
+    invite.put_addresses(alloc, hops, &mut addresses)?;
+    put_kept(alloc, hops, &mut addresses, up.message.get())?;
     Ok(addresses)
 }
 
-/// What an answer to an INVITE, of which this is a view, tells of the dialog that it names.
+/// What an answer to an INVITE tells of the dialog that it names.
 fn invite_answer(
     alloc: Global,
     hops: &Hops,
     request: &OpenRequest,
     up: &Upward,
-    answer: &View<'_>,
     id: DialogId,
 ) -> Result<InviteAnswer, AllocError>
-    requires { answer.now ≡ up.now.message }
     ensures { IfOk result (λ answer. (server : Server) → server.config.addresses ≡ hops.now.addresses → answer
         ≡ Dialogs.invite_answer server request.now up.now id) }
 {
-    let fields = answer.fields().as_slice();
-    let addresses = invite_addresses(alloc, hops, request, up, fields)?;
+    let addresses = invite_addresses(alloc, hops, request, up)?;
     Ok(InviteAnswer {
         id,
         number: request.number,
@@ -104,89 +103,70 @@ fn invite_answer(
     })
 }
 
-/// What an answer above 100 to an INVITE, of which this is a view, tells of the dialog that it begins (RFC 3261 12.1).
-fn invite_lesson(
+/// Adds what an answer above 100 to an INVITE tells of the dialog that it begins (RFC 3261 12.1).
+fn put_invite(
     alloc: Global,
     hops: &Hops,
+    list: &mut Vec<Lesson>,
     request: &OpenRequest,
     up: &Upward,
-    answer: &View<'_>,
     id: DialogId,
-) -> Result<Lesson, AllocError>
-    requires { answer.now ≡ up.now.message }
-    ensures does { IfOk result (λ lesson. Does hops.now.addresses lesson
+) -> Result<(), AllocError>
+    ensures told { OnOk result (Adds hops.now.addresses list.old.items list.new.items
         (λ server now dialogs. Dialogs.after_invite_answer server now request.now up.now id dialogs)) }
-    ensures room { IfOk result (λ lesson. may_begin lesson ≡ true → nat_le up.now.status 299 ≡ true) }
+    ensures room { OnOk result (beginnings list.new.items ≤ beginnings list.old.items + (if nat_le up.now.status 299 then 1 else 0)) }
 {
     if up.status <= 299 {
-        let learnt = invite_answer(alloc, hops, request, up, answer, id)?;
-        return Ok(Lesson::Learn(learnt));
+        let answer = invite_answer(alloc, hops, request, up, id)?;
+        list.push(Lesson::Learn(answer))?;
+        return Ok(());
     }
-    let addresses = addresses_of(alloc, hops, answer)?;
-    Ok(Lesson::Teach { id, addresses })
+    let addresses = given_by(alloc, hops, up.message.get())?;
+    list.push(Lesson::Teach { id, addresses })?;
+    Ok(())
 }
 
-/// What an answer above 100 to an INVITE outside a dialog tells, of which this is a view.
-fn first_invite_lesson(
+/// Adds what an answer above 100 to a request outside a dialog tells.
+fn put_first(
     alloc: Global,
     hops: &Hops,
+    list: &mut Vec<Lesson>,
     request: &OpenRequest,
     up: &Upward,
-    answer: &View<'_>,
-) -> Result<Option<Lesson>, AllocError>
-    requires invite { States.is_invite request.now ≡ true }
-    requires view { answer.now ≡ up.now.message }
-    ensures does { IfOk result (λ lesson. DoesOr hops.now.addresses lesson
+) -> Result<(), AllocError>
+    ensures told { OnOk result (Adds hops.now.addresses list.old.items list.new.items
         (λ server now dialogs. Dialogs.after_first_answer server now request.now up.now dialogs)) }
-    ensures room { IfOk result (λ lesson. begins lesson ≡ true → nat_le up.now.status 299 ≡ true) }
-{
-    match answered_dialog(alloc, request, answer)? {
-        Some(id) => Ok(Some(invite_lesson(alloc, hops, request, up, answer, id)?)),
-        None => Ok(None),
-    }
-}
-
-/// What an answer above 100 to a request outside a dialog tells.
-fn first_lesson(
-    alloc: Global,
-    hops: &Hops,
-    request: &OpenRequest,
-    up: &Upward,
-) -> Result<Option<Lesson>, AllocError>
-    ensures does { IfOk result (λ lesson. DoesOr hops.now.addresses lesson
-        (λ server now dialogs. Dialogs.after_first_answer server now request.now up.now dialogs)) }
-    ensures room { IfOk result (λ lesson. begins lesson ≡ true → nat_le up.now.status 299 ≡ true) }
+    ensures room { OnOk result (beginnings list.new.items ≤ beginnings list.old.items + (if nat_le up.now.status 299 then 1 else 0)) }
 {
     if !is_invite(request) {
-        return Ok(None);
+        return Ok(());
     }
-    let answer = up.message.get().view(alloc)?;
-    first_invite_lesson(alloc, hops, request, up, &answer)
+    let Some(id) = answered_dialog(alloc, request, up.message.get())? else {
+        return Ok(());
+    };
+    put_invite(alloc, hops, list, request, up, id)?;
+    Ok(())
 }
 
-/// The dialog that an open request names.
-fn dialog_of_call(alloc: Global, request: &OpenRequest) -> Result<Option<DialogId>, AllocError>
-    ensures { IfOk result (λ id. id ≡ Dialogs.dialog_of request.now.request) }
-{
-    request.request.get().dialog(alloc)
-}
-
-/// What an answer that goes to the caller tells the dialogs, if it tells them anything.
-pub(crate) fn lesson_of(
+/// Adds what an answer tells that goes to the caller of a request.
+pub(crate) fn put_answer(
     alloc: Global,
     hops: &Hops,
+    list: &mut Vec<Lesson>,
     request: &OpenRequest,
     up: &Upward,
-) -> Result<Option<Lesson>, AllocError>
-    ensures does { IfOk result (λ lesson. DoesOr hops.now.addresses lesson
+) -> Result<(), AllocError>
+    ensures told { OnOk result (Adds hops.now.addresses list.old.items list.new.items
         (λ server now dialogs. Dialogs.after_answer server now request.now up.now dialogs)) }
-    ensures room { IfOk result (λ lesson. begins lesson ≡ true → is_early_or_success up.now ≡ true) }
+    ensures room { OnOk result (beginnings list.new.items ≤ beginnings list.old.items + (if is_early_or_success up.now then 1 else 0)) }
 {
     if up.status <= 100 {
-        return Ok(None);
+        return Ok(());
     }
-    match dialog_of_call(alloc, request)? {
-        Some(id) => Ok(Some(lesson_within(alloc, hops, request, up, id)?)),
-        None => first_lesson(alloc, hops, request, up),
-    }
+    let Some(id) = request.request.get().dialog(alloc)? else {
+        put_first(alloc, hops, list, request, up)?;
+        return Ok(());
+    };
+    put_within(alloc, hops, list, request, up, id)?;
+    Ok(())
 }

@@ -1,5 +1,7 @@
-ghost use Rattle.std.specs.Prelude.{◌≡◌, ◌++◌, ◌||◌, IfOk, OnOk};
+ghost use Rattle.std.specs.Prelude.{◌≡◌, ◌++◌, ◌||◌, ℕ, List, false, IfOk, OnOk};
 ghost use Rattle.sip_message_fields.specs.FieldName.{is_same_name};
+ghost use Rattle.sip_message_fields.specs.KnownName.{name_seen};
+ghost use Rattle.sip_message_fields.specs.KeptField.{field_kept, IsStored};
 ghost use Rattle.sip_message_fields.specs.declared.field_name.FieldName.TheVariants as Name;
 ghost use Rattle.sip_hops.specs.HostAddress.{address_of};
 ghost use Rattle.sip_dialog.specs.Addresses as Given;
@@ -7,7 +9,7 @@ ghost use Rattle.sip_dialog.specs.Addresses as Given;
 use sip_dialog::item_in;
 use sip_header::{AnyUri, bracketed_place};
 use sip_hops::Hops;
-use sip_message_fields::{FieldName, ViewField};
+use sip_message_fields::{FieldName, KeptField, KnownName, Value, ViewField, ViewName};
 use sip_message_form::{Kept, View};
 use sip_text::Items;
 use sip_uri::Addr;
@@ -31,7 +33,24 @@ fn gives_address(field: &ViewField<'_>) -> bool
     name.is_same(&FieldName::Contact) || name.is_same(&FieldName::RecordRoute)
 }
 
+/// The address that a Contact or a Record-Route gives. It stands apart, so that no room is made for a URI where none is
+/// read.
+#[inline(never)]
+fn parsed_address(
+    alloc: Global,
+    hops: &Hops,
+    field: &ViewField<'_>,
+) -> Result<Option<Addr>, AllocError>
+    ensures { IfOk result (λ address. address ≡ Given.address_in (address_of hops.now.addresses) field.now) }
+{
+    match item_in(alloc, field)? {
+        Some(item) => Ok(address_by(hops, &item.uri)),
+        None => Ok(None),
+    }
+}
+
 /// The address that a Contact or a Record-Route gives: no URI is made of one as most are written.
+#[inline(always)]
 #[tactic(auto, using(crate::proofs::PlainAddresses::address_is, crate::proofs::PlainAddresses::no_address))]
 fn address_in(alloc: Global, hops: &Hops, field: &ViewField<'_>) -> Result<Option<Addr>, AllocError>
     ensures { IfOk result (λ address. address ≡ Given.address_in (address_of hops.now.addresses) field.now) }
@@ -42,14 +61,11 @@ fn address_in(alloc: Global, hops: &Hops, field: &ViewField<'_>) -> Result<Optio
     if let Some((host, port)) = bracketed_place(field.value().as_slice()) {
         return Ok(hops.address_at(host, port.unwrap_or(5060)));
     }
-    match item_in(alloc, field)? {
-        Some(item) => Ok(address_by(hops, &item.uri)),
-        None => Ok(None),
-    }
+    parsed_address(alloc, hops, field)
 }
 
 /// Adds the addresses that some fields give.
-pub(crate) fn put_addresses(
+fn put_addresses(
     alloc: Global,
     hops: &Hops,
     out: &mut Items<Addr>,
@@ -65,6 +81,67 @@ pub(crate) fn put_addresses(
     Ok(())
 }
 
+/// Whether a field that is kept so may be a Contact or a Record-Route: none of the other names that this project knows is.
+fn may_give(kept: &KeptField) -> bool
+    ensures { (written : List ℕ) → result ≡ false → (is_same_name (name_seen kept.now.known written) Name.Contact
+        || is_same_name (name_seen kept.now.known written) Name.RecordRoute) ≡ false }
+{
+    match kept.known {
+        Some(known) => {
+            known.is_same(KnownName::Contact) || known.is_same(KnownName::RecordRoute)
+        }
+        None => true,
+    }
+}
+
+/// The field that is kept so in a store, of which no byte is copied.
+fn field_in<'k>(store: &'k [u8], kept: &KeptField) -> ViewField<'k>
+    requires { IsStored store.now kept.now }
+    ensures { result ≡ field_kept store.now kept.now }
+{
+    let name = match kept.known {
+        Some(known) => ViewName::of_name(known),
+        None => ViewName::of_other(kept.spelling.of(store)),
+    };
+    ViewField::new(name, Value::of_part(kept.value.of(store)))
+}
+
+/// The address that a field which is kept so in a store gives.
+#[tactic(auto, using(crate::proofs::PlainAddresses::no_address))]
+fn kept_address(
+    alloc: Global,
+    hops: &Hops,
+    store: &[u8],
+    kept: &KeptField,
+) -> Result<Option<Addr>, AllocError>
+    requires { IsStored store.now kept.now }
+    ensures { IfOk result (λ address. address ≡ Given.address_in (address_of hops.now.addresses) (field_kept store.now kept.now)) }
+{
+    if !may_give(kept) {
+        return Ok(None);
+    }
+    let field = field_in(store, kept);
+    address_in(alloc, hops, &field)
+}
+
+/// Adds the addresses that a kept message gives. Of its fields only those are viewed that may give one.
+pub(crate) fn put_kept(
+    alloc: Global,
+    hops: &Hops,
+    out: &mut Items<Addr>,
+    message: &Kept,
+) -> Result<(), AllocError>
+    ensures { OnOk result (out.new ≡ out.old ++ Given.addresses_in (address_of hops.now.addresses) message.now.fields) }
+{
+    let (store, list) = message.places();
+    for kept in list {
+        if let Some(address) = kept_address(alloc, hops, store, kept)? {
+            out.push(address)?;
+        }
+    }
+    Ok(())
+}
+
 /// The addresses that a message gives, as kept.
 pub(crate) fn given_by(
     alloc: Global,
@@ -73,9 +150,8 @@ pub(crate) fn given_by(
 ) -> Result<Items<Addr>, AllocError>
     ensures { IfOk result (λ addresses. addresses ≡ Given.addresses_in (address_of hops.now.addresses) message.now.fields) }
 {
-    let fields = message.fields(alloc)?;
     let mut addresses = Items::new(alloc);
-    put_addresses(alloc, hops, &mut addresses, fields.as_slice())?;
+    put_kept(alloc, hops, &mut addresses, message)?;
     Ok(addresses)
 }
 

@@ -8,7 +8,7 @@ ghost use Rattle.sip_state.specs.Dialogs as Definitions;
 ghost use Rattle.sip_dialog_lessons.specs.Lessons.{after_lessons, beginnings, may_begin};
 ghost use Rattle.sip_dialog_lessons.specs.Telling.{Adds, is_early_or_success};
 
-use crate::answers::lesson_of;
+use crate::answers::put_answer;
 use crate::calls::is_left_invite;
 use crate::given::addresses_of;
 use crate::lesson::Lesson;
@@ -35,27 +35,6 @@ impl Model for Lessons {
     ghost Value = { List Lesson };
 
     ghost view = { λ l. l.list.items };
-}
-
-/// Adds what an answer tells that goes to the caller of a request.
-fn put_answer(
-    alloc: Global,
-    hops: &Hops,
-    list: &mut Vec<Lesson>,
-    request: &OpenRequest,
-    up: &Upward,
-) -> Result<(), AllocError>
-    ensures told { OnOk result (Adds hops.now.addresses list.old.items list.new.items
-        (λ server now dialogs. Definitions.after_answer server now request.now up.now dialogs)) }
-    ensures room { OnOk result (beginnings list.new.items ≤ beginnings list.old.items + (if is_early_or_success up.now then 1 else 0)) }
-{
-    match lesson_of(alloc, hops, request, up)? {
-        Some(lesson) => {
-            list.push(lesson)?;
-            Ok(())
-        }
-        None => Ok(()),
-    }
 }
 
 /// Adds what the answers tell that go to the caller of a request.
