@@ -1,5 +1,5 @@
 -- SipHash-1-3 over whole words, as functions of a `WordHasher`.
-use Rattle.std.specs.Prelude.{ℕ, zero, suc, ◌+◌, ◌*◌, ◌/◌, ◌%◌, ◌^◌, List, [], ◌∷◌, length, drop, fold, bit_xor}
+use Rattle.std.specs.Prelude.{ℕ, zero, suc, ◌+◌, ◌*◌, ◌/◌, ◌%◌, ◌^◌, ◌-◌, List, [], ◌∷◌, length, drop, fold, bit_xor, nat_lt, if◌then◌else◌}
 use Rattle.std.specs.Int.{w64, rotate_left, from_le_bytes}
 use Rattle.sip_base.specs.declared.word_hasher.WordHasher.{WordHasher}
 
@@ -28,22 +28,27 @@ write_word s m =
     let t = round (record { v0 = s.v0; v1 = s.v1; v2 = s.v2; v3 = bit_xor s.v3 m }) in
     record { v0 = bit_xor t.v0 m; v1 = t.v1; v2 = t.v2; v3 = t.v3 }
 
--- so many words of a text: eight bytes in each, the lowest first, and zeros behind the last byte
-abbrev pub words_in : ℕ → List ℕ → List ℕ
-words_in zero text = []
-words_in (suc count) text = from_le_bytes w64 text ∷ words_in count (drop 8 text)
+-- a word with one byte more
+unfoldable pub with_byte : ℕ → ℕ → ℕ
+with_byte word b = wrapping_add (word * 256 % 2 ^ 64) b
 
--- how many words a text of a length has
-abbrev pub word_count : ℕ → ℕ
-word_count size = (size + 7) / 8
+-- the last eight bytes of a text, the lowest first; of a shorter text all bytes, the last of them the lowest
+abbrev pub last_word : List ℕ → ℕ
+last_word text = if nat_lt (length text) 8 then fold with_byte 0 text else from_le_bytes w64 (drop (length text - 8) text)
 
--- the words of a text
-abbrev pub words_of : List ℕ → List ℕ
-words_of text = words_in (word_count (length text)) text
+-- so many whole words at the front of a text, and a last word where more bytes follow them
+abbrev pub words_before : ℕ → ℕ → List ℕ → List ℕ
+words_before last zero [] = []
+words_before last zero (b ∷ text) = last ∷ []
+words_before last (suc count) text = from_le_bytes w64 text ∷ words_before last count (drop 8 text)
 
--- the state after a text
+-- the state after the rest of a text whose last word is this
+unfoldable pub write_rest : WordHasher → ℕ → List ℕ → WordHasher
+write_rest s last rest = fold write_word s (words_before last (length rest / 8) rest)
+
+-- the state after a text: its whole words, and where bytes are left behind them its last eight
 unfoldable pub write : WordHasher → List ℕ → WordHasher
-write s text = fold write_word s (words_of text)
+write s text = write_rest s (last_word text) text
 
 -- what `finish` answers
 unfoldable pub finish : WordHasher → ℕ

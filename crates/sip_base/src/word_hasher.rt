@@ -1,12 +1,12 @@
-ghost use Rattle.std.specs.Prelude.{◌≡◌, ◌<◌, length, fold};
+ghost use Rattle.std.specs.Prelude.{◌≡◌, fold};
 ghost use Rattle.std.specs.Hash as fed;
-ghost use Rattle.std.specs.Int.{w64, from_le_bytes};
 ghost use Rattle.sip_base.specs.WordHasher as sip;
 
 use std::hash::Hasher;
 
-/// SipHash-1-3 over whole words: each write is words of its own, eight bytes in each, the lowest first, and zeros
-/// behind the last byte. So a text is told from another only where its length goes before it.
+/// SipHash-1-3 over whole words: each write is words of its own, eight bytes in each, the lowest first. Bytes that are left
+/// behind whole words are in a last word, which is that of the last eight bytes; fewer bytes in all are one word, the last
+/// the lowest. So a text is told from another only where its length goes before it.
 #[derive(Clone, Copy)]
 pub struct WordHasher {
     v0: u64,
@@ -15,14 +15,30 @@ pub struct WordHasher {
     v3: u64,
 }
 
-/// The word of fewer than eight bytes.
-fn last_word(bytes: &[u8]) -> u64
-    requires { length bytes.now < 8 }
-    ensures { result ≡ from_le_bytes w64 bytes.now }
+/// A word with one byte more.
+#[tactic(auto, unfolding(crate::specs::WordHasher::with_byte))]
+fn with_byte(word: u64, byte: u8) -> u64
+    ensures { result ≡ sip.with_byte word byte }
 {
-    let mut word = [0u8; 8];
-    word[..bytes.len()].copy_from_slice(bytes);
-    u64::from_le_bytes(word)
+    word.wrapping_mul(256).wrapping_add(u64::from(byte))
+}
+
+/// The word of a few bytes.
+fn word_of(bytes: &[u8]) -> u64
+    ensures { result ≡ fold sip.with_byte 0 bytes.now }
+{
+    bytes.iter().fold(0, |word, byte| with_byte(word, *byte))
+}
+
+/// The word of the last eight bytes, or of all where there are fewer.
+#[tactic(auto, using(crate::proofs::Words::long, crate::proofs::Words::short))]
+fn last_word(bytes: &[u8]) -> u64
+    ensures { result ≡ sip.last_word bytes.now }
+{
+    match bytes.last_chunk::<8>() {
+        Some(word) => u64::from_le_bytes(*word),
+        None => word_of(bytes),
+    }
 }
 
 impl WordHasher {
@@ -77,7 +93,7 @@ impl Hasher for WordHasher {
         state.v0 ^ state.v1 ^ state.v2 ^ state.v3
     }
 
-    #[tactic(auto, using(crate::proofs::Words::a_word, crate::proofs::Words::last))]
+    #[tactic(auto, using(crate::proofs::Words::whole, crate::proofs::Words::a_word, crate::proofs::Words::last_is))]
     fn write(&mut self, bytes: &[u8]) {
         let mut rest = bytes;
         while let Some((word, behind)) = rest.split_first_chunk::<8>() {
@@ -85,7 +101,7 @@ impl Hasher for WordHasher {
             rest = behind;
         }
         if !rest.is_empty() {
-            self.write_word(last_word(rest));
+            self.write_word(last_word(bytes));
         }
     }
 
