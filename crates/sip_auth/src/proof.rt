@@ -1,9 +1,11 @@
-ghost use Rattle.std.specs.Prelude.{◌≡◌, option_map};
+ghost use Rattle.std.specs.Prelude.{◌≡◌, option_map, IfOk};
 ghost use Rattle.sip_auth.specs.Proof.{judged, proven, is_stale, used};
 
 use crate::claim::Claim;
 use crate::finding::Finding;
+use sip_base::Shared;
 use sip_digest::{Nonces, Worth};
+use std::alloc::{AllocError, Global};
 use std::marker::Model;
 
 /// Whom a request proves to come from: a user by a credential; or a user, but for the nonce of it; or nobody. The
@@ -35,15 +37,15 @@ impl<'v> Proof<'v> {
     }
 
     /// What a claim proves by what its credential is worth.
-    pub(crate) fn judged(claim: Claim<'v>, worth: Worth) -> Self
-        ensures { result ≡ judged claim.entry worth }
+    pub(crate) fn judged(alloc: Global, claim: Claim<'v>, worth: Worth) -> Result<Self, AllocError>
+        ensures { IfOk result (λ proof. proof ≡ judged claim.entry worth) }
     {
         let finding = match worth {
-            Worth::Right => Finding::Right(claim),
+            Worth::Right => Finding::Right(Shared::new(alloc, claim)?),
             Worth::Stale => Finding::Stale,
             Worth::Wrong => Finding::Wrong,
         };
-        Proof { finding }
+        Ok(Proof { finding })
     }
 
     /// The name of the proven user. Takes no memory.
@@ -51,7 +53,7 @@ impl<'v> Proof<'v> {
         ensures { option_map (λ name. name.now) result ≡ proven self.now }
     {
         match &self.finding {
-            Finding::Right(claim) => Some(claim.name()),
+            Finding::Right(claim) => Some(claim.get().name()),
             Finding::Stale | Finding::Wrong => None,
         }
     }
@@ -72,7 +74,7 @@ impl<'v> Proof<'v> {
         ensures { nonces.new ≡ used nonces.old now self.now }
     {
         if let Finding::Right(claim) = &self.finding {
-            nonces.spend(&claim.credential(), now);
+            nonces.spend(&claim.get().credential(), now);
         }
     }
 }

@@ -25,15 +25,21 @@ fn key_of(user: &User, algorithm: Algorithm) -> Option<&[u8]>
 }
 
 /// What a claim to be a user proves.
-fn proof_by<'v>(user: &User, nonces: &Nonces, now: u64, claim: Claim<'v>) -> Proof<'v>
-    ensures { result ≡ proof_by nonces.now now claim.entry (Some user.now) }
+fn proof_by<'v>(
+    alloc: Global,
+    user: &User,
+    nonces: &Nonces,
+    now: u64,
+    claim: Claim<'v>,
+) -> Result<Proof<'v>, AllocError>
+    ensures { IfOk result (λ proof. proof ≡ proof_by nonces.now now claim.entry (Some user.now)) }
 {
     let credential = claim.credential();
     let Some(key) = key_of(user, credential.algorithm) else {
-        return Proof::wrong();
+        return Ok(Proof::wrong());
     };
     let worth = nonces.check(key, &credential, now);
-    Proof::judged(claim, worth)
+    Proof::judged(alloc, claim, worth)
 }
 
 /// What a claim for a request of a Request-URI proves.
@@ -55,7 +61,7 @@ fn proof_from<'v>(
         return Ok(Proof::wrong());
     }
     match users.find(claim.name()) {
-        Some(user) => Ok(proof_by(user, nonces, now, claim)),
+        Some(user) => proof_by(alloc, user, nonces, now, claim),
         None => Ok(Proof::wrong()),
     }
 }

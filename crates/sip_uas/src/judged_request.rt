@@ -19,13 +19,13 @@ use sip_transaction_table::Key;
 use std::alloc::{AllocError, Global};
 
 /// A request outside a dialog that was received, with what policy decided about it: all that its answer is made of.
-pub(crate) struct JudgedRequest<'a> {
+pub(crate) struct JudgedRequest<'a, 'v> {
     pub(crate) server: &'a Server,
     /// The datagram that brought it.
     pub(crate) arrival: Arrival,
     pub(crate) key: Shared<Key>,
     pub(crate) request: Shared<Heard>,
-    pub(crate) judged: &'a Judged<'a>,
+    pub(crate) judged: &'a Judged<'v>,
     /// Whether 1,024 requests are open, so that it isn't kept.
     pub(crate) is_full: bool,
     ghost key_is: { key_of request ≡ Some key },
@@ -33,7 +33,7 @@ pub(crate) struct JudgedRequest<'a> {
 }
 
 /// Written out, so that it is proved once and not wherever one is dropped.
-impl<'a> Drop for JudgedRequest<'a> {
+impl<'a, 'v> Drop for JudgedRequest<'a, 'v> {
     fn drop(self) {
         let JudgedRequest {
             server: _,
@@ -46,7 +46,7 @@ impl<'a> Drop for JudgedRequest<'a> {
     }
 }
 
-impl<'a> JudgedRequest<'a> {
+impl<'a, 'v> JudgedRequest<'a, 'v> {
     ghost use Rattle.sip_forwarding.specs.Arrivals.{arrival_of};
     ghost use Rattle.sip_forwarding.specs.steps_model.Effect as Effects;
     ghost use Rattle.sip_digest.specs.Nonces.{issued};
