@@ -1,6 +1,6 @@
 -- How verdicts follow from those on their parts.
 use Rattle.std.proofs.Common.{◌≡◌, ◌∙◌, ℕ, Bool, true, false, cond, is_some, List, [], Option, Some, None, Ok, Err, ap, sym, subst}
-use Rattle.std.specs.Prelude.{Result, IfOk, codes}
+use Rattle.std.specs.Prelude.{Result, IfOk, OnOk, codes}
 use Rattle.std.specs.Result.{result_ok}
 use Rattle.std.specs.Str.{bytes_eq}
 use Rattle.std.specs.declared.alloc.AllocError.{AllocError}
@@ -85,6 +85,16 @@ by_refusal (Ok v) server rows nonces dialogs is_full now m method refusal status
     λ state knows named.
     subst (λ (r : Option (ℕ × List ℕ)). Is server rows now named (Definition.checked_verdict server state now m method r) v) (sym is) (h server state now m method rows named)
 by_refusal (Err e) server rows nonces dialogs is_full now m method refusal status items is h = tt
+
+pub by_unread : (result : Result Verdict AllocError) (server : Server) (rows : List Binding) (nonces : List Nonce) (dialogs : List Dialog) (is_full : Bool) (now : ℕ) (m : Message) (method : List ℕ)
+    (refusal : Option (ℕ × List ℕ)) (lacked : Type 0) → (lacked → refusal ≡ Some (400, [])) → OnOk result lacked
+    → IfOk result (λ (v : Verdict). (server : Server) (state : ProxyState) (now : ℕ) (m : Message) (method : List ℕ) (rows : List Binding) (named : Option OpenRequest)
+    → Is server rows now named (Definition.checked_verdict server state now m method (Some (400, []))) v)
+    → IfOk result (λ (v : Verdict). (state : ProxyState) → Knows state rows nonces dialogs is_full → (named : Option OpenRequest)
+    → Is server rows now named (Definition.checked_verdict server state now m method refusal) v)
+by_unread (Ok v) server rows nonces dialogs is_full now m method refusal lacked is not h =
+    by_refusal (Ok v) server rows nonces dialogs is_full now m method refusal 400 [] (is not) h
+by_unread (Err e) server rows nonces dialogs is_full now m method refusal lacked is not h = tt
 
 -- ---- by its method
 

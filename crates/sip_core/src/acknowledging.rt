@@ -27,9 +27,9 @@ fn ack_within<'v, R: Rules>(
     dialogs: &Dialogs,
     request: &Validated<'v, '_>,
 ) -> Result<Verdict<'v>, AllocError>
-    requires core { result_ok (core_of request.now.message.now) ≡ Some request.now.checked.now.core }
-    requires way { request.now.checked.now.way ≡ way_of judge.now.config.own request.now.message.now }
-    requires uri { request.now.checked.now.uri ≡ request_uri_of judge.now.config.own request.now.message.now }
+    requires core { result_ok (core_of request.now.message.now) ≡ Some request.now.core.now }
+    requires way { request.now.way.now ≡ way_of judge.now.config.own request.now.message.now }
+    requires uri { request.now.uri.now ≡ request_uri_of judge.now.config.own request.now.message.now }
     ensures verdict { IfOk result (λ verdict. (state : ProxyState) → state.dialogs ≡ dialogs.now.dialogs
         → (rows : List Binding) (named : Option OpenRequest)
         → Is judge.now rows request.now.moment named (Definition.within judge.now state request.now.moment request.now.message.now
@@ -66,7 +66,9 @@ pub fn ack_verdict<'v, R: Rules>(
                 moment: request.moment,
                 message: request.message,
                 method: request.method,
-                checked: &checked,
+                core: &checked.core,
+                way: &checked.way,
+                uri: &checked.uri,
             };
             ack_within(alloc, judge, dialogs, &validated)
         }

@@ -1,10 +1,11 @@
-ghost use Rattle.std.specs.Prelude.{◌≡◌, ◌<◌, ◌^◌, IfOk, Bool, false, ℕ, List, Option, Some, None, is_some, [], codes};
+ghost use Rattle.std.specs.Prelude.{◌≡◌, ◌≢◌, ◌<◌, ◌^◌, IfOk, OnOk, Bool, false, ℕ, List, Option, Some, None, is_some, [], codes};
 ghost use Rattle.std.specs.Str.{bytes_eq};
 ghost use Rattle.std.specs.Result.{result_ok};
 ghost use Rattle.sip_dialog.specs.DialogId.{id_of};
 ghost use Rattle.sip_edit.specs.ReceivedRequest.{top_via};
 ghost use Rattle.sip_message_form.specs.declared.message.Message.{Message};
 ghost use Rattle.sip_header.specs.CoreFields.{core_of};
+ghost use Rattle.sip_header.specs.declared.error.HeaderError.TheVariants.{NoMemory};
 ghost use Rattle.sip_transaction_table.specs.declared.key.Key.{Key};
 ghost use Rattle.sip_location.specs.declared.binding.Binding.{Binding};
 ghost use Rattle.model_verdict.specs.state.Arrival.{Arrival};
@@ -21,7 +22,7 @@ ghost use Rattle.sip_core.specs.Verdict.{Is, IsRequestOf, Knows, HasRoom, goes_o
 use crate::Judge;
 use crate::acknowledging::ack_verdict;
 use crate::cancelling::cancel_verdict;
-use crate::checks::check;
+use crate::checks::refusal;
 use crate::known::Known;
 use crate::policy::policy_verdict;
 use crate::question::is_register;
@@ -32,12 +33,14 @@ use crate::within::within;
 use model_verdict::state::Names;
 use sip_dialog::Dialogs;
 use sip_edit_response::unsupported_field;
-use sip_header::{CoreFields, tag_of};
+use sip_header::{CoreFields, HeaderError, core_of, tag_of};
 use sip_location::Locations;
 use sip_message_fields::Fields;
 use sip_policy::Rules;
+use sip_route::way_of;
 use sip_targets::Targets;
 use sip_validate::Refused;
+use sip_validate::laws::unread_is_refused;
 use std::alloc::{AllocError, Global};
 
 /// The fields of a status that refuses a request (RFC 3261 8.2.2.3).
@@ -60,6 +63,21 @@ fn refusal_verdict<'v>(alloc: Global, status: u16, items: &[u8]) -> Result<Verdi
     ensures kept { IfOk result (λ verdict. goes_on verdict ≡ false) }
 {
     Ok(Verdict::Answer(status, refusal_fields(alloc, status, items)?))
+}
+
+/// A request whose core fields can't be read is a bad one.
+fn unread_verdict<'v>(alloc: Global, error: &HeaderError) -> Result<Verdict<'v>, AllocError>
+    ensures verdict { IfOk result (λ verdict. (server : Server) (state : ProxyState) (now : ℕ) (m : Message) (method : List ℕ)
+        (rows : List Binding) (named : Option OpenRequest)
+        → Is server rows now named (Definition.checked_verdict server state now m method (Some (400, []))) verdict) }
+    ensures memory { OnOk result (error.now ≢ NoMemory) }
+    ensures room { IfOk result (λ verdict. (room : ℕ) → HasRoom room verdict) }
+    ensures kept { IfOk result (λ verdict. goes_on verdict ≡ false) }
+{
+    match error {
+        HeaderError::NoMemory => Err(AllocError),
+        HeaderError::Missing(_) | HeaderError::Malformed(_) => refusal_verdict(alloc, 400, &[]),
+    }
 }
 
 /// Whether To has a tag, so that a request names a dialog (RFC 3261 12.2).
@@ -104,9 +122,9 @@ fn request_within<'v, R: Rules>(
     request: &Validated<'v, '_>,
     names: &mut Option<Names>,
 ) -> Result<Verdict<'v>, AllocError>
-    requires core { result_ok (core_of request.now.message.now) ≡ Some request.now.checked.now.core }
-    requires way { request.now.checked.now.way ≡ way_of judge.now.config.own request.now.message.now }
-    requires uri { request.now.checked.now.uri ≡ request_uri_of judge.now.config.own request.now.message.now }
+    requires core { result_ok (core_of request.now.message.now) ≡ Some request.now.core.now }
+    requires way { request.now.way.now ≡ way_of judge.now.config.own request.now.message.now }
+    requires uri { request.now.uri.now ≡ request_uri_of judge.now.config.own request.now.message.now }
     requires names { AreNames request.now.message.now names.now }
     requires none { names.now ≡ None }
     ensures verdict { IfOk result (λ verdict. (state : ProxyState) → state.dialogs ≡ dialogs.now.dialogs
@@ -119,7 +137,7 @@ fn request_within<'v, R: Rules>(
 {
     match within(alloc, judge, dialogs, request)? {
         Some((address, id)) => {
-            *names = Some(Names::of(alloc, &request.checked.core)?);
+            *names = Some(Names::of(alloc, request.core)?);
             Ok(Verdict::InDialog(address, id))
         }
         None => Ok(Verdict::Answer(481, Fields::new(alloc))),
@@ -136,21 +154,21 @@ fn core_verdict<'v, R: Rules>(
     names: &mut Option<Names>,
 ) -> Result<Verdict<'v>, AllocError>
     requires moment { request.now.moment < 2 ^ 62 }
-    requires core { result_ok (core_of request.now.message.now) ≡ Some request.now.checked.now.core }
-    requires way { request.now.checked.now.way ≡ way_of judge.now.config.own request.now.message.now }
-    requires uri { request.now.checked.now.uri ≡ request_uri_of judge.now.config.own request.now.message.now }
+    requires core { result_ok (core_of request.now.message.now) ≡ Some request.now.core.now }
+    requires way { request.now.way.now ≡ way_of judge.now.config.own request.now.message.now }
+    requires uri { request.now.uri.now ≡ request_uri_of judge.now.config.own request.now.message.now }
     requires names { AreNames request.now.message.now names.now }
     requires none { names.now ≡ None }
     ensures verdict { IfOk result (λ verdict. (state : ProxyState) (is_full : Bool)
         → Knows state locations.old.rows known.now.nonces.now known.now.dialogs.now.dialogs is_full → (named : Option OpenRequest)
         → Is judge.now locations.old.rows request.now.moment named (Definition.core_verdict judge.now state request.now.moment
-        request.now.message.now request.now.method.now (Some request.now.checked.now.core)) verdict) }
+        request.now.message.now request.now.method.now (Some request.now.core.now)) verdict) }
     ensures unchanged { locations.new.rows ≡ locations.old.rows }
     ensures room { IfOk result (HasRoom locations.new.room) }
     ensures names { AreNames request.now.message.now names.new }
     ensures made { IfOk result (λ verdict. is_some names.new ≡ goes_on verdict) }
 {
-    let core = &request.checked.core;
+    let core = request.core;
     if is_outside(request.method, core) {
         // Matched, not `?`: what was judged is large, and is moved less so.
         return match policy_verdict(alloc, judge, locations, known.nonces, request) {
@@ -176,9 +194,9 @@ fn passed_verdict<'v, R: Rules>(
     names: &mut Option<Names>,
 ) -> Result<Verdict<'v>, AllocError>
     requires moment { request.now.moment < 2 ^ 62 }
-    requires core { result_ok (core_of request.now.message.now) ≡ Some request.now.checked.now.core }
-    requires way { request.now.checked.now.way ≡ way_of judge.now.config.own request.now.message.now }
-    requires uri { request.now.checked.now.uri ≡ request_uri_of judge.now.config.own request.now.message.now }
+    requires core { result_ok (core_of request.now.message.now) ≡ Some request.now.core.now }
+    requires way { request.now.way.now ≡ way_of judge.now.config.own request.now.message.now }
+    requires uri { request.now.uri.now ≡ request_uri_of judge.now.config.own request.now.message.now }
     requires names { AreNames request.now.message.now names.now }
     requires none { names.now ≡ None }
     ensures verdict { IfOk result (λ verdict. (state : ProxyState)
@@ -194,6 +212,51 @@ fn passed_verdict<'v, R: Rules>(
         return Ok(Verdict::Answer(503, Fields::new(alloc)));
     }
     core_verdict(alloc, judge, locations, known, request, names)
+}
+
+/// The verdict on a request with these core fields that isn't ACK or CANCEL.
+fn read_verdict<'v, R: Rules>(
+    alloc: Global,
+    judge: &Judge<R>,
+    locations: &mut Locations,
+    known: &Known<'_>,
+    request: &Received<'v, '_>,
+    core: &CoreFields<'v>,
+    names: &mut Option<Names>,
+) -> Result<Verdict<'v>, AllocError>
+    requires moment { request.now.moment < 2 ^ 62 }
+    requires via { top_via request.now.message.now ≡ Some request.now.via.now }
+    requires core { result_ok (core_of request.now.message.now) ≡ Some core.now }
+    requires names { AreNames request.now.message.now names.now }
+    requires none { names.now ≡ None }
+    ensures verdict { IfOk result (λ verdict. (state : ProxyState)
+        → Knows state locations.old.rows known.now.nonces.now known.now.dialogs.now.dialogs known.now.is_full → (named : Option OpenRequest)
+        → Is judge.now locations.old.rows request.now.moment named (Definition.checked_verdict judge.now state request.now.moment
+        request.now.message.now request.now.method.now (refusal_of judge.now.config.own request.now.message.now request.now.short)) verdict) }
+    ensures unchanged { locations.new.rows ≡ locations.old.rows }
+    ensures room { IfOk result (HasRoom locations.new.room) }
+    ensures names { AreNames request.now.message.now names.new }
+    ensures made { IfOk result (λ verdict. is_some names.new ≡ goes_on verdict) }
+{
+    let own = &judge.server().config.own;
+    let way = way_of(alloc, own, request.message)?;
+    let uri = way.request_uri(alloc)?;
+    let refused = refusal(alloc, judge, request, core, &way, &uri)?;
+    match refused {
+        None => {
+            let validated = Validated {
+                moment: request.moment,
+                message: request.message,
+                method: request.method,
+                core,
+                way: &way,
+                uri: &uri,
+            };
+            passed_verdict(alloc, judge, locations, known, &validated, names)
+        }
+        Some(Refused::Status(status, items)) => refusal_verdict(alloc, status, items.as_slice()),
+        Some(Refused::NoMemory) => Err(AllocError),
+    }
 }
 
 /// The verdict on a request that isn't ACK or CANCEL.
@@ -219,18 +282,12 @@ fn checked_verdict<'v, R: Rules>(
     ensures names { AreNames request.now.message.now names.new }
     ensures made { IfOk result (λ verdict. is_some names.new ≡ goes_on verdict) }
 {
-    match check(alloc, judge, request) {
-        Ok(checked) => {
-            let validated = Validated {
-                moment: request.moment,
-                message: request.message,
-                method: request.method,
-                checked: &checked,
-            };
-            passed_verdict(alloc, judge, locations, known, &validated, names)
-        }
-        Err(Refused::NoMemory) => Err(AllocError),
-        Err(Refused::Status(status, items)) => refusal_verdict(alloc, status, items.as_slice()),
+    unread_is_refused();
+    // Lent, not `?`: what is read is large, and isn't moved so.
+    let core = core_of(alloc, request.message);
+    match &core {
+        Ok(core) => read_verdict(alloc, judge, locations, known, request, core, names),
+        Err(error) => unread_verdict(alloc, error),
     }
 }
 

@@ -1,18 +1,22 @@
-ghost use Rattle.std.specs.Prelude.{◌≡◌, IfOk, IfErr, Some, None};
+ghost use Rattle.std.specs.Prelude.{◌≡◌, IfOk, IfErr, Some, None, option_map};
 ghost use Rattle.std.specs.Result.{result_ok};
 ghost use Rattle.sip_edit.specs.ReceivedRequest.{top_via};
 ghost use Rattle.sip_header.specs.CoreFields.{core_of};
-ghost use Rattle.sip_route.specs.Way.{way_of, request_uri_of};
+ghost use Rattle.sip_route.specs.Way.{way_of, request_uri_in, request_uri_of};
 ghost use Rattle.sip_validate.specs.Refusal.{refusal_of};
+ghost use Rattle.sip_validate.specs.Refused.{refused_with};
 ghost use Rattle.sip_core.specs.Refusal.{IsRefusal};
 ghost use Rattle.sip_core.specs.Verdict.{IsRequestOf};
 
 use crate::Judge;
 use crate::received::Received;
+use sip_header::CoreFields;
 use sip_policy::Rules;
+use sip_route::Way;
+use sip_uri::Uri;
 use sip_validate::laws::first_row_refuses;
-use sip_validate::{Checked, Refused, validate};
-use std::alloc::Global;
+use sip_validate::{Checked, Refused, refusal_of, validate};
+use std::alloc::{AllocError, Global};
 
 /// What the checks give of a request: what was read of it, where none refuses it; else why it isn't served (RFC 3261
 /// 16.3).
@@ -32,4 +36,33 @@ pub(crate) fn check<'v, R: Rules>(
     first_row_refuses();
     let own = &judge.server().config.own;
     validate(alloc, request.message, request.via, request.short, own)
+}
+
+/// What refuses a request of which this was read, if anything does (RFC 3261 16.3).
+pub(crate) fn refusal<R: Rules>(
+    alloc: Global,
+    judge: &Judge<R>,
+    request: &Received<'_, '_>,
+    core: &CoreFields<'_>,
+    way: &Way<'_>,
+    uri: &Option<Uri>,
+) -> Result<Option<Refused>, AllocError>
+    requires via { top_via request.now.message.now ≡ Some request.now.via.now }
+    requires core { result_ok (core_of request.now.message.now) ≡ Some core.now }
+    requires way { way.now ≡ way_of judge.now.config.own request.now.message.now }
+    requires uri { uri.now ≡ request_uri_in way.now }
+    ensures { IfOk result (λ refused. refused ≡ option_map refused_with (refusal_of judge.now.config.own request.now.message.now
+        request.now.short)) }
+{
+    let own = &judge.server().config.own;
+    refusal_of(
+        alloc,
+        request.message,
+        request.via,
+        request.short,
+        own,
+        core,
+        way,
+        uri,
+    )
 }

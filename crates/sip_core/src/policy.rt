@@ -25,12 +25,12 @@ fn let_through<R: Rules>(
     decision: &Decision,
 ) -> Result<Outcome, AllocError>
     requires moment { request.now.moment < 2 ^ 62 }
-    requires uri { request.now.checked.now.uri ≡ request_uri_of judge.now.config.own request.now.message.now }
+    requires uri { request.now.uri.now ≡ request_uri_of judge.now.config.own request.now.message.now }
     requires question { question.now.target ≡ Definition.target_of judge.now request.now.message.now request.now.method.now
-        request.now.checked.now.core }
+        request.now.core.now }
     ensures outcome { IfOk result (λ outcome. (state : ProxyState) → state.bindings ≡ locations.old.rows
         → IsOutcome locations.old.rows request.now.moment question.now (Definition.let_through judge.now state request.now.moment
-        request.now.message.now request.now.method.now request.now.checked.now.core question.now id decision.now) outcome) }
+        request.now.message.now request.now.method.now request.now.core.now question.now id decision.now) outcome) }
     ensures unchanged { locations.new.rows ≡ locations.old.rows }
     ensures room { IfOk result (HasRoomFor locations.new.room) }
 {
@@ -52,12 +52,12 @@ fn decided<R: Rules>(
     decision: &Decision,
 ) -> Result<Outcome, AllocError>
     requires moment { request.now.moment < 2 ^ 62 }
-    requires uri { request.now.checked.now.uri ≡ request_uri_of judge.now.config.own request.now.message.now }
+    requires uri { request.now.uri.now ≡ request_uri_of judge.now.config.own request.now.message.now }
     requires question { question.now.target ≡ Definition.target_of judge.now request.now.message.now request.now.method.now
-        request.now.checked.now.core }
+        request.now.core.now }
     ensures outcome { IfOk result (λ outcome. (state : ProxyState) → state.bindings ≡ locations.old.rows
         → IsOutcome locations.old.rows request.now.moment question.now (Definition.decided judge.now state request.now.moment
-        request.now.message.now request.now.method.now request.now.checked.now.core question.now decision.now) outcome) }
+        request.now.message.now request.now.method.now request.now.core.now question.now decision.now) outcome) }
     ensures unchanged { locations.new.rows ≡ locations.old.rows }
     ensures room { IfOk result (HasRoomFor locations.new.room) }
 {
@@ -82,14 +82,14 @@ fn judged<'v, R: Rules>(
     question: Question<'v>,
 ) -> Result<Judged<'v>, AllocError>
     requires moment { request.now.moment < 2 ^ 62 }
-    requires uri { request.now.checked.now.uri ≡ request_uri_of judge.now.config.own request.now.message.now }
+    requires uri { request.now.uri.now ≡ request_uri_of judge.now.config.own request.now.message.now }
     requires question { question.target ≡ Definition.target_of judge.now request.now.message.now request.now.method.now
-        request.now.checked.now.core }
+        request.now.core.now }
     ensures question { IfOk result (λ judged. judged.question ≡ question.entry) }
     ensures minute { IfOk result (λ judged. judged.minute ≡ Definition.minute_on judge.now judged.question) }
     ensures outcome { IfOk result (λ judged. (state : ProxyState) → state.bindings ≡ locations.old.rows
         → IsOutcome locations.old.rows request.now.moment judged.question (Definition.decided judge.now state request.now.moment
-        request.now.message.now request.now.method.now request.now.checked.now.core judged.question
+        request.now.message.now request.now.method.now request.now.core.now judged.question
         (Definition.answer_of judge.now judged.question)) judged.outcome) }
     ensures unchanged { locations.new.rows ≡ locations.old.rows }
     ensures room { IfOk result (λ judged. HasRoomFor locations.new.room judged.outcome) }
@@ -115,11 +115,11 @@ pub(crate) fn policy_verdict<'v, R: Rules>(
     request: &Validated<'v, '_>,
 ) -> Result<Judged<'v>, AllocError>
     requires moment { request.now.moment < 2 ^ 62 }
-    requires uri { request.now.checked.now.uri ≡ request_uri_of judge.now.config.own request.now.message.now }
+    requires uri { request.now.uri.now ≡ request_uri_of judge.now.config.own request.now.message.now }
     ensures minute { IfOk result (λ judged. judged.minute ≡ Definition.minute_on judge.now judged.question) }
     ensures outcome { IfOk result (λ judged. (state : ProxyState) → state.bindings ≡ locations.old.rows → state.nonces ≡ nonces.now
         → IsOutcome locations.old.rows request.now.moment judged.question (Definition.policy_verdict judge.now state request.now.moment
-        request.now.message.now request.now.method.now request.now.checked.now.core) judged.outcome) }
+        request.now.message.now request.now.method.now request.now.core.now) judged.outcome) }
     ensures unchanged { locations.new.rows ≡ locations.old.rows }
     ensures room { IfOk result (λ judged. HasRoomFor locations.new.room judged.outcome) }
 {

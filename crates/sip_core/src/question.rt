@@ -16,7 +16,6 @@ use sip_message_form::View;
 use sip_policy::{Operation, Rules, minute_of};
 use sip_text::Bytes;
 use sip_uri::{Aor, Uri, aor_of};
-use sip_validate::Checked;
 use std::alloc::{AllocError, Global};
 
 /// Whether a method is REGISTER. Takes no memory.
@@ -48,14 +47,19 @@ fn to_aor(alloc: Global, core: &CoreFields<'_>) -> Result<Aor, AllocError>
 
 /// The address of record that a request of a method is for, of which this was read: To's of a REGISTER, that of the
 /// Request-URI of any other.
-fn target_of(alloc: Global, method: &[u8], checked: &Checked<'_>) -> Result<Aor, AllocError>
-    ensures { IfOk result (λ aor. aor ≡ (if Verdict.is_register method.now then Naming.to_aor checked.now.core
-        else Naming.aor_or_nobody checked.now.uri)) }
+fn target_of(
+    alloc: Global,
+    method: &[u8],
+    core: &CoreFields<'_>,
+    uri: &Option<Uri>,
+) -> Result<Aor, AllocError>
+    ensures { IfOk result (λ aor. aor ≡ (if Verdict.is_register method.now then Naming.to_aor core.now
+        else Naming.aor_or_nobody uri.now)) }
 {
     if is_register(method) {
-        to_aor(alloc, &checked.core)
+        to_aor(alloc, core)
     } else {
-        aor_or_nobody(alloc, checked.uri.as_ref())
+        aor_or_nobody(alloc, uri.as_ref())
     }
 }
 
@@ -78,13 +82,13 @@ impl<R: Rules> Judge<R> {
         request: &Validated<'v, '_>,
     ) -> Result<Question<'v>, AllocError>
         requires { Verdict.is_register request.now.method.now ≡ false
-            → request.now.checked.now.uri ≡ request_uri_of self.now.config.own request.now.message.now }
+            → request.now.uri.now ≡ request_uri_of self.now.config.own request.now.message.now }
         ensures { IfOk result (λ question. question ≡ Verdict.question_of self.now nonces.now request.now.moment request.now.message.now
-            request.now.method.now request.now.checked.now.core) }
+            request.now.method.now request.now.core.now) }
     {
         let config = &self.server().config;
         let message = request.message;
-        let target = target_of(alloc, request.method, request.checked)?;
+        let target = target_of(alloc, request.method, request.core, request.uri)?;
         let operation = operation_of(alloc, request.method, message)?;
         let realm = config.realm.as_slice();
         let proof = proof_of(alloc, realm, &config.users, nonces, request.moment, message)?;

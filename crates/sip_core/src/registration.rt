@@ -22,7 +22,6 @@ use sip_message_fields::{Field, FieldName, Fields, ViewFields};
 use sip_policy::{Rules, is_own_domain, is_users_address};
 use sip_text::Text;
 use sip_uri::{Aor, Uri};
-use sip_validate::Checked;
 use std::alloc::{AllocError, Global};
 
 /// What a REGISTER with these core fields and fields asks for, whose To names this address of record (RFC 3261 10.3).
@@ -98,15 +97,14 @@ fn planned_for(
     aor: &Aor,
 ) -> Result<Registering, AllocError>
     requires moment { request.now.moment < 2 ^ 62 }
-    requires named { aor.now ≡ Naming.to_aor request.now.checked.now.core }
-    ensures outcome { IfOk result (ComesTo locations.old.rows request.now.moment (Naming.to_aor request.now.checked.now.core)
+    requires named { aor.now ≡ Naming.to_aor request.now.core.now }
+    ensures outcome { IfOk result (ComesTo locations.old.rows request.now.moment (Naming.to_aor request.now.core.now)
         (Verdict.registered_by (registered locations.old.rows
-        (Naming.registration_of request.now.checked.now.core request.now.message.now.fields) request.now.moment))) }
+        (Naming.registration_of request.now.core.now request.now.message.now.fields) request.now.moment))) }
     ensures unchanged { locations.new.rows ≡ locations.old.rows }
     ensures room { IfOk result (HasRoom locations.new.room) }
 {
-    let core = &request.checked.core;
-    let registration = registration_of(alloc, core, request.message.fields(), aor)?;
+    let registration = registration_of(alloc, request.core, request.message.fields(), aor)?;
     planned(alloc, locations, request.moment, registration)
 }
 
@@ -138,12 +136,12 @@ fn is_for_user(server: &Server, aor: &Aor) -> bool
 }
 
 /// Whether a REGISTER, of which this was read, is for an own domain and a configured user of one.
-fn is_registrable(server: &Server, checked: &Checked<'_>, aor: &Aor) -> bool
-    requires { aor.now ≡ Naming.to_aor checked.now.core }
-    ensures { result ≡ (Verdict.is_own_uri server.now checked.now.uri
-        && is_users_address server.now.config.users server.now.config.own.domains (Naming.to_aor checked.now.core)) }
+fn is_registrable(server: &Server, request: &Validated<'_, '_>, aor: &Aor) -> bool
+    requires { aor.now ≡ Naming.to_aor request.now.core.now }
+    ensures { result ≡ (Verdict.is_own_uri server.now request.now.uri.now
+        && is_users_address server.now.config.users server.now.config.own.domains (Naming.to_aor request.now.core.now)) }
 {
-    is_for_own_domain(server, checked.uri.as_ref()) && is_for_user(server, aor)
+    is_for_own_domain(server, request.uri.as_ref()) && is_for_user(server, aor)
 }
 
 /// What a REGISTER that was let through comes to.
@@ -155,15 +153,15 @@ fn registering_by(
     aor: &Aor,
 ) -> Result<Registering, AllocError>
     requires moment { request.now.moment < 2 ^ 62 }
-    requires read { request.now.checked.now.uri ≡ request_uri_of server.now.config.own request.now.message.now }
-    requires named { aor.now ≡ Naming.to_aor request.now.checked.now.core }
-    ensures outcome { IfOk result (ComesTo locations.old.rows request.now.moment (Naming.to_aor request.now.checked.now.core)
+    requires read { request.now.uri.now ≡ request_uri_of server.now.config.own request.now.message.now }
+    requires named { aor.now ≡ Naming.to_aor request.now.core.now }
+    ensures outcome { IfOk result (ComesTo locations.old.rows request.now.moment (Naming.to_aor request.now.core.now)
         (Verdict.registration_by server.now locations.old.rows request.now.moment request.now.message.now
-        request.now.checked.now.core)) }
+        request.now.core.now)) }
     ensures unchanged { locations.new.rows ≡ locations.old.rows }
     ensures room { IfOk result (HasRoom locations.new.room) }
 {
-    if !is_registrable(server, request.checked, aor) {
+    if !is_registrable(server, request, aor) {
         return Ok(not_found(alloc));
     }
     planned_for(alloc, locations, request, aor)
@@ -182,11 +180,11 @@ impl<R: Rules> Judge<R> {
         aor: &Aor,
     ) -> Result<Registering, AllocError>
         requires moment { request.now.moment < 2 ^ 62 }
-        requires read { request.now.checked.now.uri ≡ request_uri_of self.now.config.own request.now.message.now }
-        requires named { aor.now ≡ Naming.to_aor request.now.checked.now.core }
-        ensures outcome { IfOk result (ComesTo locations.old.rows request.now.moment (Naming.to_aor request.now.checked.now.core)
+        requires read { request.now.uri.now ≡ request_uri_of self.now.config.own request.now.message.now }
+        requires named { aor.now ≡ Naming.to_aor request.now.core.now }
+        ensures outcome { IfOk result (ComesTo locations.old.rows request.now.moment (Naming.to_aor request.now.core.now)
             (Verdict.registration_by self.now locations.old.rows request.now.moment request.now.message.now
-            request.now.checked.now.core)) }
+            request.now.core.now)) }
         ensures unchanged { locations.new.rows ≡ locations.old.rows }
         ensures room { IfOk result (HasRoom locations.new.room) }
     {

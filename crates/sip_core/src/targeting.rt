@@ -42,10 +42,10 @@ impl<R: Rules> Judge<R> {
         decision: &Decision,
     ) -> Result<Targets, AllocError>
         ensures { IfOk result (λ targets. targets ≡ Verdict.targets_by self.now locations.now.rows request.now.moment
-            question.now.target decision.now request.now.checked.now.uri) }
+            question.now.target decision.now request.now.uri.now) }
     {
         let now = request.moment;
-        match &request.checked.uri {
+        match request.uri {
             Some(uri) => self.targets_for(alloc, locations, now, question, decision, uri),
             None => Ok(Targets::NotFound),
         }

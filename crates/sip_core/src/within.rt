@@ -13,9 +13,9 @@ use crate::validated::Validated;
 use sip_dialog::{DialogId, Dialogs};
 use sip_header::{CoreFields, tag_of};
 use sip_policy::Rules;
+use sip_route::Way;
 use sip_text::Bytes;
 use sip_uri::{Addr, Uri};
-use sip_validate::Checked;
 use std::alloc::{AllocError, Global};
 
 /// The tag of From; it is empty where there is none.
@@ -70,15 +70,16 @@ fn address_for<R: Rules>(judge: &Judge<R>, uri: Option<&Uri>) -> Option<Addr>
 fn next_address<R: Rules>(
     alloc: Global,
     judge: &Judge<R>,
-    checked: &Checked<'_>,
+    way: &Way<'_>,
+    uri: &Option<Uri>,
 ) -> Result<Option<Addr>, AllocError>
-    requires { checked.now.uri ≡ Ways.request_uri_in checked.now.way }
-    ensures { IfOk result (λ address. address ≡ option_and_then (address_of judge.now.config.addresses) (Ways.next_uri checked.now.way)) }
+    requires { uri.now ≡ Ways.request_uri_in way.now }
+    ensures { IfOk result (λ address. address ≡ option_and_then (address_of judge.now.config.addresses) (Ways.next_uri way.now)) }
 {
-    if checked.way.routes.as_slice().is_empty() {
-        return Ok(address_for(judge, checked.uri.as_ref()));
+    if way.routes.as_slice().is_empty() {
+        return Ok(address_for(judge, uri.as_ref()));
     }
-    let uri = checked.way.next_uri(alloc)?;
+    let uri = way.next_uri(alloc)?;
     Ok(address_for(judge, uri.as_ref()))
 }
 
@@ -91,16 +92,15 @@ pub(crate) fn within<R: Rules>(
     dialogs: &Dialogs,
     request: &Validated<'_, '_>,
 ) -> Result<Option<(Addr, DialogId)>, AllocError>
-    requires core { result_ok (core_of request.now.message.now) ≡ Some request.now.checked.now.core }
-    requires way { request.now.checked.now.way ≡ Ways.way_of judge.now.config.own request.now.message.now }
-    requires uri { request.now.checked.now.uri ≡ Ways.request_uri_of judge.now.config.own request.now.message.now }
+    requires core { result_ok (core_of request.now.message.now) ≡ Some request.now.core.now }
+    requires way { request.now.way.now ≡ Ways.way_of judge.now.config.own request.now.message.now }
+    requires uri { request.now.uri.now ≡ Ways.request_uri_of judge.now.config.own request.now.message.now }
     ensures { IfOk result (GoesOn judge.now dialogs.now.dialogs request.now.moment request.now.message.now) }
 {
-    let checked = request.checked;
-    let Some(id) = dialog_of(alloc, &checked.core)? else {
+    let Some(id) = dialog_of(alloc, request.core)? else {
         return Ok(None);
     };
-    let Some(address) = next_address(alloc, judge, checked)? else {
+    let Some(address) = next_address(alloc, judge, request.way, request.uri)? else {
         return Ok(None);
     };
     if dialogs.allows(&id, address, request.moment) {

@@ -50,7 +50,7 @@ first_test true b h = refl
 first_test false b h = absurd (cc)
 
 -- a request whose core fields can't be read is a bad one
-lacking_refused : (own : Own) (m : Message) (short : Bool) (method uri version : List ℕ) → m.start ≡ Request method uri version → result_ok (core_of m) ≡ None
+pub lacking_refused : (own : Own) (m : Message) (short : Bool) (method uri version : List ℕ) → m.start ≡ Request method uri version → result_ok (core_of m) ≡ None
     → refusal_of own m short ≡ Some (400, [])
 lacking_refused own m true method uri version is_request none = ap (λ start. option_map_or refusal (candidate_by own m.fields true start) None) is_request
 lacking_refused own m false method uri version is_request none =
@@ -143,6 +143,13 @@ not_validated own m short core way e is_core is_way refused =
     let table : option_map refused_with (refusal_of own m short) ≡ Some e =
     ap (option_map refused_with) (sym (tabled_by m.start own m.fields short core way is_core is_way)) ∙ sym refused in
     refused_by_row (checked_of own m) (refusal_of own m short) e table
+
+-- what the table says of what was read is what it says of the message
+pub by_table : (own : Own) (m : Message) (short : Bool) (core : CoreFields) (way : Way) → result_ok (core_of m) ≡ Some core → way ≡ way_of own m
+    → option_map refused_with (option_map_or (λ r. refusal (on_way way r)) (candidate_with (Some core) own m.fields short m.start) None)
+    ≡ option_map refused_with (refusal_of own m short)
+by_table own m short core way is_core is_way =
+    ap (option_map refused_with) (tabled_by m.start own m.fields short core way (sym is_core) is_way)
 
 -- ---- bad requests
 

@@ -21,4 +21,4 @@ mod validation;
 
 pub use checked::Checked;
 pub use refused::Refused;
-pub use validation::{is_bad_request, validate};
+pub use validation::{is_bad_request, refusal_of, validate};
