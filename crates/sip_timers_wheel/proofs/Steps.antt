@@ -1,6 +1,6 @@
 -- What each call of a wheel leaves.
 use Rattle.std.proofs.Common.{◌≡◌, ◌≢◌, ℕ, ◌+◌, ◌/◌, ◌%◌, ◌≤◌, ◌<◌, List, [], ◌∷◌, ◌++◌, length, eqb, leb, cond, true, false, refl, ap, sym, ◌∙◌, arith, subst, set, drop, Option, Some, None}
-use Rattle.std.specs.Prelude.{not, ◌&&◌, count_by, MatchOption}
+use Rattle.std.specs.Prelude.{not, ◌&&◌, count_by, IfNone, IfSome, MatchOption}
 use Rattle.std.proofs.lemmas.Bool.Decides.{nat_tests}
 use Rattle.std.proofs.lemmas.List.{length-set, length-append, get_or_past}
 use Rattle.std.proofs.lemmas.List.Elements.{filter-append}
@@ -11,11 +11,11 @@ use Rattle.sip_timers_wheel.specs.Places.{slot_of, start_of, level_of, width}
 use Rattle.sip_timers_wheel.specs.Order.{due_at}
 use Rattle.sip_timers_wheel.specs.Wheel.{IsWheel, pending_in, IsFirstSlot, IsEmptyLevel, AreMoved, AreUnreached, GoesElsewhere}
 use Rattle.sip_timers_wheel.proofs.Order.{StaysOrdered, StandsThen, due_at-same, count-in_order}
-use Rattle.sip_timers_wheel.proofs.Moments.{slot_known, slot-none, slot-in, level_below}
+use Rattle.sip_timers_wheel.proofs.Moments.{slot_known, slot-late, slot-none, slot-in, level_below}
 use Rattle.sip_timers_wheel.proofs.Lists.{count-cons, without-none}
-use Rattle.sip_timers_wheel.proofs.Changes.{by_same, pushed-in_place, pushed-pending, key-here, gone-in_place, gone-pending}
+use Rattle.sip_timers_wheel.proofs.Changes.{by_same, seen, pushed-in_place, pushed-pending, key-here, gone-in_place, gone-pending}
 use Rattle.sip_timers_wheel.proofs.Moves.{by_moment, near_by_slot, moved-more, new-slot}
-use Rattle.sip_timers_wheel.proofs.First.{none-least, head-first, none-pending}
+use Rattle.sip_timers_wheel.proofs.First.{none-least, head-late, head-first, none-pending}
 
 -- a moment whose slot has a list is near
 pub near-by : (b d : ℕ) → slot_of b d < 321 → d < b + 1073741824
@@ -101,6 +101,19 @@ popped-first now t old ts new same e gone once le =
     let out : new ≡ drop 1 ts = gone ∙ first-goes-out t ts e once in
     ap (λ (l : List Timer). pair t l) out ∙ (sym (popped-cons now t (drop 1 ts) le) ∙ ap (λ l. popped now l) (sym (same ∙ e)))
 
+abbrev pub none-of : List Timer → Option Timer × List Timer
+none-of l = (None, l)
+
+none-popped : (now b : ℕ) (ts : List Timer) → now ≤ b → ((due : ℕ) → first_due ts ≡ Some due → b < due) → none-of ts ≡ popped now ts
+none-popped now b [] le later = refl
+none-popped now b (t ∷ rest) le later =
+    let far : leb t.due now ≡ false = grind (arith, nat_tests, le, later t.due refl) in
+    ap (λ v. cond v (pair t rest) (none-of (t ∷ rest))) (sym far)
+
+-- nothing is taken out where the first one is due later
+pub popped-none : (now b : ℕ) (old ts : List Timer) → old ≡ ts → now ≤ b → ((due : ℕ) → first_due ts ≡ Some due → b < due) → none-of ts ≡ popped now old
+popped-none now b old ts same le later = none-popped now b ts le later ∙ ap (λ l. popped now l) (sym same)
+
 pub first-split : (t : Timer) (old ts new : List Timer) → old ≡ ts → ts ≡ t ∷ drop 1 ts → new ≡ without t.key ts → keys_with t.key ts ≤ 1 → old ≡ t ∷ new
 first-split t old ts new same e gone once = same ∙ (e ∙ ap (λ l. t ∷ l) (sym (gone ∙ first-goes-out t ts e once)))
 
@@ -142,6 +155,29 @@ module _ (stays : StaysOrdered) (b : ℕ) (lists : List (List Timer)) (wheel : I
   pub first-some : (slot start end : ℕ) (result : Option Timer) → IsFirstSlot b lists slot start end → result ≡ least (list_at lists slot) → MatchOption result (pending_in lists ≡ []) (λ first. pending_in lists ≡ first ∷ drop 1 (pending_in lists))
   first-some slot start end None first e = absurd (omega (arith, first.holds, ap (λ l. length l) (none-least (list_at lists slot) (sym e))))
   first-some slot start end (Some l) first e = head-first stays b lists wheel slot start end l (none-least (list_at lists 320) none-late) first (sym e)
+
+  -- what is due first is due later than the moment that was reached
+  pub first-later : (due : ℕ) → first_due (pending_in lists) ≡ Some due → b < due
+  first-later due is = by_moment (b < due) b due
+      (λ late. absurd (omega (
+        arith,
+        some-due (pending_in lists) due is,
+        ap (λ l. length l) (seen stays b lists wheel.in_place due),
+        ap (λ i. length (due_at due (list_at lists i))) (slot-late b due late),
+        ap (λ l. length (due_at due l)) (none-least (list_at lists 320) none-late),
+      )))
+      (λ lt near. lt)
+      (λ far. omega (arith, far))
+
+-- what is late, as it is asked for
+module _ (stays : StaysOrdered) (b : ℕ) (lists : List (List Timer)) (wheel : IsWheel b lists) where
+  pub late-first : (result : Option Timer) → result ≡ least (list_at lists 320) → IfSome result (λ first. pending_in lists ≡ first ∷ drop 1 (pending_in lists))
+  late-first None e = tt
+  late-first (Some l) e = head-late stays b lists wheel l (sym e)
+
+  pub none-late : (result : Option Timer) → result ≡ least (list_at lists 320) → IfNone result ((due : ℕ) → first_due (pending_in lists) ≡ Some due → b < due)
+  none-late None e = first-later stays b lists wheel (sym e)
+  none-late (Some l) e = tt
 
 -- ---- what isn't reached
 

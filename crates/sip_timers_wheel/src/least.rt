@@ -8,6 +8,7 @@ use sip_timers::Timer;
 use slab::Slab;
 
 /// The timer of a list that is due first. It is looked for only where it isn't known.
+#[inline]
 pub(crate) fn least_of(rows: &Slab<Row>, head: &Head) -> Option<Timer>
     requires { IsHeld rows.now head.now (list_of rows.now head.now) }
     ensures { result ≡ least (list_of rows.now head.now) }

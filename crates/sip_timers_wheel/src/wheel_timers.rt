@@ -1,6 +1,6 @@
-ghost use Rattle.std.specs.Prelude.{◌≡◌, ◌≤◌, ◌<◌, ℕ, List, [], ◌∷◌, drop, MatchOption, length, max};
+ghost use Rattle.std.specs.Prelude.{◌≡◌, ◌≤◌, ◌<◌, ℕ, List, [], ◌∷◌, drop, Some, IfNone, IfSome, MatchOption, length, max};
 ghost use Rattle.sip_timers.specs.declared.timer.Timer.{Timer};
-ghost use Rattle.sip_timers.specs.Timers.{keys_with, without};
+ghost use Rattle.sip_timers.specs.Timers.{first_due, keys_with, without};
 ghost use Rattle.sip_timers_wheel.specs.Lists.{list_at};
 ghost use Rattle.sip_timers_wheel.specs.Wheel.{IsWheel, IsFirstSlot, IsEmptyLevel, AreMoved, AreUnreached, GoesElsewhere, pending_in};
 
@@ -75,7 +75,7 @@ impl Timers for WheelTimers {
 
     fn pop_due(&mut self, now: u64) -> Option<Timer> {
         self.reach(now);
-        let first = first_timer(&self.levels, self.reached)?;
+        let first = late_timer(&self.levels, self.reached)?;
         if first.due > now {
             return None;
         }
@@ -137,6 +137,17 @@ fn first_timer(levels: &Levels, reached: u64) -> Option<Timer>
         Some(first) => levels.least(first.slot),
         None => None,
     }
+}
+
+/// The timer that fires first, if it is due by the moment that was reached: then it stands with what is late, and no slot of
+/// the levels is looked at.
+fn late_timer(levels: &Levels, reached: u64) -> Option<Timer>
+    requires { IsWheel reached levels.now.lists }
+    ensures some { IfSome result (λ first. pending_in levels.now.lists ≡ first ∷ drop 1 (pending_in levels.now.lists)) }
+    ensures none { IfNone result ((due : ℕ) → first_due (pending_in levels.now.lists) ≡ Some due → reached < due) }
+{
+    earlier_fires_first();
+    levels.least(LATE)
 }
 
 /// Looks up the timer that fires first, where it stands in a slot of the levels, so that to ask for it takes a fixed time.
