@@ -8,7 +8,7 @@ ghost use Rattle.sip_context.specs.declared.input.Input.{Input};
 ghost use Rattle.sip_context.specs.Inputs.{outcome, outcome_of};
 ghost use Rattle.sip_forwarding.specs.Forwarding.{IsDraft, IsInputTo, Teach, change_of};
 
-use crate::change_packets;
+use crate::packets::{put_change, put_packets};
 use sip_context::Sent;
 use sip_dialog_lessons::Lessons;
 use sip_dialog_lessons::state::{OpenRequest, Upward};
@@ -25,25 +25,6 @@ pub struct Drafted {
     pub lessons: Lessons,
 }
 
-/// Adds what goes again of a request.
-fn put_copies(
-    alloc: Global,
-    out: &mut Items<Packet>,
-    request: &OpenRequest,
-    copies: Items<Packet>,
-) -> Result<(), AllocError>
-    ensures { OnOk result (out.new ≡ out.old ++ copies) }
-{
-    let sent = Sent {
-        acks: copies,
-        upward: Items::new(alloc),
-        cancels: Items::new(alloc),
-        copies: Items::new(alloc),
-    };
-    let _none = change_packets(alloc, out, request, sent)?;
-    Ok(())
-}
-
 /// Adds what an event makes a request send, and behind it what goes again. Gives what goes to the caller.
 fn put_sent(
     alloc: Global,
@@ -54,21 +35,10 @@ fn put_sent(
     ensures packets { OnOk result (out.new ≡ out.old ++ (Effects.change_packets (change_of (outcome request.now sent)) ++ sent.copies)) }
     ensures upward { IfOk result (λ upward. upward ≡ sent.upward) }
 {
-    let Sent {
-        acks,
-        upward,
-        cancels,
-        copies,
-    } = sent;
-    let first = Sent {
-        acks,
-        upward,
-        cancels,
-        copies: Items::new(alloc),
-    };
-    let upward = change_packets(alloc, out, request, first)?;
-    put_copies(alloc, out, request, copies)?;
-    Ok(upward)
+    let mut sent = sent;
+    put_change(alloc, out, request, &mut sent)?;
+    put_packets(alloc, out, &mut sent.copies)?;
+    Ok(sent.upward)
 }
 
 /// What an event makes an open request send, given the request after it, and what that tells the dialogs (RFC 3261 12, 16.7):

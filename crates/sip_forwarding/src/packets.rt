@@ -41,7 +41,7 @@ fn move_packets(
     Ok(())
 }
 
-/// Adds packets in their order, whose bytes are taken out of their places.
+/// Adds packets in their order, which are taken out of their list: as they stand where they are the first ones.
 pub(crate) fn put_packets(
     alloc: Global,
     out: &mut Items<Packet>,
@@ -49,6 +49,13 @@ pub(crate) fn put_packets(
 ) -> Result<(), AllocError>
     ensures { OnOk result (out.new ≡ out.old ++ packets.old) }
 {
+    if packets.as_slice().is_empty() {
+        return Ok(());
+    }
+    if out.as_slice().is_empty() {
+        *out = replace(packets, Items::new(alloc));
+        return Ok(());
+    }
     move_packets(alloc, out, packets.as_mut_slice())
 }
 
@@ -79,8 +86,8 @@ pub(crate) fn upward_packets(
     Ok(())
 }
 
-/// Adds what an event made an open request send. What goes to the caller stays.
-fn put_change(
+/// Adds what an event made an open request send. What goes to the caller stays, and so does what goes again.
+pub(crate) fn put_change(
     alloc: Global,
     out: &mut Items<Packet>,
     request: &OpenRequest,
@@ -88,6 +95,7 @@ fn put_change(
 ) -> Result<(), AllocError>
     ensures packets { OnOk result (out.new ≡ out.old ++ Effects.change_packets (change_of request.now sent.old)) }
     ensures upward { OnOk result (sent.new.upward ≡ sent.old.upward) }
+    ensures copies { OnOk result (sent.new.copies ≡ sent.old.copies) }
 {
     put_packets(alloc, out, &mut sent.acks)?;
     upward_packets(alloc, out, request, sent.upward.as_slice())?;
