@@ -95,11 +95,11 @@ fn change_branch<T: Timers>(
     let part = branch_part(next, branch);
     match partner(was, was_keys, place, branch) {
         None => {
-            let keys = sync_part(timers, no_part(), NO_KEYS, part);
+            let keys = sync_part(timers, &no_part(), NO_KEYS, &part);
             Synced { keys, place }
         }
         Some(stood) => {
-            let keys = sync_part(timers, stood.part, stood.keys, part);
+            let keys = sync_part(timers, &stood.part, stood.keys, &part);
             Synced {
                 keys,
                 place: stood.behind,

@@ -53,38 +53,44 @@ pub(crate) fn no_part() -> Part
 
 /// Lets the timer of a slot of a part stand, and no other one in place of the timer of a slot of a part before. Gives the
 /// key.
+#[inline]
 fn sync_slot<T: Timers>(
     timers: &mut T,
-    was: Part,
+    was: &Part,
     key: usize,
     stood: Option<(Letter, u64)>,
-    next: Part,
+    next: &Part,
     slot: Option<(Letter, u64)>,
 ) -> usize
-    requires held { IsHeld (T.pending timers.old) (slot_timers was.request was.owner key stood) }
+    requires held { IsHeld (T.pending timers.old) (slot_timers was.now.request was.now.owner key stood) }
     requires room { 1 ≤ T.room timers.old }
     requires near { IsBefore (T.reached timers.old + 2 ^ 30) slot }
-    ensures moves { Moves (T.pending timers.old) (slot_timers was.request was.owner key stood) (T.pending timers.new)
-        (slot_timers next.request next.owner result slot) }
+    ensures moves { Moves (T.pending timers.old) (slot_timers was.now.request was.now.owner key stood) (T.pending timers.new)
+        (slot_timers next.now.request next.now.owner result slot) }
     ensures left { T.room timers.old ≤ T.room timers.new + 1 }
     ensures still { T.reached timers.new ≡ T.reached timers.old }
 {
-    let timer = standing(was.request, was.owner, key, stood);
-    sync(timers, timer, next.request, next.owner, slot)
+    match (stood, slot) {
+        (None, None) => 0,
+        _ => {
+            let timer = standing(was.request, was.owner, key, stood);
+            sync(timers, timer, next.request, next.owner, slot)
+        }
+    }
 }
 
 /// Lets the timers of a part stand, for which there is room, and no others: of those that stood before, one that is the
 /// same stays as it is, and another one is stopped. Gives the keys.
 pub(crate) fn sync_part<T: Timers>(
     timers: &mut T,
-    was: Part,
+    was: &Part,
     keys: TimerKeys,
-    next: Part,
+    next: &Part,
 ) -> TimerKeys
-    requires held { IsHeld (T.pending timers.old) (part_standing keys was) }
+    requires held { IsHeld (T.pending timers.old) (part_standing keys was.now) }
     requires room { 3 ≤ T.room timers.old }
-    requires near { IsPartNear (T.reached timers.old + 2 ^ 30) next.timers }
-    ensures moves { Moves (T.pending timers.old) (part_standing keys was) (T.pending timers.new) (part_standing result next) }
+    requires near { IsPartNear (T.reached timers.old + 2 ^ 30) next.now.timers }
+    ensures moves { Moves (T.pending timers.old) (part_standing keys was.now) (T.pending timers.new) (part_standing result next.now) }
     ensures left { T.room timers.old ≤ T.room timers.new + 3 }
     ensures still { T.reached timers.new ≡ T.reached timers.old }
 {

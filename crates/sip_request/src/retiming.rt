@@ -37,7 +37,7 @@ fn retime_side<T: Timers>(
     }
     let stood = side_part(was);
     let part = side_part(next);
-    sync_part(timers, stood, keys, part)
+    sync_part(timers, &stood, keys, &part)
 }
 
 /// Lets the timers of an open request stand, for which there is room, and no others of those that it named before. Gives
@@ -83,7 +83,7 @@ pub(crate) fn begin<T: Timers>(
     ensures still { T.reached timers.new ≡ T.reached timers.old }
 {
     let part = side_part(next);
-    let side = sync_part(timers, no_part(), NO_KEYS, part);
+    let side = sync_part(timers, &no_part(), NO_KEYS, &part);
     sync_branches(timers, next, &[], next, keys, false);
     side
 }

@@ -2,7 +2,7 @@ use Rattle.sip_request.proofs.Moving.{held_again, held_second, held_third, Moves
 use Rattle.sip_request.proofs.part.sync_part.Goals as goal
 
 pub sync_slot-again-requires-clause-held : goal.sync_slot-again-requires-clause-held
-sync_slot-again-requires-clause-held g c = held_again _ c.args.keys c.args.was c.requires.held
+sync_slot-again-requires-clause-held g c = held_again _ c.args.keys c.args.was.now c.requires.held
 
 pub sync_slot-last-requires-clause-held : goal.sync_slot-last-requires-clause-held
 sync_slot-last-requires-clause-held g c = held_second _ _ _ _ _ _ c.requires.held c.sync_slot-again.ensures.moves
