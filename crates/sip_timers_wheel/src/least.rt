@@ -8,7 +8,7 @@ use sip_timers::Timer;
 use slab::Slab;
 
 /// The timer of a list that is due first. It is looked for only where it isn't known.
-#[inline]
+#[inline(always)]
 pub(crate) fn least_of(rows: &Slab<Row>, head: &Head) -> Option<Timer>
     requires { IsHeld rows.now head.now (list_of rows.now head.now) }
     ensures { result ≡ least (list_of rows.now head.now) }
@@ -28,6 +28,7 @@ pub(crate) fn least_number(rows: &Slab<Row>, head: &Head) -> Option<RowNumber>
 }
 
 /// The timer of a list that is due first, after a look through all of them.
+#[inline(never)]
 fn find_least(rows: &Slab<Row>, head: &Head) -> Option<Timer>
     requires { IsHeld rows.now head.now (list_of rows.now head.now) }
     ensures { result ≡ least (list_of rows.now head.now) }
