@@ -75,7 +75,7 @@ fn relays_success(request: &OpenRequest, status: u16) -> bool
 }
 
 /// A 2xx from a branch as it goes to the caller, if it does.
-fn relayed_success(
+pub(crate) fn relayed_success(
     alloc: Global,
     request: &OpenRequest,
     branch: &Branch,
@@ -91,65 +91,19 @@ fn relayed_success(
     Ok(Some(relayed_from(branch, status, message)))
 }
 
-/// The first final answer of a branch: as it is kept, and as it goes to the caller at once, if it does.
-#[derive(Drop)]
-pub(crate) struct Taken {
-    pub answer: Final,
-    pub relayed: Option<Upward>,
-}
-
-/// The first final answer of a branch, of which nothing goes to the caller at once.
-fn kept_final(alloc: Global, status: u16, response: &View<'_>) -> Result<Taken, AllocError>
-    ensures answer { IfOk result (λ taken. taken.answer ≡ Contexts.final_of status response.now) }
-    ensures relayed { IfOk result (λ taken. taken.relayed ≡ None) }
+/// The final answer of a branch, of which nothing goes to the caller at once, as it is kept.
+pub(crate) fn kept_final(
+    alloc: Global,
+    status: u16,
+    response: &View<'_>,
+) -> Result<Final, AllocError>
+    ensures { IfOk result (λ answer. answer ≡ Contexts.final_of status response.now) }
 {
     let message = kept_response(alloc, response)?;
-    Ok(Taken {
-        answer: Final {
-            status,
-            message: Some(message),
-        },
-        relayed: None,
+    Ok(Final {
+        status,
+        message: Some(message),
     })
-}
-
-/// The first final answer of a branch, which goes to the caller at once: its message has two owners.
-fn relayed_final(
-    alloc: Global,
-    branch: &Branch,
-    status: u16,
-    response: &View<'_>,
-) -> Result<Taken, AllocError>
-    ensures answer { IfOk result (λ taken. taken.answer ≡ Contexts.final_of status response.now) }
-    ensures relayed { IfOk result (λ taken. taken.relayed ≡ Some (Contexts.relayed_from branch.now status response.now)) }
-{
-    let written = written_response(alloc, response)?;
-    let message = written.message().clone()?;
-    Ok(Taken {
-        answer: Final {
-            status,
-            message: Some(message),
-        },
-        relayed: Some(relayed_from(branch, status, written)),
-    })
-}
-
-/// The first final answer of a branch, which is kept once.
-pub(crate) fn first_final(
-    alloc: Global,
-    request: &OpenRequest,
-    branch: &Branch,
-    status: u16,
-    response: &View<'_>,
-) -> Result<Taken, AllocError>
-    ensures answer { IfOk result (λ taken. taken.answer ≡ Contexts.final_of status response.now) }
-    ensures relayed { IfOk result (λ taken. taken.relayed ≡ Contexts.relayed_success request.now branch.now status response.now) }
-{
-    if relays_success(request, status) {
-        relayed_final(alloc, branch, status, response)
-    } else {
-        kept_final(alloc, status, response)
-    }
 }
 
 /// A further final response of a branch as it goes to the caller, if it does: a 2xx of an INVITE whose branch gave one

@@ -7,7 +7,7 @@ ghost use Rattle.sip_context_branches.specs.Early.{IsEarly};
 ghost use Rattle.sip_context.specs.Sent.{change_of};
 
 use crate::finals::keep_final;
-use crate::relayed::{first_final, further, relayed_provisional};
+use crate::relayed::{further, kept_final, relayed_provisional, relayed_success};
 use crate::sent::Sent;
 use crate::settling::{settle, settle_alone};
 use sip_base::Shared;
@@ -154,6 +154,28 @@ fn finish(
     Ok(())
 }
 
+/// The first final answer of a branch came, which goes to the caller at once, so that none is kept: the branch is done, and
+/// the search ends if it is to.
+fn finish_relayed(
+    alloc: Global,
+    now: u64,
+    request: &mut OpenRequest,
+    branch: &Branch,
+    status: u16,
+    response: &View<'_>,
+) -> Result<(), AllocError>
+    requires { now + 32000 < 2 ^ 64 }
+    ensures { OnOk result (request.new ≡ Contexts.search_ended request.old status
+        (Contexts.with_phase (Contexts.told_to request.old branch.now status response.now) (Done (now + Contexts.linger request.old) status)
+        request.old)) }
+{
+    finish_branch(alloc, now, request, branch, status, response)?;
+    if ends_search(request, status) {
+        mark(&mut request.branches);
+    }
+    Ok(())
+}
+
 /// A provisional response came from a target.
 fn hear_target(
     alloc: Global,
@@ -196,7 +218,9 @@ fn hear_further(
     Ok(sent)
 }
 
-/// The first final response of a target is taken: what of it goes to the caller at once, if anything does.
+/// The first final response of a target is taken: what of it goes to the caller at once, if anything does. It is kept only if
+/// nothing does, since what goes to the caller leaves no answer kept.
+#[tactic(auto, using(crate::proofs::Settled::final_told, crate::proofs::Settled::final_untold))]
 fn take_final(
     alloc: Global,
     now: u64,
@@ -207,11 +231,21 @@ fn take_final(
 ) -> Result<Option<Upward>, AllocError>
     requires { now + 32000 < 2 ^ 64 }
     ensures relayed { IfOk result (λ up. up ≡ Contexts.relayed_success open_request.old branch.now status response.now) }
-    ensures request { OnOk result (open_request.new ≡ Contexts.with_answer open_request.old branch.now now status response.now) }
+    ensures told { IfOk result (λ up. Contexts.after_upward now up open_request.new
+        ≡ Contexts.after_upward now up (Contexts.with_answer open_request.old branch.now now status response.now)) }
 {
-    let taken = first_final(alloc, open_request, branch, status, response)?;
-    finish(alloc, now, open_request, branch, taken.answer, response)?;
-    Ok(taken.relayed)
+    let relayed = relayed_success(alloc, open_request, branch, status, response)?;
+    match relayed {
+        Some(up) => {
+            finish_relayed(alloc, now, open_request, branch, status, response)?;
+            Ok(Some(up))
+        }
+        None => {
+            let answer = kept_final(alloc, status, response)?;
+            finish(alloc, now, open_request, branch, answer, response)?;
+            Ok(None)
+        }
+    }
 }
 
 /// The first final response came from a target.

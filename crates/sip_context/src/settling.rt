@@ -6,40 +6,29 @@ ghost use Rattle.sip_context.specs.Sent.{change_of};
 
 use crate::answers::{best_upward, tell};
 use crate::sent::Sent;
-use sip_context_branches::state::{OpenRequest, Server, Upward};
+use sip_context_branches::state::{Branch, OpenRequest, Server, Upward};
 use sip_context_branches::{add_cancels, new_cancels};
 use sip_context_packets::packets_of_branches;
 use sip_event::Packet;
 use sip_text::Items;
 use std::alloc::{AllocError, Global};
 
-/// The packets of the CANCELs that are sent now.
+/// The packets of CANCELs.
 fn cancel_packets(
     alloc: Global,
     server: &Server,
-    now: u64,
     request: &OpenRequest,
+    cancels: &[Branch],
 ) -> Result<Items<Packet>, AllocError>
-    requires { now + 32000 < 2 ^ 64 }
-    ensures { IfOk result (λ packets. packets ≡ flat_map (Sendings.branch_packets server.now false request.now)
-        (Contexts.new_cancels now request.now)) }
+    ensures { IfOk result (λ packets. packets ≡ flat_map (Sendings.branch_packets server.now false request.now) cancels.now) }
 {
-    let cancels = new_cancels(alloc, now, request.branches.as_slice())?;
     let mut packets = Items::new(alloc);
-    if !cancels.as_slice().is_empty() {
-        packets_of_branches(
-            alloc,
-            &mut packets,
-            server,
-            false,
-            request,
-            cancels.as_slice(),
-        )?;
-    }
+    packets_of_branches(alloc, &mut packets, server, false, request, cancels)?;
     Ok(packets)
 }
 
-/// The branches that are ready for it are sent their CANCELs.
+/// The branches that are ready for it are sent their CANCELs. Where none is, they stay as they are.
+#[tactic(auto, using(crate::proofs::Settled::kept_as_they_are, crate::proofs::Settled::nothing_sent))]
 fn send_cancels(
     alloc: Global,
     server: &Server,
@@ -51,7 +40,11 @@ fn send_cancels(
     ensures packets { IfOk result (λ packets. packets ≡ flat_map (Sendings.branch_packets server.now false open_request.old)
         (Contexts.new_cancels now open_request.old)) }
 {
-    let packets = cancel_packets(alloc, server, now, open_request)?;
+    let cancels = new_cancels(alloc, now, open_request.branches.as_slice())?;
+    if cancels.as_slice().is_empty() {
+        return Ok(Items::new(alloc));
+    }
+    let packets = cancel_packets(alloc, server, open_request, cancels.as_slice())?;
     add_cancels(alloc, now, &mut open_request.branches)?;
     Ok(packets)
 }
