@@ -51,9 +51,32 @@ pub(crate) fn no_part() -> Part
     }
 }
 
+/// Lets the timer of a slot of a part stand, and no other one in place of the timer of a slot of a part before, where one of
+/// the two has a timer. Gives the key.
+#[inline(never)]
+fn move_slot<T: Timers>(
+    timers: &mut T,
+    was: &Part,
+    key: usize,
+    stood: Option<(Letter, u64)>,
+    next: &Part,
+    slot: Option<(Letter, u64)>,
+) -> usize
+    requires held { IsHeld (T.pending timers.old) (slot_timers was.now.request was.now.owner key stood) }
+    requires room { 1 ≤ T.room timers.old }
+    requires near { IsBefore (T.reached timers.old + 2 ^ 30) slot }
+    ensures moves { Moves (T.pending timers.old) (slot_timers was.now.request was.now.owner key stood) (T.pending timers.new)
+        (slot_timers next.now.request next.now.owner result slot) }
+    ensures left { T.room timers.old ≤ T.room timers.new + 1 }
+    ensures still { T.reached timers.new ≡ T.reached timers.old }
+{
+    let timer = standing(was.request, was.owner, key, stood);
+    sync(timers, timer, next.request, next.owner, slot)
+}
+
 /// Lets the timer of a slot of a part stand, and no other one in place of the timer of a slot of a part before. Gives the
 /// key.
-#[inline]
+#[inline(always)]
 fn sync_slot<T: Timers>(
     timers: &mut T,
     was: &Part,
@@ -72,10 +95,7 @@ fn sync_slot<T: Timers>(
 {
     match (stood, slot) {
         (None, None) => 0,
-        _ => {
-            let timer = standing(was.request, was.owner, key, stood);
-            sync(timers, timer, next.request, next.owner, slot)
-        }
+        _ => move_slot(timers, was, key, stood, next, slot),
     }
 }
 
