@@ -12,8 +12,8 @@ use sip_timers::Timers;
 pub fn next_due<T: Timers>(proxy: &Proxy<T>) -> Option<u64>
     ensures { MatchOption result (IsNothingDue proxy.now.state.requests) (IsNext proxy.now.state.requests) }
 {
-    match proxy.first() {
-        Some(first) => Some(first.due),
+    match proxy.first_moment() {
+        Some(due) => Some(due),
         None => None,
     }
 }

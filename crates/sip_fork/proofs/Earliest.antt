@@ -1,5 +1,5 @@
 -- The first timer is of what is due first of all open requests.
-use Rattle.std.proofs.Common.{◌≡◌, ℕ, ◌<◌, ◌≤◌, Bool, true, false, cond, List, [], ◌∷◌, slice_get, position, Option, Some, None, IsSome, refl, sym, ◌∙◌, ap, subst, arith, eqb}
+use Rattle.std.proofs.Common.{◌≡◌, ℕ, ◌<◌, ◌≤◌, Bool, true, false, cond, List, [], ◌∷◌, length, get_or, slice_get, position, Option, Some, None, IsSome, refl, sym, ◌∙◌, ap, subst, arith, eqb}
 use Rattle.std.specs.Prelude.{◌&&◌, count_by, IfNone}
 use Rattle.std.specs.List.{AllPairs, sum_by}
 use Rattle.std.specs.Option.{option_map}
@@ -7,7 +7,7 @@ use Rattle.std.proofs.lemmas.Bool.Decides.{nat_tests}
 use Rattle.std.proofs.lemmas.List.{length-map}
 use Rattle.std.proofs.lemmas.List.Sums.{get_or-le-sum_by}
 use Rattle.std.proofs.lemmas.List.Quantifiers.{position-Some}
-use Rattle.std.proofs.lemmas.Option.{slice_get_within, slice_get-map, get_or_from_slice_get}
+use Rattle.std.proofs.lemmas.Option.{slice_get-get_or, slice_get_within, slice_get-map, get_or_from_slice_get}
 use Rattle.sip_timers.specs.declared.timer.Name.{Name}
 use Rattle.sip_timers.specs.declared.timer.Timer.{Timer}
 use Rattle.sip_timers.specs.Timers.{AreOrdered, first_named}
@@ -15,10 +15,11 @@ use Rattle.sip_dialog_lessons.specs.state.declared.open_request.OpenRequest.{Ope
 use Rattle.sip_request.specs.Named.{named_by}
 use Rattle.sip_request.specs.declared.request.Request.{Request}
 use Rattle.sip_fork.specs.Contexts.{AreTied}
-use Rattle.sip_fork.specs.Due.{IsDue, IsFirst, IsNotDue, IsNothingDue, IsOfFirst, IsOfOwner}
+use Rattle.sip_fork.specs.Due.{IsDue, IsFirst, IsFirstAt, IsNotDue, IsNothingDue, IsOfFirst, IsOfOwner}
 use Rattle.sip_fork.specs.Queue.{IsQueue}
 use Rattle.sip_fork.specs.Timing.{Timing}
 use Rattle.sip_fork.specs.declared.due.Due.{Due}
+use Rattle.sip_fork.proofs.Dues.{something}
 use Rattle.sip_fork.proofs.Firsts.{first_le, none_before, none_again_before}
 use Rattle.sip_fork.proofs.Lists.{count-cons}
 use Rattle.sip_fork.proofs.Moments.{due_then}
@@ -61,6 +62,13 @@ no_moment [] m e = refl
 no_moment (t ∷ ts) m e = absurd (cc)
 
 -- ---- open requests
+
+-- what was found has the number
+pub number_there : (number : ℕ) (rows : List Request) (i : ℕ) (r : Request) → position (λ (x : Request). eqb x.open_request.number number) rows ≡ Some i → slice_get rows i ≡ Some r → r.open_request.number ≡ number
+number_there number rows i r found at =
+    let is = position-Some (λ (x : Request). eqb x.open_request.number number) rows i r found in
+    let passes : eqb r.open_request.number number ≡ true = subst (λ (x : Request). eqb x.open_request.number number ≡ true) (get_or_from_slice_get rows i r r at) is.1 in
+    grind (arith, nat_tests, passes)
 
 module _ (timing : Timing) (pending : List Timer) (reached : ℕ) (rows : List Request) (tied : AreTied pending reached rows) where
   -- where no timer stands, nothing is due
@@ -105,6 +113,26 @@ module _ (timing : Timing) (pending : List Timer) (reached : ℕ) (rows : List R
       none_again = none_again_before timing reached due rows tied.kept late;
     }
 
+    -- so that something of an open request is due first then
+    at_row : AllPairs (λ (a b : Request). a.open_request.number < b.open_request.number) rows → (i : ℕ) (r : Request) → position (λ (x : Request). eqb x.open_request.number name.request) rows ≡ Some i → slice_get rows i ≡ Some r → IsFirstAt (contexts rows) due
+    at_row rise i r found at =
+        let what : (what : Due) × IsDue r.open_request due what = something r.open_request due name.owner (first_due i r rise at (number_there name.request rows i r found at)) in
+        (record { due = due; place = i; what = what.0 }, is_first i r what.0 at what.1, refl)
+
+    in_rows : AllPairs (λ (a b : Request). a.open_request.number < b.open_request.number) rows → (i : ℕ) (xs : List Request) → rows ≡ xs → position (λ (x : Request). eqb x.open_request.number name.request) xs ≡ Some i → IsFirstAt (contexts rows) due
+    in_rows rise i [] is found = absurd (cc)
+    in_rows rise i (x ∷ xs) is found =
+        let there : position (λ (y : Request). eqb y.open_request.number name.request) rows ≡ Some i = ap (λ (ys : List Request). position (λ (y : Request). eqb y.open_request.number name.request) ys) is ∙ found in
+        let lt : i < length rows = (position-Some (λ (y : Request). eqb y.open_request.number name.request) rows i x there).0 in
+        at_row rise i (get_or rows i x) there (slice_get-get_or rows i x lt)
+
+    at_place_of : AllPairs (λ (a b : Request). a.open_request.number < b.open_request.number) rows → (o : Option ℕ) → position (λ (x : Request). eqb x.open_request.number name.request) rows ≡ o → IsSome o → IsFirstAt (contexts rows) due
+    at_place_of rise None found some = absurd (cc)
+    at_place_of rise (Some i) found some = in_rows rise i rows refl found
+
+    pub first_at : AllPairs (λ (a b : Request). a.open_request.number < b.open_request.number) rows → IsFirstAt (contexts rows) due
+    first_at rise = at_place_of rise (position (λ (x : Request). eqb x.open_request.number name.request) rows) refl first_found
+
 -- it is of the timer at the head
 pub of_first : (pending : List Timer) (rows : List Request) (due : ℕ) (name : Name) → first_named pending ≡ Some (due, name) → (i : ℕ) (r : Request) (what : Due) → slice_get rows i ≡ Some r
     → r.open_request.number ≡ name.request → IsOfOwner r.open_request name.owner what → IsOfFirst pending (contexts rows) (record { due = due; place = i; what = what })
@@ -129,10 +157,3 @@ of_first (t ∷ ts) rows due name e i r what at same is =
 pub some_of : {X : Type 0} {P : Type 0} (o : Option X) → IfNone o P → (P → ⊥) → IsSome o
 some_of None none not = absurd (not none)
 some_of (Some x) none not = refl
-
--- what was found has the number
-pub number_there : (number : ℕ) (rows : List Request) (i : ℕ) (r : Request) → position (λ (x : Request). eqb x.open_request.number number) rows ≡ Some i → slice_get rows i ≡ Some r → r.open_request.number ≡ number
-number_there number rows i r found at =
-    let is = position-Some (λ (x : Request). eqb x.open_request.number number) rows i r found in
-    let passes : eqb r.open_request.number number ≡ true = subst (λ (x : Request). eqb x.open_request.number number ≡ true) (get_or_from_slice_get rows i r r at) is.1 in
-    grind (arith, nat_tests, passes)

@@ -31,6 +31,10 @@ pub record IsFirst (requests : List OpenRequest) (first : First) : Type 0 where
   pub none_before : NoneBefore first.due requests
   pub none_again : NoneAgainBefore first.due requests
 
+-- At this moment what is due first is due.
+abbrev pub IsFirstAt : List OpenRequest → ℕ → Type 0
+IsFirstAt requests due = (first : First) × IsFirst requests first × (first.due ≡ due)
+
 -- whether timers of this owner are those of a branch of a number, or of its CANCEL
 abbrev pub is_part : Owner → Bool → ℕ → Bool
 is_part Of.Server cancel number = false

@@ -16,7 +16,7 @@ ghost use Rattle.sip_request.specs.transactions_model.Near.{IsWithin};
 ghost use Rattle.sip_request.specs.Near.{most_timers};
 ghost use Rattle.sip_context.specs.Inputs.{outcome, outcome_of};
 ghost use Rattle.sip_fork.specs.Contexts.{IsFitting, IsSame};
-ghost use Rattle.sip_fork.specs.Due.{IsFirst, IsNothingDue, IsOfFirst};
+ghost use Rattle.sip_fork.specs.Due.{IsFirst, IsFirstAt, IsNothingDue, IsOfFirst};
 ghost use Rattle.sip_fork.specs.Places.{branch_at};
 
 use crate::change::{Change, Opening, Prepared};
@@ -290,6 +290,17 @@ impl<T: Timers> Contexts<T> {
         let row = self.table.get(place);
         let what = what_at(&row.request.open_request, name.owner, due).unwrap();
         Some(First { due, place, what })
+    }
+
+    /// When what is due first of all open requests is due, in milliseconds, without a look at its request. None exactly where no
+    /// deadline stands and nothing is to go again. Takes no memory.
+    pub fn first_moment(&self) -> Option<u64>
+        ensures { MatchOption result (IsNothingDue self.now.requests) (IsFirstAt self.now.requests) }
+    {
+        timers_stand_for_moments();
+        let _open = self.table.len();
+        let first = self.timers.first()?;
+        Some(first.0)
     }
 
     /// A moment comes before which nothing is due. Takes no memory.

@@ -2,7 +2,7 @@ ghost use Rattle.std.specs.Prelude.{◌≡◌, ◌<◌, ◌≤◌, ◌==◌, ◌
 ghost use Rattle.std.specs.Prelude.{MatchOption, Some, IfOk, IfSome};
 ghost use Rattle.std.specs.List.{AllPairs};
 ghost use Rattle.std.specs.Option.{option_and_then};
-ghost use Rattle.sip_fork.specs.Due.{IsFirst, IsNothingDue, IsOfFirst};
+ghost use Rattle.sip_fork.specs.Due.{IsFirst, IsFirstAt, IsNothingDue, IsOfFirst};
 ghost use Rattle.sip_fork.specs.Places.{branch_at};
 ghost use Rattle.sip_core.specs.context_model.FoundBranch.{found_branch};
 ghost use Rattle.sip_transaction_table.specs.Key.{same_key};
@@ -198,6 +198,14 @@ impl<T: Timers> Proxy<T> {
         ensures in_order { IfSome result (IsOfFirst self.now.timers self.now.state.requests) }
     {
         self.contexts.first()
+    }
+
+    /// When what is due first of all open requests is due, in milliseconds. None exactly where no deadline stands and nothing is
+    /// to go again. Takes no memory.
+    pub fn first_moment(&self) -> Option<u64>
+        ensures { MatchOption result (IsNothingDue self.now.state.requests) (IsFirstAt self.now.state.requests) }
+    {
+        self.contexts.first_moment()
     }
 
     /// A moment comes at which nothing happens. Takes no memory.
