@@ -1,24 +1,19 @@
 -- A nonce's text, read from the left, with the word so far.
-use Rattle.std.proofs.Common.{◌≡◌, ℕ, zero, suc, ◌+◌, ◌*◌, ◌/◌, ◌%◌, ◌^◌, ◌<◌, ◌-◌, Bool, true, false, cond, List, [], ◌∷◌, length, Option, Some, None, refl, sym, ap, ◌∙◌, arith, eqb-true}
-use Rattle.std.proofs.Math.Nat.{pow-suc, div-div-eq-div-mul}
+use Rattle.std.proofs.Common.{◌≡◌, ℕ, zero, suc, ◌+◌, ◌*◌, ◌/◌, ◌%◌, ◌^◌, ◌<◌, ◌≤◌, ◌-◌, Bool, true, false, cond, List, [], ◌∷◌, ◌++◌, length, take, drop, Option, Some, None, refl, sym, ap, ap₂, ◌∙◌, arith, eqb-true, length-drop, take-append-drop}
+use Rattle.std.proofs.Math.Nat.{pow-suc, mul_assoc, mul_comm, div-div-eq-div-mul}
 use Rattle.std.proofs.lemmas.Bool.{agree_below_at, and_from}
 use Rattle.std.proofs.lemmas.Bool.Decides.{nat_tests}
 use Rattle.std.specs.Prelude.{◌&&◌, ◌==◌, nat_le, nat_lt, slice_index}
 use Rattle.std.specs.List.{list_all}
 use Rattle.std.specs.Char.{digit_value}
 use Rattle.std.specs.Int.{byte_at, bytes_high_first}
-use Rattle.std.specs.Option.{option_and_then}
+use Rattle.std.specs.Option.{option_and_then, option_map}
 use Rattle.std.specs.Str.Parse.{digits_value_after, digits_value}
 use Rattle.hex.specs.Hex.{encode_with, encode_lower, lower_digits}
 use Rattle.hex.proofs.HexLemmas.{length-encode_with}
 use Rattle.sip_digest.specs.HexNumber.{is_hex_digit}
-use Rattle.sip_digest.specs.NonceText.{nonce_text, lower_value, word_of}
+use Rattle.sip_digest.specs.NonceText.{nonce_text, lower_value, read_lower, word_of}
 use Rattle.sip_digest.proofs.NonceTexts.{byte_is, two_digits, below, named_by, names_word}
-
--- what is read behind a word
-abbrev pub read_lower : ℕ → List ℕ → Option ℕ
-read_lower n [] = Some n
-read_lower n (b ∷ bs) = option_and_then (λ d. read_lower (n * 16 + d) bs) (lower_value b)
 
 -- ---- one digit
 
@@ -148,3 +143,72 @@ by_read text None None long e f = refl
 
 pub word_is : (text : List ℕ) → length text ≡ 32 → read_lower 0 text ≡ word_of text
 word_is text long = sym (by_read text (read_lower 0 text) (word_of text) long refl refl)
+
+-- ---- a text in two halves
+
+-- the next digit, if it is one
+by_first : (n : ℕ) (xs ys : List ℕ) → ((d : ℕ) → read_lower (n * 16 + d) (xs ++ ys) ≡ option_and_then (λ m. read_lower m ys) (read_lower (n * 16 + d) xs)) → (o : Option ℕ)
+    → option_and_then (λ d. read_lower (n * 16 + d) (xs ++ ys)) o ≡ option_and_then (λ m. read_lower m ys) (option_and_then (λ d. read_lower (n * 16 + d) xs) o)
+by_first n xs ys rest None = refl
+by_first n xs ys rest (Some d) = rest d
+
+read_both : (n : ℕ) (xs ys : List ℕ) → read_lower n (xs ++ ys) ≡ option_and_then (λ m. read_lower m ys) (read_lower n xs)
+read_both n [] ys = refl
+read_both n (x ∷ xs) ys = by_first n xs ys (λ d. read_both (n * 16 + d) xs ys) (lower_value x)
+
+more_weight : (p k q : ℕ) → p * 16 ^ suc k ≡ q → p * 16 * 16 ^ k ≡ q
+more_weight p k q e = mul_assoc p 16 (16 ^ k) ∙ ap (λ v. p * v) (mul_comm 16 (16 ^ k) ∙ sym (pow-suc 16 k)) ∙ e
+
+more_front : (h p n d : ℕ) → (h * p + n) * 16 + d ≡ h * (p * 16) + (n * 16 + d)
+more_front h p n d = let e : h * (p * 16) ≡ h * p * 16 = sym (mul_assoc h p 16) in omega (arith, e)
+
+by_digit : (h p n q : ℕ) (bs : List ℕ) → ((d : ℕ) → read_lower ((h * p + n) * 16 + d) bs ≡ option_map (λ v. h * q + v) (read_lower (n * 16 + d) bs)) → (o : Option ℕ)
+    → option_and_then (λ d. read_lower ((h * p + n) * 16 + d) bs) o ≡ option_map (λ v. h * q + v) (option_and_then (λ d. read_lower (n * 16 + d) bs) o)
+by_digit h p n q bs rest None = refl
+by_digit h p n q bs rest (Some d) = rest d
+
+-- what is read behind a front is what the digits write, and the front times what they count
+read_behind : (h p n q : ℕ) (bs : List ℕ) → p * 16 ^ length bs ≡ q → read_lower (h * p + n) bs ≡ option_map (λ v. h * q + v) (read_lower n bs)
+read_behind h p n q [] e = let same : p ≡ q = omega (arith, e) in ap (λ v. Some (h * v + n)) same
+read_behind h p n q (b ∷ bs) e =
+    by_digit h p n q bs (λ d. ap (λ v. read_lower v bs) (more_front h p n d) ∙ read_behind h (p * 16) (n * 16 + d) q bs (more_weight p (length bs) q e)) (lower_value b)
+
+behind_half : (high : ℕ) (bs : List ℕ) → length bs ≡ 16 → read_lower high bs ≡ option_map (λ v. high * 2 ^ 64 + v) (read_lower 0 bs)
+behind_half high bs long =
+    let weight : 1 * 16 ^ length bs ≡ 2 ^ 64 = ap (λ k. 1 * 16 ^ k) long in
+    let same : high ≡ high * 1 + 0 = omega arith in
+    ap (λ v. read_lower v bs) same ∙ read_behind high 1 0 (2 ^ 64) bs weight
+
+-- the word of a text, by its halves
+pub by_halves : (text front back : List ℕ) → length text ≡ 32 → front ≡ take 16 text → back ≡ drop 16 text
+    → word_of text ≡ option_and_then (λ high. option_map (λ low. high * 2 ^ 64 + low) (read_lower 0 back)) (read_lower 0 front)
+by_halves text front back long at_front at_back =
+    let cut : text ≡ front ++ back = sym (take-append-drop 16 text) ∙ ap₂ (λ (l m : List ℕ). l ++ m) (sym at_front) (sym at_back) in
+    let size : length back ≡ 16 = ap length at_back ∙ length-drop 16 text ∙ omega (arith, long) in
+    sym (word_is text long) ∙ ap (read_lower 0) cut ∙ read_both 0 front back ∙ by_high back size (read_lower 0 front)
+  where
+    by_high : (bs : List ℕ) → length bs ≡ 16 → (o : Option ℕ) → option_and_then (λ high. read_lower high bs) o
+        ≡ option_and_then (λ high. option_map (λ low. high * 2 ^ 64 + low) (read_lower 0 bs)) o
+    by_high bs is None = refl
+    by_high bs is (Some high) = behind_half high bs is
+
+-- ---- the table of digits
+
+-- what stands in the table
+abbrev pub code_of : Option ℕ → ℕ
+code_of None = 16
+code_of (Some d) = d
+
+some_coded : (o : Option ℕ) (code : ℕ) → code ≡ code_of o → code < 16 → Some code ≡ o
+some_coded None code is lt = absurd (omega (arith, is, lt))
+some_coded (Some d) code is lt = ap (λ (k : ℕ). Some k) is
+
+none_coded : (o : Option ℕ) (code : ℕ) → code ≡ code_of o → 16 ≤ code → ((d : ℕ) → o ≡ Some d → d < 16) → None ≡ o
+none_coded None code is le small = refl
+none_coded (Some d) code is le small = let less = small d refl in absurd (omega (arith, is, le, less))
+
+pub lower_some : (b code : ℕ) → code ≡ code_of (lower_value b) → code < 16 → Some code ≡ lower_value b
+lower_some b code is lt = some_coded (lower_value b) code is lt
+
+pub lower_none : (b code : ℕ) → code ≡ code_of (lower_value b) → 16 ≤ code → None ≡ lower_value b
+lower_none b code is le = none_coded (lower_value b) code is le (λ d e. (is_lower b d e).small)

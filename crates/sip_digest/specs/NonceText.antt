@@ -1,5 +1,5 @@
 -- The text of a nonce (this project's choice).
-use Rattle.std.specs.Prelude.{ℕ, ◌-◌, ◌&&◌, ◌==◌, nat_le, if◌then◌else◌, List, length, Option, Some, None}
+use Rattle.std.specs.Prelude.{ℕ, ◌+◌, ◌*◌, ◌-◌, ◌&&◌, ◌==◌, nat_le, if◌then◌else◌, List, [], ◌∷◌, length, Option, Some, None}
 use Rattle.std.specs.Str.{bytes_eq}
 use Rattle.std.specs.Int.{w128, to_be_bytes}
 use Rattle.std.specs.Option.{option_and_then}
@@ -21,3 +21,10 @@ word_of text = if length text == 32 then option_and_then (named text) (hex_numbe
 -- the value of a hexadecimal digit in lower case
 abbrev pub lower_value : ℕ → Option ℕ
 lower_value b = if nat_le 48 b && nat_le b 57 then Some (b - 48) else if nat_le 97 b && nat_le b 102 then Some (b - 87) else None
+
+-- ---- inside
+
+-- the number that digits in lower case write behind one
+abbrev pub read_lower : ℕ → List ℕ → Option ℕ
+read_lower n [] = Some n
+read_lower n (b ∷ bs) = option_and_then (λ d. read_lower (n * 16 + d) bs) (lower_value b)
