@@ -47,16 +47,15 @@ impl HeadLine {
     }
 
     /// Puts a word in front.
+    #[inline(always)]
     pub(crate) fn put_word(&mut self, word: &[u8])
         requires { length self.old + length word.now ≤ 208 }
         ensures text { self.new ≡ word.now ++ self.old }
         ensures size { length self.new ≡ length self.old + length word.now }
     {
-        let mut left = word.len();
-        while left > 0 {
-            left -= 1;
-            self.put(word[left]);
-        }
+        let start = self.start - word.len();
+        self.room[start..self.start].copy_from_slice(word);
+        self.start = start;
     }
 
     /// Puts a number in decimal in front.

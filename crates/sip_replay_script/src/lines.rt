@@ -8,7 +8,7 @@ ghost use Rattle.sip_replay_script.specs.declared.stop.Stop.TheVariants.{Read, S
 
 use crate::device::TellingReader;
 use crate::stop::Stop;
-use memchr::memchr;
+use memchr::memchr_iter;
 use std::alloc::{AllocError, Global};
 use std::io::ErrorKind;
 use std::marker::Model;
@@ -209,7 +209,7 @@ fn read_some<R: TellingReader>(
 fn end_of_line(unread: &[u8]) -> Option<usize>
     ensures { MatchOption result (count_by is_end unread.now ≡ 0) (λ place. EndsAt unread.now place) }
 {
-    memchr(b'\n', unread)
+    memchr_iter(b'\n', unread).next()
 }
 
 /// Adds a part to a line, if the line isn't too long then.
