@@ -10,15 +10,16 @@ use Rattle.std.proofs.lemmas.List.Elements.{All-push, All-append}
 use Rattle.std.proofs.lemmas.Slice.Eq.{bytes_eq-Decides}
 use Rattle.sip_event.specs.declared.event.Event.{Event}
 use Rattle.sip_replay_script.specs.declared.script.DatagramHead.{DatagramHead}
+use Rattle.sip_replay_script.specs.declared.script.Line.{Line}
 use Rattle.sip_replay_script.specs.declared.script.Line.TheVariants.{Head, Whole}
 use Rattle.sip_replay_script.specs.Script.{line_of, datagram_at}
-use Rattle.sip_replay_script.specs.Lines.{Reading, BeginsWith, IsLine, IsUnended, is_end, pending, left, GivesLine, IsOver, LineStops}
+use Rattle.sip_replay_script.specs.Lines.{Reading, BeginsWith, PassesLine, IsLine, IsUnended, is_end, pending, left, GivesLine, IsOver, LineStops}
 use Rattle.sip_replay_script.specs.declared.stop.Stop.{Stop}
 use Rattle.sip_replay_script.specs.declared.stop.Stop.TheVariants as stops
 use Rattle.std.proofs.lemmas.List.{take_all, drop_all, drop-append-le}
 use Rattle.sip_replay_script.proofs.Keeping.{front_of_both}
 use Rattle.sip_replay_script.proofs.LineEnds.{ends_add, one_end}
-use Rattle.sip_replay_script.specs.Events.{ended, is_dot, said, SaysBytes, KeepsLine, KeepsLines, GivesDatagram, GivesEvent, IsNoDatagram, IsNoEvent, DatagramStops, EventStops}
+use Rattle.sip_replay_script.specs.Events.{ended, is_dot, said, SaysBytes, KeepsAll, KeepsLine, KeepsLines, GivesDatagram, GivesEvent, GivesSaid, IsNoDatagram, IsNoEvent, DatagramStops, EventStops}
 
 -- the lines so far, and the bytes that are kept of what they say
 pub record Gathers (old new : Reading) (before after : Option (List ℕ)) (bytes : List ℕ) : Type 0 where
@@ -99,22 +100,24 @@ keeps_none r bytes le = record {
   kept = sym (take_all 65508 bytes le) ∙ ap (take 65508) (sym (append-nil bytes));
 }
 
--- the next of them, passed
-pub keeps_next : (old new : Reading) (line before after : List ℕ) → BeginsWith old.unread line → is_dot line ≡ false → after ≡ take 65508 (before ++ said line) → new.unread ≡ drop (length line + 1) old.unread → new.number ≡ old.number + 1
-    → KeepsLine old new before after
-keeps_next old new line before after begins fails kept unread number =
+-- the next line, passed
+pub passes_line : (old new : Reading) (line : List ℕ) → BeginsWith old.unread line → new.unread ≡ drop (length line + 1) old.unread → new.number ≡ old.number + 1 → new.asks ≡ old.asks → PassesLine old new line
+passes_line old new line begins unread number asks =
     let cut : old.unread ≡ ended line ++ begins.rest = begins.cut ∙ sym (append_assoc line (10 ∷ []) begins.rest) in
     let size : length (ended line) ≡ length line + 1 = length-append line (10 ∷ []) in
     let rest : new.unread ≡ begins.rest =
     unread ∙ ap (drop (length line + 1)) cut ∙ drop-append-le (length line + 1) (ended line) begins.rest (omega (arith, size)) ∙ ap (λ l. l ++ begins.rest) (drop_all (length line + 1) (ended line) (omega (arith, size))) in
-    record {
-      line = line;
-      is_line = begins.is_line;
-      no_dot = fails;
-      unread = cut ∙ ap (λ l. ended line ++ l) (sym rest);
-      number = number;
-      kept = kept;
-    }
+    record { is_line = begins.is_line; unread = begins.cut ∙ ap (λ l. line ++ 10 ∷ l) (sym rest); number = number; asks = asks }
+
+pub keeps_next : (old new : Reading) (line before after : List ℕ) → PassesLine old new line → is_dot line ≡ false → after ≡ take 65508 (before ++ said line) → KeepsLine old new before after
+keeps_next old new line before after passes fails kept = record {
+  line = line;
+  is_line = passes.is_line;
+  no_dot = fails;
+  unread = passes.unread ∙ sym (append_assoc line (10 ∷ []) new.unread);
+  number = passes.number;
+  kept = kept;
+}
 
 pub keeps_less : (old new : Reading) (before after : List ℕ) → KeepsLine old new before after → length new.unread < length old.unread
 keeps_less old new before after one =
@@ -166,6 +169,20 @@ gathers_lines old mid new before middle bytes kept g more = record {
   kept = kept_more g.whole more.whole bytes kept g.kept more.kept;
 }
 
+-- a line that was passed is given
+pub given_passed : (old new : Reading) (rest : Option (List ℕ)) (line : List ℕ) → PassesLine old new line → GivesLine old new rest rest line
+given_passed old new rest line passes =
+    let cut : old.unread ≡ ended line ++ new.unread = passes.unread ∙ sym (append_assoc line (10 ∷ []) new.unread) in
+    let both : length (ended line ++ new.unread) ≡ length (ended line) + length new.unread = length-append (ended line) new.unread in
+    let size : length (ended line) ≡ length line + 1 = length-append line (10 ∷ []) in
+    let asks : new.asks ≡ old.asks = passes.asks in
+    record {
+      is_line = passes.is_line;
+      consumes = unread_passed old new rest (ended line) cut;
+      number = passes.number;
+      fewer = omega (arith, ap length cut, both, size, asks);
+    }
+
 dot_is : (line : List ℕ) → is_dot line ≡ true → line ≡ 46 ∷ []
 dot_is line is = (bytes_eq-Decides line (46 ∷ [])).0 is
 
@@ -177,6 +194,11 @@ gathers_all old mid new before middle after bytes line g given is = record {
   consumes = Consumes-trans (pending old before) (pending mid middle) (pending new after) g.text (ended line) g.consumes given.consumes;
   number = more_lines old mid new middle after g.text line g.number given;
 }
+
+-- lines and the dot that stood whole among what was read
+pub gathers_dot : (old mid new : Reading) (before middle : Option (List ℕ)) (bytes kept : List ℕ) → Gathers old mid before middle bytes → KeepsAll mid new bytes kept → GivesDatagram old new before middle kept
+gathers_dot old mid new before middle bytes kept g all =
+    gathers_all old all.mid new before middle middle kept (46 ∷ []) (gathers_lines old mid all.mid before middle bytes kept g all.lines) (given_passed all.mid new middle (46 ∷ []) all.dot) refl
 
 head_lines : (old mid new : Reading) (before middle : Option (List ℕ)) (line text : List ℕ) → GivesLine old mid before middle line → new.number ≡ mid.number + count_by is_end text → new.number ≡ old.number + count_by is_end (ended line ++ text)
 head_lines old mid new before middle line text given number =
@@ -260,3 +282,22 @@ line_stops F None stops.Script h = tt
 line_stops F (Some xs) stops.Script h = inl h
 line_stops F script stops.Read h = h
 line_stops F script stops.Write h = h
+
+-- ---- what the first line of an event says
+
+pub said_passed : (old new : Reading) (rest : Option (List ℕ)) (line : List ℕ) (said : Option Line) → PassesLine old new line → line_of line ≡ said → GivesSaid old new rest rest said
+said_passed old new rest line said passes says = record { line = line; given = given_passed old new rest line passes; says = says }
+
+pub said_other : (old new : Reading) (before after : Option (List ℕ)) → GivesSaid old new before after None → IfSome (pending old before) IsNoEvent
+said_other old new before after s = other_line old new before after s.line s.given s.says
+
+pub said_whole : (old new : Reading) (before after : Option (List ℕ)) (event : Event) → GivesSaid old new before after (Some (Whole event)) → GivesEvent old new before after event
+said_whole old new before after event s = gives_whole old new before after s.line event s.given s.says
+
+pub said_head : (old mid new : Reading) (before middle after : Option (List ℕ)) (bytes : List ℕ) (head : DatagramHead) (event : Event) → GivesSaid old mid before middle (Some (Head head)) → GivesDatagram mid new middle after bytes
+    → left new ≤ left mid → event ≡ datagram_at head bytes → GivesEvent old new before after event
+said_head old mid new before middle after bytes head event s d le is = gives_head old mid new before middle after s.line bytes head event s.given s.says d le is
+
+pub said_head_stops : (F : Type 0) (old mid : Reading) (before middle : Option (List ℕ)) (head : DatagramHead) (stop : Stop) → GivesSaid old mid before middle (Some (Head head)) → DatagramStops F (pending mid middle) stop
+    → EventStops F (pending old before) stop
+said_head_stops F old mid before middle head stop s h = head_stops F old mid before middle s.line head stop s.given s.says h

@@ -6,7 +6,12 @@ use Rattle.std.specs.Io.KnownBytes.{Consumes}
 use Rattle.sip_event.specs.declared.event.Event.{Event}
 use Rattle.sip_replay_script.specs.declared.script.DatagramHead.{DatagramHead}
 use Rattle.sip_replay_script.specs.declared.script.Line.TheVariants.{Head, Whole}
-use Rattle.sip_replay_script.specs.Lines.{Reading, IsLine, IsUnended, HasNoLine, is_end, pending, left}
+use Rattle.sip_replay_script.specs.declared.script.Line.{Line}
+use Rattle.sip_replay_script.specs.declared.event.First.{First}
+use Rattle.sip_replay_script.specs.declared.event.First.TheVariants.{Over, Says}
+use Rattle.sip_replay_script.specs.declared.event.Next.{Next}
+use Rattle.sip_replay_script.specs.declared.event.Next.TheVariants.{Kept, Dot, Unended}
+use Rattle.sip_replay_script.specs.Lines.{Reading, IsLine, IsUnended, HasNoLine, GivesLine, IsOver, PassesLine, is_end, pending, left}
 use Rattle.sip_replay_script.specs.declared.stop.Stop.{Stop}
 use Rattle.sip_replay_script.specs.declared.stop.Stop.TheVariants as stops
 use Rattle.sip_replay_script.specs.Script.{line_of, unstuffed, datagram_at}
@@ -141,6 +146,30 @@ pub record KeepsLines (old new : Reading) (before after : List ℕ) : Type 0 whe
   pub unread : old.unread ≡ text ++ new.unread
   pub number : new.number ≡ old.number + count_by is_end text
   pub kept : after ≡ take 65508 (before ++ whole)
+
+-- what became of the next line of a datagram: it was passed, and is kept or is the dot, or it isn't whole
+abbrev pub GoesOnBy : Next → Reading → Reading → List ℕ → List ℕ → Type 0
+GoesOnBy Kept old new before after = KeepsLine old new before after
+GoesOnBy Dot old new before after = PassesLine old new (46 ∷ []) × (after ≡ before)
+GoesOnBy Unended old new before after = (new ≡ old) × (after ≡ before)
+
+-- lines that are kept, and the dot behind them
+pub record KeepsAll (old new : Reading) (before after : List ℕ) : Type 0 where
+  pub mid : Reading
+  pub lines : KeepsLines old mid before after
+  pub asks : mid.asks ≡ old.asks
+  pub dot : PassesLine mid new (46 ∷ [])
+
+-- a line was given, and that is what it says
+pub record GivesSaid (old new : Reading) (before after : Option (List ℕ)) (said : Option Line) : Type 0 where
+  pub line : List ℕ
+  pub given : GivesLine old new before after line
+  pub says : line_of line ≡ said
+
+-- the next line says that, or there is none
+abbrev pub GivesFirst : First → Reading → Reading → Option (List ℕ) → Option (List ℕ) → Type 0
+GivesFirst Over old new before after = IsOver old new before after
+GivesFirst (Says said) old new before after = GivesSaid old new before after said
 
 -- why no datagram is given of what is still to come
 abbrev pub DatagramStops : Type 0 → Option (List ℕ) → Stop → Type 0

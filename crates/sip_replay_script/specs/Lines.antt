@@ -67,6 +67,13 @@ pub record GivesLine (old new : Reading) (before after : Option (List ℕ)) (lin
   pub number : new.number ≡ old.number + 1
   pub fewer : left new < left old
 
+-- a line that stood whole among the unread bytes is passed
+pub record PassesLine (old new : Reading) (line : List ℕ) : Type 0 where
+  pub is_line : IsLine line
+  pub unread : old.unread ≡ line ++ 10 ∷ new.unread
+  pub number : new.number ≡ old.number + 1
+  pub asks : new.asks ≡ old.asks
+
 -- the script is at its end
 pub record IsOver (old new : Reading) (before after : Option (List ℕ)) : Type 0 where
   pub kept : Keeps (pending old before) (pending new after)

@@ -1,8 +1,9 @@
-ghost use Rattle.std.specs.Prelude.{◌≡◌, ◌≤◌, ◌<◌, ◌++◌, true, false, length, take, OnOk, IfOk, IfErr, IfSome, IfNone};
+ghost use Rattle.std.specs.Prelude.{◌≡◌, ◌≤◌, ◌<◌, ◌++◌, [], ◌∷◌, true, false, length, take, OnOk, IfOk, IfErr, IfSome, IfNone};
 ghost use Rattle.sip_replay_script.specs.Devices.{later};
 ghost use Rattle.sip_replay_script.specs.Events;
-ghost use Rattle.sip_replay_script.specs.Events.{GivesEvent, GivesDatagram, KeepsLine, KeepsLines, EventStops, DatagramStops};
-ghost use Rattle.sip_replay_script.specs.Lines.{left, pending, IsOver, IsSpent};
+ghost use Rattle.sip_replay_script.specs.Events.{GivesEvent, GivesDatagram, GivesFirst, GoesOnBy, KeepsAll, KeepsLines, EventStops};
+ghost use Rattle.sip_replay_script.specs.Events.{DatagramStops};
+ghost use Rattle.sip_replay_script.specs.Lines.{left, pending, IsOver, IsSpent, LineStops};
 ghost use Rattle.sip_replay_script.specs.Script;
 ghost use Rattle.sip_replay_script.specs.declared.stop.Stop.TheVariants.{NoMemory};
 
@@ -11,22 +12,19 @@ use crate::lines::Lines;
 use crate::script::{DatagramHead, Line, line_of, unstuffed};
 use crate::stop::Stop;
 use sip_event::Event;
-use sip_text::{Buffer, Bytes};
+use sip_text::Bytes;
 use std::alloc::Global;
 
 /// One byte more than a datagram has. What comes behind isn't kept: a datagram over 65,507 bytes is
 /// refused as too long, whatever its bytes are.
 const KEPT: usize = 65_508;
 
-/// The room for most datagrams, so that few grow while they are read.
-const DATAGRAM_ROOM: usize = 1000;
-
-/// The next event of a script; `None` at its end.
+/// The next event of a script; `None` at its end. What it is gathered in may be kept for the next.
 pub fn next_event<R: TellingReader>(
     alloc: Global,
     lines: &mut Lines,
     reader: &mut R,
-    line: &mut Vec<u8>,
+    room: &mut Vec<u8>,
 ) -> Result<Option<Event>, Stop>
     ensures given { IfOk result
         (λ found. IfSome found (λ event. GivesEvent lines.old lines.new (R.remaining reader.old) (R.remaining reader.new) event)) }
@@ -35,17 +33,48 @@ pub fn next_event<R: TellingReader>(
     ensures asked { later lines.new.asks (R.asked reader.new) ≡ later lines.old.asks (R.asked reader.old) }
     ensures less { lines.new.asks ≤ lines.old.asks }
 {
-    if !lines.next(reader, line)? {
-        return Ok(None);
-    }
-    match line_of(alloc, line)? {
-        None => Err(Stop::Script),
-        Some(Line::Whole(event)) => Ok(Some(event)),
-        Some(Line::Head(head)) => {
-            let bytes = datagram_bytes(alloc, lines, reader, line)?;
+    match first_line(alloc, lines, reader, room)? {
+        First::Over => Ok(None),
+        First::Says(None) => Err(Stop::Script),
+        First::Says(Some(Line::Whole(event))) => Ok(Some(event)),
+        First::Says(Some(Line::Head(head))) => {
+            let bytes = datagram_bytes(alloc, lines, reader, room)?;
             Ok(Some(datagram_at(head, bytes)))
         }
     }
+}
+
+/// What the next line is to an event.
+#[derive(Drop)]
+enum First {
+    /// There is none.
+    Over,
+    /// What it says as the first of an event.
+    Says(Option<Line>),
+}
+
+/// What the next line says as the first of an event.
+fn first_line<R: TellingReader>(
+    alloc: Global,
+    lines: &mut Lines,
+    reader: &mut R,
+    room: &mut Vec<u8>,
+) -> Result<First, Stop>
+    ensures given { IfOk result (λ first. GivesFirst first lines.old lines.new (R.remaining reader.old) (R.remaining reader.new)) }
+    ensures stopped { IfErr result (LineStops (IsSpent (R.has_failed reader.new) lines.new.asks) (pending lines.old (R.remaining reader.old))) }
+    ensures asked { later lines.new.asks (R.asked reader.new) ≡ later lines.old.asks (R.asked reader.old) }
+    ensures less { lines.new.asks ≤ lines.old.asks }
+{
+    if let Some(line) = lines.front() {
+        let said = line_of(alloc, line)?;
+        let count = line.len();
+        lines.pass(count);
+        return Ok(First::Says(said));
+    }
+    if !lines.next(reader, room)? {
+        return Ok(First::Over);
+    }
+    Ok(First::Says(line_of(alloc, room)?))
 }
 
 /// A datagram whose bytes are known.
@@ -65,7 +94,7 @@ fn datagram_bytes<R: TellingReader>(
     alloc: Global,
     lines: &mut Lines,
     reader: &mut R,
-    line: &mut Vec<u8>,
+    bytes: &mut Vec<u8>,
 ) -> Result<Bytes, Stop>
     ensures given { IfOk result (λ bytes. GivesDatagram lines.old lines.new (R.remaining reader.old) (R.remaining reader.new) bytes) }
     ensures fewer { OnOk result (left lines.new ≤ left lines.old) }
@@ -73,54 +102,72 @@ fn datagram_bytes<R: TellingReader>(
     ensures asked { later lines.new.asks (R.asked reader.new) ≡ later lines.old.asks (R.asked reader.old) }
     ensures less { lines.new.asks ≤ lines.old.asks }
 {
-    let mut bytes = Buffer::with_room(alloc, DATAGRAM_ROOM)?;
+    let mut line = Vec::new(alloc);
+    bytes.clear();
     loop {
-        keep_lines(lines, &mut bytes)?;
-        if !lines.next(reader, line)? {
+        if keep_lines(lines, bytes)? {
+            return Ok(Bytes::copy(alloc, bytes)?);
+        }
+        if !lines.next(reader, &mut line)? {
             return Err(Stop::Script);
         }
-        if is_dot(line) {
-            return Ok(bytes.into_bytes());
+        if is_dot(&line) {
+            return Ok(Bytes::copy(alloc, bytes)?);
         }
-        keep_line(&mut bytes, line)?;
+        keep_line(bytes, &line)?;
     }
 }
 
-/// Adds what the lines say that stand whole among the bytes that were read, up to a dot. Most lines do: only one
-/// that reaches past those bytes is gathered first.
+/// What became of the next line of a datagram.
+enum Next {
+    /// It was passed, and what it says is kept.
+    Kept,
+    /// It is the dot behind the others, and was passed.
+    Dot,
+    /// It doesn't stand whole among the bytes that were read.
+    Unended,
+}
+
+/// Adds what the lines say that stand whole among the bytes that were read, and passes them, up to a dot, which is passed,
+/// too; whether there was a dot. Most lines do: only one that reaches past those bytes is gathered first.
 #[tactic(auto, using(crate::proofs::Datagrams::keeps_less))]
-fn keep_lines(lines: &mut Lines, bytes: &mut Buffer) -> Result<(), Stop>
-    requires { length bytes.old ≤ KEPT }
-    ensures kept { OnOk result (KeepsLines lines.old lines.new bytes.old bytes.new) }
-    ensures most { OnOk result (length bytes.new ≤ KEPT) }
+fn keep_lines(lines: &mut Lines, bytes: &mut Vec<u8>) -> Result<bool, Stop>
+    requires { length bytes.old.items ≤ KEPT }
+    ensures kept { IfOk result (λ ended. ended ≡ false → KeepsLines lines.old lines.new bytes.old.items bytes.new.items) }
+    ensures all { IfOk result (λ ended. ended ≡ true → KeepsAll lines.old lines.new bytes.old.items bytes.new.items) }
+    ensures most { OnOk result (length bytes.new.items ≤ KEPT) }
     ensures fewer { OnOk result (left lines.new ≤ left lines.old) }
     ensures asks { lines.new.asks ≡ lines.old.asks }
     ensures stopped { IfErr result (λ stop. stop ≡ NoMemory) }
 {
-    while keep_next(lines, bytes)? {}
-    Ok(())
+    loop {
+        match keep_next(lines, bytes)? {
+            Next::Kept => {}
+            Next::Dot => return Ok(true),
+            Next::Unended => return Ok(false),
+        }
+    }
 }
 
-/// Adds what the next line says, and passes it, if it stands whole among the bytes that were read and isn't the dot;
-/// whether it does.
-fn keep_next(lines: &mut Lines, bytes: &mut Buffer) -> Result<bool, Stop>
-    requires { length bytes.old ≤ KEPT }
-    ensures kept { IfOk result (λ more. more ≡ true → KeepsLine lines.old lines.new bytes.old bytes.new) }
-    ensures none { IfOk result (λ more. more ≡ false → (lines.new ≡ lines.old) × (bytes.new ≡ bytes.old)) }
-    ensures most { OnOk result (length bytes.new ≤ KEPT) }
+/// Passes the next line, if it stands whole among the bytes that were read, and adds what it says, unless it is the dot.
+fn keep_next(lines: &mut Lines, bytes: &mut Vec<u8>) -> Result<Next, Stop>
+    requires { length bytes.old.items ≤ KEPT }
+    ensures next { IfOk result (λ next. GoesOnBy next lines.old lines.new bytes.old.items bytes.new.items) }
+    ensures most { OnOk result (length bytes.new.items ≤ KEPT) }
     ensures asks { lines.new.asks ≡ lines.old.asks }
     ensures stopped { IfErr result (λ stop. stop ≡ NoMemory) }
 {
     let Some(line) = lines.front() else {
-        return Ok(false);
+        return Ok(Next::Unended);
     };
+    let count = line.len();
     if is_dot(line) {
-        return Ok(false);
+        lines.pass(count);
+        return Ok(Next::Dot);
     }
     keep_line(bytes, line)?;
-    let count = line.len();
     lines.pass(count);
-    Ok(true)
+    Ok(Next::Kept)
 }
 
 /// Whether a line ends a datagram.
@@ -131,35 +178,46 @@ fn is_dot(line: &[u8]) -> bool
 }
 
 /// Adds what a line says to a datagram, as far as it is kept.
-fn keep_line(bytes: &mut Buffer, line: &[u8]) -> Result<(), Stop>
-    requires { length bytes.old ≤ KEPT }
-    ensures kept { OnOk result (bytes.new ≡ take KEPT (bytes.old ++ Events.said line.now)) }
-    ensures most { OnOk result (length bytes.new ≤ KEPT) }
+fn keep_line(bytes: &mut Vec<u8>, line: &[u8]) -> Result<(), Stop>
+    requires { length bytes.old.items ≤ KEPT }
+    ensures kept { OnOk result (bytes.new.items ≡ take KEPT (bytes.old.items ++ Events.said line.now)) }
+    ensures most { OnOk result (length bytes.new.items ≤ KEPT) }
     ensures stopped { IfErr result (λ stop. stop ≡ NoMemory) }
 {
     let part = unstuffed(line);
     let room = KEPT - bytes.as_slice().len();
     if part.len() < room.saturating_sub(1) {
-        bytes.extend(part)?;
-        bytes.extend(b"\r\n")?;
+        put_whole(bytes, part)?;
         return Ok(());
     }
     keep(bytes, part)?;
     keep(bytes, b"\r\n")
 }
 
+/// Adds a line and its CRLF.
+fn put_whole(bytes: &mut Vec<u8>, line: &[u8]) -> Result<(), Stop>
+    ensures kept { OnOk result (bytes.new.items ≡ bytes.old.items ++ line.now ++ 13 ∷ 10 ∷ []) }
+    ensures stopped { IfErr result (λ stop. stop ≡ NoMemory) }
+{
+    bytes.reserve(line.len().saturating_add(2))?;
+    bytes.extend_from_slice(line)?;
+    bytes.push_reserved(b'\r');
+    bytes.push_reserved(b'\n');
+    Ok(())
+}
+
 /// Adds a part to a datagram, as far as it is kept.
-fn keep(bytes: &mut Buffer, part: &[u8]) -> Result<(), Stop>
-    requires { length bytes.old ≤ KEPT }
-    ensures kept { OnOk result (bytes.new ≡ take KEPT (bytes.old ++ part.now)) }
-    ensures most { OnOk result (length bytes.new ≤ KEPT) }
+fn keep(bytes: &mut Vec<u8>, part: &[u8]) -> Result<(), Stop>
+    requires { length bytes.old.items ≤ KEPT }
+    ensures kept { OnOk result (bytes.new.items ≡ take KEPT (bytes.old.items ++ part.now)) }
+    ensures most { OnOk result (length bytes.new.items ≤ KEPT) }
     ensures stopped { IfErr result (λ stop. stop ≡ NoMemory) }
 {
     let room = KEPT - bytes.as_slice().len();
     if part.len() <= room {
-        bytes.extend(part)?;
+        bytes.extend_from_slice(part)?;
     } else {
-        bytes.extend(&part[..room])?;
+        bytes.extend_from_slice(&part[..room])?;
     }
     Ok(())
 }

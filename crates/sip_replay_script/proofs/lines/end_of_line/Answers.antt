@@ -1,4 +1,4 @@
-use Rattle.std.proofs.Common.{◌≡◌, List, ℕ, subst}
+use Rattle.std.proofs.Common.{subst}
 use Rattle.memchr.specs.Find.{TakesFirst}
 use Rattle.sip_replay_script.proofs.LineEnds.{first_end, first_place}
 use Rattle.sip_replay_script.proofs.lines.end_of_line.Goals as goal
