@@ -60,6 +60,12 @@ byte_said b rest said false is lt e = ap (λ (w : List ℕ). unescaped (w ++ res
 
 -- ---- the whole
 
+pub name_as_it_is : (user : List ℕ) → list_all is_name_byte user ≡ true → flat_map user_byte_text user ≡ user
+name_as_it_is [] e = refl
+name_as_it_is (b ∷ bs) e =
+    let both = and_both (is_name_byte b) (list_all is_name_byte bs) e in
+    ap (λ (w : List ℕ). w ++ flat_map user_byte_text bs) (byte_text_by b true both.0) ∙ ap (λ (w : List ℕ). b ∷ w) (name_as_it_is bs both.1)
+
 user_said : (user : List ℕ) → list_all is_byte user ≡ true → unescaped (flat_map user_byte_text user) ≡ Some user
 user_said [] e = refl
 user_said (b ∷ bs) e =

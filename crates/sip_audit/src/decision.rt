@@ -4,23 +4,23 @@ ghost use Rattle.sip_audit.specs.Reading as Readings;
 ghost use Rattle.sip_text.specs.Splits.{split_at_byte};
 
 use crate::record::Outcome;
-use sip_text::{Bytes, plain_decimal_below, split_once};
+use sip_text::{Buffer, plain_decimal_below, split_once};
 use std::alloc::AllocError;
 
 /// Adds the number of a rule and, behind `@`, the minute at which it decided, if it has a window.
-fn push_rule(line: &mut Bytes, rule: u32, minute: Option<u16>) -> Result<(), AllocError>
+fn push_rule(line: &mut Buffer, rule: u32, minute: Option<u16>) -> Result<(), AllocError>
     ensures { OnOk result (line.new ≡ line.old ++ rule_text rule minute) }
 {
     line.push_decimal(u64::from(rule))?;
     if let Some(minute) = minute {
-        line.push(b'@')?;
+        line.extend(b"@")?;
         line.push_decimal(u64::from(minute))?;
     }
     Ok(())
 }
 
 /// Adds a word and a number.
-fn push_count(line: &mut Bytes, word: &[u8], number: u64) -> Result<(), AllocError>
+fn push_count(line: &mut Buffer, word: &[u8], number: u64) -> Result<(), AllocError>
     ensures { OnOk result (line.new ≡ line.old ++ (word.now ++ decimal number)) }
 {
     line.extend(word)?;
@@ -29,7 +29,7 @@ fn push_count(line: &mut Bytes, word: &[u8], number: u64) -> Result<(), AllocErr
 
 /// Adds the rule that decided, and what became of the request.
 pub(crate) fn push_outcome(
-    line: &mut Bytes,
+    line: &mut Buffer,
     minute: Option<u16>,
     outcome: Outcome,
 ) -> Result<(), AllocError>

@@ -21,7 +21,7 @@ pub(crate) fn is_name_byte(byte: u8) -> bool
     NAME_BYTES[byte as usize] == b'1'
 }
 
-fn are_name_bytes(bytes: &[u8]) -> bool
+pub(crate) fn are_name_bytes(bytes: &[u8]) -> bool
     ensures { result ≡ list_all Names.is_name_byte bytes.now }
 {
     for byte in bytes {

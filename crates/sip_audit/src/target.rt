@@ -7,8 +7,8 @@ ghost use Rattle.sip_audit.specs.Reading as Readings;
 ghost use Rattle.sip_audit.specs.Reading.{Gives};
 
 use crate::error::AuditError;
-use crate::name::is_name_byte;
-use sip_text::{Bytes, TextError, same_bytes, split_once, unescape};
+use crate::name::{are_name_bytes, is_name_byte};
+use sip_text::{Buffer, Bytes, TextError, same_bytes, split_once, unescape};
 use sip_uri::{Aor, is_host};
 use std::alloc::{AllocError, Global};
 
@@ -25,18 +25,24 @@ fn upper_digit(value: u8) -> u8
 }
 
 /// Adds a byte of a user, as an escape unless it may stand in a name.
-fn push_user_byte(line: &mut Bytes, byte: u8) -> Result<(), AllocError>
+fn push_user_byte(line: &mut Buffer, byte: u8) -> Result<(), AllocError>
     ensures { OnOk result (line.new ≡ line.old ++ user_byte_text byte) }
 {
     if is_name_byte(byte) {
-        return line.push(byte);
+        return line.extend(&[byte]);
     }
     line.extend(&[b'%', upper_digit(byte / 16), upper_digit(byte % 16)])
 }
 
-fn push_user(line: &mut Bytes, user: &[u8]) -> Result<(), AllocError>
+/// Adds a user. Most are names, which are written as they are.
+#[tactic(auto, using(crate::proofs::Users::name_as_it_is))]
+fn push_user(line: &mut Buffer, user: &[u8]) -> Result<(), AllocError>
     ensures { OnOk result (line.new ≡ line.old ++ flat_map user_byte_text user.now) }
 {
+    if are_name_bytes(user) {
+        line.extend(user)?;
+        return Ok(());
+    }
     for byte in user {
         push_user_byte(line, *byte)?;
     }
@@ -44,11 +50,11 @@ fn push_user(line: &mut Bytes, user: &[u8]) -> Result<(), AllocError>
 }
 
 /// Adds an address of record: its user, `@` and its host.
-pub(crate) fn push_target(line: &mut Bytes, target: &Aor) -> Result<(), AllocError>
+pub(crate) fn push_target(line: &mut Buffer, target: &Aor) -> Result<(), AllocError>
     ensures { OnOk result (line.new ≡ line.old ++ target_text target.now) }
 {
     push_user(line, target.user.as_slice())?;
-    line.push(b'@')?;
+    line.extend(b"@")?;
     line.extend(target.host.as_slice())
 }
 
@@ -68,7 +74,7 @@ pub(crate) fn target_of(word: &[u8]) -> Option<(&[u8], &[u8])>
 fn is_written(alloc: Global, user: &[u8], text: &[u8]) -> Result<bool, AllocError>
     ensures { IfOk result (λ same. same ≡ bytes_eq (flat_map user_byte_text user.now) text.now) }
 {
-    let mut written = Bytes::with_room(alloc, text.len())?;
+    let mut written = Buffer::with_room(alloc, text.len())?;
     push_user(&mut written, user)?;
     Ok(same_bytes(written.as_slice(), text))
 }

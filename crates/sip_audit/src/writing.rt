@@ -7,25 +7,25 @@ use crate::decision::push_outcome;
 use crate::error::AuditError;
 use crate::record::{Operation, Record};
 use crate::target::push_target;
-use sip_text::Bytes;
+use sip_text::{Buffer, Bytes};
 use std::alloc::{AllocError, Global};
 
 /// The room for most lines, so that few grow.
 const LINE_ROOM: usize = 160;
 
 /// Adds a word and the space behind it.
-fn push_word(line: &mut Bytes, word: &[u8]) -> Result<(), AllocError>
+fn push_word(line: &mut Buffer, word: &[u8]) -> Result<(), AllocError>
     ensures { OnOk result (line.new ≡ line.old ++ word.now ++ codes " ") }
 {
     line.extend(word)?;
-    line.push(b' ')
+    line.extend(b" ")
 }
 
-fn push_number(line: &mut Bytes, number: u64) -> Result<(), AllocError>
+fn push_number(line: &mut Buffer, number: u64) -> Result<(), AllocError>
     ensures { OnOk result (line.new ≡ line.old ++ decimal number ++ codes " ") }
 {
     line.push_decimal(number)?;
-    line.push(b' ')
+    line.extend(b" ")
 }
 
 /// The name of the user that was proven, `-` for nobody.
@@ -49,7 +49,7 @@ fn operation_word(operation: Operation) -> &'static [u8]
 }
 
 /// Adds what stands before the target: moment, number, method and user.
-fn push_request(line: &mut Bytes, record: &Record) -> Result<(), AllocError>
+fn push_request(line: &mut Buffer, record: &Record) -> Result<(), AllocError>
     ensures { OnOk result (line.new ≡ line.old ++ decimal «record».now.at ++ codes " " ++ decimal «record».now.number ++ codes " "
         ++ «record».now.method ++ codes " " ++ who_text «record».now.who ++ codes " ") }
 {
@@ -60,12 +60,12 @@ fn push_request(line: &mut Bytes, record: &Record) -> Result<(), AllocError>
 }
 
 /// Adds the target, the operation, the rule and the outcome.
-fn push_decision(line: &mut Bytes, record: &Record) -> Result<(), AllocError>
+fn push_decision(line: &mut Buffer, record: &Record) -> Result<(), AllocError>
     ensures { OnOk result (line.new ≡ line.old ++ target_text «record».now.target ++ codes " " ++ operation_text «record».now.operation
         ++ codes " " ++ outcome_text «record».now.minute «record».now.outcome) }
 {
     push_target(line, &record.target)?;
-    line.push(b' ')?;
+    line.extend(b" ")?;
     push_word(line, operation_word(record.operation))?;
     push_outcome(line, record.minute, record.outcome)
 }
@@ -75,8 +75,8 @@ pub fn line_of(alloc: Global, record: &Record) -> Result<Bytes, AuditError>
     ensures line { IfOk result (λ line. line ≡ Definitions.line_of «record».now) }
     ensures refused { IfErr result (λ e. e ≡ NoMemory) }
 {
-    let mut line = Bytes::with_room(alloc, LINE_ROOM)?;
+    let mut line = Buffer::with_room(alloc, LINE_ROOM)?;
     push_request(&mut line, record)?;
     push_decision(&mut line, record)?;
-    Ok(line)
+    Ok(line.into_bytes())
 }
