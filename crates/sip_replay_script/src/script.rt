@@ -1,6 +1,7 @@
 ghost use Rattle.std.specs.Prelude.{◌≡◌, IfOk, Some, None, MatchOption};
 ghost use Rattle.sip_text.specs.Numbers;
 ghost use Rattle.sip_replay_script.specs.Script;
+ghost use Rattle.sip_replay_script.specs.declared.script.Line.TheVariants.{Head};
 
 use sip_digest::word_of;
 use sip_event::{Event, Ticket};
@@ -60,13 +61,13 @@ fn head_of(at: &[u8], from: &[u8], word: &[u8]) -> Option<DatagramHead>
     Some(DatagramHead { at, word, from })
 }
 
-fn datagram_line(text: &[u8]) -> Option<Line>
-    ensures { result ≡ Script.datagram_line text.now }
+/// The head behind the word `datagram`.
+fn datagram_head(text: &[u8]) -> Option<DatagramHead>
+    ensures { MatchOption result (Script.datagram_line text.now ≡ None) (λ head. Script.datagram_line text.now ≡ Some (Head head)) }
 {
     let (at, rest) = split_once(text, b' ')?;
     let (from, word) = split_once(rest, b' ')?;
-    let head = head_of(at, from, word)?;
-    Some(Line::Head(head))
+    head_of(at, from, word)
 }
 
 fn time_line(text: &[u8]) -> Option<Line>
@@ -117,7 +118,10 @@ fn line_of_kind(alloc: Global, kind: &[u8], rest: &[u8]) -> Result<Option<Line>,
     ensures { IfOk result (λ line. line ≡ Script.line_of_kind kind.now rest.now) }
 {
     if same_bytes(kind, b"datagram") {
-        return Ok(datagram_line(rest));
+        return match datagram_head(rest) {
+            Some(head) => Ok(Some(Line::Head(head))),
+            None => Ok(None),
+        };
     }
     if same_bytes(kind, b"hex") {
         return hex_line(alloc, rest);
