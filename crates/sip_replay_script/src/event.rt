@@ -114,7 +114,7 @@ fn datagram_bytes<R: TellingReader>(
         if is_dot(&line) {
             return Ok(Bytes::copy(alloc, bytes)?);
         }
-        keep_line(bytes, &line)?;
+        keep_cut(bytes, &line)?;
     }
 }
 
@@ -190,7 +190,17 @@ fn keep_line(bytes: &mut Vec<u8>, line: &[u8]) -> Result<(), Stop>
         put_whole(bytes, part)?;
         return Ok(());
     }
-    keep(bytes, part)?;
+    keep_cut(bytes, line)
+}
+
+/// The same where it may be cut.
+fn keep_cut(bytes: &mut Vec<u8>, line: &[u8]) -> Result<(), Stop>
+    requires { length bytes.old.items ≤ KEPT }
+    ensures kept { OnOk result (bytes.new.items ≡ take KEPT (bytes.old.items ++ Events.said line.now)) }
+    ensures most { OnOk result (length bytes.new.items ≤ KEPT) }
+    ensures stopped { IfErr result (λ stop. stop ≡ NoMemory) }
+{
+    keep(bytes, unstuffed(line))?;
     keep(bytes, b"\r\n")
 }
 

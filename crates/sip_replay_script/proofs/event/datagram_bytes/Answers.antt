@@ -27,14 +27,14 @@ loop-line-preserved g c =
     let given : GivesLine c.keep_lines.new.lines c.next.new.self (g.R.TellingReader.remaining c.loop-line.reader) (g.R.TellingReader.remaining c.next.new.reader) c.next.new.line.items = c.in_ok-next.ensures.given c.if-not-branch.false in
     let before = c.loop-line.invariant.1 in
     let fewer = c.in_ok-keep_lines.ensures.fewer in (
-      c.in_ok-keep_line.ensures.most,
+      c.in_ok-keep_cut.ensures.most,
       omega (arith, before, fewer, given.fewer),
       gathers_more c.args.lines.now c.keep_lines.new.lines c.next.new.self (g.R.TellingReader.remaining c.args.reader.now) (g.R.TellingReader.remaining c.loop-line.reader) (g.R.TellingReader.remaining c.next.new.reader)
-          c.keep_lines.new.bytes.items c.next.new.line.items c.keep_line.new.bytes.items
+          c.keep_lines.new.bytes.items c.next.new.line.items c.keep_cut.new.bytes.items
           (gathers_lines c.args.lines.now c.loop-line.lines c.keep_lines.new.lines (g.R.TellingReader.remaining c.args.reader.now) (g.R.TellingReader.remaining c.loop-line.reader) c.loop-line.bytes.items c.keep_lines.new.bytes.items
           c.loop-line.invariant.2 (c.in_ok-keep_lines.ensures.kept c.if-branch.false)) given
           (ap is_dot (sym c.deref-in-loop-line.ensures.value) ∙ sym c.is_dot.ensures ∙ c.if-is_dot.false)
-          (c.in_ok-keep_line.ensures.kept ∙ ap (λ l. take 65508 (c.keep_lines.new.bytes.items ++ said l)) c.deref-in-loop-line-2.ensures.value),
+          (c.in_ok-keep_cut.ensures.kept ∙ ap (λ l. take 65508 (c.keep_lines.new.bytes.items ++ said l)) c.deref-in-loop-line-2.ensures.value),
       omega (arith, c.next.ensures.less, c.keep_lines.ensures.asks, c.loop-line.invariant.3),
       c.next.ensures.asked ∙ ap (λ asks. later asks (g.R.TellingReader.asked c.loop-line.reader)) c.keep_lines.ensures.asks ∙ c.loop-line.invariant.4,
     )
