@@ -23,4 +23,4 @@ mod writing;
 pub use error::AuditError;
 pub use reading::read_line;
 pub use record::{Operation, Outcome, Record};
-pub use writing::line_of;
+pub use writing::{line_of, operation_word, who_word};

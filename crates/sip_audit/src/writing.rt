@@ -29,7 +29,7 @@ fn push_number(line: &mut Buffer, number: u64) -> Result<(), AllocError>
 }
 
 /// The name of the user that was proven, `-` for nobody.
-fn who_word(who: &Option<Bytes>) -> &[u8]
+pub fn who_word(who: &Option<Bytes>) -> &[u8]
     ensures { result.now ≡ who_text who.now }
 {
     match who {
@@ -38,7 +38,8 @@ fn who_word(who: &Option<Bytes>) -> &[u8]
     }
 }
 
-fn operation_word(operation: Operation) -> &'static [u8]
+/// The word of an operation.
+pub fn operation_word(operation: Operation) -> &'static [u8]
     ensures { result.now ≡ operation_text operation }
 {
     match operation {
