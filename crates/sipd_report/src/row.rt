@@ -1,12 +1,11 @@
 ghost use Rattle.std.specs.Prelude.{◌≡◌, ◌++◌, decimal, IfOk};
-ghost use Rattle.sip_audit.specs.Lines.{who_text as who_text_of, operation_text};
 ghost use Rattle.sipd_report.specs.Rows as Definitions;
 
 use crate::cells::Cells;
 use crate::query::{Form, ruling_of};
 use crate::target::target_text;
 use crate::times::{push_minutes, time_text};
-use sip_audit::{Operation, Outcome, Record};
+use sip_audit::{Outcome, Record, operation_word, who_word};
 use sip_text::Bytes;
 use std::alloc::{AllocError, Global};
 
@@ -16,26 +15,6 @@ fn decimal_text(alloc: Global, number: u64) -> Result<Bytes, AllocError>
     let mut text = Bytes::new(alloc);
     text.push_decimal(number)?;
     Ok(text)
-}
-
-/// The proven user, `-` for nobody.
-pub(crate) fn who_text(who: &Option<Bytes>) -> &[u8]
-    ensures { result.now ≡ who_text_of who.now }
-{
-    match who {
-        Some(name) => name.as_slice(),
-        None => b"-",
-    }
-}
-
-fn operation_word(operation: Operation) -> &'static [u8]
-    ensures { result.now ≡ operation_text operation }
-{
-    match operation {
-        Operation::Register => b"register",
-        Operation::List => b"list",
-        Operation::Send => b"send",
-    }
 }
 
 /// The rule that decided, `-` for none.
@@ -108,7 +87,7 @@ pub(crate) fn cells_of(
         time: time_text(alloc, form, offset, record.at)?,
         number: decimal_text(alloc, record.number)?,
         method: Bytes::copy(alloc, record.method.as_slice())?,
-        user: Bytes::copy(alloc, who_text(&record.who))?,
+        user: Bytes::copy(alloc, who_word(&record.who))?,
         target: target_text(alloc, &record.target)?,
         operation: Bytes::copy(alloc, operation_word(record.operation))?,
         rule: ruling_text(alloc, ruling_of(record.outcome))?,

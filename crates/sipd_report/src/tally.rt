@@ -3,9 +3,9 @@ ghost use Rattle.sipd_report.specs.Report.{numbered_text, shown_byte};
 ghost use Rattle.sipd_report.specs.Steps as Definitions;
 
 use crate::query::ruling_of;
-use crate::row::{outcome_kind, ruling_text, who_text};
+use crate::row::{outcome_kind, ruling_text};
 use crate::totals::Totals;
-use sip_audit::Record;
+use sip_audit::{Record, who_word};
 use sip_text::Bytes;
 use std::alloc::{AllocError, Global};
 
@@ -96,7 +96,7 @@ impl Tally {
     {
         let rule = ruling_text(alloc, ruling_of(record.outcome))?;
         let outcome = outcome_kind(alloc, record.outcome)?;
-        self.users.add(alloc, who_text(&record.who))?;
+        self.users.add(alloc, who_word(&record.who))?;
         self.rules.add(alloc, rule.as_slice())?;
         self.outcomes.add(alloc, outcome.as_slice())?;
         self.asked = self.asked.saturating_add(1);
