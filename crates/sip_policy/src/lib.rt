@@ -27,7 +27,7 @@ mod window;
 pub use decision::Decision;
 pub use domains::{is_own_domain, is_users_address};
 pub use error::PolicyError;
-pub use list_rules::ListRules;
+pub use list_rules::{ListRules, deciding_rule};
 pub use operation::{Operation, OperationPattern};
 pub use rule::Rule;
 pub use rule_verdict::RuleVerdict;

@@ -92,7 +92,7 @@ impl ListRules {
 }
 
 /// The first rule that applies.
-fn deciding_rule<'a>(
+pub fn deciding_rule<'a>(
     rules: &'a [Rule],
     users: &Users,
     domains: &[Bytes],
