@@ -1,6 +1,5 @@
 ghost use Rattle.std.specs.Prelude.{◌≡◌, IfOk};
 ghost use Rattle.std.specs.Option.{option_copied};
-ghost use Rattle.sip_policy.specs.Decision as Policy;
 ghost use Rattle.sipd_questions.specs.Refusals.{Reads};
 ghost use Rattle.sipd_questions.specs.Question.{shown};
 ghost use Rattle.sipd_questions.specs.Decide as Definitions;
@@ -10,34 +9,13 @@ use crate::error::{QuestionError, confirm};
 use crate::question::Question;
 use crate::telling::line_by;
 use sip_config_types::Config;
-use sip_policy::{Operation, Rule, Users, ruling_by};
+use sip_policy::{Operation, deciding_rule, ruling_by};
 use sip_text::Bytes;
 use sip_uri::{Aor, aor_of};
 use std::alloc::{AllocError, Global};
 
 /// The minutes of a day.
 const DAY: u16 = 1_440;
-
-/// The first rule that holds at the minute and matches.
-fn deciding_rule<'a>(
-    rules: &'a [Rule],
-    users: &Users,
-    domains: &[Bytes],
-    proven: Option<&[u8]>,
-    operation: &Operation,
-    aor: &Aor,
-    minute: u16,
-) -> Option<&'a Rule>
-    ensures { option_copied result ≡ Policy.deciding_rule rules.now users.now domains.now (option_copied proven.entry) operation.now
-        aor.now minute }
-{
-    for rule in rules {
-        if rule.applies(users, domains, proven, operation, aor, minute) {
-            return Some(rule);
-        }
-    }
-    None
-}
 
 /// What the server decides of a request for an address of record at a minute, as a line.
 fn line_for(
