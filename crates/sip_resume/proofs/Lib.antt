@@ -1,2 +1,4 @@
+pub mod Calls
+pub mod Refused
 pub mod Retaken
 pub mod Running

@@ -12,8 +12,10 @@ use Rattle.sip_replay_script.specs.Events.{SaysEvents, IsNoEvent}
 use Rattle.sip_replay_script.proofs.Saying.{says_all, says_one}
 use Rattle.sip_record.specs.Record.{Notes}
 use Rattle.sip_record.proofs.Noting.{notes_nothing, notes_both}
-use Rattle.sip_resume.specs.Resumes.{HasNoEvent, IsResumed, IsUnresumed, ResumeStops, Runs, TakesNext}
+use Rattle.sip_resume.specs.Resumes.{HasNoEvent, IsResumed, IsUnresumed, JournalAt, ResumeStops, Runs, TakesNext}
 use Rattle.sip_resume.specs.declared.error.ResumeError.{ResumeError}
+use Rattle.sip_resume.specs.declared.error.ResumeError.TheVariants as errors
+use Rattle.sip_resume.proofs.Refused.{stopped_so}
 use Rattle.sip_resume.proofs.Running.{RunsJoin, runs_both, runs_nothing}
 
 -- a record so far
@@ -111,20 +113,45 @@ rest_is unread None rest text none h = tt
 rest_is unread (Some xs) None text none h = absurd h
 rest_is unread (Some xs) (Some ys) text none h = (ys, refl, sym (ap (λ l. l ++ xs) none) ∙ h)
 
-pub unresumed : (server : Server) (first state : ProxyState) (old part : Reading) (before middle : Option (List ℕ)) (written half whole : Option (Option (List ℕ))) (lines : ℕ) (e : ResumeError) → old.unread ≡ []
-    → Resumes server first state old part before middle written half lines → ResumeStops (pending part middle) whole e → IsUnresumed before whole e
-unresumed server first state old part before middle written half whole lines e none h why = record {
+-- the events that were taken before are told, unless the journal has failed
+noted_at : (written half whole : Option (Option (List ℕ))) (events : List Event) (e : ResumeError) → Notes written half events → JournalAt half whole e → Notes written whole events
+noted_at written half whole events errors.NoMemory h told = subst (λ (o : Option (Option (List ℕ))). Notes written o events) (sym told) h
+noted_at written half whole events (errors.Damaged line) h told = subst (λ (o : Option (Option (List ℕ))). Notes written o events) (sym told) h
+noted_at written half whole events errors.Read h told = subst (λ (o : Option (Option (List ℕ))). Notes written o events) (sym told) h
+noted_at written half whole events errors.Step h told = subst (λ (o : Option (Option (List ℕ))). Notes written o events) (sym told) h
+noted_at written half whole events errors.Journal h told = subst (λ (o : Option (Option (List ℕ))). Notes written o events) (sym told) tt
+
+-- behind what was taken before
+pub unresumed : (server then_server : Server) (first state new : ProxyState) (old part : Reading) (before middle : Option (List ℕ)) (written half whole : Option (Option (List ℕ))) (lines : ℕ) (F H : Type 0) (e : ResumeError) → then_server ≡ server
+    → old.unread ≡ [] → old.number ≡ 0 → (F → H) → Resumes server first state old part before middle written half lines → ResumeStops then_server state new F (pending part middle) part.number whole e → JournalAt half whole e
+    → IsUnresumed server first new H before written whole e
+unresumed server then_server first state new old part before middle written half whole lines F H e same none zero so h why told = record {
   text = h.text;
   events = h.events;
   rest = pending part middle;
+  reached = state;
   says = h.says;
   whole = rest_is old.unread before (pending part middle) h.text none h.consumes;
-  why = why;
+  runs = h.runs;
+  noted = noted_at written half whole h.events e h.noted told;
+  why = stopped_so F H server state new (pending part middle) (count_by is_end h.text) whole e so
+      (subst (λ (n : ℕ). ResumeStops server state new F (pending part middle) n whole e) (lines_are old.number part.number h.text zero h.number)
+      (subst (λ (s : Server). ResumeStops s state new F (pending part middle) part.number whole e) same why));
 }
 
 -- nothing was taken
-pub unresumed_at_once : (before : Option (List ℕ)) (whole : Option (Option (List ℕ))) (e : ResumeError) → ResumeStops before whole e → IsUnresumed before whole e
-unresumed_at_once before whole e why = record { text = []; events = []; rest = before; says = refl; whole = all_left before; why = why } where
+pub unresumed_at_once : (server : Server) (state : ProxyState) (H : Type 0) (before : Option (List ℕ)) (written : Option (Option (List ℕ))) → IsUnresumed server state state H before written written errors.NoMemory
+unresumed_at_once server state H before written = record {
+  text = [];
+  events = [];
+  rest = before;
+  reached = state;
+  says = refl;
+  whole = all_left before;
+  runs = runs_nothing server state None;
+  noted = notes_nothing written;
+  why = (None, runs_nothing server state None);
+} where
   all_left : (a : Option (List ℕ)) → IfSome a (λ bytes. (further : List ℕ) × (a ≡ Some further) × (bytes ≡ [] ++ further))
   all_left None = tt
   all_left (Some bytes) = (bytes, refl, refl)

@@ -1,5 +1,5 @@
 -- A run of the server, step by step.
-use Rattle.std.proofs.Common.{◌≡◌, inr, ℕ, List, [], ◌∷◌, ◌++◌, Option, None, Some, refl, ◌∙◌, ap, subst}
+use Rattle.std.proofs.Common.{◌≡◌, inr, ℕ, List, [], ◌∷◌, ◌++◌, Option, None, Some, refl, sym, ◌∙◌, ap, subst}
 use Rattle.std.proofs.lemmas.List.{reverse-append}
 use Rattle.sip_event.specs.declared.event.Event.{Event}
 use Rattle.sip_event.specs.declared.event.StepOut.{StepOut}
@@ -27,6 +27,11 @@ runs_firing server then_server old mid new at out same h fires = record {
     of_steps = reverse-append (out ∷ []) (steps_of h.history) ∙ ap (λ l. l ++ out ∷ []) h.is_run.of_steps;
   };
 }
+
+-- the same up to the moment of an event, where nothing has changed since
+pub runs_so : (server : Server) (old mid new : ProxyState) (at : ℕ) (event : Event) → new ≡ mid → at ≡ event_moment event → Runs server old mid [] (Some at) → Runs server old new [] (Some (event_moment event))
+runs_so server old mid new at event same is h =
+    subst (λ (s : ProxyState). Runs server old s [] (Some (event_moment event))) (sym same) (subst (λ (m : ℕ). Runs server old mid [] (Some m)) is h)
 
 event_next : (server : Server) (old mid new : ProxyState) (event : Event) (out : StepOut) → Runs server old mid [] (Some (event_moment event)) → IsStep server mid (Given event) out new → Runs server old new (event ∷ []) None
 event_next server old mid new event out h step = record {

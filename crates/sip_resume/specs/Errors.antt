@@ -2,6 +2,8 @@
 use Rattle.std.specs.Prelude.{ℕ}
 use Rattle.sip_run.specs.engine.declared.error.StepError.{StepError}
 use Rattle.sip_run.specs.engine.declared.error.StepError.TheVariants as steps
+use Rattle.sip_replay_script.specs.declared.stop.Stop.{Stop}
+use Rattle.sip_replay_script.specs.declared.stop.Stop.TheVariants as stops
 use Rattle.sip_resume.specs.declared.error.ResumeError.{ResumeError}
 use Rattle.sip_resume.specs.declared.error.ResumeError.TheVariants.{NoMemory, Damaged, Read, Step, Journal}
 
@@ -18,3 +20,10 @@ abbrev pub error_of_step : StepError → ResumeError
 error_of_step steps.NoMemory = NoMemory
 error_of_step steps.MomentTooLarge = Step
 error_of_step steps.Worn = Step
+
+-- why no event is read that would begin with a line
+abbrev pub error_at : Stop → ℕ → ResumeError
+error_at stops.NoMemory line = NoMemory
+error_at stops.Script line = Damaged line
+error_at stops.Read line = Read
+error_at stops.Write line = Read

@@ -1,14 +1,17 @@
 -- A server that takes the events of a record again.
-use Rattle.std.specs.Prelude.{◌≡◌, ◌⊎◌, ⊤, ℕ, List, [], ◌∷◌, ◌++◌, count_by, Option, None, Some, IfSome}
+use Rattle.std.specs.Prelude.{◌≡◌, ◌⊎◌, ◌+◌, ⊤, ℕ, List, [], ◌∷◌, ◌++◌, count_by, Option, None, Some, IfSome, IsSome}
 use Rattle.sip_event.specs.declared.event.Event.{Event}
 use Rattle.sip_event.specs.declared.event.StepOut.{StepOut}
 use Rattle.model_bounds.specs.state.declared.server.Server.{Server}
 use Rattle.model_bounds.specs.state.declared.proxy_state.ProxyState.{ProxyState}
 use Rattle.model_bounds.specs.state.State.{first_state}
-use Rattle.model_bounds.specs.model.Run.{Link, IsRun}
+use Rattle.model_bounds.specs.model.Run.{Link, IsRun, event_moment}
 use Rattle.model_bounds.specs.model.Access.{Access}
 use Rattle.model_bounds.specs.Bounds.{IsBounded}
-use Rattle.sip_replay_script.specs.Events.{SaysEvents, GivesEvent, IsNoEvent}
+use Rattle.sip_run.specs.engine.declared.error.StepError.{StepError}
+use Rattle.sip_run.specs.engine.declared.error.StepError.TheVariants as step_errors
+use Rattle.sip_run.specs.Refusals.{refusal_of_event}
+use Rattle.sip_replay_script.specs.Events.{SaysEvent, SaysEvents, GivesEvent, IsNoEvent}
 use Rattle.sip_replay_script.specs.Lines.{Reading, is_end}
 use Rattle.sip_record.specs.Record.{Notes}
 use Rattle.sip_resume.specs.declared.error.ResumeError.{ResumeError}
@@ -38,23 +41,53 @@ pub record IsResumed (server : Server) (old new : ProxyState) (record_bytes : Op
   pub noted : Notes written written_then events
   pub counted : lines ≡ count_by is_end text
 
--- Why an event isn't taken of what is still to come of a record: memory ran out, or the reader failed; no event stands there; a step
--- was refused; or the journal, which tells nothing then.
-abbrev pub ResumeStops : Option (List ℕ) → Option (Option (List ℕ)) → ResumeError → Type 0
-ResumeStops rest written NoMemory = ⊤
-ResumeStops rest written (Damaged line) = IfSome rest IsNoEvent
-ResumeStops rest written Read = ⊤
-ResumeStops rest written Step = ⊤
-ResumeStops rest written Journal = written ≡ None
+-- what is still to come begins with an event
+pub record IsNext (rest : Option (List ℕ)) (event : Event) : Type 0 where
+  pub text : List ℕ
+  pub says : SaysEvent text event
+  pub begins : IfSome rest (λ bytes. (further : List ℕ) × (bytes ≡ text ++ further))
 
--- It was refused behind some of its events.
-pub record IsUnresumed (record_bytes : Option (List ℕ)) (written : Option (Option (List ℕ))) (e : ResumeError) : Type 0 where
+-- time passed, and no event was taken
+abbrev pub PassesTime : Server → ProxyState → ProxyState → Type 0
+PassesTime server old new = (until : Option ℕ) × Runs server old new [] until
+
+-- An event comes next, time passed up to its moment, and the server refuses its step then. A moment that is too large for what is due
+-- is so for the event, too.
+pub record RefusesNext (server : Server) (old new : ProxyState) (rest : Option (List ℕ)) : Type 0 where
+  pub event : Event
+  pub next : IsNext rest event
+  pub runs : Runs server old new [] (Some (event_moment event))
+  pub refused : IsSome (refusal_of_event new event)
+
+-- the event that comes next was taken, and the journal wasn't told it, since it failed
+pub record TakesUntold (server : Server) (old new : ProxyState) (rest : Option (List ℕ)) (written : Option (Option (List ℕ))) : Type 0 where
+  pub event : Event
+  pub next : IsNext rest event
+  pub runs : Runs server old new (event ∷ []) None
+  pub failed : written ≡ None
+
+-- Why an event isn't taken of what is still to come of a record, behind so many lines, and where the server stands then: memory ran
+-- out, wherever it was as time passed; or it is as it was, since no event begins with the next line, or the reader stopped; or the
+-- server refuses the step; or the journal failed behind it.
+abbrev pub ResumeStops : Server → ProxyState → ProxyState → Type 0 → Option (List ℕ) → ℕ → Option (Option (List ℕ)) → ResumeError → Type 0
+ResumeStops server old new reader_stopped rest lines written NoMemory = PassesTime server old new
+ResumeStops server old new reader_stopped rest lines written (Damaged line) = (new ≡ old) × IfSome rest IsNoEvent × (line ≡ lines + 1)
+ResumeStops server old new reader_stopped rest lines written Read = (new ≡ old) × reader_stopped
+ResumeStops server old new reader_stopped rest lines written Step = RefusesNext server old new rest
+ResumeStops server old new reader_stopped rest lines written Journal = TakesUntold server old new rest written
+
+-- It was refused behind some of its events, by which the server had come to a state; the journal was told them, unless it has failed.
+pub record IsUnresumed (server : Server) (old new : ProxyState) (reader_stopped : Type 0) (record_bytes : Option (List ℕ))
+    (written written_then : Option (Option (List ℕ))) (e : ResumeError) : Type 0 where
   pub text : List ℕ
   pub events : List Event
   pub rest : Option (List ℕ)
+  pub reached : ProxyState
   pub says : SaysEvents events text
   pub whole : IfSome record_bytes (λ bytes. (further : List ℕ) × (rest ≡ Some further) × (bytes ≡ text ++ further))
-  pub why : ResumeStops rest written e
+  pub runs : Runs server old reached events None
+  pub noted : Notes written written_then events
+  pub why : ResumeStops server reached new reader_stopped rest (count_by is_end text) written_then e
 
 -- ---- a run goes on
 
@@ -75,3 +108,25 @@ pub record TakesNext (server : Server) (old new : ProxyState) (part rest : Readi
   pub gives : GivesEvent part rest middle after event
   pub runs : Runs server old new (event ∷ []) None
   pub noted : Notes written written_then (event ∷ [])
+
+-- a step is refused for want of memory, or as the server says
+abbrev pub StepStops : Option StepError → StepError → Type 0
+StepStops refusal step_errors.NoMemory = ⊤
+StepStops refusal step_errors.MomentTooLarge = IsSome refusal
+StepStops refusal step_errors.Worn = IsSome refusal
+
+-- why a record isn't taken to end where no event stands: memory ran out, or the reader stopped; or another line stands behind that one
+abbrev pub EndStops : Type 0 → ℕ → ResumeError → Type 0
+EndStops reader_stopped first NoMemory = ⊤
+EndStops reader_stopped first (Damaged line) = line ≡ first
+EndStops reader_stopped first Read = reader_stopped
+EndStops reader_stopped first Step = ⊥
+EndStops reader_stopped first Journal = ⊥
+
+-- where an event isn't taken, the journal is as it was, or has failed
+abbrev pub JournalAt : Option (Option (List ℕ)) → Option (Option (List ℕ)) → ResumeError → Type 0
+JournalAt old new NoMemory = new ≡ old
+JournalAt old new (Damaged line) = new ≡ old
+JournalAt old new Read = new ≡ old
+JournalAt old new Step = new ≡ old
+JournalAt old new Journal = new ≡ None

@@ -1,8 +1,9 @@
 ghost use Rattle.std.specs.Prelude.{◌≡◌};
-ghost use Rattle.sip_resume.specs.Errors.{error_of_step, number_of_error};
+ghost use Rattle.sip_resume.specs.Errors.{error_at, error_of_step, number_of_error};
 ghost use Rattle.sip_resume.specs.declared.error.ResumeError.TheVariants.{NoMemory, Journal};
 
 use sip_record::JournalFault;
+use sip_replay_script::Stop;
 use sip_run::engine::StepError;
 use std::alloc::{AllocError, AllocFailed};
 use std::error::Error;
@@ -18,13 +19,24 @@ pub enum ResumeError {
     Damaged(u64),
     /// The reader failed, or was asked 4,294,967,295 times.
     Read,
-    /// A moment is 2^62 ms or more, or a datagram's number would be.
+    /// The server refuses an event's step: its moment is 2^62 ms or more, or a datagram's number would be.
     Step,
     /// The journal failed.
     Journal,
 }
 
 impl ResumeError {
+    /// Why no event is read that would begin with this line.
+    pub(crate) fn at_line(stop: Stop, line: u64) -> ResumeError
+        ensures { result ≡ error_at stop line }
+    {
+        match stop {
+            Stop::NoMemory => ResumeError::NoMemory,
+            Stop::Script => ResumeError::Damaged(line),
+            Stop::Read | Stop::Write => ResumeError::Read,
+        }
+    }
+
     /// The number of this refusal.
     pub fn number(&self) -> u8
         ensures { result ≡ number_of_error self.now }

@@ -1,9 +1,13 @@
-ghost use Rattle.std.specs.Prelude.{◌≡◌, ◌≤◌, [], ◌∷◌, Some, None, true, false, IfOk, IfErr, IfSome, OnOk, OnErr};
+ghost use Rattle.std.specs.Prelude.{◌≡◌, ◌≤◌, ◌⊎◌, [], ◌∷◌, Some, None, true, false, IfOk, IfErr, IfSome, OnOk, OnErr};
+ghost use Rattle.model_bounds.specs.model.Run.{event_moment};
 ghost use Rattle.model_bounds.specs.steps_model.Step.{moment_of};
 ghost use Rattle.sip_run.specs.Due.{NothingDueBy};
-ghost use Rattle.sip_replay_script.specs.Lines.{pending};
+ghost use Rattle.sip_run.specs.Refusals.{refusal_of_event};
+ghost use Rattle.sip_run.specs.engine.StepError.{refusal_at};
+ghost use Rattle.sip_replay_script.specs.Devices.{later};
+ghost use Rattle.sip_replay_script.specs.Lines.{pending, IsSpent};
 ghost use Rattle.sip_record.specs.Record.{Notes};
-ghost use Rattle.sip_resume.specs.Resumes.{IsResumed, IsUnresumed, HasNoEvent, ResumeStops, Runs, TakesNext};
+ghost use Rattle.sip_resume.specs.Resumes.{EndStops, HasNoEvent, IsResumed, IsUnresumed, JournalAt, ResumeStops, Runs, StepStops, TakesNext};
 ghost use Rattle.sip_resume.specs.declared.error.ResumeError.TheVariants as Refusal;
 
 use crate::error::ResumeError;
@@ -20,8 +24,9 @@ use std::alloc::Global;
 /// Takes the events of a record, which stand behind its first line, so that a server goes on from where they lead: what is due by the
 /// moment of each happens first, nothing that is handed out is sent, and each is told to the journal. A record that was cut in its
 /// last event is taken up to the last whole one. Gives how many lines were taken. Refusals: `NoMemory`; `Damaged` with the line that
-/// begins no event, where others stand behind it; `Read`; `Step`, where a moment is 2^62 ms or more, or a datagram's number would be;
-/// `Journal`. The engine has taken some of the events then.
+/// begins no event, where others stand behind it; `Read`, where the reader failed or was asked 4,294,967,295 times; `Step`, where the
+/// server refuses the next event: its moment is 2^62 ms or more, or a datagram's number would be; `Journal`. The engine has taken some
+/// of the events then.
 pub fn resume<T: Timers, R: Rules, I: TellingReader, J: Journal>(
     alloc: Global,
     engine: &mut Engine<T, R>,
@@ -31,7 +36,9 @@ pub fn resume<T: Timers, R: Rules, I: TellingReader, J: Journal>(
     ensures server { engine.new.server ≡ engine.old.server }
     ensures resumed { IfOk result (λ lines. IsResumed engine.old.server engine.old.state engine.new.state (I.remaining reader.old)
         (J.written journal.old) (J.written journal.new) lines) }
-    ensures refused { IfErr result (IsUnresumed (I.remaining reader.old) (J.written journal.new)) }
+    ensures refused { IfErr result (IsUnresumed engine.old.server engine.old.state engine.new.state
+        (I.has_failed reader.new ⊎ (I.asked reader.new ≡ later 4294967295 (I.asked reader.old)))
+        (I.remaining reader.old) (J.written journal.old) (J.written journal.new)) }
 {
     runs_join();
     let mut lines = Lines::new(alloc)?;
@@ -57,15 +64,18 @@ fn resume_next<T: Timers, R: Rules, I: TellingReader, J: Journal>(
         (I.remaining reader.old) (I.remaining reader.new) (J.written journal.old) (J.written journal.new)) }
     ensures over { IfOk result (λ more. more ≡ false → IfSome (pending lines.old (I.remaining reader.old)) HasNoEvent) }
     ensures waits { IfOk result (λ more. more ≡ false → (engine.new ≡ engine.old) × (J.written journal.new ≡ J.written journal.old)) }
-    ensures refused { IfErr result (ResumeStops (pending lines.old (I.remaining reader.old)) (J.written journal.new)) }
+    ensures refused { IfErr result (ResumeStops engine.old.server engine.old.state engine.new.state
+        (IsSpent (I.has_failed reader.new) lines.new.asks) (pending lines.old (I.remaining reader.old)) lines.old.number
+        (J.written journal.new)) }
+    ensures told { IfErr result (JournalAt (J.written journal.old) (J.written journal.new)) }
+    ensures asked { later lines.new.asks (I.asked reader.new) ≡ later lines.old.asks (I.asked reader.old) }
 {
     let first = lines.number() + 1;
     let event = match next_event(alloc, lines, reader, line) {
         Ok(Some(event)) => event,
         Ok(None) => return Ok(false),
-        Err(Stop::NoMemory) => return Err(ResumeError::NoMemory),
         Err(Stop::Script) => return end_at(first, lines, reader, line),
-        Err(Stop::Read | Stop::Write) => return Err(ResumeError::Read),
+        Err(stop) => return Err(ResumeError::at_line(stop, first)),
     };
     take_in_turn(engine, &event)?;
     note(journal, &event)?;
@@ -73,7 +83,7 @@ fn resume_next<T: Timers, R: Rules, I: TellingReader, J: Journal>(
 }
 
 /// Whether a record ends where no event stands: it was cut there; or lines stand behind those that begin with this one, and it is
-/// damaged.
+/// damaged. A fault of the reader is no end.
 fn end_at<I: TellingReader>(
     first: u64,
     lines: &mut Lines,
@@ -81,11 +91,13 @@ fn end_at<I: TellingReader>(
     line: &mut Vec<u8>,
 ) -> Result<bool, ResumeError>
     ensures end { IfOk result (λ more. more ≡ false) }
-    ensures damaged { IfErr result (λ e. e ≡ Refusal.Damaged first) }
+    ensures refused { IfErr result (EndStops (IsSpent (I.has_failed reader.new) lines.new.asks) first) }
+    ensures asked { later lines.new.asks (I.asked reader.new) ≡ later lines.old.asks (I.asked reader.old) }
 {
     match lines.next(reader, line) {
         Ok(true) => Err(ResumeError::Damaged(first)),
-        _ => Ok(false),
+        Ok(false) | Err(Stop::Script) => Ok(false),
+        Err(stop) => Err(ResumeError::at_line(stop, first)),
     }
 }
 
@@ -96,6 +108,8 @@ fn take_in_turn<T: Timers, R: Rules>(
 ) -> Result<StepOut, StepError>
     ensures server { engine.new.server ≡ engine.old.server }
     ensures taken { OnOk result (Runs engine.old.server engine.old.state engine.new.state (event.now ∷ []) None) }
+    ensures passed { OnErr result (Runs engine.old.server engine.old.state engine.new.state [] (Some (event_moment event.now))) }
+    ensures refused { IfErr result (StepStops (refusal_of_event engine.new.state event.now)) }
 {
     let at = event_moment(event);
     fire_due(engine, at)?;
@@ -106,8 +120,9 @@ fn take_in_turn<T: Timers, R: Rules>(
 /// Lets all happen that is due by a moment.
 fn fire_due<T: Timers, R: Rules>(engine: &mut Engine<T, R>, at: u64) -> Result<(), StepError>
     ensures server { engine.new.server ≡ engine.old.server }
-    ensures fired { OnOk result (Runs engine.old.server engine.old.state engine.new.state [] (Some at)) }
+    ensures fired { Runs engine.old.server engine.old.state engine.new.state [] (Some at) }
     ensures none_due { OnOk result (NothingDueBy (moment_of engine.new.state at) engine.new.state) }
+    ensures refused { IfErr result (StepStops (refusal_at at)) }
 {
     while let Some(out) = fire_next(engine, at)? {
         let _unsent = out;
