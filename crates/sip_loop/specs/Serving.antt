@@ -152,6 +152,13 @@ pub record Sent : Type 0 where
   pub given : Option (List Given)
   pub written : Option (Option (List ℕ))
 
+-- by what each device tells of itself
+abbrev pub told_by : Option (List (Option Heard)) → Option (List Given) → Option (List ℕ) → Option (Option (List ℕ)) → Stream → Told
+told_by heard given readings written words = record { heard = heard; given = given; readings = readings; written = written; words = words }
+
+abbrev pub sent_by : Option (List Given) → Option (Option (List ℕ)) → Sent
+sent_by given written = record { given = given; written = written }
+
 abbrev pub sent_of : Told → Sent
 sent_of told = record { given = told.given; written = told.written }
 

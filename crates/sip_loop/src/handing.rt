@@ -2,6 +2,7 @@ ghost use Rattle.std.specs.Prelude.{◌≡◌, ◌<◌, ◌≤◌, ◌+◌, ◌+
 ghost use Rattle.model_bounds.specs.model.Ends.{sends_left};
 ghost use Rattle.sip_loop.specs.Courses.{Hands, HandsSome, IsNoFurther, TakesFault};
 ghost use Rattle.sip_loop.specs.ServeErrors.{IsOfHanding};
+ghost use Rattle.sip_loop.specs.Serving.{sent_by};
 ghost use Rattle.sip_loop.specs.declared.served.ServeError.TheVariants.{NoMemory};
 
 use crate::served::ServeError;
@@ -75,15 +76,15 @@ fn hand_one<T: Timers, R: Rules, L: Link, J: Journal>(
     ensures failures { L.failures link.new ≡ L.failures link.old }
     ensures heard { L.heard link.new ≡ L.heard link.old }
     ensures handed { OnOk result (Hands engine.old.server engine.old.state engine.new.state (drop place packets.old) None
-        (drop (place + 1) packets.new) (record { given = L.given link.old; written = J.written journal.old })
-        (record { given = L.given link.new; written = J.written journal.new })) }
+        (drop (place + 1) packets.new) (sent_by (L.given link.old) (J.written journal.old))
+        (sent_by (L.given link.new) (J.written journal.new))) }
     ensures more { OnOk result (place + 1 ≤ length packets.new) }
     ensures fewer { OnOk result (length packets.new + sends_left engine.new.state ≤ length packets.old + sends_left engine.old.state) }
     ensures no_further { OnOk result (IsNoFurther engine.old.state engine.new.state) }
     ensures refused { IfErr result (λ e. IsOfHanding e (J.written journal.new)) }
     ensures broken { OnErr result (HandsSome engine.old.server engine.old.state engine.new.state (drop place packets.old)
-        (record { given = L.given link.old; written = J.written journal.old })
-        (record { given = L.given link.new; written = J.written journal.new })) }
+        (sent_by (L.given link.old) (J.written journal.old))
+        (sent_by (L.given link.new) (J.written journal.new))) }
 {
     let packet = &packets.as_slice()[place];
     let ticket = packet.ticket;
@@ -111,13 +112,13 @@ pub(crate) fn hand_out<T: Timers, R: Rules, L: Link, J: Journal>(
     ensures failures { L.failures link.new ≡ L.failures link.old }
     ensures heard { L.heard link.new ≡ L.heard link.old }
     ensures handed { OnOk result (Hands engine.old.server engine.old.state engine.new.state out.packets None []
-        (record { given = L.given link.old; written = J.written journal.old })
-        (record { given = L.given link.new; written = J.written journal.new })) }
+        (sent_by (L.given link.old) (J.written journal.old))
+        (sent_by (L.given link.new) (J.written journal.new))) }
     ensures no_further { OnOk result (IsNoFurther engine.old.state engine.new.state) }
     ensures refused { IfErr result (λ e. IsOfHanding e (J.written journal.new)) }
     ensures broken { OnErr result (HandsSome engine.old.server engine.old.state engine.new.state out.packets
-        (record { given = L.given link.old; written = J.written journal.old })
-        (record { given = L.given link.new; written = J.written journal.new })) }
+        (sent_by (L.given link.old) (J.written journal.old))
+        (sent_by (L.given link.new) (J.written journal.new))) }
 {
     let mut place = 0;
     while place < out.packets.as_slice().len() {

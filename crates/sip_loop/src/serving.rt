@@ -7,7 +7,7 @@ ghost use Rattle.sip_run.specs.Due.{NothingDueBy};
 ghost use Rattle.sip_loop.specs.Courses.{Breaks, BreaksFiring, BreaksOff, BreaksTurn, Course, Goes, GoesOn, TakesDue, TakesTurn};
 ghost use Rattle.sip_record.specs.Record.{Notes};
 ghost use Rattle.sip_loop.specs.ServeErrors.{IsOfHanding};
-ghost use Rattle.sip_loop.specs.Serving.{IsServed, IsUnserved, IsWhy, Read, behind_word, event_of_turn, told_more, turn_at, word_from};
+ghost use Rattle.sip_loop.specs.Serving.{IsServed, IsUnserved, IsWhy, Read, behind_word, event_of_turn, sent_by, told_by, turn_at, word_from};
 ghost use Rattle.sip_loop.specs.declared.served.ServeError.TheVariants as Refusal;
 
 use crate::handing::hand_out;
@@ -89,12 +89,12 @@ fn fire_due<T: Timers, R: Rules, L: Link, J: Journal>(
     ensures failures { L.failures link.new ≡ L.failures link.old }
     ensures heard { L.heard link.new ≡ L.heard link.old }
     ensures fired { OnOk result (Course engine.old.server engine.old.state engine.new.state (Some at) (Some at) [] [] None []
-        (record { given = L.given link.old; written = J.written journal.old })
-        (record { given = L.given link.new; written = J.written journal.new })) }
+        (sent_by (L.given link.old) (J.written journal.old))
+        (sent_by (L.given link.new) (J.written journal.new))) }
     ensures none_due { OnOk result (NothingDueBy (moment_of engine.new.state at) engine.new.state) }
     ensures broken { IfErr result (BreaksFiring engine.old.server engine.old.state engine.new.state at
-        (record { given = L.given link.old; written = J.written journal.old })
-        (record { given = L.given link.new; written = J.written journal.new })) }
+        (sent_by (L.given link.old) (J.written journal.old))
+        (sent_by (L.given link.new) (J.written journal.new))) }
     ensures not_link { IfErr result (λ e. ¬ (e ≡ Refusal.Link)) }
     ensures journal_failed { IfErr result (λ e. e ≡ Refusal.Journal → J.written journal.new ≡ None) }
 {
@@ -171,10 +171,10 @@ fn take_turn<T: Timers, R: Rules, L: Link, J: Journal, W: Rng>(
     ensures link_held { ¬ (result ≡ Err Refusal.Link) → L.failures link.new ≡ L.failures link.old }
     ensures journal_failed { result ≡ Err Refusal.Journal → J.written journal.new ≡ None }
     ensures goes { OnOk result (GoesOn engine.old.server engine.old.state engine.new.state at (L.heard link.old) (L.heard link.new)
-        (record { given = L.given link.old; written = J.written journal.old }) (record { given = L.given link.new; written = J.written journal.new })
+        (sent_by (L.given link.old) (J.written journal.old)) (sent_by (L.given link.new) (J.written journal.new))
         (W.stream words.old) (W.stream words.new) records.old records.new) }
     ensures broken { IfErr result (BreaksOff engine.old.server engine.old.state engine.new.state at (L.heard link.old) (L.heard link.new)
-        (record { given = L.given link.old; written = J.written journal.old }) (record { given = L.given link.new; written = J.written journal.new })
+        (sent_by (L.given link.old) (J.written journal.old)) (sent_by (L.given link.new) (J.written journal.new))
         (W.stream words.old) (W.stream words.new)) }
 {
     steps_stand_at_their_moments();
@@ -201,36 +201,12 @@ fn turn<T: Timers, R: Rules, L: Link, J: Journal, C: Clock, W: Rng>(
     ensures link_held { ¬ (result ≡ Err Refusal.Link) → L.failures link.new ≡ L.failures link.old }
     ensures journal_failed { result ≡ Err Refusal.Journal → J.written journal.new ≡ None }
     ensures goes { OnOk result (Goes engine.old.server engine.old.state engine.new.state
-        (record {
-          heard = L.heard link.old;
-          given = L.given link.old;
-          readings = C.readings clock.old;
-          written = J.written journal.old;
-          words = W.stream words.old;
-        })
-        (record {
-          heard = L.heard link.new;
-          given = L.given link.new;
-          readings = C.readings clock.new;
-          written = J.written journal.new;
-          words = W.stream words.new;
-        }) 1
+        (told_by (L.heard link.old) (L.given link.old) (C.readings clock.old) (J.written journal.old) (W.stream words.old))
+        (told_by (L.heard link.new) (L.given link.new) (C.readings clock.new) (J.written journal.new) (W.stream words.new)) 1
         records.old records.new) }
     ensures broken { IfErr result (Breaks engine.old.server engine.old.state engine.new.state
-        (record {
-          heard = L.heard link.old;
-          given = L.given link.old;
-          readings = C.readings clock.old;
-          written = J.written journal.old;
-          words = W.stream words.old;
-        })
-        (record {
-          heard = L.heard link.new;
-          given = L.given link.new;
-          readings = C.readings clock.new;
-          written = J.written journal.new;
-          words = W.stream words.new;
-        }) 1) }
+        (told_by (L.heard link.old) (L.given link.old) (C.readings clock.old) (J.written journal.old) (W.stream words.old))
+        (told_by (L.heard link.new) (L.given link.new) (C.readings clock.new) (J.written journal.new) (W.stream words.new)) 1) }
 {
     let at = clock.now();
     fire_due(engine, link, journal, at)?;
@@ -259,35 +235,11 @@ pub fn serve<T: Timers, R: Rules, L: Link, J: Journal, C: Clock, W: Rng>(
 ) -> Result<Served, ServeError>
     ensures server { engine.new.server ≡ engine.old.server }
     ensures served { IfOk result (λ served. IsServed turns engine.old.server engine.old.state engine.new.state
-        (record {
-          heard = L.heard link.old;
-          given = L.given link.old;
-          readings = C.readings clock.old;
-          written = J.written journal.old;
-          words = W.stream words.old;
-        })
-        (record {
-          heard = L.heard link.new;
-          given = L.given link.new;
-          readings = C.readings clock.new;
-          written = J.written journal.new;
-          words = W.stream words.new;
-        }) served.records) }
+        (told_by (L.heard link.old) (L.given link.old) (C.readings clock.old) (J.written journal.old) (W.stream words.old))
+        (told_by (L.heard link.new) (L.given link.new) (C.readings clock.new) (J.written journal.new) (W.stream words.new)) served.records) }
     ensures refused { IfErr result (IsUnserved turns engine.old.server engine.old.state engine.new.state
-        (record {
-          heard = L.heard link.old;
-          given = L.given link.old;
-          readings = C.readings clock.old;
-          written = J.written journal.old;
-          words = W.stream words.old;
-        })
-        (record {
-          heard = L.heard link.new;
-          given = L.given link.new;
-          readings = C.readings clock.new;
-          written = J.written journal.new;
-          words = W.stream words.new;
-        })) }
+        (told_by (L.heard link.old) (L.given link.old) (C.readings clock.old) (J.written journal.old) (W.stream words.old))
+        (told_by (L.heard link.new) (L.given link.new) (C.readings clock.new) (J.written journal.new) (W.stream words.new))) }
     ensures asked_all { OnOk result (L.receives link.new ≡ counted_times turns (L.receives link.old)) }
     ensures asked { IsAskedWithin turns (L.receives link.old) (L.receives link.new) }
     ensures link_failed { result ≡ Err Refusal.Link → L.failures link.new ≡ counted (L.failures link.old) }
