@@ -112,7 +112,7 @@ pub(crate) fn branches_to(
 {
     match targets {
         Targets::Bindings(targets) => branches_from(alloc, now, targets.as_slice()),
-        Targets::Hop(uri, address) => hop_branch(alloc, now, uri, *address),
+        Targets::Hop(uri, address) => hop_branch(alloc, now, uri.get(), *address),
         Targets::NotFound | Targets::Unavailable => Ok(Items::new(alloc)),
     }
 }

@@ -4,6 +4,7 @@ ghost use Rattle.sip_targets.specs.Targets as Definitions;
 
 use crate::target::Target;
 use crate::targets::Targets;
+use sip_base::Shared;
 use sip_hops::Hops;
 use sip_location::LiveBindings;
 use sip_policy::Decision;
@@ -39,11 +40,14 @@ fn targets_at(alloc: Global, bindings: LiveBindings<'_>, hops: &Hops) -> Result<
 }
 
 /// The Request-URI as it came, at the address of a hop, if it has one.
-fn target_by(request_uri: &Uri, address: Option<Addr>) -> Result<Targets, AllocError>
+fn target_by(alloc: Global, request_uri: &Uri, address: Option<Addr>) -> Result<Targets, AllocError>
     ensures { IfOk result (λ targets. targets ≡ Definitions.target_by request_uri.now address) }
 {
     match address {
-        Some(address) => Ok(Targets::Hop(request_uri.clone()?, address)),
+        Some(address) => {
+            let uri = Shared::new(alloc, request_uri.clone()?)?;
+            Ok(Targets::Hop(uri, address))
+        }
         None => Ok(Targets::NotFound),
     }
 }
@@ -63,7 +67,7 @@ pub fn targets_of(
         (map (λ binding. binding.uri) bindings.entry) hops.now.hops hops.now.addresses) }
 {
     match decision {
-        Decision::Via(_, place) => target_by(request_uri, hops.hop(*place)),
+        Decision::Via(_, place) => target_by(alloc, request_uri, hops.hop(*place)),
         Decision::Allow(_) => {
             if is_known {
                 targets_at(alloc, bindings, hops)
