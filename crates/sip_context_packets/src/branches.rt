@@ -10,7 +10,7 @@ ghost use Rattle.sip_context_packets.specs.Base;
 ghost use Rattle.sip_context_packets.specs.Base.{IsLeftOf};
 
 use model_context::state::{Branch, Heard, OpenRequest, Server, is_invite};
-use sip_edit::{ack_with, branch_text, cancel_of, onward_base_by, own_via_value, to_target};
+use sip_edit::{ack_with, cancel_of, onward_base_by, own_via_to, to_target};
 use sip_event::{Packet, Ticket};
 use sip_message_form::{View, write_view};
 use sip_route::RoutesKept;
@@ -53,8 +53,7 @@ fn begins_dialog(alloc: Global, request: &OpenRequest) -> Result<bool, AllocErro
 fn via_value(alloc: Global, server: &Server, number: u64, target: u32) -> Result<Bytes, AllocError>
     ensures { IfOk result (λ value. value ≡ Base.via_value server.now number target) }
 {
-    let branch = branch_text(alloc, server.word, number, target)?;
-    own_via_value(alloc, &server.config.own, branch.as_slice())
+    own_via_to(alloc, &server.config.own, server.word, number, target)
 }
 
 /// The text of what a branch sends: of its request, or of the CANCEL of that (RFC 3261 9.1).

@@ -1,6 +1,6 @@
 ghost use Rattle.std.specs.Prelude.{◌≡◌, IfOk};
 ghost use Rattle.sip_message_form.specs.Text.{text_of};
-ghost use Rattle.sip_edit.specs.OwnVia.{branch_text, own_via};
+ghost use Rattle.sip_edit.specs.OwnVia.{branch_text};
 ghost use Rattle.sip_edit.specs.Onward.{onward_of, onward_uri};
 ghost use Rattle.sip_context_branches.specs.context_model.Sending as Sendings;
 ghost use Rattle.model_steps.specs.Effect as Effects;
@@ -8,20 +8,12 @@ ghost use Rattle.sip_forwarding.specs.Arrivals.{arrival_of};
 
 use crate::arrival::Arrival;
 use model_steps::state::{Server, received_value};
-use sip_edit::{branch_text, onward_base, onward_uri, own_via_value, to_target, with_top_via};
+use sip_edit::{onward_uri, own_via_to, text_onward, with_top_via};
 use sip_event::{Packet, Ticket};
-use sip_message_form::{View, write_view};
+use sip_message_form::View;
 use sip_text::Bytes;
 use sip_uri::Addr;
 use std::alloc::{AllocError, Global};
-
-/// The value of this server's Via on a request that goes to one place.
-fn via_value(alloc: Global, server: &Server, number: u64) -> Result<Bytes, AllocError>
-    ensures { IfOk result (λ value. value ≡ own_via server.now.config.own (branch_text server.now.word number 1)) }
-{
-    let branch = branch_text(alloc, server.word, number, 1)?;
-    own_via_value(alloc, &server.config.own, branch.as_slice())
-}
 
 /// The text of a request that goes on with a Request-URI, with the value that its top Via gets.
 fn sent_on(
@@ -35,11 +27,10 @@ fn sent_on(
         (λ text. text ≡ text_of (onward_of server.now.config.own server.now.config.realm uri.now (branch_text server.now.word number 1)
         received.now)) }
 {
-    let via = via_value(alloc, server, number)?;
+    let own = &server.config.own;
+    let via = own_via_to(alloc, own, server.word, number, 1)?;
     let realm = server.config.realm.as_slice();
-    let base = onward_base(alloc, &server.config.own, realm, false, received)?;
-    let request = to_target(alloc, &base, uri, via)?;
-    write_view(alloc, &request)
+    text_onward(alloc, own, realm, false, received, uri, via.as_slice())
 }
 
 /// The text of a request, as it came, that goes on with a Request-URI.

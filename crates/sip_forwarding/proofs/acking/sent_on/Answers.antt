@@ -9,8 +9,7 @@ pub returns : goal.returns
 returns c =
     let own = c.args.server.now.config.own in
     let uri = c.args.uri.now in
-    let via = own_via own (branch_text c.args.server.now.word c.args.number 1) in
-    subst (λ (m : Message). IfOk c.write_view.result (λ text. text ≡ text_of m)) (
-    c.in_ok-request.ensures ∙ ap (λ (value : List ℕ). to_target uri value c.in_ok-base.base) c.in_ok-via.ensures
-    ∙ ap (to_target uri via) (c.in_ok-base.ensures ∙ ap (λ (realm : List ℕ). onward_base own realm false c.args.received.now) c.as_slice-realm.ensures)
-    ) c.write_view.ensures
+    subst (λ (m : Message). IfOk c.text_onward.result (λ text. text ≡ text_of m)) (
+    ap (λ (value : List ℕ). to_target uri value (onward_base own c.as_slice-realm.result.now false c.args.received.now)) (c.as_slice.ensures ∙ c.in_ok-via.ensures)
+    ∙ ap (λ (realm : List ℕ). to_target uri (own_via own (branch_text c.args.server.now.word c.args.number 1)) (onward_base own realm false c.args.received.now)) c.as_slice-realm.ensures
+    ) c.text_onward.ensures
