@@ -1,5 +1,5 @@
 -- A head, read line by line for a view.
-use Rattle.std.proofs.Common.{◌≡◌, ◌⊎◌, ℕ, Bool, true, false, List, [], ◌∷◌, ◌++◌, map, Option, Some, None, Result, Ok, Err, refl, sym, ap, subst, ◌∙◌, inl, inr, arith}
+use Rattle.std.proofs.Common.{◌≡◌, ◌⊎◌, ℕ, Bool, true, false, List, [], ◌∷◌, ◌++◌, map, Option, Some, None, Result, Ok, Err, refl, sym, ap, ◌∙◌, inl, inr, arith}
 use Rattle.std.specs.Prelude.{option_map, MatchOption, MatchResult}
 use Rattle.std.specs.Option.{option_and_then}
 use Rattle.std.proofs.lemmas.List.{append-nil}
@@ -8,20 +8,19 @@ use Rattle.sip_text.specs.declared.span.Span.{Span}
 use Rattle.sip_text.specs.Span.{part}
 use Rattle.sip_text.specs.Lists.{cut}
 use Rattle.sip_message_fields.specs.declared.field.Field.{Field}
+use Rattle.sip_message_fields.specs.declared.field_name.FieldName.{FieldName}
 use Rattle.sip_message_fields.specs.FieldName.{is_length, is_list}
 use Rattle.sip_message_form.specs.declared.error.ReadError.{ReadError}
 use Rattle.sip_message_form.specs.declared.error.ReadError.TheVariants.{NoMemory, NotSip, BadField}
-use Rattle.sip_message.specs.declared.content.Content.{Content}
+use Rattle.sip_message.specs.declared.line.Line.{Line}
 use Rattle.sip_message.specs.declared.filling.Filling.{Filling}
 use Rattle.sip_message.specs.declared.line_fault.LineFault.{LineFault}
 use Rattle.sip_message.specs.declared.line_fault.LineFault.TheVariants as Fault
-use Rattle.sip_message.specs.declared.part_field.PartField.{PartField}
 use Rattle.sip_message.specs.Lines.{unfolded, is_fold, line_at, head_at}
 use Rattle.sip_message.specs.Line.{line_bytes}
 use Rattle.sip_message.specs.Field.{field_of, entries_of, pieces, kept}
 use Rattle.sip_message.specs.Body.{lengths, one_length}
-use Rattle.sip_message.specs.Parts.{field_seen, fields_seen}
-use Rattle.sip_message.specs.HeadContent.{before, next_length, length_behind, field_taken, IsFault, IsLineTaken, IsLineRefused}
+use Rattle.sip_message.specs.HeadContent.{before, next_length, length_behind, field_taken, IsFault, IsWhole, IsLineRefused}
 use Rattle.sip_message.specs.Filled.{item_of, filled_seen, IsFieldFilled, IsLineFilled}
 use Rattle.sip_message.specs.Reading.{head_said}
 use Rattle.sip_message.proofs.Rows.{is_empty}
@@ -31,6 +30,12 @@ use Rattle.sip_message.proofs.Behind.{entries_more, one_more, kept_more}
 use Rattle.sip_message.proofs.HeadLines.{head_first, before_before, before_none, without_end, refused_line}
 
 -- ---- one field
+
+abbrev field_with : FieldName → List ℕ → Field
+field_with name value = record { name = name; value = value }
+
+pub field_same : (n m : FieldName) (v w : List ℕ) → n ≡ m → v ≡ w → Some (field_with n v) ≡ Some (field_with m w)
+field_same n m v w names values = ap (λ (x : FieldName). Some (field_with x v)) names ∙ ap (λ (x : List ℕ). Some (field_with m x)) values
 
 length_filled : (old new : Filling) (field : Field) → is_length field.name ≡ true → new.fields ≡ old.fields → next_length old.length field.value ≡ Some new.length → IsFieldFilled old field new
 length_filled old new field is same next =
@@ -82,25 +87,10 @@ pub line_taken : (old new : Filling) (line after : Bor (List ℕ)) (field : Fiel
 line_taken old new line after field is says one =
     record { whole = line.now; field = field; bytes = (without_folds line after is).bytes; says = says; taken = one; shorter = omega arith }
 
-pub others_taken : (old new : Filling) (none some : Content) (line after rest : Bor (List ℕ)) → IsLineTaken none line after some rest → none.fields.items ≡ [] → none.length ≡ old.length
-    → new.fields ≡ old.fields ++ fields_seen some.fields.items → new.length ≡ some.length → IsLineFilled old line.now after.now new rest.now
-others_taken old new none some line after rest t empty first more last = record {
-  whole = line_bytes t.whole;
-  field = field_seen t.field;
-  bytes = t.is_whole.bytes;
-  says = t.says;
-  taken = record {
-    kept = behind (pieces (field_seen t.field)) (subst (λ (w : List PartField). option_map (λ items. fields_seen w ++ items) (pieces (field_seen t.field)) ≡ Some (fields_seen some.fields.items)) empty t.taken.kept.seen);
-    next = ap (λ (n : Option ℕ). length_behind n (field_seen t.field)) (sym first) ∙ t.taken.length ∙ ap (λ (n : Option ℕ). Some n) (sym last);
-  };
-  shorter = cut_length after rest t.is_whole.cut;
-}
-  where
-    behind : (o : Option (List Field)) → option_map (λ items. [] ++ items) o ≡ Some (fields_seen some.fields.items) → option_map (λ items. old.fields ++ items) o ≡ Some new.fields
-    behind None e = absurd cc
-    behind (Some items) e =
-        let same : items ≡ fields_seen some.fields.items = cc in
-        ap (λ (w : List Field). Some (old.fields ++ w)) same ∙ ap (λ (w : List Field). Some w) (sym more)
+pub folded_taken : (old new : Filling) (line after rest : Bor (List ℕ)) (whole : Line) (field : Field) → IsWhole line after whole rest → field_of (line_bytes whole) ≡ Some field → IsFieldFilled old field new
+    → IsLineFilled old line.now after.now new rest.now
+folded_taken old new line after rest whole field is says one =
+    record { whole = line_bytes whole; field = field; bytes = is.bytes; says = says; taken = one; shorter = cut_length after rest is.cut }
 
 -- ---- the lines that were read, and what the rest gives
 

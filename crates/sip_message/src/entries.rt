@@ -117,7 +117,7 @@ fn plain_halves(line: &[u8]) -> Option<(&[u8], &[u8])>
 }
 
 /// The written name and the value of the field that a line of any form writes.
-fn any_parts(line: &[u8]) -> Option<(&[u8], &[u8])>
+pub(crate) fn any_parts(line: &[u8]) -> Option<(&[u8], &[u8])>
     ensures field { option_map (λ x. seen_field x.0.now x.1.now) result ≡ field_of line.now }
     ensures name { IfSome result (λ x. (is_token_text x.0.now ≡ true) × (take (length x.0.now) line.now ≡ x.0.now)) }
     ensures cut { IfSome result (λ x. IsCutFrom line.entry x.1) }

@@ -3,20 +3,19 @@ ghost use Rattle.std.specs.List.{list_all};
 ghost use Rattle.sip_message.specs.Field.{is_text};
 ghost use Rattle.sip_message.specs.Filled.{item_of, IsFieldFilled, IsLineFilled, filled_seen};
 ghost use Rattle.sip_message.specs.HeadContent.{IsFault, IsLineRefused, next_length, field_taken};
-ghost use Rattle.sip_message.specs.Parts.{fields_seen};
 ghost use Rattle.sip_message.specs.Reading.{Gives, head_said};
 ghost use Rattle.sip_message_fields.specs.FieldName.{is_length, is_list};
 ghost use Rattle.sip_text.specs.Lists.{cut};
 ghost use Rattle.sip_text.specs.Span.{IsWithin};
 ghost use Rattle.sip_message.specs.Lines.{is_fold};
 
-use crate::content::{Content, USUAL_FIELDS, length_behind, refusal_of};
-use crate::entries::{parts_of_line, usual_parts};
+use crate::content::{USUAL_FIELDS, length_behind, refusal_of};
+use crate::entries::{any_parts, field_of_line, parts_of_line, usual_parts};
 use crate::keeping::items_of;
 use crate::line_fault::LineFault;
-use crate::lines::{HeadLine, Slice, head_line, is_fold_line};
+use crate::lines::{HeadLine, Slice, head_line, is_fold_line, whole_line};
 use crate::part_field::PartField;
-use sip_message_fields::{Value, ViewField, ViewFields, ViewName, slice_of};
+use sip_message_fields::{Value, ViewField, ViewFields, ViewName};
 use sip_message_form::{ViewError, ViewRefusal};
 use sip_text::{Span, is_one_item};
 use std::alloc::{AllocError, Global};
@@ -29,49 +28,41 @@ pub(crate) struct Filling<'a> {
     pub length: Option<u64>,
 }
 
-/// Puts fields that stand in a datagram behind those of a view.
-fn put_parts<'a>(fields: &mut ViewFields<'a>, parts: Vec<PartField<'a>>) -> Result<(), AllocError>
-    ensures { OnOk result (fields.new ≡ fields.old ++ fields_seen parts.entry.items) }
-{
-    for part in parts {
-        let PartField { name, value } = part;
-        fields.push(ViewField::new(name, Value::of_piece(value)))?;
-    }
-    Ok(())
-}
-
 /// Puts a field with a part of a value behind those of a view.
 fn put_item<'a>(
+    alloc: Global,
     fields: &mut ViewFields<'a>,
     name: &ViewName<'a>,
-    value: &'a [u8],
+    value: &Value<'a>,
     span: Span,
 ) -> Result<(), AllocError>
     requires { IsWithin span value.now }
     ensures { OnOk result (fields.new ≡ fields.old ++ item_of name.now value.now span ∷ []) }
 {
     let name = name.clone()?;
-    fields.push(ViewField::new(name, Value::of_part(slice_of(value, span))))
+    let item = value.within(alloc, span)?;
+    fields.push(ViewField::new(name, item))
 }
 
 /// Puts a field for each of these parts of a value behind those of a view.
 fn put_items<'a>(
+    alloc: Global,
     fields: &mut ViewFields<'a>,
     name: &ViewName<'a>,
-    value: &'a [u8],
+    value: &Value<'a>,
     spans: &[Span],
 ) -> Result<(), AllocError>
     requires { All (λ span. IsWithin span value.now) spans.now }
     ensures { OnOk result (fields.new ≡ fields.old ++ map (item_of name.now value.now) spans.now) }
 {
     for span in spans {
-        put_item(fields, name, value, *span)?;
+        put_item(alloc, fields, name, value, *span)?;
     }
     Ok(())
 }
 
 /// Whether a field is kept as one field: a list is seen at once to be of one item.
-#[inline]
+#[inline(always)]
 fn is_one_field(name: &ViewName<'_>, value: &[u8]) -> bool
     ensures one { result ≡ true → is_list name.now ≡ true → cut value.now ≡ Some (value.now ∷ []) }
     ensures list { result ≡ false → is_list name.now ≡ true }
@@ -93,13 +84,13 @@ impl<'a> Filling<'a> {
         Ok(())
     }
 
-    /// Takes a field for each item of a list whose value stands in the datagram (RFC 3261 7.3.1).
+    /// Takes a field for each item of a list (RFC 3261 7.3.1).
     #[inline(never)]
     fn take_items(
         &mut self,
         alloc: Global,
         name: &ViewName<'a>,
-        value: &'a [u8],
+        value: &Value<'a>,
     ) -> Result<(), LineFault>
         requires not_length { is_length name.now ≡ false }
         requires list { is_list name.now ≡ true }
@@ -107,8 +98,8 @@ impl<'a> Filling<'a> {
             (λ _. IsFieldFilled self.old (record { name = name.now; value = value.now }) self.new)
             (λ e. IsFault e (field_taken self.old.length (record { name = name.now; value = value.now }))) }
     {
-        let spans = items_of(alloc, value)?;
-        put_items(&mut self.fields, name, value, &spans)?;
+        let spans = items_of(alloc, value.as_slice())?;
+        put_items(alloc, &mut self.fields, name, value, &spans)?;
         Ok(())
     }
 
@@ -128,26 +119,26 @@ impl<'a> Filling<'a> {
         Ok(())
     }
 
-    /// Takes a field of any form whose value stands in the datagram.
+    /// Takes a field of any form, wherever its value stands.
     #[inline(never)]
     fn take_any(
         &mut self,
         alloc: Global,
         name: ViewName<'a>,
-        value: &'a [u8],
+        value: Value<'a>,
     ) -> Result<(), LineFault>
         ensures { MatchResult result
-            (λ _. IsFieldFilled self.old (record { name = name.entry; value = value.now }) self.new)
-            (λ e. IsFault e (field_taken self.old.length (record { name = name.entry; value = value.now }))) }
+            (λ _. IsFieldFilled self.old (record { name = name.entry; value = value.entry }) self.new)
+            (λ e. IsFault e (field_taken self.old.length (record { name = name.entry; value = value.entry }))) }
     {
+        let bytes = value.as_slice();
         if name.is_content_length() {
-            return self.take_length(value);
+            return self.take_length(bytes);
         }
-        if !is_one_field(&name, value) {
-            return self.take_items(alloc, &name, value);
+        if !is_one_field(&name, bytes) {
+            return self.take_items(alloc, &name, &value);
         }
-        self.fields
-            .push(ViewField::new(name, Value::of_part(value)))?;
+        self.fields.push(ViewField::new(name, value))?;
         Ok(())
     }
 
@@ -157,14 +148,9 @@ impl<'a> Filling<'a> {
         ensures { MatchResult result (λ rest. IsLineFilled self.old next.entry.line.now next.entry.after.now self.new rest.now)
             (λ e. (e ≡ LineFault.NoMemory) ⊎ IsLineRefused self.old.length next.entry.line.now next.entry.after.now) }
     {
-        let mut content = Content {
-            fields: Vec::new(alloc),
-            length: self.length,
-        };
-        let rest = content.take_line(alloc, next.line, next.after)?;
-        let Content { fields, length } = content;
-        put_parts(&mut self.fields, fields)?;
-        self.length = length;
+        let (whole, rest) = whole_line(alloc, next.line, next.after)?;
+        let PartField { name, value } = field_of_line(alloc, &whole)?;
+        self.take_any(alloc, name, Value::of_piece(value))?;
         Ok(rest)
     }
 
@@ -178,7 +164,23 @@ impl<'a> Filling<'a> {
         let Some((name, value)) = parts_of_line(next.line) else {
             return Err(LineFault::BadField);
         };
-        self.take_any(alloc, ViewName::of_part(name), value)?;
+        let name = ViewName::of_part(name);
+        self.take_any(alloc, name, Value::of_part(value))?;
+        Ok(next.after)
+    }
+
+    /// Takes a line without folds at whose front no `:` follows a name at once, and gives what follows it.
+    #[inline(never)]
+    fn take_unnamed(&mut self, alloc: Global, next: HeadLine<'a>) -> Result<&'a [u8], LineFault>
+        requires no_fold { is_fold next.after.now ≡ false }
+        ensures { MatchResult result (λ rest. IsLineFilled self.old next.entry.line.now next.entry.after.now self.new rest.now)
+            (λ e. (e ≡ LineFault.NoMemory) ⊎ IsLineRefused self.old.length next.entry.line.now next.entry.after.now) }
+    {
+        let Some((name, value)) = any_parts(next.line) else {
+            return Err(LineFault::BadField);
+        };
+        let name = ViewName::of_part(name);
+        self.take_any(alloc, name, Value::of_part(value))?;
         Ok(next.after)
     }
 
@@ -196,11 +198,12 @@ impl<'a> Filling<'a> {
             return self.take_other(alloc, next);
         }
         let Some((name, value)) = usual_parts(next.line) else {
-            return self.take_other(alloc, next);
+            return self.take_unnamed(alloc, next);
         };
         let name = ViewName::of_part(name);
         if !is_one_field(&name, value) {
-            return self.take_other(alloc, next);
+            self.take_any(alloc, name, Value::of_part(value))?;
+            return Ok(next.after);
         }
         self.take_field(name, value)?;
         Ok(next.after)
