@@ -1,5 +1,6 @@
 pub mod Calls
 pub mod CutEvents
+pub mod DatagramWord
 pub mod Datagrams
 pub mod Fronts
 pub mod HeadLines

@@ -41,50 +41,50 @@ first_end text (Some i) h =
     let is : get_or text i 0 ≡ 10 = grind (arith, nat_tests, h.1) in
     ends_at text i first.high (λ k b. not_true (is_end (get_or text k 0)) (first.before k (omega arith) b)) is
 
--- ---- the first LF as the first of their places
+-- ---- the first of a byte as the first of its places
 
 -- what the places from one on tell of the first of them
-abbrev HeadIs : List ℕ → ℕ → ℕ → List ℕ → Type 0
-HeadIs text i n [] = Nowhere (Passes (is_byte 10) text) i (i + n)
-HeadIs text i n (k ∷ ks) = NoneBefore (Passes (is_byte 10) text) i (i + n) k × Passes (is_byte 10) text k
+abbrev HeadIs : ℕ → List ℕ → ℕ → ℕ → List ℕ → Type 0
+HeadIs mark text i n [] = Nowhere (Passes (is_byte mark) text) i (i + n)
+HeadIs mark text i n (k ∷ ks) = NoneBefore (Passes (is_byte mark) text) i (i + n) k × Passes (is_byte mark) text k
 
-not_here : (text : List ℕ) (i j : ℕ) → ¬ Passes (is_byte 10) text i → Nowhere (Passes (is_byte 10) text) (i + 1) j → Nowhere (Passes (is_byte 10) text) i j
-not_here text i j fails later k low high passes =
+not_here : (mark : ℕ) (text : List ℕ) (i j : ℕ) → ¬ Passes (is_byte mark) text i → Nowhere (Passes (is_byte mark) text) (i + 1) j → Nowhere (Passes (is_byte mark) text) i j
+not_here mark text i j fails later k low high passes =
     elim (cases_lt i k) [
       | inl over ↦ later k (omega (arith, over)) high passes
-      | inr under ↦ let same : k ≡ i = omega (arith, low, under) in fails (subst (Passes (is_byte 10) text) same passes)
+      | inr under ↦ let same : k ≡ i = omega (arith, low, under) in fails (subst (Passes (is_byte mark) text) same passes)
     ]
 
-head_further : (text : List ℕ) (i n : ℕ) → ¬ Passes (is_byte 10) text i → (ks : List ℕ) → HeadIs text (i + 1) n ks → HeadIs text i (suc n) ks
-head_further text i n fails [] h = not_here text i (i + suc n) fails (λ k low high. h k low (omega (arith, high)))
-head_further text i n fails (k ∷ ks) h =
+head_further : (mark : ℕ) (text : List ℕ) (i n : ℕ) → ¬ Passes (is_byte mark) text i → (ks : List ℕ) → HeadIs mark text (i + 1) n ks → HeadIs mark text i (suc n) ks
+head_further mark text i n fails [] h = not_here mark text i (i + suc n) fails (λ k low high. h k low (omega (arith, high)))
+head_further mark text i n fails (k ∷ ks) h =
     let first = h.0 in
     let low : i + 1 ≤ k = first.low in
     let high : k < i + 1 + n = first.high in
-    (record { low = omega (arith, low); high = omega (arith, high); before = not_here text i k fails first.before }, h.1)
+    (record { low = omega (arith, low); high = omega (arith, high); before = not_here mark text i k fails first.before }, h.1)
 
-head_is : (text : List ℕ) (i n : ℕ) → HeadIs text i n (places_from (is_byte 10) text i n)
+head_is : (mark : ℕ) (text : List ℕ) (i n : ℕ) → HeadIs mark text i n (places_from (is_byte mark) text i n)
 unfolding places_from
-head_is text i zero = λ k low high. absurd (omega (arith, low, high))
-head_is text i (suc n) =
-    let later = places_from (is_byte 10) text (i + 1) n in
+head_is mark text i zero = λ k low high. absurd (omega (arith, low, high))
+head_is mark text i (suc n) =
+    let later = places_from (is_byte mark) text (i + 1) n in
     ⊎_elim
-    (λ passes. subst (HeadIs text i (suc n)) (sym (cond-true _ (i ∷ later) later passes)) (record { low = omega arith; high = omega arith; before = λ k low high. absurd (omega (arith, low, high)) }, passes))
-    (λ fails. subst (HeadIs text i (suc n)) (sym (cond-false _ (i ∷ later) later fails)) (head_further text i n (λ passes. absurd (false≢true (sym fails ∙ passes))) later (head_is text (i + 1) n)))
-    (cases_Bool (is_byte 10 (get_or text i 0)))
+    (λ passes. subst (HeadIs mark text i (suc n)) (sym (cond-true _ (i ∷ later) later passes)) (record { low = omega arith; high = omega arith; before = λ k low high. absurd (omega (arith, low, high)) }, passes))
+    (λ fails. subst (HeadIs mark text i (suc n)) (sym (cond-false _ (i ∷ later) later fails)) (head_further mark text i n (λ passes. absurd (false≢true (sym fails ∙ passes))) later (head_is mark text (i + 1) n)))
+    (cases_Bool (is_byte mark (get_or text i 0)))
 
-by_place : (text : List ℕ) (place : Option ℕ) (all rest : List ℕ) → HeadIs text 0 (length text) all → TakesFirst all place rest → IsFirstByte (is_byte 10) text place
-by_place text None all rest h takes =
+by_place : (mark : ℕ) (text : List ℕ) (place : Option ℕ) (all rest : List ℕ) → HeadIs mark text 0 (length text) all → TakesFirst all place rest → IsFirstByte (is_byte mark) text place
+by_place mark text None all rest h takes =
     let whole : 0 + length text ≡ length text = omega arith in
-    subst (λ n. Nowhere (Passes (is_byte 10) text) 0 n) whole (subst (HeadIs text 0 (length text)) takes.0 h)
-by_place text (Some k) all rest h takes =
+    subst (λ n. Nowhere (Passes (is_byte mark) text) 0 n) whole (subst (HeadIs mark text 0 (length text)) takes.0 h)
+by_place mark text (Some k) all rest h takes =
     let whole : 0 + length text ≡ length text = omega arith in
-    subst (λ n. NoneBefore (Passes (is_byte 10) text) 0 n k × Passes (is_byte 10) text k) whole (subst (HeadIs text 0 (length text)) takes h)
+    subst (λ n. NoneBefore (Passes (is_byte mark) text) 0 n k × Passes (is_byte mark) text k) whole (subst (HeadIs mark text 0 (length text)) takes h)
 
-pub first_place : (text : List ℕ) (place : Option ℕ) (rest : List ℕ) → TakesFirst (places (is_byte 10) text) place rest → IsFirstByte (is_byte 10) text place
-first_place text place rest takes =
+pub first_place : (mark : ℕ) (text : List ℕ) (place : Option ℕ) (rest : List ℕ) → TakesFirst (places (is_byte mark) text) place rest → IsFirstByte (is_byte mark) text place
+first_place mark text place rest takes =
     let whole : length text - 0 ≡ length text = omega arith in
-    by_place text place (places (is_byte 10) text) rest (subst (λ n. HeadIs text 0 (length text) (places_from (is_byte 10) text 0 n)) (sym whole) (head_is text 0 (length text))) takes
+    by_place mark text place (places (is_byte mark) text) rest (subst (λ n. HeadIs mark text 0 (length text) (places_from (is_byte mark) text 0 n)) (sym whole) (head_is mark text 0 (length text))) takes
 
 -- what is left of a part behind its front
 pub range_rest : (xs : List ℕ) (start stop n : ℕ) → start + n ≤ stop → slice_range xs (start + n) stop ≡ drop n (slice_range xs start stop)

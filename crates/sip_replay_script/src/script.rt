@@ -1,8 +1,12 @@
-ghost use Rattle.std.specs.Prelude.{◌≡◌, IfOk, Some, None, MatchOption};
+ghost use Rattle.std.specs.Prelude.{◌≡◌, IfOk, Some, None, MatchOption, codes, false, option_map};
+ghost use Rattle.std.specs.Str.{bytes_eq};
+ghost use Rattle.memchr.specs.Find.{IsFirstByte, is_byte};
 ghost use Rattle.sip_text.specs.Numbers;
+ghost use Rattle.sip_text.specs.Splits.{split_at_byte};
 ghost use Rattle.sip_replay_script.specs.Script;
 ghost use Rattle.sip_replay_script.specs.declared.script.Line.TheVariants.{Head};
 
+use memchr::memchr_iter;
 use sip_digest::word_of;
 use sip_event::{Event, Ticket};
 use sip_text::{hex_bytes, plain_decimal, plain_decimal_below, same_bytes, split_once};
@@ -61,13 +65,39 @@ fn head_of(at: &[u8], from: &[u8], word: &[u8]) -> Option<DatagramHead>
     Some(DatagramHead { at, word, from })
 }
 
+/// The place of the first space, of a text with much behind it.
+fn first_space(text: &[u8]) -> Option<usize>
+    ensures { IsFirstByte (is_byte 32) text.now result }
+{
+    memchr_iter(b' ', text).next()
+}
+
+/// What stands before the first space, and what follows it, of such a text.
+fn split_at_space(text: &[u8]) -> Option<(&[u8], &[u8])>
+    ensures { option_map (λ x. (x.0.now, x.1.now)) result ≡ split_at_byte 32 text.now }
+{
+    let place = first_space(text)?;
+    let (front, rest) = text.split_at(place);
+    let (_, rest) = rest.split_first()?;
+    Some((front, rest))
+}
+
 /// The head behind the word `datagram`.
 fn datagram_head(text: &[u8]) -> Option<DatagramHead>
     ensures { MatchOption result (Script.datagram_line text.now ≡ None) (λ head. Script.datagram_line text.now ≡ Some (Head head)) }
 {
     let (at, rest) = split_once(text, b' ')?;
-    let (from, word) = split_once(rest, b' ')?;
+    let (from, word) = split_at_space(rest)?;
     head_of(at, from, word)
+}
+
+fn datagram_line(text: &[u8]) -> Option<Line>
+    ensures { result ≡ Script.datagram_line text.now }
+{
+    match datagram_head(text) {
+        Some(head) => Some(Line::Head(head)),
+        None => None,
+    }
 }
 
 fn time_line(text: &[u8]) -> Option<Line>
@@ -91,7 +121,7 @@ fn hex_parts(text: &[u8]) -> Option<(DatagramHead, &[u8])>
     ensures { MatchOption result (Script.hex_parts text.now ≡ None) (λ parts. Script.hex_parts text.now ≡ Some (parts.0, parts.1.now)) }
 {
     let (at, rest) = split_once(text, b' ')?;
-    let (from, rest) = split_once(rest, b' ')?;
+    let (from, rest) = split_at_space(rest)?;
     let (word, digits) = split_once(rest, b' ')?;
     let head = head_of(at, from, word)?;
     Some((head, digits))
@@ -114,15 +144,11 @@ fn hex_line(alloc: Global, text: &[u8]) -> Result<Option<Line>, AllocError>
     }
 }
 
+/// What a line says whose first word isn't `datagram`.
 fn line_of_kind(alloc: Global, kind: &[u8], rest: &[u8]) -> Result<Option<Line>, AllocError>
+    requires { bytes_eq kind.now (codes "datagram") ≡ false }
     ensures { IfOk result (λ line. line ≡ Script.line_of_kind kind.now rest.now) }
 {
-    if same_bytes(kind, b"datagram") {
-        return match datagram_head(rest) {
-            Some(head) => Ok(Some(Line::Head(head))),
-            None => Ok(None),
-        };
-    }
     if same_bytes(kind, b"hex") {
         return hex_line(alloc, rest);
     }
@@ -140,6 +166,9 @@ fn line_of_kind(alloc: Global, kind: &[u8], rest: &[u8]) -> Result<Option<Line>,
 pub fn line_of(alloc: Global, text: &[u8]) -> Result<Option<Line>, AllocError>
     ensures { IfOk result (λ line. line ≡ Script.line_of text.now) }
 {
+    if let Some(rest) = text.strip_prefix(b"datagram ") {
+        return Ok(datagram_line(rest));
+    }
     match split_once(text, b' ') {
         Some((kind, rest)) => line_of_kind(alloc, kind, rest),
         None => Ok(None),
