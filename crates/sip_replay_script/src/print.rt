@@ -1,4 +1,4 @@
-ghost use Rattle.std.specs.Prelude.{◌≡◌, ◌≤◌, ◌+◌, ◌++◌, length, IfErr, OnOk, OnErr};
+ghost use Rattle.std.specs.Prelude.{◌≡◌, ◌≤◌, ◌+◌, ◌++◌, [], length, IfErr, OnOk, OnErr};
 ghost use Rattle.std.specs.List.{flat_map};
 ghost use Rattle.std.specs.Io.KnownBytes.{Appends};
 ghost use Rattle.sip_replay_script.specs.Devices.{GaveUp, PrintStops, WritesFront};
@@ -55,17 +55,25 @@ fn put_tail(text: &mut HeadLine, packet: &Packet)
     text.put(b' ');
 }
 
+/// Puts the line before a packet's bytes, AT being the moment of its step in milliseconds.
+fn put_head(text: &mut HeadLine, at: u64, packet: &Packet)
+    requires { text.old ≡ [] }
+    ensures { text.new ≡ Print.head_text at packet.now }
+{
+    put_tail(text, packet);
+    put_addr(text, packet.to);
+    text.put(b' ');
+    text.put_number(at);
+    text.put_word(b"packet ");
+}
+
 /// The line before a packet's bytes: `packet AT IP:PORT D/K first LEN`, or `again`, and LF; AT is the
 /// moment of its step in milliseconds. Takes no memory.
 pub fn head_text(at: u64, packet: &Packet) -> HeadLine
     ensures { result ≡ Print.head_text at packet.now }
 {
     let mut text = HeadLine::new();
-    put_tail(&mut text, packet);
-    put_addr(&mut text, packet.to);
-    text.put(b' ');
-    text.put_number(at);
-    text.put_word(b"packet ");
+    put_head(&mut text, at, packet);
     text
 }
 
@@ -76,7 +84,8 @@ fn print_packet<W: TellingWriter>(writer: &mut W, at: u64, packet: &Packet) -> R
     ensures front { OnErr result (WritesFront (W.contents writer.old) (W.contents writer.new) (Print.packet_text at packet.now)) }
     ensures stopped { IfErr result (PrintStops (GaveUp (W.has_failed writer.new) (W.called writer.new))) }
 {
-    let head = head_text(at, packet);
+    let mut head = HeadLine::new();
+    put_head(&mut head, at, packet);
     put_three(writer, head.as_slice(), packet.bytes.as_slice(), b"\n")
 }
 

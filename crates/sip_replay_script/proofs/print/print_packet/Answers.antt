@@ -7,11 +7,11 @@ use Rattle.sip_replay_script.proofs.print.print_packet.Goals as goal
 pub returns-clause-ok : goal.returns-clause-ok
 returns-clause-ok g c =
     let same : (c.as_slice.result.now ++ c.as_slice-2.result.now ++ 10 ∷ []) ≡ packet_text c.args.at c.args.packet.now =
-    ap (λ l. l ++ c.as_slice-2.result.now ++ 10 ∷ []) (c.as_slice.ensures ∙ c.head_text-head.ensures) ∙ ap (λ l. head_text c.args.at c.args.packet.now ++ l ++ 10 ∷ []) c.as_slice-2.ensures in
+    ap (λ l. l ++ c.as_slice-2.result.now ++ 10 ∷ []) (c.as_slice.ensures ∙ c.put_head.ensures) ∙ ap (λ l. head_text c.args.at c.args.packet.now ++ l ++ 10 ∷ []) c.as_slice-2.ensures in
     subst (λ l. OnOk c.put_three.result (Appends (g.W.TellingWriter.contents c.args.writer.now) (g.W.TellingWriter.contents c.put_three.new.writer) l)) same c.put_three.ensures.ok
 
 pub returns-clause-front : goal.returns-clause-front
 returns-clause-front g c =
     let same : (c.as_slice.result.now ++ c.as_slice-2.result.now ++ 10 ∷ []) ≡ packet_text c.args.at c.args.packet.now =
-    ap (λ l. l ++ c.as_slice-2.result.now ++ 10 ∷ []) (c.as_slice.ensures ∙ c.head_text-head.ensures) ∙ ap (λ l. head_text c.args.at c.args.packet.now ++ l ++ 10 ∷ []) c.as_slice-2.ensures in
+    ap (λ l. l ++ c.as_slice-2.result.now ++ 10 ∷ []) (c.as_slice.ensures ∙ c.put_head.ensures) ∙ ap (λ l. head_text c.args.at c.args.packet.now ++ l ++ 10 ∷ []) c.as_slice-2.ensures in
     subst (λ l. OnErr c.put_three.result (WritesFront (g.W.TellingWriter.contents c.args.writer.now) (g.W.TellingWriter.contents c.put_three.new.writer) l)) same c.put_three.ensures.front
