@@ -1,4 +1,4 @@
-ghost use Rattle.std.specs.Prelude.{◌≡◌, IfOk, Some, None, MatchOption, codes, false, option_map};
+ghost use Rattle.std.specs.Prelude.{◌≡◌, IfOk, Some, None, MatchOption, codes, true, false, take, drop, option_map};
 ghost use Rattle.std.specs.Str.{bytes_eq};
 ghost use Rattle.memchr.specs.Find.{IsFirstByte, is_byte};
 ghost use Rattle.sip_text.specs.Numbers;
@@ -91,6 +91,19 @@ fn datagram_head(text: &[u8]) -> Option<DatagramHead>
     head_of(at, from, word)
 }
 
+/// What follows the word `datagram` and a space, if a text begins with them.
+#[tactic(auto, using(crate::proofs::DatagramWord::too_short))]
+fn behind_datagram(text: &[u8]) -> Option<&[u8]>
+    ensures { MatchOption result (bytes_eq (take 9 text.now) (codes "datagram ") ≡ false)
+        (λ rest. (bytes_eq (take 9 text.now) (codes "datagram ") ≡ true) × (rest.now ≡ drop 9 text.now)) }
+{
+    if text.len() >= 9 && same_bytes(&text[..9], b"datagram ") {
+        Some(&text[9..])
+    } else {
+        None
+    }
+}
+
 fn datagram_line(text: &[u8]) -> Option<Line>
     ensures { result ≡ Script.datagram_line text.now }
 {
@@ -166,7 +179,7 @@ fn line_of_kind(alloc: Global, kind: &[u8], rest: &[u8]) -> Result<Option<Line>,
 pub fn line_of(alloc: Global, text: &[u8]) -> Result<Option<Line>, AllocError>
     ensures { IfOk result (λ line. line ≡ Script.line_of text.now) }
 {
-    if let Some(rest) = text.strip_prefix(b"datagram ") {
+    if let Some(rest) = behind_datagram(text) {
         return Ok(datagram_line(rest));
     }
     match split_once(text, b' ') {
