@@ -1,3 +1,4 @@
 pub mod CredentialLaws
 pub mod Names
 pub mod UsualItems
+pub mod Placing

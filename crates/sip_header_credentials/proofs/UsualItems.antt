@@ -1,15 +1,15 @@
 -- An item in its usual form is read in one pass.
-use Rattle.std.proofs.Common.{◌≡◌, ℕ, zero, suc, ◌+◌, ◌<◌, ◌≤◌, Bool, true, false, cond, List, [], ◌∷◌, ◌++◌, length, take, drop, Option, Some, None, refl, sym, ap, subst, ◌∙◌, arith, append_assoc, length-append}
-use Rattle.std.specs.Prelude.{option_map, ◌==◌, ◌&&◌, not, take_while}
+use Rattle.std.proofs.Common.{◌≡◌, ℕ, zero, suc, ◌+◌, ◌≤◌, Bool, true, false, cond, List, [], ◌∷◌, ◌++◌, length, take, drop, Option, Some, None, refl, sym, ap, ◌∙◌, arith, append_assoc, length-append}
+use Rattle.std.specs.Prelude.{option_map, ◌==◌, ◌&&◌, not}
 use Rattle.std.specs.Option.{option_and_then}
 use Rattle.std.proofs.lemmas.List.{append-nil}
 use Rattle.std.proofs.lemmas.List.Sums.{take_while-cons}
 use Rattle.std.proofs.lemmas.Bool.{eqb-true}
 use Rattle.sip_text.specs.Words.{is_token_byte, is_token_text, token_at, behind_token}
 use Rattle.sip_text.specs.Lists.{is_blank, trimmed, front_trimmed, onto}
-use Rattle.sip_text.specs.Escapes.{inside_quotes, unquoted, stands_for_itself, plain_front}
+use Rattle.sip_text.specs.Escapes.{inside_quotes, stands_for_itself, plain_front}
 use Rattle.sip_text.specs.Splits.{split_at_byte, in_front}
-use Rattle.sip_text.specs.declared.cuts.Quoting.TheVariants.{Outside, Inside}
+use Rattle.sip_text.specs.declared.cuts.Quoting.TheVariants.{Inside}
 use Rattle.sip_text.specs.Cuts.{parts_from, parts_at, parts_behind}
 use Rattle.sip_text.proofs.Trims as Trims
 use Rattle.sip_header.proofs.Words.{AllPassing, IsSplit, split_of, rest_is}

@@ -5,7 +5,8 @@ use Rattle.sip_text.specs.Words.{is_token_text}
 use Rattle.sip_text.specs.Lists.{trimmed}
 use Rattle.sip_text.specs.Cuts.{parts_at, parts_behind}
 use Rattle.sip_header_credentials.specs.declared.credentials.Item.{Item}
-use Rattle.sip_header_credentials.specs.Credentials.{items_in}
+use Rattle.sip_header_credentials.specs.declared.credentials.Credentials.{Credentials}
+use Rattle.sip_header_credentials.specs.Credentials.{items_in, item_value, credentials_from}
 
 -- nothing, or a comma and what follows it
 abbrev pub comma_and : Option (List ℕ) → List ℕ
@@ -25,3 +26,8 @@ pub record IsValueFirst (text said : List ℕ) (rest : Option (List ℕ)) : Type
       → items_in (parts_at (byte ",") (left ++ byte "=" ∷ text))
       ≡ option_map (λ (others : List Item). record { name = trimmed left; value = said } ∷ others) (items_in (parts_behind (byte ",") rest))
   pub shorter : length (comma_and rest) ≤ length text
+
+-- An item that says this stands behind others, none of which has its name, and they all say these.
+pub record IsPlaced (items : List Item) (name said : List ℕ) (places : Credentials) : Type 0 where
+  pub first : item_value name items ≡ None
+  pub placed : places ≡ credentials_from (items ++ record { name = name; value = said } ∷ [])

@@ -1,19 +1,24 @@
-ghost use Rattle.std.specs.Prelude.{◌≡◌, ◌≤◌, ◌∷◌, ◌++◌, None, IfOk, IfSome, OnOk, MatchOption, is_some, length, map, option_map};
+ghost use Rattle.std.specs.Prelude.{◌≡◌, ◌≤◌, [], ◌∷◌, ◌++◌, List, true, None, Some, IfOk, IfSome, OnOk, MatchOption, is_some, length, map, option_map};
 ghost use Rattle.sip_text.specs.Cuts.{parts_at, parts_behind};
 ghost use Rattle.sip_text.specs.Escapes.{plain_front};
 ghost use Rattle.sip_header_credentials.specs.Credentials.{value_said, item_from, item_in, items_in, item_value, names_differ};
 ghost use Rattle.sip_header_credentials.specs.Credentials.{credentials_from, from_items, credentials_of};
-ghost use Rattle.sip_header_credentials.specs.UsualItems.{comma_and, IsNameFirst, IsValueFirst};
+ghost use Rattle.sip_header_credentials.specs.UsualItems.{comma_and, IsNameFirst, IsValueFirst, IsPlaced};
+ghost use Rattle.std.specs.Option.{option_and_then};
 
 use sip_message_fields::Value;
 use sip_text::{
-    Text, TextError, all_differ, first_part, is_token, plain_quoted, same_no_case, split_once,
-    split_outside, split_token, split_word, unquote, without_blanks, without_front_blanks,
+    Text, TextError, all_differ, first_part, is_token, plain_quoted, same_bytes, same_no_case,
+    split_once, split_outside, split_token, split_word, unquote, without_blanks,
+    without_front_blanks,
 };
 use std::alloc::{AllocError, Global};
 
 /// The names that credentials may have: the nine that count, and `opaque`.
 const USUAL_ITEMS: usize = 10;
+
+/// The most bytes of items that are read as usual ones first: nothing longer is read twice.
+const USUAL_LENGTH: usize = 1024;
 
 /// What Digest credentials say (RFC 2617 3.2.2), without quotes: parts of what was read, but for quoted text with
 /// a `\`. Nothing is checked but their form.
@@ -184,14 +189,25 @@ fn usual_name(text: &[u8]) -> Option<(&[u8], &[u8])>
     Some((name, right))
 }
 
-/// The first item of a list, and what follows its comma, if the item is in its usual form: then one pass reads it.
+/// The name of the first item of a list, its value, and what follows its comma, if the item is in its usual form: then one
+/// pass reads it.
+fn usual_parts(text: &[u8]) -> Option<(&[u8], UsualValue<'_>)>
+    ensures items { IfSome result (λ x. items_in (parts_at 44 text.now)
+        ≡ option_map (λ others. record { name = x.0.now; value = x.1.said.now } ∷ others) (items_in (parts_behind 44 (option_map (λ y. y.now) x.1.rest)))) }
+    ensures shorter { IfSome result (λ x. length (comma_and (option_map (λ y. y.now) x.1.rest)) ≤ length text.now) }
+{
+    let (name, right) = usual_name(text)?;
+    let value = usual_value(right)?;
+    Some((name, value))
+}
+
+/// The first item of a list, and what follows its comma, if the item is in its usual form.
 fn usual_item(text: &[u8]) -> Option<(Item<'_>, Option<&[u8]>)>
     ensures items { IfSome result (λ x. items_in (parts_at 44 text.now)
         ≡ option_map (λ others. x.0 ∷ others) (items_in (parts_behind 44 (option_map (λ y. y.now) x.1)))) }
     ensures shorter { IfSome result (λ x. length (comma_and (option_map (λ y. y.now) x.1)) ≤ length text.now) }
 {
-    let (name, right) = usual_name(text)?;
-    let value = usual_value(right)?;
+    let (name, value) = usual_parts(text)?;
     Some((plain_item(name, value.said), value.rest))
 }
 
@@ -326,7 +342,64 @@ fn credentials_of_items<'v>(
     if !all_names_differ(alloc, items)? {
         return Ok(None);
     }
-    let mut credentials = Credentials {
+    let mut credentials = no_items();
+    put_values(items, &mut credentials)?;
+    Ok(Some(credentials))
+}
+
+/// Puts what an item says into the place of its name, unless one stands there.
+#[inline]
+fn put_first<'v>(place: &mut Option<Value<'v>>, said: &'v [u8]) -> bool
+    ensures free { result ≡ true → place.old ≡ None }
+    ensures put { result ≡ true → place.new ≡ Some said.now }
+{
+    if place.is_some() {
+        return false;
+    }
+    *place = Some(Value::of_part(said));
+    true
+}
+
+/// Puts what an item says into the place of its name, if the name is one of the nine in small letters, as most are, and the
+/// first of it. False says nothing.
+fn put_usual<'v>(places: &mut Credentials<'v>, name: &[u8], said: &'v [u8]) -> bool
+    ensures { (items : List Item) → result ≡ true → places.old ≡ credentials_from items → IsPlaced items name.now said.now places.new }
+{
+    if same_bytes(name, b"username") {
+        return put_first(&mut places.username, said);
+    }
+    if same_bytes(name, b"realm") {
+        return put_first(&mut places.realm, said);
+    }
+    if same_bytes(name, b"nonce") {
+        return put_first(&mut places.nonce, said);
+    }
+    if same_bytes(name, b"uri") {
+        return put_first(&mut places.uri, said);
+    }
+    if same_bytes(name, b"response") {
+        return put_first(&mut places.response, said);
+    }
+    if same_bytes(name, b"algorithm") {
+        return put_first(&mut places.algorithm, said);
+    }
+    if same_bytes(name, b"qop") {
+        return put_first(&mut places.qop, said);
+    }
+    if same_bytes(name, b"nc") {
+        return put_first(&mut places.nc, said);
+    }
+    if same_bytes(name, b"cnonce") {
+        return put_first(&mut places.cnonce, said);
+    }
+    false
+}
+
+/// No item was read yet.
+fn no_items<'v>() -> Credentials<'v>
+    ensures { result ≡ credentials_from [] }
+{
+    Credentials {
         username: None,
         realm: None,
         nonce: None,
@@ -336,9 +409,24 @@ fn credentials_of_items<'v>(
         qop: None,
         nc: None,
         cnonce: None,
-    };
-    put_values(items, &mut credentials)?;
-    Ok(Some(credentials))
+    }
+}
+
+/// The credentials of items that all are in their usual form and of the nine names, which each has its place at once. None
+/// says nothing.
+fn usual_credentials(bytes: &[u8]) -> Option<Credentials<'_>>
+    ensures { IfSome result (λ said. option_and_then from_items (items_in (parts_at 44 bytes.now)) ≡ Some said) }
+{
+    let mut places = no_items();
+    let mut behind = Some(bytes);
+    while let Some(text) = behind {
+        let (name, value) = usual_parts(text)?;
+        if !put_usual(&mut places, name, value.said) {
+            return None;
+        }
+        behind = value.rest;
+    }
+    Some(places)
 }
 
 /// What the value of an Authorization or a Proxy-Authorization says: well-formed Digest credentials, without a name
@@ -349,6 +437,11 @@ pub fn credentials_of(alloc: Global, value: &[u8]) -> Result<Option<Credentials<
     let (scheme, items) = split_word(value);
     if !same_no_case(scheme, b"Digest") {
         return Ok(None);
+    }
+    if items.len() <= USUAL_LENGTH {
+        if let Some(credentials) = usual_credentials(items) {
+            return Ok(Some(credentials));
+        }
     }
     match read_items(alloc, items)? {
         Some(items) => credentials_of_items(alloc, &items),
