@@ -34,9 +34,7 @@ pub(crate) fn status_length(code: u16, reason: &[u8]) -> usize
 pub(crate) fn line_length(name: &[u8], value: &[u8]) -> usize
     ensures { result ≡ min (length name.now + length value.now + 4) (2 ^ 64 - 1) }
 {
-    name.len()
-        .saturating_add(value.len())
-        .saturating_add(b": \r\n".len())
+    (name.len() + value.len()).saturating_add(b": \r\n".len())
 }
 
 /// The length of a message whose start line, fields and body are so long, or the greatest `usize` where it is

@@ -35,7 +35,10 @@ fn fields_length(fields: &[ViewField<'_>]) -> usize
 {
     let mut length: usize = 0;
     for field in fields {
-        length = length.saturating_add(field_length(field));
+        let Some(longer) = length.checked_add(field_length(field)) else {
+            return usize::MAX;
+        };
+        length = longer;
     }
     length
 }
