@@ -1,5 +1,5 @@
 -- A head, read line by line for a view.
-use Rattle.std.proofs.Common.{◌≡◌, ◌⊎◌, ℕ, Bool, true, false, List, [], ◌∷◌, ◌++◌, map, Option, Some, None, Result, Ok, Err, refl, sym, ap, ◌∙◌, inl, inr, arith}
+use Rattle.std.proofs.Common.{◌≡◌, ◌⊎◌, ℕ, Bool, true, false, List, [], ◌∷◌, ◌++◌, map, Option, Some, None, Result, Ok, Err, refl, sym, ap, subst, ◌∙◌, inl, inr, arith}
 use Rattle.std.specs.Prelude.{option_map, MatchOption, MatchResult}
 use Rattle.std.specs.Option.{option_and_then}
 use Rattle.std.proofs.lemmas.List.{append-nil}
@@ -22,6 +22,7 @@ use Rattle.sip_message.specs.Field.{field_of, entries_of, pieces, kept}
 use Rattle.sip_message.specs.Body.{lengths, one_length}
 use Rattle.sip_message.specs.HeadContent.{before, next_length, length_behind, field_taken, IsFault, IsWhole, IsLineRefused}
 use Rattle.sip_message.specs.Filled.{item_of, filled_seen, IsFieldFilled, IsLineFilled}
+use Rattle.sip_message.specs.Named.{IsNamed}
 use Rattle.sip_message.specs.Reading.{head_said}
 use Rattle.sip_message.proofs.Rows.{is_empty}
 use Rattle.sip_message.proofs.Wholes.{lines_end, no_lines, without_folds, cut_length}
@@ -81,6 +82,12 @@ pub length_either : {A : Type 0} (r : Result A LineFault) (old new : Filling) (f
 length_either (Ok x) old new field is same next = length_filled old new field is same next
 length_either (Err e) old new field is same none = inr (length_refused old.length field is none)
 
+pub taken_same : (r : Result Unit LineFault) (old new : Filling) (n m : FieldName) (v w : List ℕ) → n ≡ m → v ≡ w → MatchResult r (λ _. IsFieldFilled old (field_with n v) new) (λ e. IsFault e (field_taken old.length (field_with n v)))
+    → MatchResult r (λ _. IsFieldFilled old (field_with m w) new) (λ e. IsFault e (field_taken old.length (field_with m w)))
+taken_same r old new n m v w names values is =
+    subst (λ (x : List ℕ). MatchResult r (λ _. IsFieldFilled old (field_with m x) new) (λ e. IsFault e (field_taken old.length (field_with m x)))) values
+    (subst (λ (x : FieldName). MatchResult r (λ _. IsFieldFilled old (field_with x v) new) (λ e. IsFault e (field_taken old.length (field_with x v)))) names is)
+
 -- ---- one line
 
 pub line_taken : (old new : Filling) (line after : Bor (List ℕ)) (field : Field) → is_fold after.now ≡ false → field_of line.now ≡ Some field → IsFieldFilled old field new → IsLineFilled old line.now after.now new after.now
@@ -121,6 +128,11 @@ line_filled head rest line after next old new s is full t = record {
   one = one_more s.entries t.field old.length new.length s.one t.taken.next;
   kept = kept_more s.entries old.fields new.fields t.field s.kept t.taken.kept;
 }
+
+-- a line with a name has a byte
+pub named_full : (line name value : List ℕ) → IsNamed line name value → is_empty line ≡ false
+named_full line [] value is = ap is_empty is.whole
+named_full line (b ∷ name) value is = ap is_empty is.whole
 
 -- ---- the end of a head
 

@@ -22,5 +22,6 @@ pub mod TextBytes
 pub mod TextRuns
 pub mod Spaced
 pub mod Names
+pub mod NamedLines
 pub mod HeadFills
 pub mod ViewLaws

@@ -68,7 +68,7 @@ fn behind_space(bytes: &[u8]) -> Option<&[u8]>
 
 /// Bytes without the spaces and tabs at both ends, where they stand.
 #[inline]
-fn trimmed_slice(bytes: &[u8]) -> &[u8]
+pub(crate) fn trimmed_slice(bytes: &[u8]) -> &[u8]
     ensures value { result.now ≡ trimmed bytes.now }
     ensures cut { IsCutFrom bytes.entry result }
 {

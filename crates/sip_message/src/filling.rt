@@ -1,6 +1,8 @@
 ghost use Rattle.std.specs.Prelude.{◌≡◌, ◌⊎◌, ◌++◌, [], ◌∷◌, true, false, map, All, MatchResult, OnOk, Some, None};
 ghost use Rattle.std.specs.List.{list_all};
 ghost use Rattle.sip_message.specs.Field.{is_text};
+ghost use Rattle.sip_message.specs.Named.{IsNamed};
+ghost use Rattle.sip_message.specs.Seen.{seen_field};
 ghost use Rattle.sip_message.specs.Filled.{item_of, IsFieldFilled, IsLineFilled, filled_seen};
 ghost use Rattle.sip_message.specs.HeadContent.{IsFault, IsLineRefused, next_length, field_taken};
 ghost use Rattle.sip_message.specs.Reading.{Gives, head_said};
@@ -10,10 +12,10 @@ ghost use Rattle.sip_text.specs.Span.{IsWithin};
 ghost use Rattle.sip_message.specs.Lines.{is_fold};
 
 use crate::content::{USUAL_FIELDS, length_behind, refusal_of};
-use crate::entries::{any_parts, field_of_line, parts_of_line, usual_parts};
+use crate::entries::{any_parts, field_of_line, parts_of_line, trimmed_slice, usual_parts};
 use crate::keeping::items_of;
 use crate::line_fault::LineFault;
-use crate::lines::{HeadLine, Slice, head_line, is_fold_line, whole_line};
+use crate::lines::{HeadLine, NamedLine, Slice, head_line, is_fold_line, named_line, whole_line};
 use crate::part_field::PartField;
 use sip_message_fields::{Value, ViewField, ViewFields, ViewName};
 use sip_message_form::{ViewError, ViewRefusal};
@@ -142,13 +144,34 @@ impl<'a> Filling<'a> {
         Ok(())
     }
 
+    /// Takes a field of any form of which the name and the value are written so in the datagram. It stands apart and makes
+    /// the name itself, so that a field of one item is taken in registers.
+    #[inline(never)]
+    fn take_parts(
+        &mut self,
+        alloc: Global,
+        name: &'a [u8],
+        value: &'a [u8],
+    ) -> Result<(), LineFault>
+        ensures { MatchResult result
+            (λ _. IsFieldFilled self.old (seen_field name.now value.now) self.new)
+            (λ e. IsFault e (field_taken self.old.length (seen_field name.now value.now))) }
+    {
+        self.take_any(alloc, ViewName::of_part(name), Value::of_part(value))
+    }
+
     /// Takes a line with its folds, and gives what follows them.
     #[inline(never)]
-    fn take_folded(&mut self, alloc: Global, next: HeadLine<'a>) -> Result<&'a [u8], LineFault>
-        ensures { MatchResult result (λ rest. IsLineFilled self.old next.entry.line.now next.entry.after.now self.new rest.now)
-            (λ e. (e ≡ LineFault.NoMemory) ⊎ IsLineRefused self.old.length next.entry.line.now next.entry.after.now) }
+    fn take_folded(
+        &mut self,
+        alloc: Global,
+        line: &'a [u8],
+        after: &'a [u8],
+    ) -> Result<&'a [u8], LineFault>
+        ensures { MatchResult result (λ rest. IsLineFilled self.old line.now after.now self.new rest.now)
+            (λ e. (e ≡ LineFault.NoMemory) ⊎ IsLineRefused self.old.length line.now after.now) }
     {
-        let (whole, rest) = whole_line(alloc, next.line, next.after)?;
+        let (whole, rest) = whole_line(alloc, line, after)?;
         let PartField { name, value } = field_of_line(alloc, &whole)?;
         self.take_any(alloc, name, Value::of_piece(value))?;
         Ok(rest)
@@ -164,8 +187,7 @@ impl<'a> Filling<'a> {
         let Some((name, value)) = parts_of_line(next.line) else {
             return Err(LineFault::BadField);
         };
-        let name = ViewName::of_part(name);
-        self.take_any(alloc, name, Value::of_part(value))?;
+        self.take_parts(alloc, name, value)?;
         Ok(next.after)
     }
 
@@ -179,20 +201,19 @@ impl<'a> Filling<'a> {
         let Some((name, value)) = any_parts(next.line) else {
             return Err(LineFault::BadField);
         };
-        let name = ViewName::of_part(name);
-        self.take_any(alloc, name, Value::of_part(value))?;
+        self.take_parts(alloc, name, value)?;
         Ok(next.after)
     }
 
     /// Takes a line, which isn't empty, with its folds, and gives what follows them.
-    #[inline]
+    #[inline(never)]
     fn take_line(&mut self, alloc: Global, next: HeadLine<'a>) -> Result<&'a [u8], LineFault>
         requires text { next.is_text ≡ true → list_all is_text next.line.now ≡ true }
         ensures { MatchResult result (λ rest. IsLineFilled self.old next.entry.line.now next.entry.after.now self.new rest.now)
             (λ e. (e ≡ LineFault.NoMemory) ⊎ IsLineRefused self.old.length next.entry.line.now next.entry.after.now) }
     {
         if is_fold_line(next.after) {
-            return self.take_folded(alloc, next);
+            return self.take_folded(alloc, next.line, next.after);
         }
         if !next.is_text {
             return self.take_other(alloc, next);
@@ -200,9 +221,25 @@ impl<'a> Filling<'a> {
         let Some((name, value)) = usual_parts(next.line) else {
             return self.take_unnamed(alloc, next);
         };
-        let name = ViewName::of_part(name);
+        self.take_parts(alloc, name, value)?;
+        Ok(next.after)
+    }
+
+    /// Takes a line with a name and its folds, and gives what follows them.
+    #[inline(always)]
+    fn take_named(&mut self, alloc: Global, next: NamedLine<'a>) -> Result<&'a [u8], LineFault>
+        requires named { IsNamed next.line.now next.name.now next.value.now }
+        requires text { list_all is_text next.value.now ≡ true }
+        ensures { MatchResult result (λ rest. IsLineFilled self.old next.entry.line.now next.entry.after.now self.new rest.now)
+            (λ e. (e ≡ LineFault.NoMemory) ⊎ IsLineRefused self.old.length next.entry.line.now next.entry.after.now) }
+    {
+        if is_fold_line(next.after) {
+            return self.take_folded(alloc, next.line, next.after);
+        }
+        let value = trimmed_slice(next.value);
+        let name = ViewName::of_part(next.name);
         if !is_one_field(&name, value) {
-            self.take_any(alloc, name, Value::of_part(value))?;
+            self.take_parts(alloc, next.name, value)?;
             return Ok(next.after);
         }
         self.take_field(name, value)?;
@@ -225,7 +262,17 @@ pub(crate) fn filling_of_head<'a>(
         length: None,
     };
     let mut rest = Slice { bytes: head };
-    while let Some(next) = head_line(rest.bytes) {
+    'by_lines: loop {
+        if let Some(next) = named_line(rest.bytes) {
+            match filling.take_named(alloc, next) {
+                Ok(after) => rest = Slice { bytes: after },
+                Err(fault) => return Err(refusal_of(fault, next.after)),
+            }
+            continue 'by_lines;
+        }
+        let Some(next) = head_line(rest.bytes) else {
+            return Err(ViewError::new(ViewRefusal::NotSip));
+        };
         if next.line.is_empty() {
             return Ok((filling, next.after));
         }
@@ -234,5 +281,4 @@ pub(crate) fn filling_of_head<'a>(
             Err(fault) => return Err(refusal_of(fault, next.after)),
         }
     }
-    Err(ViewError::new(ViewRefusal::NotSip))
 }

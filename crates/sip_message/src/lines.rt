@@ -1,13 +1,14 @@
-ghost use Rattle.std.specs.Prelude.{◌≡◌, ◌+◌, ◌<◌, slice_index, ◌∷◌, [], length, IfOk, IfSome, ℕ, MatchOption, option_map, true, false, Some};
+ghost use Rattle.std.specs.Prelude.{◌≡◌, ◌+◌, ◌<◌, slice_index, ◌∷◌, ◌++◌, [], length, IfOk, IfSome, ℕ, MatchOption, option_map, true, false, Some};
 ghost use Rattle.memchr.specs.Find.{OccursAt, FindsNeedle};
 ghost use Rattle.sip_message_fields.specs.Slice.{IsCutFrom};
 ghost use Rattle.std.specs.List.{list_all};
 ghost use Rattle.sip_message.specs.Field.{is_text};
 ghost use Rattle.sip_message.specs.HeadContent.{IsWhole};
+ghost use Rattle.sip_message.specs.Named.{IsNamed};
 ghost use Rattle.sip_message.specs.Lines.{after_blanks, line_at, is_fold, head_at};
 
 use crate::line::Line;
-use crate::text_run::text_length;
+use crate::text_run::{name_end, text_length};
 use memchr::memchr;
 use sip_message_fields::{slice_before, slice_from};
 use sip_text::is_space_or_tab;
@@ -26,6 +27,16 @@ pub(crate) struct HeadLine<'a> {
     pub line: &'a [u8],
     pub after: &'a [u8],
     pub is_text: bool,
+}
+
+/// A line of a head at whose front a `:` follows a name at once, and each byte behind it may stand in a value: the name,
+/// what stands behind the `:`, and what follows the line's CRLF.
+#[derive(Clone, Copy)]
+pub(crate) struct NamedLine<'a> {
+    pub line: &'a [u8],
+    pub name: &'a [u8],
+    pub value: &'a [u8],
+    pub after: &'a [u8],
 }
 
 /// What follows a CRLF at the front.
@@ -103,6 +114,7 @@ pub(crate) fn first_line(bytes: &[u8]) -> Option<(&[u8], &[u8])>
 fn text_line(bytes: &[u8]) -> Option<(&[u8], &[u8])>
     ensures line { IfSome result (λ x. Some (x.0.now, x.1.now) ≡ line_at bytes.now) }
     ensures text { IfSome result (λ x. list_all is_text x.0.now ≡ true) }
+    ensures whole { IfSome result (λ x. bytes.now ≡ x.0.now ++ 13 ∷ 10 ∷ x.1.now) }
 {
     let end = text_length(bytes);
     if bytes.len() - end < 2 {
@@ -115,6 +127,24 @@ fn text_line(bytes: &[u8]) -> Option<(&[u8], &[u8])>
         return None;
     }
     Some((slice_before(bytes, end), slice_from(bytes, end + 2)))
+}
+
+/// The first line of a head where it has a name, and each byte of it may stand in a value, as of most. None says nothing.
+#[inline(always)]
+#[tactic(auto, using(crate::proofs::NamedLines::named_line))]
+pub(crate) fn named_line(bytes: &[u8]) -> Option<NamedLine<'_>>
+    ensures line { IfSome result (λ x. Some (x.line.now, x.after.now) ≡ line_at bytes.now) }
+    ensures named { IfSome result (λ x. IsNamed x.line.now x.name.now x.value.now) }
+    ensures text { IfSome result (λ x. list_all is_text x.value.now ≡ true) }
+{
+    let at = name_end(bytes)?;
+    let (value, after) = text_line(slice_from(bytes, at + 1))?;
+    Some(NamedLine {
+        line: slice_before(bytes, at + 1 + value.len()),
+        name: slice_before(bytes, at),
+        value,
+        after,
+    })
 }
 
 /// The first line of a head, and what follows its CRLF.

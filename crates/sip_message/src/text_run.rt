@@ -1,4 +1,4 @@
-ghost use Rattle.std.specs.Prelude.{◌≡◌, ◌+◌, ◌≤◌, true, length, take};
+ghost use Rattle.std.specs.Prelude.{◌≡◌, ◌+◌, ◌<◌, ◌≤◌, true, length, take, slice_index, IfSome};
 ghost use Rattle.std.specs.List.{list_all};
 ghost use Rattle.httparse.specs.Pieces.{PassesIn, first_set};
 ghost use Rattle.sip_message.specs.Field.{is_text};
@@ -72,6 +72,31 @@ fn letters_in_lanes(bytes: &[u8]) -> usize
     let behind_a = (lanes | u8x16::splat(0x20)) - u8x16::splat(b'a');
     let stops = behind_a.simd_ge(u8x16::splat(26)) & lanes.simd_ne(u8x16::splat(b'-'));
     first_set(stops.to_bitmask())
+}
+
+/// Where a `:` stands at once behind letters and dashes at the front, of the bytes that are looked at at once. None says
+/// nothing.
+#[inline(always)]
+#[tactic(auto, using(crate::proofs::Names::letters))]
+pub(crate) fn name_end(bytes: &[u8]) -> Option<usize>
+    ensures within { IfSome result (λ at. (0 < at) × (at < length bytes.now)) }
+    ensures token { IfSome result (λ at. list_all is_token_byte (take at bytes.now) ≡ true) }
+    ensures mark { IfSome result (λ at. slice_index bytes.now at ≡ 58) }
+{
+    if bytes.len() < LANES {
+        return None;
+    }
+    let at = letters_in_lanes(bytes);
+    if at == 0 {
+        return None;
+    }
+    if at >= LANES {
+        return None;
+    }
+    if bytes[at] != b':' {
+        return None;
+    }
+    Some(at)
 }
 
 /// How many bytes of a token stand at the front of a line: all of them, where no `:` follows at once.

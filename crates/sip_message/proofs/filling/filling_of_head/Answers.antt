@@ -1,29 +1,47 @@
 use Rattle.std.proofs.Common.{◌∙◌, Err, inr, sym, ap, refl, rules, arith}
 use Rattle.sip_message_form.specs.declared.error.ReadError.{ReadError}
 use Rattle.sip_message.proofs.Rows.{empty_or, shorter}
-use Rattle.sip_message.proofs.HeadFills.{none_filled, line_filled, all_filled, never_filled, not_filled}
+use Rattle.sip_message.proofs.HeadFills.{none_filled, line_filled, named_full, all_filled, never_filled, not_filled}
 use Rattle.sip_message.proofs.filling.filling_of_head.Goals as goal
 
-pub loop-next-init : goal.loop-next-init
-loop-next-init c = none_filled c.args.head.now _ (search rules) refl
+pub by_lines-init : goal.by_lines-init
+by_lines-init c = none_filled c.args.head.now _ (search rules) refl
 
-pub returns-then-is_empty : goal.returns-then-is_empty
-returns-then-is_empty c =
-    all_filled c.args.head.now c.loop-next.rest.bytes.now c.in-Some.next.line.now c.in-Some.next.after c.loop-next.filling c.loop-next.invariant c.in-Some.ensures.line
-    (empty_or c.in-Some.next.line.now _ (sym c.is_empty.ensures ∙ c.if-is_empty.true))
+-- ---- a line with a name
 
-pub loop-next-smaller : goal.loop-next-smaller
-loop-next-smaller c = omega (arith, shorter c.loop-next.rest.bytes.now c.in-Some.next.line.now c.in-Some.next.after.now c.in-Some.ensures.line, c.in-Ok.ensures.shorter)
+pub by_lines-smaller-in-Some : goal.by_lines-smaller-in-Some
+by_lines-smaller-in-Some c = omega (arith, shorter c.by_lines.rest.bytes.now c.in-Some.next.line.now c.in-Some.next.after.now c.in-Some.ensures.line, c.in-Ok.ensures.shorter)
 
-pub loop-next-preserved : goal.loop-next-preserved
-loop-next-preserved c =
-    line_filled c.args.head.now c.loop-next.rest.bytes.now c.in-Some.next.line.now c.in-Some.next.after.now _ c.loop-next.filling c.take_line.new.self c.loop-next.invariant c.in-Some.ensures.line
-    (empty_or c.in-Some.next.line.now _ (sym c.is_empty.ensures ∙ c.if-is_empty.false)) c.in-Ok.ensures
+pub by_lines-preserved-in-Some : goal.by_lines-preserved-in-Some
+by_lines-preserved-in-Some c =
+    line_filled c.args.head.now c.by_lines.rest.bytes.now c.in-Some.next.line.now c.in-Some.next.after.now _ c.by_lines.filling c.take_named.new.self c.by_lines.invariant c.in-Some.ensures.line
+    (named_full c.in-Some.next.line.now c.in-Some.next.name.now c.in-Some.next.value.now c.in-Some.ensures.named) c.in-Ok.ensures
 
 pub returns-in-Err : goal.returns-in-Err
 returns-in-Err c =
-    not_filled c.args.head.now c.loop-next.rest.bytes.now c.in-Some.next.line.now c.in-Some.next.after.now c.loop-next.filling c.in-Err.fault _ c.loop-next.invariant c.in-Some.ensures.line
-    (empty_or c.in-Some.next.line.now _ (sym c.is_empty.ensures ∙ c.if-is_empty.false)) c.in-Err.ensures c.refusal_of.ensures.memory c.refusal_of.ensures.bad
+    not_filled c.args.head.now c.by_lines.rest.bytes.now c.in-Some.next.line.now c.in-Some.next.after.now c.by_lines.filling c.in-Err.fault _ c.by_lines.invariant c.in-Some.ensures.line
+    (named_full c.in-Some.next.line.now c.in-Some.next.name.now c.in-Some.next.value.now c.in-Some.ensures.named) c.in-Err.ensures c.refusal_of.ensures.memory c.refusal_of.ensures.bad
 
-pub returns : goal.returns
-returns c = inr (never_filled c.args.head.now c.loop-next.rest.bytes.now c.loop-next.filling c.loop-next.invariant c.in_default.ensures.line ∙ ap (λ (e : ReadError). Err e) (sym c.new.ensures))
+-- ---- another line
+
+pub returns-then-is_empty : goal.returns-then-is_empty
+returns-then-is_empty c =
+    all_filled c.args.head.now c.by_lines.rest.bytes.now c.in-Some-head_line.next.line.now c.in-Some-head_line.next.after c.by_lines.filling c.by_lines.invariant c.in-Some-head_line.ensures.line
+    (empty_or c.in-Some-head_line.next.line.now _ (sym c.is_empty.ensures ∙ c.if-is_empty.true))
+
+pub by_lines-smaller : goal.by_lines-smaller
+by_lines-smaller c =
+    omega (arith, shorter c.by_lines.rest.bytes.now c.in-Some-head_line.next.line.now c.in-Some-head_line.next.after.now c.in-Some-head_line.ensures.line, c.in-Ok-take_line.ensures.shorter)
+
+pub by_lines-preserved : goal.by_lines-preserved
+by_lines-preserved c =
+    line_filled c.args.head.now c.by_lines.rest.bytes.now c.in-Some-head_line.next.line.now c.in-Some-head_line.next.after.now _ c.by_lines.filling c.take_line.new.self c.by_lines.invariant c.in-Some-head_line.ensures.line
+    (empty_or c.in-Some-head_line.next.line.now _ (sym c.is_empty.ensures ∙ c.if-is_empty.false)) c.in-Ok-take_line.ensures
+
+pub returns-in-Err-take_line : goal.returns-in-Err-take_line
+returns-in-Err-take_line c =
+    not_filled c.args.head.now c.by_lines.rest.bytes.now c.in-Some-head_line.next.line.now c.in-Some-head_line.next.after.now c.by_lines.filling c.in-Err-take_line.fault _ c.by_lines.invariant c.in-Some-head_line.ensures.line
+    (empty_or c.in-Some-head_line.next.line.now _ (sym c.is_empty.ensures ∙ c.if-is_empty.false)) c.in-Err-take_line.ensures c.refusal_of-in-Err-take_line.ensures.memory c.refusal_of-in-Err-take_line.ensures.bad
+
+pub returns-in_default-head_line : goal.returns-in_default-head_line
+returns-in_default-head_line c = inr (never_filled c.args.head.now c.by_lines.rest.bytes.now c.by_lines.filling c.by_lines.invariant c.in_default-head_line.ensures.line ∙ ap (λ (e : ReadError). Err e) (sym c.new.ensures))

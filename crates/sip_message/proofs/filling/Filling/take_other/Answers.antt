@@ -1,7 +1,7 @@
 use Rattle.std.proofs.Common.{sym, ◌∙◌, inr}
 use Rattle.std.proofs.lemmas.Result.{err_from_is_err_and}
 use Rattle.sip_message.proofs.LineSteps.{bad_here, fault_here}
-use Rattle.sip_message.proofs.HeadFills.{line_taken, field_same}
+use Rattle.sip_message.proofs.HeadFills.{line_taken}
 use Rattle.sip_message.proofs.filling.Filling.take_other.Goals as goal
 
 pub returns-in_default : goal.returns-in_default
@@ -9,12 +9,10 @@ returns-in_default c = inr (bad_here c.args.self.now.length c.args.next.line c.a
 
 pub returns : goal.returns
 returns c =
-    line_taken c.args.self.now c.take_any.new.self c.args.next.line c.args.next.after _ c.requires.no_fold
-    (sym c.in-Some.ensures.field ∙ field_same _ _ _ _ (sym c.of_part-name.ensures) (sym c.of_part.ensures)) c.in_ok-take_any.ensures
+    line_taken c.args.self.now c.take_parts.new.self c.args.next.line c.args.next.after _ c.requires.no_fold (sym c.in-Some.ensures.field) c.in_ok-take_parts.ensures
 
-pub returns-in_err-take_any : goal.returns-in_err-take_any
-returns-in_err-take_any c =
+pub returns-in_err-take_parts : goal.returns-in_err-take_parts
+returns-in_err-take_parts c =
     let p = err_from_is_err_and c.from_residual.result c.from_residual.ensures.1 in
     rw (p.1, p.2)
-    (fault_here c.args.self.now.length c.args.next.line c.args.next.after _ c.in_err-take_any.field-0.0 c.requires.no_fold
-    (sym c.in-Some.ensures.field ∙ field_same _ _ _ _ (sym c.of_part-name.ensures) (sym c.of_part.ensures)) c.in_err-take_any.ensures)
+    (fault_here c.args.self.now.length c.args.next.line c.args.next.after _ c.in_err-take_parts.field-0.0 c.requires.no_fold (sym c.in-Some.ensures.field) c.in_err-take_parts.ensures)
