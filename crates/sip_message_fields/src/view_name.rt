@@ -38,7 +38,7 @@ impl<'a> ViewName<'a> {
     }
 
     /// The name that is written so (RFC 3261 7.3.1 and 7.3.3).
-    #[inline]
+    #[inline(always)]
     pub fn of_part(name: &'a [u8]) -> Self
         ensures { result ≡ name_of name.now }
     {
