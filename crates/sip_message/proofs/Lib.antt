@@ -23,5 +23,6 @@ pub mod TextRuns
 pub mod Spaced
 pub mod Names
 pub mod NamedLines
+pub mod OneValue
 pub mod HeadFills
 pub mod ViewLaws

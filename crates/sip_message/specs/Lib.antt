@@ -7,6 +7,7 @@ pub mod Reading
 pub mod Begins
 pub mod Seen
 pub mod Named
+pub mod Marks
 pub mod Line
 pub mod Parts
 pub mod HeadContent

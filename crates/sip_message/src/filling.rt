@@ -16,6 +16,7 @@ use crate::entries::{any_parts, field_of_line, parts_of_line, trimmed_slice, usu
 use crate::keeping::items_of;
 use crate::line_fault::LineFault;
 use crate::lines::{HeadLine, NamedLine, Slice, head_line, is_fold_line, named_line, whole_line};
+use crate::marks::is_one_value;
 use crate::part_field::PartField;
 use sip_message_fields::{Value, ViewField, ViewFields, ViewName};
 use sip_message_form::{ViewError, ViewRefusal};
@@ -70,6 +71,9 @@ fn is_one_field(name: &ViewName<'_>, value: &[u8]) -> bool
     ensures list { result ≡ false → is_list name.now ≡ true }
 {
     if !name.is_list() {
+        return true;
+    }
+    if is_one_value(value) {
         return true;
     }
     is_one_item(value)

@@ -23,6 +23,7 @@ pub mod laws;
 mod line;
 mod line_fault;
 mod lines;
+mod marks;
 mod part_field;
 mod parting;
 mod reading;

@@ -8,11 +8,11 @@ use sip_text::split_token;
 use std::simd::prelude::*;
 
 /// So many bytes are looked at at once.
-const LANES: usize = 16;
+pub(crate) const LANES: usize = 16;
 
 /// The place of the lowest bit that is set, or the number of lanes where none is.
 #[inline(always)]
-fn first_set(mask: u64) -> usize
+pub(crate) fn first_set(mask: u64) -> usize
     ensures { result ≡ first_set mask 16 }
 {
     if mask == 0 {

@@ -1,4 +1,4 @@
-use Rattle.std.proofs.Common.{sym, ◌∙◌, inr}
+use Rattle.std.proofs.Common.{sym, inr}
 use Rattle.std.proofs.lemmas.Result.{err_from_is_err_and}
 use Rattle.sip_message.proofs.LineSteps.{bad_here, fault_here}
 use Rattle.sip_message.proofs.HeadFills.{line_taken}
