@@ -147,13 +147,26 @@ pub(crate) fn named_line(bytes: &[u8]) -> Option<NamedLine<'_>>
     })
 }
 
+/// The first line of a head, and what follows its CRLF, where no name with a `:` at once behind it begins it: of one that
+/// it begins, each byte was looked at before. None says nothing.
+#[inline]
+fn other_text_line(bytes: &[u8]) -> Option<(&[u8], &[u8])>
+    ensures line { IfSome result (λ x. Some (x.0.now, x.1.now) ≡ line_at bytes.now) }
+    ensures text { IfSome result (λ x. list_all is_text x.0.now ≡ true) }
+{
+    if name_end(bytes).is_some() {
+        return None;
+    }
+    text_line(bytes)
+}
+
 /// The first line of a head, and what follows its CRLF.
 #[inline]
 pub(crate) fn head_line(bytes: &[u8]) -> Option<HeadLine<'_>>
     ensures line { option_map (λ x. (x.line.now, x.after.now)) result ≡ line_at bytes.now }
     ensures text { IfSome result (λ x. x.is_text ≡ true → list_all is_text x.line.now ≡ true) }
 {
-    if let Some((line, after)) = text_line(bytes) {
+    if let Some((line, after)) = other_text_line(bytes) {
         return Some(HeadLine {
             line,
             after,
