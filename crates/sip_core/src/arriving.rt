@@ -84,7 +84,7 @@ fn unread_verdict<'v>(alloc: Global, error: &HeaderError) -> Result<Verdict<'v>,
 fn names_dialog(core: &CoreFields<'_>) -> bool
     ensures { result ≡ is_some (id_of core.now) }
 {
-    match tag_of(&core.to.parameters) {
+    match tag_of(core.to.parameters()) {
         Some(_) => true,
         None => false,
     }

@@ -1,5 +1,5 @@
 ghost use Rattle.std.specs.Prelude.{◌≡◌, false, IfOk, if◌then◌else◌};
-ghost use Rattle.std.specs.Option.{option_copied};
+ghost use Rattle.std.specs.Option.{option_copied, unwrap_or};
 ghost use Rattle.sip_policy.specs.Operation as Operations;
 ghost use Rattle.sip_location.specs.Registering as Naming;
 ghost use Rattle.sip_route.specs.Way.{request_uri_of};
@@ -25,16 +25,26 @@ pub(crate) fn is_register(method: &[u8]) -> bool
     method == b"REGISTER".as_slice()
 }
 
+/// An address of record; without one, what names nobody.
+fn known_or_nobody(alloc: Global, aor: Option<Aor>) -> Aor
+    ensures { result ≡ unwrap_or aor.entry Naming.nobody }
+{
+    match aor {
+        Some(aor) => aor,
+        None => Aor {
+            user: Bytes::new(alloc),
+            host: Bytes::new(alloc),
+        },
+    }
+}
+
 /// The address of record of a URI; without one, what names nobody.
 fn aor_or_nobody(alloc: Global, uri: Option<&Uri>) -> Result<Aor, AllocError>
     ensures { IfOk result (λ aor. aor ≡ Naming.aor_or_nobody (option_copied uri.entry)) }
 {
     match uri {
         Some(uri) => aor_of(alloc, uri),
-        None => Ok(Aor {
-            user: Bytes::new(alloc),
-            host: Bytes::new(alloc),
-        }),
+        None => Ok(known_or_nobody(alloc, None)),
     }
 }
 
@@ -42,7 +52,8 @@ fn aor_or_nobody(alloc: Global, uri: Option<&Uri>) -> Result<Aor, AllocError>
 fn to_aor(alloc: Global, core: &CoreFields<'_>) -> Result<Aor, AllocError>
     ensures { IfOk result (λ aor. aor ≡ Naming.to_aor core.now) }
 {
-    aor_or_nobody(alloc, core.to.uri.sip_uri())
+    let aor = core.to.aor(alloc)?;
+    Ok(known_or_nobody(alloc, aor))
 }
 
 /// The address of record that a request of a method is for, of which this was read: To's of a REGISTER, that of the

@@ -22,7 +22,7 @@ use std::alloc::{AllocError, Global};
 fn from_tag<'v>(core: &CoreFields<'v>) -> &'v [u8]
     ensures { result.now ≡ unwrap_or (Parameters.tag_of core.now.from.parameters) [] }
 {
-    match tag_of(&core.from.parameters) {
+    match tag_of(core.from.parameters()) {
         Some(tag) => tag,
         None => b"",
     }
@@ -48,7 +48,7 @@ fn named(
 fn dialog_of(alloc: Global, core: &CoreFields<'_>) -> Result<Option<DialogId>, AllocError>
     ensures { IfOk result (λ id. id ≡ Names.id_of core.now) }
 {
-    let Some(to_tag) = tag_of(&core.to.parameters) else {
+    let Some(to_tag) = tag_of(core.to.parameters()) else {
         return Ok(None);
     };
     let id = named(alloc, core.call_id.as_slice(), from_tag(core), to_tag)?;

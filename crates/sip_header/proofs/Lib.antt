@@ -10,3 +10,4 @@ pub mod Plain
 pub mod Unread
 pub mod PlainVias
 pub mod PlainAddresses
+pub mod WrittenAddresses

@@ -77,7 +77,7 @@ ends : (p : ℕ → Bool) → ((b : ℕ) → p b ≡ true → is_blank b ≡ fal
 ends p full b [] all = full b all.0
 ends p full b (c ∷ bs) all = ends p full c bs all.1
 
-tight : (p : ℕ → Bool) → ((b : ℕ) → p b ≡ true → is_blank b ≡ false) → (bytes : List ℕ) → AllPassing p bytes → trimmed bytes ≡ bytes
+pub tight : (p : ℕ → Bool) → ((b : ℕ) → p b ≡ true → is_blank b ≡ false) → (bytes : List ℕ) → AllPassing p bytes → trimmed bytes ≡ bytes
 tight p full [] all = Trims.tight_again [] tt
 tight p full (b ∷ bs) all = Trims.tight_again (b ∷ bs) (full b all.0, ends p full b bs all)
 

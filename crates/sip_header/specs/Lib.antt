@@ -13,3 +13,4 @@ pub mod PlainAddress
 pub mod FieldExamples
 pub mod HeaderError
 pub mod AddressParts
+pub mod WrittenAddress

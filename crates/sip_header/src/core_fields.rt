@@ -3,7 +3,7 @@ ghost use Rattle.sip_header.specs.CoreFields.{Gives, only_value, name_addr_in, c
 
 use crate::cseq::{CSeq, cseq_of};
 use crate::error::HeaderError;
-use crate::name_addr::{NameAddr, name_addr_of};
+use crate::written_address::{WrittenAddress, written_address_of};
 use sip_message_fields::{FieldName, ViewFields};
 use sip_message_form::View;
 use sip_text::Text;
@@ -11,8 +11,8 @@ use std::alloc::Global;
 
 /// The fields that every message needs (RFC 3261 8.1.1).
 pub struct CoreFields<'a> {
-    pub from: NameAddr<'a>,
-    pub to: NameAddr<'a>,
+    pub from: WrittenAddress<'a>,
+    pub to: WrittenAddress<'a>,
     /// Not empty.
     pub call_id: Text<'a>,
     pub cseq: CSeq<'a>,
@@ -50,7 +50,7 @@ fn name_addr_in<'v>(
     alloc: Global,
     fields: &'v ViewFields<'_>,
     name: FieldName,
-) -> Result<NameAddr<'v>, HeaderError>
+) -> Result<WrittenAddress<'v>, HeaderError>
     ensures { Gives (λ found. found) result (name_addr_in name fields.now) }
 {
     let Some(value) = fields.first(&name) else {
@@ -59,7 +59,7 @@ fn name_addr_in<'v>(
     if 1 < fields.count(&name) {
         return Err(HeaderError::Malformed(name));
     }
-    match name_addr_of(alloc, value)? {
+    match written_address_of(alloc, value)? {
         Some(address) => Ok(address),
         None => Err(HeaderError::Malformed(name)),
     }

@@ -24,6 +24,8 @@ mod parameters;
 mod plain_address;
 mod route;
 mod via;
+mod written_address;
+mod written_uri;
 
 pub use contact_item::{ContactItem, contact_of};
 pub use core_fields::{CoreFields, core_of};
@@ -36,3 +38,4 @@ pub use parameters::{Parameter, Parameters, branch_of, parameter_of, tag_of, val
 pub use plain_address::bracketed_place;
 pub use route::route_of;
 pub use via::{Via, via_of};
+pub use written_address::WrittenAddress;

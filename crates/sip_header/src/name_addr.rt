@@ -63,6 +63,15 @@ impl<'a> Drop for NameAddr<'a> {
 }
 
 impl<'a> NameAddr<'a> {
+    /// Its URI and its parameters, which it gives up.
+    pub(crate) fn into_parts(self) -> (AnyUri<'a>, Parameters<'a>)
+        ensures uri { result.0 ≡ self.entry.uri }
+        ensures parameters { result.1 ≡ self.entry.parameters }
+    {
+        let NameAddr { uri, parameters } = self;
+        (uri, parameters)
+    }
+
     /// Its URI, which it gives up.
     pub fn into_uri(self) -> AnyUri<'a>
         ensures { result ≡ self.entry.uri }

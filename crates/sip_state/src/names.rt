@@ -54,8 +54,8 @@ impl Names {
         ensures { IfOk result (λ names. names ≡ Spec.names_of core.now) }
     {
         let call_id = Bytes::copy(alloc, core.call_id.as_slice())?;
-        let from_tag = from_tag(alloc, &core.from.parameters)?;
-        let to_tag = to_tag(alloc, &core.to.parameters)?;
+        let from_tag = from_tag(alloc, core.from.parameters())?;
+        let to_tag = to_tag(alloc, core.to.parameters())?;
         Ok(Names {
             call_id,
             from_tag,

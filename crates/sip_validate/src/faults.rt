@@ -13,8 +13,8 @@ ghost use Rattle.sip_validate.specs.Refusal.{has_own_via};
 
 use crate::candidate::Candidate;
 use sip_header::{
-    AnyUri, ContactItem, MaxForwards, Via, bracketed_place, contact_of, max_forwards_of, route_of,
-    via_of,
+    AnyUri, ContactItem, MaxForwards, Via, WrittenAddress, bracketed_place, contact_of,
+    max_forwards_of, route_of, via_of,
 };
 use sip_message_fields::{FieldName, ViewField};
 use sip_route::Own;
@@ -182,6 +182,14 @@ fn is_sip(uri: &AnyUri<'_>) -> bool
     }
 }
 
+/// Whether the URI of an address is a SIP or SIPS URI.
+#[tactic(auto, using(crate::proofs::Kinds::kind_is))]
+fn names_sip(address: &WrittenAddress<'_>) -> bool
+    ensures { result ≡ Definition.is_sip address.now.uri }
+{
+    address.is_sip()
+}
+
 /// Whether it is a SIP or SIPS URI of at most 512 bytes. `short` says that it can't be longer.
 fn may_be_bound(alloc: Global, uri: &AnyUri<'_>, short: bool) -> Result<bool, AllocError>
     requires { short ≡ true → Definition.may_be_bound uri.now ≡ Definition.is_sip uri.now }
@@ -297,7 +305,7 @@ impl<'a> Candidate<'a> {
     fn registers_other_scheme(&self) -> bool
         ensures { result ≡ Definition.registers_other_scheme self.now }
     {
-        self.is_register() && !is_sip(&self.core.to.uri)
+        self.is_register() && !names_sip(&self.core.to)
     }
 
     /// Whether each Contact can be read (RFC 3261 20.10), and in a REGISTER is `*` or a SIP or SIPS URI that isn't longer

@@ -95,7 +95,7 @@ impl<'a> Candidate<'a> {
     fn is_in_dialog(&self) -> bool
         ensures { result ≡ Definition.is_in_dialog self.now }
     {
-        tag_of(&self.core.to.parameters).is_some()
+        tag_of(self.core.to.parameters()).is_some()
     }
 
     /// Whether the Request-URI, without this server's own part of the way, isn't `sip:` (RFC 3261 16.3 step 2).
