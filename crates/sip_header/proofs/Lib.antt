@@ -11,3 +11,4 @@ pub mod Unread
 pub mod PlainVias
 pub mod PlainAddresses
 pub mod WrittenAddresses
+pub mod FirstParameters

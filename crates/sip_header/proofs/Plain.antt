@@ -13,7 +13,7 @@ use Rattle.sip_text.specs.Cuts.{split_from, parts_at, parts_behind}
 use Rattle.sip_text.proofs.CutsOutside.{parts_split, one_part}
 use Rattle.sip_text.proofs.Trims as Trims
 use Rattle.sip_header.specs.declared.parameters.Parameter.{Parameter}
-use Rattle.sip_header.specs.Parameters.{is_value, needs_value, IsAssigned, parameter_in, parameters_in, said_in, closing, IsLess, Begins, GoesOn, IsFirst, parameter_of}
+use Rattle.sip_header.specs.Parameters.{is_value, needs_value, IsAssigned, parameter_in, parameters_in, said_in, closing, IsLess, Begins, GoesOn, parameter_of}
 use Rattle.sip_header.proofs.Words.{AllPassing, IsSplit, split_of, front_is, rest_is, all_passing, all_weaker, token_is_full, not_blank}
 use Rattle.sip_header.proofs.ParameterLaws.{read_parameter}
 use Rattle.sip_header.proofs.Lookup.{some_said}
@@ -165,9 +165,6 @@ named_later name text parameter behind b e other = rw (said text parameter behin
 
 -- ---- the first of them is of two tokens
 
-pub first_is : (said : List Parameter) (sought name value : List ℕ) → IsFirst said name value → is_same_text name sought ≡ true → Some (record { name = name; value = Some value }) ≡ parameter_of sought said
-first_is said sought name value f same = sym (ap (parameter_of sought) f.whole ∙ rw same refl)
-
 pub assigned_begins : (text name rest given value last : List ℕ) (behind : Option (List ℕ)) → name ≡ token_at text → rest ≡ behind_token text → (length name == 0) ≡ false → rest ≡ 61 ∷ given
     → value ≡ token_at given → last ≡ behind_token given → (length value == 0) ≡ false → last ≡ closing behind → Begins text (record { name = name; value = Some value }) behind
 assigned_begins text name rest given value last behind front back some mark of_value after some_value closed =
@@ -182,17 +179,5 @@ none_by parameter (Some ps) e = absurd cc
 pub none_begun : (text : List ℕ) (parameter : Parameter) (behind : Option (List ℕ)) → Begins text parameter behind → is_some (parameters_in (parts_behind 59 behind)) ≡ false → None ≡ parameters_in (parts_at 59 text)
 none_begun text parameter behind b e = none_by parameter (parameters_in (parts_behind 59 behind)) e ∙ sym b.says
 
-begun : (text : List ℕ) (parameter : Parameter) (behind : Option (List ℕ)) → Begins text parameter behind → is_some (parameters_in (parts_behind 59 behind)) ≡ true → parameters_in (parts_at 59 text) ≡ Some (parameter ∷ said_in (parts_behind 59 behind))
+pub begun : (text : List ℕ) (parameter : Parameter) (behind : Option (List ℕ)) → Begins text parameter behind → is_some (parameters_in (parts_behind 59 behind)) ≡ true → parameters_in (parts_at 59 text) ≡ Some (parameter ∷ said_in (parts_behind 59 behind))
 begun text parameter behind b e = b.says ∙ ap (λ (o : Option (List Parameter)). option_map (λ others. parameter ∷ others) o) (some_said (parts_behind 59 behind) e)
-
-pub some_begun : (text : List ℕ) (parameter : Parameter) (behind : Option (List ℕ)) → Begins text parameter behind → is_some (parameters_in (parts_behind 59 behind)) ≡ true → parameters_in (parts_at 59 text) ≡ Some (said_in (parts_at 59 text))
-some_begun text parameter behind b e =
-    let here : parameters_in (parts_at 59 text) ≡ Some (parameter ∷ said_in (parts_behind 59 behind)) = begun text parameter behind b e in
-    here ∙ sym (ap (λ (o : Option (List Parameter)). Some (unwrap_or o [])) here)
-
-pub first_begun : (text name value : List ℕ) (behind : Option (List ℕ)) → Begins text (record { name = name; value = Some value }) behind → is_some (parameters_in (parts_behind 59 behind)) ≡ true → IsFirst (said_in (parts_at 59 text)) name value
-first_begun text name value behind b e =
-    record {
-      others = said_in (parts_behind 59 behind);
-      whole = ap (λ (o : Option (List Parameter)). unwrap_or o []) (begun text (record { name = name; value = Some value }) behind b e);
-    }

@@ -14,3 +14,4 @@ pub mod FieldExamples
 pub mod HeaderError
 pub mod AddressParts
 pub mod WrittenAddress
+pub mod FirstParameter

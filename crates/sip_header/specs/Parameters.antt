@@ -78,11 +78,6 @@ pub record Begins (text : List ℕ) (parameter : Parameter) (behind : Option (Li
   pub says : parameters_in (parts_at (byte ";") text) ≡ option_map (λ others. parameter ∷ others) (parameters_in (parts_behind (byte ";") behind))
   pub less : IsLess text behind
 
--- the first of some parameters has this name and this value
-pub record IsFirst (said : List Parameter) (name value : List ℕ) : Type 0 where
-  pub others : List Parameter
-  pub whole : said ≡ record { name = name; value = Some value } ∷ others
-
 -- A text says parameters if what follows the first `;` does.
 pub record GoesOn (text : List ℕ) (behind : Option (List ℕ)) : Type 0 where
   pub says : is_some (parameters_in (parts_at (byte ";") text)) ≡ is_some (parameters_in (parts_behind (byte ";") behind))

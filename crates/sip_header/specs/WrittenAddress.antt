@@ -19,7 +19,7 @@ pub record IsWritten (text : List ℕ) : Type 0 where
 -- the URI that is kept so
 abbrev pub uri_kept : WrittenUri → AnyUri
 uri_kept (Plain text) = uri_written text
-uri_kept (Made uri) = uri
+uri_kept (Made uri) = uri.value
 
 -- a text that is kept writes a SIP or SIPS URI
 abbrev pub IsKept : WrittenUri → Type 0

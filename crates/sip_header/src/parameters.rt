@@ -29,25 +29,25 @@ pub(crate) struct Assigned<'a> {
 /// The parameters of a value, each behind a `;`. They were read once, and are looked up where they stand.
 #[derive(Drop)]
 pub struct Parameters<'a> {
-    /// What follows the first `;`, if one stands there.
-    behind: Option<&'a [u8]>,
     /// The first of them, if it is of two tokens, as `branch` and `tag` are, which are looked up most.
     first: Option<Assigned<'a>>,
+    /// What follows the `;` behind that one, or else the first `;`, if one stands there.
+    others: Option<&'a [u8]>,
 }
 
 impl<'a> Model for Parameters<'a> {
-    ghost use Rattle.std.specs.Prelude.{◌≡◌, List, Some, IfSome, option_map};
+    ghost use Rattle.std.specs.Prelude.{◌≡◌, List, Some, option_map};
     ghost use Rattle.sip_text.specs.Cuts.{parts_behind};
-    ghost use Rattle.sip_header.specs.Parameters.{parameters_in, said_in, IsFirst};
+    ghost use Rattle.sip_header.specs.Parameters.{parameters_in, said_in};
+    ghost use Rattle.sip_header.specs.FirstParameter.{behind_first};
     ghost use Rattle.sip_header.specs.declared.parameters.Parameter.{Parameter};
 
     ghost Value = { List Parameter };
 
-    ghost view = { λ p. said_in (parts_behind 59 (option_map (λ x. x.now) p.behind)) };
+    ghost view = { λ p. behind_first p.first (said_in (parts_behind 59 (option_map (λ x. x.now) p.others))) };
 
-    ghost invariant = { λ p. (parameters_in (parts_behind 59 (option_map (λ x. x.now) p.behind))
-        ≡ Some (said_in (parts_behind 59 (option_map (λ x. x.now) p.behind))))
-        × IfSome p.first (λ f. IsFirst (said_in (parts_behind 59 (option_map (λ x. x.now) p.behind))) f.name.now f.value.now) };
+    ghost invariant = { λ p. parameters_in (parts_behind 59 (option_map (λ x. x.now) p.others))
+        ≡ Some (said_in (parts_behind 59 (option_map (λ x. x.now) p.others))) };
 }
 
 /// The parameter that a text of one writes.
@@ -162,7 +162,7 @@ fn first_named<'v>(behind: Option<&'v [u8]>, name: &[u8]) -> Option<Parameter<'v
 }
 
 /// The first parameter of a name, which is compared without case. Takes no memory.
-#[tactic(auto, using(crate::proofs::Plain::first_is))]
+#[tactic(auto, using(crate::proofs::FirstParameters::first_is, crate::proofs::FirstParameters::is_behind_first, crate::proofs::FirstParameters::none_first))]
 pub fn parameter_of<'v>(parameters: &Parameters<'v>, name: &[u8]) -> Option<Parameter<'v>>
     ensures { result ≡ parameter_of name.now parameters.now }
 {
@@ -174,7 +174,7 @@ pub fn parameter_of<'v>(parameters: &Parameters<'v>, name: &[u8]) -> Option<Para
             });
         }
     }
-    first_named(parameters.behind, name)
+    first_named(parameters.others, name)
 }
 
 /// The value of the first parameter of a name, if it has one. Takes no memory.
@@ -300,8 +300,8 @@ fn any_parameters<'v>(behind: Option<&'v [u8]>) -> Option<Parameters<'v>>
         return None;
     }
     Some(Parameters {
-        behind,
         first: None,
+        others: behind,
     })
 }
 
@@ -326,21 +326,21 @@ fn assigned_at(text: &[u8]) -> Option<(Assigned<'_>, Option<&[u8]>)>
 }
 
 /// The parameters of a text, of which the first is of two tokens, if each behind it is one.
-#[tactic(auto, using(crate::proofs::Plain::none_begun, crate::proofs::Plain::some_begun, crate::proofs::Plain::first_begun))]
+#[tactic(auto, using(crate::proofs::Plain::none_begun, crate::proofs::Plain::begun))]
 fn parameters_behind<'v>(
     text: &'v [u8],
     first: Assigned<'v>,
-    rest: Option<&'v [u8]>,
+    others: Option<&'v [u8]>,
 ) -> Option<Parameters<'v>>
-    requires { Begins text.now (record { name = first.name.now; value = Some first.value.now }) (option_map (λ y. y.now) rest) }
+    requires { Begins text.now (record { name = first.name.now; value = Some first.value.now }) (option_map (λ y. y.now) others) }
     ensures { result ≡ parameters_in (parts_at 59 text.now) }
 {
-    if !are_parameters(rest) {
+    if !are_parameters(others) {
         return None;
     }
     Some(Parameters {
-        behind: Some(text),
         first: Some(first),
+        others,
     })
 }
 
@@ -349,8 +349,8 @@ pub(crate) fn parameters_from<'v>(behind: Option<&'v [u8]>) -> Option<Parameters
     ensures { result ≡ parameters_in (parts_behind 59 (option_map (λ x. x.now) behind.entry)) }
 {
     if let Some(text) = behind {
-        if let Some((first, rest)) = assigned_at(text) {
-            return parameters_behind(text, first, rest);
+        if let Some((first, others)) = assigned_at(text) {
+            return parameters_behind(text, first, others);
         }
     }
     any_parameters(behind)

@@ -4,7 +4,7 @@ ghost use Rattle.sip_uri.specs.Aor as Aors;
 ghost use Rattle.sip_header.specs.NameAddr.{sip_uri};
 ghost use Rattle.sip_header.specs.WrittenAddress.{IsWritten, uri_written};
 
-use crate::name_addr::{AnyUri, NameAddr, name_addr_of};
+use crate::name_addr::{NameAddr, name_addr_of};
 use crate::parameters::{Parameters, parameters_from, plain_end};
 use crate::written_uri::WrittenUri;
 use sip_text::Text;
@@ -70,8 +70,7 @@ impl<'a> WrittenAddress<'a> {
     {
         match &self.uri {
             WrittenUri::Plain(_) => true,
-            WrittenUri::Made(AnyUri::Sip(_)) => true,
-            WrittenUri::Made(AnyUri::Other(_)) => false,
+            WrittenUri::Made(uri) => uri.sip_uri().is_some(),
         }
     }
 
@@ -103,14 +102,15 @@ fn written<'v>(uri: &'v [u8], parameters: Parameters<'v>) -> WrittenAddress<'v>
 }
 
 /// An address whose URI was made.
-fn made(address: NameAddr<'_>) -> WrittenAddress<'_>
-    ensures { result ≡ address.entry }
+fn made<'v>(alloc: Global, address: NameAddr<'v>) -> Result<WrittenAddress<'v>, AllocError>
+    ensures { IfOk result (λ made. made ≡ address.entry) }
 {
     let (uri, parameters) = address.into_parts();
-    WrittenAddress {
+    let uri = Box::new(alloc, uri)?;
+    Ok(WrittenAddress {
         uri: WrittenUri::Made(uri),
         parameters,
-    }
+    })
 }
 
 /// What stands in a text before its rest.
@@ -158,7 +158,7 @@ pub(crate) fn written_address_of(
         return Ok(Some(address));
     }
     match name_addr_of(alloc, value)? {
-        Some(address) => Ok(Some(made(address))),
+        Some(address) => Ok(Some(made(alloc, address)?)),
         None => Ok(None),
     }
 }

@@ -16,7 +16,7 @@ use std::marker::Model;
 /// A request that is checked: where it is, its parts, whether fewer bytes of its body came than its Content-Length
 /// says, and its top Via and its core fields, which are read once.
 #[derive(Drop)]
-pub(crate) struct Candidate<'a> {
+pub(crate) struct Candidate<'a, 'v> {
     pub(crate) own: &'a Own,
     pub(crate) method: &'a [u8],
     pub(crate) uri: &'a [u8],
@@ -25,12 +25,12 @@ pub(crate) struct Candidate<'a> {
     /// The Via on top.
     pub(crate) via: &'a Via<'a>,
     pub(crate) short: bool,
-    pub(crate) core: &'a CoreFields<'a>,
+    pub(crate) core: &'a CoreFields<'v>,
     /// Whether the Request-URI, as it came, is a SIP or SIPS URI, where that was read.
     pub(crate) is_uri: Option<bool>,
 }
 
-impl<'a> Model for Candidate<'a> {
+impl<'a, 'v> Model for Candidate<'a, 'v> {
     ghost use Rattle.std.specs.Prelude.{◌≡◌, Some, IfSome, is_ok};
     ghost use Rattle.std.specs.Option.{option_and_then};
     ghost use Rattle.sip_message_fields.specs.declared.field_name.FieldName.TheVariants as Name;
@@ -57,7 +57,7 @@ impl<'a> Model for Candidate<'a> {
         × IfSome r.is_uri (λ is_uri. is_uri ≡ is_ok (reading_of r.uri.now)) };
 }
 
-impl<'a> Candidate<'a> {
+impl<'a, 'v> Candidate<'a, 'v> {
     ghost use Rattle.sip_validate.specs.Candidate as Definition;
 
     /// The request that a message is, whose top Via and core fields are these; a response is none.
@@ -66,7 +66,7 @@ impl<'a> Candidate<'a> {
         message: &'a View<'a>,
         via: &'a Via<'a>,
         short: bool,
-        core: &'a CoreFields<'a>,
+        core: &'a CoreFields<'v>,
     ) -> Option<Self>
         requires { option_and_then via_of (first_value Name.Via message.now.fields) ≡ Some via.now }
         ensures { result ≡ candidate_with (Some core.now) own.now message.now.fields short message.now.start }

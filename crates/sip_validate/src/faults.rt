@@ -254,7 +254,7 @@ fn are_bindable(
     Ok(true)
 }
 
-impl<'a> Candidate<'a> {
+impl<'a, 'v> Candidate<'a, 'v> {
     /// Whether fewer bytes of the body came than Content-Length says (RFC 3261 18.3).
     fn has_short_body(&self) -> bool
         ensures { result ≡ Definition.has_short_body self.now }

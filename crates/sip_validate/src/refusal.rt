@@ -50,7 +50,7 @@ fn joined(alloc: Global, items: &[&[u8]]) -> Result<Bytes, AllocError>
     Ok(text)
 }
 
-impl<'a> Candidate<'a> {
+impl<'a, 'v> Candidate<'a, 'v> {
     /// Whether it is of another version than SIP/2.0 (RFC 3261 7.1, 21.5.6).
     fn has_other_version(&self) -> bool
         ensures { result ≡ Definition.has_other_version self.now }
