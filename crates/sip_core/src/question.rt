@@ -27,7 +27,7 @@ pub(crate) fn is_register(method: &[u8]) -> bool
 
 /// An address of record; without one, what names nobody.
 fn known_or_nobody(alloc: Global, aor: Option<Aor>) -> Aor
-    ensures { result ≡ unwrap_or aor.entry Naming.nobody }
+    ensures { result ≡ unwrap_or aor Naming.nobody }
 {
     match aor {
         Some(aor) => aor,

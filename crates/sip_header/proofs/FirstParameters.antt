@@ -1,5 +1,5 @@
 -- A parameter looked up where the first was read apart.
-use Rattle.std.proofs.Common.{◌≡◌, ℕ, true, false, List, ◌∷◌, Option, Some, None, refl}
+use Rattle.std.proofs.Common.{◌≡◌, ℕ, true, false, List, Option, Some, None, refl}
 use Rattle.sip_text.specs.Words.{is_same_text}
 use Rattle.sip_header.specs.declared.parameters.Assigned.{Assigned}
 use Rattle.sip_header.specs.declared.parameters.Parameter.{Parameter}

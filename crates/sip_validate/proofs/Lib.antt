@@ -6,4 +6,4 @@ pub mod Routes
 pub mod Lengths
 pub mod Vias
 pub mod Uris
-pub mod Kinds
+pub mod SipAddresses

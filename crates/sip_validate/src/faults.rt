@@ -183,7 +183,7 @@ fn is_sip(uri: &AnyUri<'_>) -> bool
 }
 
 /// Whether the URI of an address is a SIP or SIPS URI.
-#[tactic(auto, using(crate::proofs::Kinds::kind_is))]
+#[tactic(auto, using(crate::proofs::SipAddresses::kind_is))]
 fn names_sip(address: &WrittenAddress<'_>) -> bool
     ensures { result ≡ Definition.is_sip address.now.uri }
 {
