@@ -152,6 +152,15 @@ pub ack_dropped : (server : Server) (now : ℕ) (m : Message) (short : Bool) (st
 ack_dropped server now m short status items is state =
     ap (λ (r : Option (ℕ × List ℕ)). cond (is_some r) Definition.Drop (Definition.within server state now m Definition.AckOn Definition.Drop)) is
 
+pub ack_unread : (result : Result Verdict AllocError) (server : Server) (dialogs : List Dialog) (now : ℕ) (m : Message) (short : Bool) (lacked : Type 0)
+    → (lacked → refusal_of server.config.own m short ≡ Some (400, [])) → OnOk result lacked → IfOk result (λ (v : Verdict). v ≡ Made.Dropped)
+    → IfOk result (λ (v : Verdict). (state : ProxyState) → state.dialogs ≡ dialogs → (rows : List Binding) (named : Option OpenRequest)
+    → Is server rows now named (Definition.ack_verdict server state now m short) v)
+ack_unread (Ok v) server dialogs now m short lacked is not dropped =
+    λ state same rows named.
+    subst (λ (w : Verdict). Is server rows now named (Definition.ack_verdict server state now m short) w) (sym dropped) (ack_dropped server now m short 400 [] (is not) state)
+ack_unread (Err e) server dialogs now m short lacked is not dropped = tt
+
 -- ---- a decision that lets through
 
 pub allowed : (result : Result Outcome AllocError) (server : Server) (rows : List Binding) (now : ℕ) (m : Message) (method : List ℕ) (core : CoreFields) (q : Question) (id : ℕ) (decision : Decision)

@@ -1,7 +1,6 @@
 pub mod Judge
 pub mod Registering
 pub mod Within
-pub mod Refusal
 pub mod Verdict
 pub mod Incoming
 pub use Rattle.model_verdict.specs.context_model

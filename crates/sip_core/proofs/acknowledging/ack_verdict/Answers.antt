@@ -1,13 +1,11 @@
-use Rattle.sip_validate.specs.Refusal.{refusal_of}
-use Rattle.sip_core.proofs.Checking.{row_is}
-use Rattle.sip_core.proofs.Deciding.{ack_passes, ack_dropped}
+use Rattle.std.proofs.Common.{◌≡◌}
+use Rattle.sip_header.specs.declared.error.HeaderError.TheVariants as Bad
+use Rattle.sip_core.proofs.Checking.{unread, core_unread}
+use Rattle.sip_core.proofs.Deciding.{ack_unread}
 use Rattle.sip_core.proofs.acknowledging.ack_verdict.Goals as goal
-
-pub returns-in-Ok-clause-verdict : goal.returns-in-Ok-clause-verdict
-returns-in-Ok-clause-verdict g c =
-    ack_passes c.ack_within.result c.args.judge.now c.args.dialogs.now.dialogs c.args.request.now.moment c.args.request.now.message.now c.args.request.now.short c.in-Ok.ensures.passes c.ack_within.ensures.verdict
 
 pub returns-clause-verdict : goal.returns-clause-verdict
 returns-clause-verdict g c =
-    λ state same rows named.
-    ack_dropped c.args.judge.now c.args.request.now.moment c.args.request.now.message.now c.args.request.now.short c.in-Err-Status.field-0-0 c.in-Err-Status.field-0-1 (row_is (refusal_of c.args.judge.now.config.own c.args.request.now.message.now c.args.request.now.short) c.in-Err-Status.field-0 c.in-Err-Status.field-0-0 c.in-Err-Status.field-0-1 c.in-Err-Status.field-0-is c.in-Err-Status.ensures.refusal) state
+    ack_unread c.unread_ack.result c.args.judge.now c.args.dialogs.now.dialogs c.args.request.now.moment c.args.request.now.message.now c.args.request.now.short (c.in-Err.error ≡ Bad.NoMemory → ⊥)
+    (λ not. unread c.args.judge.now.config.own c.args.request.now.message.now c.args.request.now.short c.args.request.now.method.now c.requires.request (c.unread_is_refused.ensures.bad c.args.judge.now.config.own c.args.request.now.message.now c.args.request.now.short) (core_unread c.core_of-core.result c.in-Err.error c.args.request.now.message.now c.in-Err.is not c.core_of-core.ensures))
+    c.unread_ack.ensures.memory c.unread_ack.ensures.verdict
