@@ -35,4 +35,4 @@ pub use received_request::{response_address, with_top_via};
 pub use record_route::push_record_route;
 pub use tail::{text_onward, text_to_target};
 pub use tail_text::tail_of;
-pub use top_via::received_via;
+pub use top_via::{received_via, received_via_of};

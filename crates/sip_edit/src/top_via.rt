@@ -1,15 +1,23 @@
-ghost use Rattle.std.specs.Prelude.{◌≡◌, ◌++◌, length, decimal, codes, option_map, IfOk, OnOk};
+ghost use Rattle.std.specs.Prelude.{◌≡◌, ◌++◌, ◌||◌, not, false, length, decimal, codes, is_some, option_map, IfOk, OnOk, Some};
+ghost use Rattle.std.specs.Str.{bytes_eq};
 ghost use Rattle.sip_text.specs.Cuts.{parts_at};
 ghost use Rattle.sip_text.specs.Lists.{trimmed};
+ghost use Rattle.sip_header.specs.Parameters.{parameter_of};
+ghost use Rattle.sip_header.specs.Via.{via_of};
+ghost use Rattle.sip_uri.specs.Addresses.{ip_text};
 ghost use Rattle.sip_edit.specs.TopVia;
 
-use sip_header::Via;
+use sip_header::{Via, parameter_of};
+use sip_route::is_address;
 use sip_text::{Buffer, Bytes, first_part, same_no_case, without_blanks};
-use sip_uri::{Addr, ip_text};
+use sip_uri::Addr;
 use std::alloc::{AllocError, Global};
 
 /// The most bytes that a Via gets from its source: the port of an `rport`, and a `received`.
 const SOURCE_BYTES: usize = 31;
+
+/// In longer values no parameter is looked up: they are cut at once.
+const USUAL_LENGTH: usize = 256;
 
 /// How many bytes stand before the first `=`.
 fn length_before_equals(piece: &[u8]) -> usize
@@ -57,22 +65,41 @@ fn put_edited(
     out.extend(piece)
 }
 
+/// Adds a `.` and a number in decimal.
+fn put_part(out: &mut Buffer, part: u8) -> Result<(), AllocError>
+    ensures { OnOk result (out.new ≡ out.old ++ codes "." ++ decimal part) }
+{
+    out.extend(b".")?;
+    out.push_decimal(u64::from(part))
+}
+
+/// Adds a `received` with this address.
+fn put_received(out: &mut Buffer, ip: [u8; 4]) -> Result<(), AllocError>
+    ensures { OnOk result (out.new ≡ out.old ++ codes ";received=" ++ ip_text ip) }
+{
+    out.extend(b";received=")?;
+    out.push_decimal(u64::from(ip[0]))?;
+    put_part(out, ip[1])?;
+    put_part(out, ip[2])?;
+    put_part(out, ip[3])
+}
+
+/// Whether the source's address is wanted: where the client asks for its port, or its sent-by has another host.
+#[tactic(auto, using(crate::proofs::Unedited::wanted))]
+fn is_wanted(host: &[u8], ip: [u8; 4], asks: bool) -> bool
+    ensures { result ≡ (asks || not (bytes_eq host.now (ip_text ip))) }
+{
+    asks || !is_address(ip, host)
+}
+
 /// Adds the source's address, if it is wanted.
-fn put_source(
-    alloc: Global,
-    out: &mut Buffer,
-    host: &[u8],
-    from: Addr,
-    asks: bool,
-) -> Result<(), AllocError>
+fn put_source(out: &mut Buffer, host: &[u8], from: Addr, asks: bool) -> Result<(), AllocError>
     ensures { OnOk result (out.new ≡ out.old ++ TopVia.source_of host.now from asks) }
 {
-    let ip = ip_text(alloc, from.ip)?;
-    if !asks && host == ip.as_slice() {
+    if !is_wanted(host, from.ip, asks) {
         return Ok(());
     }
-    out.extend(b";received=")?;
-    out.extend(ip.as_slice())
+    put_received(out, from.ip)
 }
 
 /// The value of a Via whose sent-by has this host, with its source.
@@ -93,8 +120,48 @@ fn with_source(alloc: Global, value: &[u8], host: &[u8], from: Addr) -> Result<B
         put_edited(&mut out, from.port, name, piece, is_port)?;
         rest = behind;
     }
-    put_source(alloc, &mut out, host, from, asks)?;
+    put_source(&mut out, host, from, asks)?;
     Ok(out.into_bytes())
+}
+
+/// A Via's value, all of whose parameters stay, with its source's address where its sent-by has another.
+fn with_address(alloc: Global, value: &[u8], host: &[u8], from: Addr) -> Result<Bytes, AllocError>
+    ensures { IfOk result (λ edited. edited ≡ value.now ++ TopVia.source_of host.now from false) }
+{
+    let mut out = Buffer::with_room(alloc, value.len().saturating_add(SOURCE_BYTES))?;
+    out.extend(value)?;
+    put_source(&mut out, host, from, false)?;
+    Ok(out.into_bytes())
+}
+
+/// Whether a Via has a parameter that doesn't go on as it stands.
+fn is_edited(via: &Via<'_>) -> bool
+    ensures { result ≡ (is_some (parameter_of (codes "rport") via.now.parameters) || is_some (parameter_of (codes "received") via.now.parameters)) }
+{
+    parameter_of(&via.parameters, b"rport").is_some()
+        || parameter_of(&via.parameters, b"received").is_some()
+}
+
+/// The same as `received_via` gives of a value that says this Via. One that has neither an `rport` nor a `received`, as
+/// most have none, isn't cut. `AllocError` is the only refusal.
+#[tactic(auto, using(crate::proofs::Unedited::stays, crate::proofs::Unedited::read))]
+pub fn received_via_of(
+    alloc: Global,
+    via: &Via<'_>,
+    value: &[u8],
+    from: Addr,
+) -> Result<Bytes, AllocError>
+    requires { via_of value.now ≡ Some via.now }
+    ensures { IfOk result (λ edited. edited ≡ TopVia.received_via value.now from) }
+{
+    let host = via.host.as_slice();
+    if USUAL_LENGTH < value.len() {
+        return with_source(alloc, value, host, from);
+    }
+    if is_edited(via) {
+        return with_source(alloc, value, host, from);
+    }
+    with_address(alloc, value, host, from)
 }
 
 /// The value of the top Via of a request as it came from an address, by what it says: a `received` that came is

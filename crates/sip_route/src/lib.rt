@@ -17,6 +17,6 @@ mod routes;
 mod routes_kept;
 mod way;
 
-pub use own::{Own, loose_routing};
+pub use own::{Own, is_address, loose_routing};
 pub use routes_kept::{RoutesKept, kept_routes};
 pub use way::{Way, has_lr, request_uri, uri_left, way_of};

@@ -34,8 +34,8 @@ fn is_dotted(text: &[u8], first: u8, second: u8, third: u8, fourth: u8) -> bool
     }
 }
 
-/// Whether a text is an address in dotted form.
-fn is_address(ip: [u8; 4], text: &[u8]) -> bool
+/// Whether a text is an address in dotted form, without a leading zero in any of its numbers. Takes no memory.
+pub fn is_address(ip: [u8; 4], text: &[u8]) -> bool
     ensures { result ≡ bytes_eq (ip_text ip) text.now }
 {
     is_dotted(text, ip[0], ip[1], ip[2], ip[3])

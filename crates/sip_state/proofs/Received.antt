@@ -11,7 +11,7 @@ use Rattle.sip_header.specs.Via.{via_of}
 use Rattle.sip_message_form.specs.declared.message.Message.{Message}
 use Rattle.sip_uri.specs.declared.addr.Addr.{Addr}
 use Rattle.sip_edit.specs.ReceivedRequest.{received_fields, address_by, response_address, top_via}
-use Rattle.sip_edit.specs.TopVia.{received_as, received_via}
+use Rattle.sip_edit.specs.TopVia.{received_via}
 
 none_by : (t : Bool) (value : List ℕ) (field : Field) (fields : List Field) → cond t (Some field) (first_named Name.Via fields) ≡ None → (first_named Name.Via fields ≡ None → with_first Name.Via value fields ≡ fields)
     → cond t (record field { value = value } ∷ fields) (field ∷ with_first Name.Via value fields) ≡ field ∷ fields
@@ -31,14 +31,14 @@ none_edited value fields none = none_named value fields (no_value (first_named N
 
 -- ---- where the top Via was read
 
-on_top : (fields : List Field) (value : List ℕ) (via : Via) → first_value Name.Via fields ≡ Some value → option_and_then via_of (first_value Name.Via fields) ≡ Some via → via_of value ≡ Some via
+pub on_top : (fields : List Field) (value : List ℕ) (via : Via) → first_value Name.Via fields ≡ Some value → option_and_then via_of (first_value Name.Via fields) ≡ Some via → via_of value ≡ Some via
 on_top fields value via is read = sym (ap (option_and_then via_of) is) ∙ read
 
 -- it gets what it says that it gets
-pub edited : (fields : List Field) (value text : List ℕ) (via : Via) (from : Addr) → first_value Name.Via fields ≡ Some value → option_and_then via_of (first_value Name.Via fields) ≡ Some via
-    → text ≡ received_as (Some via) value from → with_first Name.Via text fields ≡ received_fields from fields
-edited fields value text via from is read gets =
-    ap (λ (t : List ℕ). with_first Name.Via t fields) (gets ∙ ap (λ (o : Option Via). received_as o value from) (sym (on_top fields value via is read)))
+pub edited : (fields : List Field) (value text : List ℕ) (from : Addr) → first_value Name.Via fields ≡ Some value → text ≡ received_via value from
+    → with_first Name.Via text fields ≡ received_fields from fields
+edited fields value text from is gets =
+    ap (λ (t : List ℕ). with_first Name.Via t fields) gets
     ∙ sym (ap (λ (o : Option (List ℕ)). option_map_or (λ (v : List ℕ). with_first Name.Via (received_via v from) fields) o fields) is)
 
 -- and the answers go where it says

@@ -4,7 +4,7 @@ ghost use Rattle.sip_message_fields.specs.Values.{with_first};
 ghost use Rattle.sip_edit.specs.ReceivedRequest.{received_fields, response_address, top_via};
 ghost use Rattle.sip_state.specs.TopVia.{IsTopVia};
 
-use sip_edit::{received_via, response_address};
+use sip_edit::{received_via, received_via_of, response_address};
 use sip_header::{Via, via_of};
 use sip_message_fields::FieldName;
 use sip_message_form::View;
@@ -60,7 +60,7 @@ pub(crate) fn reply_address(
 
 impl TopVia {
     /// What the top Via of a request that came from an address says, as it was read.
-    #[tactic(auto, using(crate::proofs::Received::none_edited, crate::proofs::Received::edited, crate::proofs::Received::answered))]
+    #[tactic(auto, using(crate::proofs::Received::none_edited, crate::proofs::Received::on_top, crate::proofs::Received::edited, crate::proofs::Received::answered))]
     pub(crate) fn of(
         alloc: Global,
         request: &View<'_>,
@@ -77,7 +77,7 @@ impl TopVia {
         let reply_to = response_address(Some(via), from);
         Ok(TopVia {
             source: from,
-            value: received_via(alloc, Some(via), value, from)?,
+            value: received_via_of(alloc, via, value, from)?,
             reply_to,
         })
     }
