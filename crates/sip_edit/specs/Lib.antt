@@ -4,6 +4,7 @@ pub mod Examples
 pub mod OwnVia
 pub mod BranchId
 pub mod OwnRequests
+pub mod OwnRequestText
 pub mod Lowering
 pub mod Tail
 pub mod Onward

@@ -1,6 +1,7 @@
 //! What a server changes of a message that goes on: the source of a request in its top Via, and where its responses go;
-//! the own Via and its branch, and a response without it; the ACK and the CANCEL of a request that was sent (RFC 3261
-//! 9.1, 16.6, 16.7, 17.1.1.3, 18.2.1 and 18.2.2; RFC 3581 4). And a request as it goes on to its targets (16.4, 16.6):
+//! the own Via and its branch, and a response without it; the ACK and the CANCEL of a request that was sent, and their
+//! texts, written straight from the request as it came (RFC 3261 9.1, 16.6, 16.7, 17.1.1.3, 18.2.1 and 18.2.2; RFC 3581 4).
+//! And a request as it goes on to its targets (16.4, 16.6):
 //! what is the same for all of them, the request to one of them, this server's Record-Route, and the Request-URI with
 //! which a request goes on that is its own target.
 //!
@@ -19,6 +20,7 @@ pub mod examples;
 pub mod laws;
 mod onward;
 pub mod onward_examples;
+mod own_request_text;
 mod own_requests;
 mod own_via;
 mod received_request;
@@ -29,6 +31,7 @@ mod top_via;
 
 pub use branch_id::{BranchId, branch_of_text};
 pub use onward::{onward_base, onward_base_by, onward_uri, to_target};
+pub use own_request_text::{ack_text, cancel_text};
 pub use own_requests::{ack_of, ack_with, cancel_of};
 pub use own_via::{branch_text, own_via_to, own_via_value, pop_via};
 pub use received_request::{response_address, with_top_via};

@@ -6,7 +6,7 @@ ghost use Rattle.sip_message_form.specs.ViewStart.{start_seen};
 ghost use Rattle.sip_message_fields.specs.declared.field_name.FieldName.TheVariants as Name;
 ghost use Rattle.sip_edit.specs.Onward as Spec;
 ghost use Rattle.sip_edit.specs.Lowering as Lowering;
-ghost use Rattle.sip_header_credentials.specs.Credentials.{is_realm};
+ghost use Rattle.sip_header_credentials.specs.Credentials.{credentials_of, is_realm};
 ghost use Rattle.sip_route.specs.RoutesKept.{fields_kept};
 ghost use Rattle.sip_route.specs.Way.{fields_left, request_uri};
 
@@ -71,6 +71,18 @@ fn is_realm(realm: &[u8], said: &Option<Value<'_>>) -> bool
     }
 }
 
+/// Whether a value is well-formed Digest credentials of this realm. It stands apart, so that for a field of another name no
+/// room is made for parameters.
+#[inline(never)]
+fn are_for_realm(alloc: Global, realm: &[u8], value: &[u8]) -> Result<bool, AllocError>
+    ensures { IfOk result (λ are_for. are_for ≡ option_map_or (λ c. is_realm realm.now c.realm) (credentials_of value.now) false) }
+{
+    match credentials_of(alloc, value)? {
+        Some(credentials) => Ok(is_realm(realm, &credentials.realm)),
+        None => Ok(false),
+    }
+}
+
 /// Whether a field has well-formed Digest credentials for a proxy of this realm.
 pub(crate) fn is_for_realm(
     alloc: Global,
@@ -82,10 +94,7 @@ pub(crate) fn is_for_realm(
     if !field.name().is_same(&FieldName::ProxyAuthorization) {
         return Ok(false);
     }
-    match credentials_of(alloc, field.value().as_slice())? {
-        Some(credentials) => Ok(is_realm(realm, &credentials.realm)),
-        None => Ok(false),
-    }
+    are_for_realm(alloc, realm, field.value().as_slice())
 }
 
 /// A field with a number as its value.

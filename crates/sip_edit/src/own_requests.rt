@@ -108,7 +108,7 @@ fn request_like<'v>(
 }
 
 /// The field of a To with this value, if there is one.
-fn to_field(to: Option<&[u8]>) -> Option<ViewField<'_>>
+pub(crate) fn to_field(to: Option<&[u8]>) -> Option<ViewField<'_>>
     ensures { option_to_list result ≡ OwnRequests.to_field (option_map (λ value. value.now) to.entry) }
 {
     let value = to?;

@@ -22,7 +22,7 @@ fn ack(alloc: Global, sent: &View<'_>, response: &View<'_>) -> Result<Bytes, All
     write_view(alloc, &ack_of(alloc, sent, response)?)
 }
 
-/// The server calls `ack_with`, with a To that it kept.
+/// The server writes it straight, by `ack_text`, with a To that it kept.
 #[test]
 fn ack_of_a_response(rt: HostRuntime) {
     let alloc = rt.alloc();

@@ -1,0 +1,195 @@
+ghost use Rattle.std.specs.Prelude.{◌≡◌, ◌++◌, IfOk, OnOk, option_map};
+ghost use Rattle.std.specs.Option.{option_and_then, option_to_list};
+ghost use Rattle.std.specs.List.{flat_map};
+ghost use Rattle.sip_message_fields.specs.declared.field_name.FieldName.TheVariants as Name;
+ghost use Rattle.sip_message_fields.specs.Named.{all_named};
+ghost use Rattle.sip_message_form.specs.Text.{field_text, text_of};
+ghost use Rattle.sip_message_form.specs.ViewStart.{start_seen};
+ghost use Rattle.sip_header.specs.CSeq as CSeqs;
+ghost use Rattle.sip_route.specs.RoutesKept.{fields_kept};
+ghost use Rattle.sip_route.specs.Way.{request_uri};
+ghost use Rattle.sip_edit.specs.Onward as Goes;
+ghost use Rattle.sip_edit.specs.OwnRequests;
+ghost use Rattle.sip_edit.specs.OwnRequestText as Spec;
+
+use crate::own_requests::to_field;
+use sip_header::cseq_of;
+use sip_message_fields::{FieldName, ViewField};
+use sip_message_form::{View, ViewStart, put_body, put_field, put_line, put_request_line};
+use sip_route::RoutesKept;
+use sip_text::{Buffer, Bytes};
+use std::alloc::{AllocError, Global};
+
+/// The most bytes of such a request beside what it takes over: its method twice, the names of its fields, the number of its
+/// CSeq, its Max-Forwards, and the length of its body.
+const REST_OF_REQUEST: usize = 160;
+
+/// The Request-URI of a request with this first line that goes to a target.
+fn target_uri<'v>(start: &ViewStart<'_>, uri: &'v [u8]) -> &'v [u8]
+    ensures { result.now ≡ request_uri (Goes.with_uri uri.now (start_seen start.now)) }
+{
+    match start {
+        ViewStart::Request { .. } => uri,
+        ViewStart::Status { .. } => b"",
+    }
+}
+
+/// Adds what stands before all that such a request takes over: its first line, this server's Via of a value, and a
+/// Max-Forwards of 70.
+fn put_front(out: &mut Buffer, method: &[u8], uri: &[u8], via: &[u8]) -> Result<(), AllocError>
+    ensures { OnOk result (out.new ≡ out.old ++ Spec.front_text method.now uri.now via.now) }
+{
+    put_request_line(out, method, uri, b"SIP/2.0")?;
+    out.extend(b"\r\n")?;
+    put_line(out, b"Via", via)?;
+    out.extend(b"Max-Forwards: 70\r\n")
+}
+
+/// Adds a field with its CRLF, if there is one.
+#[tactic(auto, using(crate::proofs::BesideTexts::one_line))]
+fn put_given(out: &mut Buffer, field: Option<&ViewField<'_>>) -> Result<(), AllocError>
+    ensures { OnOk result (out.new ≡ out.old ++ flat_map field_text (option_to_list (option_map (λ field. field.now) field.entry))) }
+{
+    match field {
+        Some(field) => put_field(out, field),
+        None => Ok(()),
+    }
+}
+
+/// Adds a CSeq of this number and method.
+fn put_number(out: &mut Buffer, number: u32, method: &[u8]) -> Result<(), AllocError>
+    ensures { OnOk result (out.new ≡ out.old ++ Spec.cseq_text number method.now) }
+{
+    out.extend(b"CSeq: ")?;
+    out.push_decimal(u64::from(number))?;
+    out.extend(b" ")?;
+    out.extend(method)?;
+    out.extend(b"\r\n")
+}
+
+/// Adds a CSeq with a method and the number of another, if that can be read.
+#[tactic(auto, using(crate::proofs::BesideTexts::cseq_is))]
+fn put_cseq(out: &mut Buffer, method: &[u8], value: Option<&[u8]>) -> Result<(), AllocError>
+    ensures { OnOk result (out.new ≡ out.old ++ flat_map field_text (OwnRequests.cseq_with method.now (option_and_then CSeqs.cseq_of (option_map (λ value. value.now) value.entry)))) }
+{
+    let Some(value) = value else {
+        return Ok(());
+    };
+    let Some(cseq) = cseq_of(value) else {
+        return Ok(());
+    };
+    put_number(out, cseq.number, method)
+}
+
+/// Adds the Routes that are left.
+#[tactic(auto, using(crate::proofs::BesideTexts::no_route, crate::proofs::BesideTexts::taken_off, crate::proofs::BesideTexts::passed_on))]
+fn put_routes(
+    out: &mut Buffer,
+    routes: RoutesKept,
+    fields: &[ViewField<'_>],
+) -> Result<(), AllocError>
+    ensures { OnOk result (out.new ≡ out.old ++ flat_map field_text (all_named Name.Route (fields_kept routes fields.now))) }
+{
+    let mut routes = routes;
+    for field in fields {
+        if !field.name().is_same(&FieldName::Route) {
+            continue;
+        }
+        if routes.takes(field) {
+            put_field(out, field)?;
+        }
+    }
+    Ok(())
+}
+
+/// Adds the Routes that are left, of which there are mostly none.
+#[tactic(auto, using(crate::proofs::BesideTexts::none_kept))]
+fn put_routes_left(
+    out: &mut Buffer,
+    routes: RoutesKept,
+    fields: &[ViewField<'_>],
+) -> Result<(), AllocError>
+    ensures { OnOk result (out.new ≡ out.old ++ flat_map field_text (all_named Name.Route (fields_kept routes fields.now))) }
+{
+    if routes.kept == 0 {
+        return Ok(());
+    }
+    put_routes(out, routes, fields)
+}
+
+/// How many bytes a field has beside its name.
+fn room_of(field: Option<&ViewField<'_>>) -> usize {
+    match field {
+        Some(field) => field.value().as_slice().len(),
+        None => 0,
+    }
+}
+
+/// The text of the request of a method that belongs to one which went to a target, with a To: of the request as it came, if
+/// these Routes are left of it.
+fn text_beside(
+    alloc: Global,
+    method: &[u8],
+    to: Option<&ViewField<'_>>,
+    uri: &[u8],
+    via: &[u8],
+    routes: RoutesKept,
+    came: &View<'_>,
+) -> Result<Bytes, AllocError>
+    ensures { IfOk result
+        (λ text. text ≡ text_of (Spec.beside method.now (option_to_list (option_map (λ field. field.now) to.entry)) uri.now via.now routes came.now)) }
+{
+    let fields = came.fields();
+    let from = fields.first_field(&FieldName::From);
+    let call_id = fields.first_field(&FieldName::CallId);
+    let uri = target_uri(came.start(), uri);
+    let room = uri
+        .len()
+        .saturating_add(via.len())
+        .saturating_add(room_of(from))
+        .saturating_add(room_of(to))
+        .saturating_add(room_of(call_id))
+        .saturating_add(REST_OF_REQUEST);
+    let mut out = Buffer::with_room(alloc, room)?;
+    put_front(&mut out, method, uri, via)?;
+    put_given(&mut out, from)?;
+    put_given(&mut out, to)?;
+    put_given(&mut out, call_id)?;
+    put_cseq(&mut out, method, fields.first(&FieldName::CSeq))?;
+    put_routes_left(&mut out, routes, fields.as_slice())?;
+    put_body(&mut out, b"")?;
+    Ok(out.into_bytes())
+}
+
+/// The text of the ACK of a final answer with this To, if that had one, to an INVITE that went to a target with this
+/// Request-URI and this server's Via of this value (RFC 3261 17.1.1.3). It is written straight from the fields of the INVITE
+/// as it came, if these Routes are left of it. `AllocError` is the only refusal.
+pub fn ack_text(
+    alloc: Global,
+    to: Option<&[u8]>,
+    uri: &[u8],
+    via: &[u8],
+    routes: RoutesKept,
+    came: &View<'_>,
+) -> Result<Bytes, AllocError>
+    ensures { IfOk result (λ text. Spec.IsAckText (option_map (λ value. value.now) to.entry) uri.now via.now routes came.now text) }
+{
+    let to = to_field(to);
+    text_beside(alloc, b"ACK", to.as_ref(), uri, via, routes, came)
+}
+
+/// The text of the CANCEL of a request that went to a target with this Request-URI and this server's Via of this value (RFC
+/// 3261 9.1). It is written straight from the fields of the request as it came, if these Routes are left of it. `AllocError`
+/// is the only refusal.
+pub fn cancel_text(
+    alloc: Global,
+    uri: &[u8],
+    via: &[u8],
+    routes: RoutesKept,
+    came: &View<'_>,
+) -> Result<Bytes, AllocError>
+    ensures { IfOk result (λ text. Spec.IsCancelText uri.now via.now routes came.now text) }
+{
+    let to = came.fields().first_field(&FieldName::To);
+    text_beside(alloc, b"CANCEL", to, uri, via, routes, came)
+}
