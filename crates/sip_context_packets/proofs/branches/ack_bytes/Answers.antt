@@ -1,8 +1,17 @@
-use Rattle.std.proofs.Common.{◌≡◌, IfOk, subst, ◌∙◌, ap, option_map}
-use Rattle.sip_message_form.specs.declared.message.Message.{Message}
+use Rattle.std.proofs.Common.{◌≡◌, List, ℕ, ◌∙◌, option_map}
+use Rattle.std.proofs.lemmas.Result.{IfOk-weaker}
 use Rattle.sip_message_form.specs.Text.{text_of}
 use Rattle.sip_edit.specs.OwnRequests.{ack_with}
+use Rattle.sip_edit.specs.OwnRequestText.{IsAckText}
+use Rattle.model_context.specs.Sending.{request_of}
+use Rattle.sip_context_packets.proofs.Sent.{ack_is}
 use Rattle.sip_context_packets.proofs.branches.ack_bytes.Goals as goal
 
 pub returns : goal.returns
-returns c = subst (λ (m : Message). IfOk c.write_view.result (λ text. text ≡ text_of m)) (c.in_ok-ack.ensures ∙ ap (ack_with (option_map (λ value. value.now) c.args.to)) c.in_ok-request.ensures) c.write_view.ensures
+returns c =
+    IfOk-weaker c.ack_text.result
+    (λ (text : List ℕ). IsAckText (option_map (λ value. value.now) c.args.to) c.as_slice.result.now c.as_slice-2.result.now c.in_ok-routes.routes c.in_ok-came.came text)
+    (λ (text : List ℕ). text ≡ text_of (ack_with (option_map (λ value. value.now) c.args.to) (request_of c.args.server.now c.args.request.now c.args.branch.now)))
+    (λ text is. ack_is c.args.server.now c.args.request.now c.args.branch.now c.get-heard.result.now c.in_ok-came.came c.in_ok-routes.routes (option_map (λ value. value.now) c.args.to) c.as_slice.result.now c.as_slice-2.result.now text
+    c.get-heard.ensures c.in_ok-came.ensures c.in_ok-routes.ensures (c.as_slice.ensures ∙ c.get-target.ensures) (c.as_slice-2.ensures ∙ c.in_ok-via.ensures) is)
+    c.ack_text.ensures
