@@ -1,6 +1,7 @@
 ghost use Rattle.std.specs.Prelude.{◌≡◌, [], IfOk};
 ghost use Rattle.sip_message_form.specs.Text.{text_of};
 ghost use Rattle.sip_edit_response.specs.Reply.{reply_of};
+ghost use Rattle.sip_edit_response.specs.Tags;
 ghost use Rattle.model_context.specs.Sending as Spec;
 
 use model_context::state::{Heard, OpenRequest, Server, Written};
@@ -89,6 +90,25 @@ fn written_reply(
     Written::of_view(alloc, &answer)
 }
 
+/// The answer of a status that is made here to a request which the datagram of a number brought, kept with its text.
+#[tactic(auto, using(crate::proofs::Untagged::no_tag))]
+fn written_made(
+    alloc: Global,
+    server: &Server,
+    number: u64,
+    received: &View<'_>,
+    status: u16,
+) -> Result<Written, AllocError>
+    ensures { IfOk result (λ written. written ≡ reply_of received.now status (Tags.to_tag server.now.word number) []) }
+{
+    // A 100 gets no tag (RFC 3261 8.2.6.2).
+    if status == 100 {
+        return written_reply(alloc, received, status, b"");
+    }
+    let tag = to_tag(alloc, server.word, number)?;
+    written_reply(alloc, received, status, tag.as_slice())
+}
+
 /// The answer of a status that is made here to an open request, as a message that is kept with its text. `AllocError` is
 /// the only refusal.
 pub fn written_answer(
@@ -103,6 +123,5 @@ pub fn written_answer(
     let request = open_request.request.get();
     let via = request.received_via(alloc, open_request.source)?;
     let received = request.with_top_via(alloc, via.as_slice())?;
-    let tag = to_tag(alloc, server.word, open_request.number)?;
-    written_reply(alloc, &received, status, tag.as_slice())
+    written_made(alloc, server, open_request.number, &received, status)
 }
