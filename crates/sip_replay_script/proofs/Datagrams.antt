@@ -1,7 +1,7 @@
 -- The lines of a datagram, one after the other.
-use Rattle.std.proofs.Common.{◌≡◌, ℕ, ◌+◌, ◌≤◌, ◌<◌, List, [], ◌∷◌, ◌++◌, length, take, drop, Bool, true, false, Option, Some, None, inl, inr, refl, sym, ◌∙◌, ap, ap₂, arith, append_assoc, append-nil, length-append}
+use Rattle.std.proofs.Common.{◌≡◌, ℕ, zero, suc, ◌+◌, ◌≤◌, ◌<◌, List, [], ◌∷◌, ◌++◌, length, take, drop, Bool, true, false, Option, Some, None, inl, inr, refl, sym, subst, ◌∙◌, ap, ap₂, arith, append_assoc, append-nil, length-append}
 use Rattle.std.specs.List.{flat_map, list_any}
-use Rattle.std.specs.Prelude.{◌||◌, count_by, IfSome}
+use Rattle.std.specs.Prelude.{◌||◌, ◌&&◌, ◌==◌, nat_lt, slice_index, count_by, IfSome, if◌then◌else◌}
 use Rattle.std.specs.Io.KnownBytes.{Consumes, Keeps, IsAtEnd}
 use Rattle.std.proofs.KnownBytes.{Consumes-nil, Consumes-trans}
 use Rattle.std.proofs.lemmas.Grind.{flat_map-append}
@@ -12,11 +12,12 @@ use Rattle.sip_event.specs.declared.event.Event.{Event}
 use Rattle.sip_replay_script.specs.declared.script.DatagramHead.{DatagramHead}
 use Rattle.sip_replay_script.specs.declared.script.Line.{Line}
 use Rattle.sip_replay_script.specs.declared.script.Line.TheVariants.{Head, Whole}
-use Rattle.sip_replay_script.specs.Script.{line_of, datagram_at}
-use Rattle.sip_replay_script.specs.Lines.{Reading, BeginsWith, PassesLine, IsLine, IsUnended, is_end, pending, left, GivesLine, IsOver, LineStops}
+use Rattle.sip_replay_script.specs.Script.{line_of, datagram_at, unstuffed}
+use Rattle.sip_replay_script.specs.Lines.{Reading, BeginsWith, EndsAt, PassesLine, IsLine, IsUnended, is_end, pending, left, GivesLine, IsOver, LineStops}
 use Rattle.sip_replay_script.specs.declared.stop.Stop.{Stop}
 use Rattle.sip_replay_script.specs.declared.stop.Stop.TheVariants as stops
-use Rattle.std.proofs.lemmas.List.{take_all, drop_all, drop-append-le}
+use Rattle.sip_replay_script.specs.Gathered.{AddsNext}
+use Rattle.std.proofs.lemmas.List.{length-take-le, take_all, drop_all, drop-append-le}
 use Rattle.sip_replay_script.proofs.Keeping.{front_of_both}
 use Rattle.sip_replay_script.proofs.LineEnds.{ends_add, one_end}
 use Rattle.sip_replay_script.specs.Events.{ended, is_dot, said, SaysBytes, KeepsAll, KeepsLine, KeepsLines, GivesDatagram, GivesEvent, GivesSaid, IsNoDatagram, IsNoEvent, DatagramStops, EventStops}
@@ -301,3 +302,34 @@ said_head old mid new before middle after bytes head event s d le is = gives_hea
 pub said_head_stops : (F : Type 0) (old mid : Reading) (before middle : Option (List ℕ)) (head : DatagramHead) (stop : Stop) → GivesSaid old mid before middle (Some (Head head)) → DatagramStops F (pending mid middle) stop
     → EventStops F (pending old before) stop
 said_head_stops F old mid before middle head stop s h = head_stops F old mid before middle s.line head stop s.given s.says h
+
+-- ---- a line that was added where it was found
+
+not_dot : (text : List ℕ) (count : ℕ) → (slice_index text 0 == 46) ≡ false → is_dot (take count text) ≡ false
+not_dot text zero e = refl
+not_dot [] (suc n) e = refl
+not_dot (x ∷ xs) (suc n) e = rw e refl
+
+and_false : (a : Bool) → (a && false) ≡ false
+and_false true = refl
+and_false false = refl
+
+not_stuffed : (text : List ℕ) (count : ℕ) → (slice_index text 0 == 46) ≡ false → unstuffed (take count text) ≡ take count text
+not_stuffed text zero e = refl
+not_stuffed [] (suc n) e = refl
+not_stuffed (x ∷ xs) (suc n) e =
+    let line = x ∷ take n xs in
+    ap (λ t. if nat_lt 0 (length line) && t then take n xs else line) e ∙ ap (λ t. if t then take n xs else line) (and_false (nat_lt 0 (length line)))
+
+pub keeps_added : (old new : Reading) (before after : List ℕ) (count : ℕ) → AddsNext old.unread before after count → new.unread ≡ drop (count + 1) old.unread → new.number ≡ old.number + 1 → new.asks ≡ old.asks → KeepsLine old new before after
+keeps_added old new before after count next unread number asks =
+    let line : List ℕ = take count old.unread in
+    let ends : EndsAt old.unread count = next.adds.ends in
+    let inside : count < length old.unread = ends.inside in
+    let few : length old.unread ≤ 8192 = next.few in
+    let long : length line ≡ count = length-take-le count old.unread (omega (arith, inside)) in
+    let begins : BeginsWith old.unread line = record { rest = drop (count + 1) old.unread; is_line = record { short = omega (arith, long, inside, few); single = ends.single }; cut = ends.cut } in
+    let says : after ≡ before ++ said line = next.adds.added ∙ ap (λ l. before ++ (l ++ 13 ∷ 10 ∷ [])) (sym (not_stuffed old.unread count next.undotted)) in
+    let short : length (before ++ said line) ≤ 65508 = subst (λ (l : List ℕ). length l ≤ 65508) says next.adds.short in
+    keeps_next old new line before after (passes_line old new line begins (unread ∙ ap (λ n. drop (n + 1) old.unread) (sym long)) number asks) (not_dot old.unread count next.undotted)
+    (says ∙ sym (take_all 65508 (before ++ said line) short))

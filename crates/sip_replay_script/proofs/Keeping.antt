@@ -21,8 +21,3 @@ front_of_both (suc most) (x ∷ xs) ys = ap (λ l. x ∷ l) (front_of_both most 
 pub kept_two : (most : ℕ) (old part more seen first new : List ℕ) → seen ≡ part → first ≡ take most (old ++ seen) → new ≡ take most (first ++ more) → new ≡ take most (old ++ (part ++ more))
 kept_two most old part more seen first new same is1 is2 =
     is2 ∙ ap (λ l. take most (l ++ more)) is1 ∙ front_of_both most (old ++ seen) more ∙ ap (take most) (append_assoc old seen more) ∙ ap (λ l. take most (old ++ (l ++ more))) same
-
--- a line and its end, where there is room for them
-pub kept_ended : (most : ℕ) (old part ending seen new : List ℕ) → seen ≡ part → length old + (length seen + length ending) ≤ most → new ≡ old ++ (seen ++ ending) → new ≡ take most (old ++ (part ++ ending))
-kept_ended most old part ending seen new same fits is =
-    is ∙ sym (take_all most (old ++ (seen ++ ending)) (omega (arith, fits, length-append old (seen ++ ending), length-append seen ending))) ∙ ap (λ l. take most (old ++ (l ++ ending))) same

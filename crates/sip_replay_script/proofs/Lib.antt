@@ -3,6 +3,7 @@ pub mod CutEvents
 pub mod DatagramWord
 pub mod Datagrams
 pub mod Fronts
+pub mod Gathering
 pub mod HeadLines
 pub mod Keeping
 pub mod LineEnds

@@ -26,7 +26,7 @@ none_before text (suc i) le h =
     let same : suc i ≡ i + 1 = omega arith in
     ap (λ n. count_by is_end (take n text)) same ∙ more ∙ rest
 
-ends_at : (text : List ℕ) (place : ℕ) → place < length text → ((k : ℕ) → k < place → is_end (get_or text k 0) ≡ false) → get_or text place 0 ≡ 10 → EndsAt text place
+pub ends_at : (text : List ℕ) (place : ℕ) → place < length text → ((k : ℕ) → k < place → is_end (get_or text k 0) ≡ false) → get_or text place 0 ≡ 10 → EndsAt text place
 ends_at text place lt before is = record {
   inside = lt;
   single = none_before text place (omega arith) before;

@@ -1,6 +1,7 @@
 pub mod Devices
 pub mod EventText
 pub mod Events
+pub mod Gathered
 pub mod Lines
 pub mod Print
 pub mod Script

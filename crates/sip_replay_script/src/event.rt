@@ -1,23 +1,22 @@
-ghost use Rattle.std.specs.Prelude.{◌≡◌, ◌≤◌, ◌<◌, ◌++◌, [], ◌∷◌, true, false, length, take, OnOk, IfOk, IfErr, IfSome, IfNone};
+ghost use Rattle.std.specs.Prelude.{◌≡◌, ◌≤◌, ◌++◌, [], true, false, length, take, OnOk, IfOk, IfErr, IfSome, IfNone, MatchOption};
 ghost use Rattle.sip_replay_script.specs.Devices.{later};
 ghost use Rattle.sip_replay_script.specs.Events;
 ghost use Rattle.sip_replay_script.specs.Events.{GivesEvent, GivesDatagram, GivesFirst, GoesOnBy, KeepsAll, KeepsLines, EventStops};
 ghost use Rattle.sip_replay_script.specs.Events.{DatagramStops};
+ghost use Rattle.sip_replay_script.specs.Gathered.{AddsNext};
 ghost use Rattle.sip_replay_script.specs.Lines.{left, pending, IsOver, IsSpent, LineStops};
 ghost use Rattle.sip_replay_script.specs.Script;
 ghost use Rattle.sip_replay_script.specs.declared.stop.Stop.TheVariants.{NoMemory};
 
 use crate::device::TellingReader;
+use crate::gathered::{Gathered, KEPT};
 use crate::lines::Lines;
 use crate::script::{DatagramHead, Line, line_of, unstuffed};
 use crate::stop::Stop;
 use sip_event::Event;
 use sip_text::Bytes;
 use std::alloc::Global;
-
-/// One byte more than a datagram has. What comes behind isn't kept: a datagram over 65,507 bytes is
-/// refused as too long, whatever its bytes are.
-const KEPT: usize = 65_508;
+use std::mem;
 
 /// The next event of a script; `None` at its end. What it is gathered in may be kept for the next.
 pub fn next_event<R: TellingReader>(
@@ -94,7 +93,7 @@ fn datagram_bytes<R: TellingReader>(
     alloc: Global,
     lines: &mut Lines,
     reader: &mut R,
-    bytes: &mut Vec<u8>,
+    room: &mut Vec<u8>,
 ) -> Result<Bytes, Stop>
     ensures given { IfOk result (λ bytes. GivesDatagram lines.old lines.new (R.remaining reader.old) (R.remaining reader.new) bytes) }
     ensures fewer { OnOk result (left lines.new ≤ left lines.old) }
@@ -102,19 +101,39 @@ fn datagram_bytes<R: TellingReader>(
     ensures asked { later lines.new.asks (R.asked reader.new) ≡ later lines.old.asks (R.asked reader.old) }
     ensures less { lines.new.asks ≤ lines.old.asks }
 {
+    let mut bytes = Gathered::in_room(mem::replace(room, Vec::new(alloc)));
+    gather(alloc, lines, reader, &mut bytes)?;
+    let copy = Bytes::copy(alloc, bytes.as_slice())?;
+    *room = bytes.into_room();
+    Ok(copy)
+}
+
+/// Gathers the bytes that the lines up to a line `.` say.
+fn gather<R: TellingReader>(
+    alloc: Global,
+    lines: &mut Lines,
+    reader: &mut R,
+    bytes: &mut Gathered,
+) -> Result<(), Stop>
+    requires { bytes.old ≡ [] }
+    ensures given { OnOk result (GivesDatagram lines.old lines.new (R.remaining reader.old) (R.remaining reader.new) bytes.new) }
+    ensures fewer { OnOk result (left lines.new ≤ left lines.old) }
+    ensures stopped { IfErr result (DatagramStops (IsSpent (R.has_failed reader.new) lines.new.asks) (pending lines.old (R.remaining reader.old))) }
+    ensures asked { later lines.new.asks (R.asked reader.new) ≡ later lines.old.asks (R.asked reader.old) }
+    ensures less { lines.new.asks ≤ lines.old.asks }
+{
     let mut line = Vec::new(alloc);
-    bytes.clear();
     loop {
         if keep_lines(lines, bytes)? {
-            return Ok(Bytes::copy(alloc, bytes)?);
+            return Ok(());
         }
         if !lines.next(reader, &mut line)? {
             return Err(Stop::Script);
         }
         if is_dot(&line) {
-            return Ok(Bytes::copy(alloc, bytes)?);
+            return Ok(());
         }
-        keep_cut(bytes, &line)?;
+        keep_line(bytes, &line)?;
     }
 }
 
@@ -131,11 +150,11 @@ enum Next {
 /// Adds what the lines say that stand whole among the bytes that were read, and passes them, up to a dot, which is passed,
 /// too; whether there was a dot. Most lines do: only one that reaches past those bytes is gathered first.
 #[tactic(auto, using(crate::proofs::Datagrams::keeps_less))]
-fn keep_lines(lines: &mut Lines, bytes: &mut Vec<u8>) -> Result<bool, Stop>
-    requires { length bytes.old.items ≤ KEPT }
-    ensures kept { IfOk result (λ ended. ended ≡ false → KeepsLines lines.old lines.new bytes.old.items bytes.new.items) }
-    ensures all { IfOk result (λ ended. ended ≡ true → KeepsAll lines.old lines.new bytes.old.items bytes.new.items) }
-    ensures most { OnOk result (length bytes.new.items ≤ KEPT) }
+fn keep_lines(lines: &mut Lines, bytes: &mut Gathered) -> Result<bool, Stop>
+    requires { length bytes.old ≤ KEPT }
+    ensures kept { IfOk result (λ ended. ended ≡ false → KeepsLines lines.old lines.new bytes.old bytes.new) }
+    ensures all { IfOk result (λ ended. ended ≡ true → KeepsAll lines.old lines.new bytes.old bytes.new) }
+    ensures most { OnOk result (length bytes.new ≤ KEPT) }
     ensures fewer { OnOk result (left lines.new ≤ left lines.old) }
     ensures asks { lines.new.asks ≡ lines.old.asks }
     ensures stopped { IfErr result (λ stop. stop ≡ NoMemory) }
@@ -150,10 +169,40 @@ fn keep_lines(lines: &mut Lines, bytes: &mut Vec<u8>) -> Result<bool, Stop>
 }
 
 /// Passes the next line, if it stands whole among the bytes that were read, and adds what it says, unless it is the dot.
-fn keep_next(lines: &mut Lines, bytes: &mut Vec<u8>) -> Result<Next, Stop>
-    requires { length bytes.old.items ≤ KEPT }
-    ensures next { IfOk result (λ next. GoesOnBy next lines.old lines.new bytes.old.items bytes.new.items) }
-    ensures most { OnOk result (length bytes.new.items ≤ KEPT) }
+#[inline(always)]
+fn keep_next(lines: &mut Lines, bytes: &mut Gathered) -> Result<Next, Stop>
+    requires { length bytes.old ≤ KEPT }
+    ensures next { IfOk result (λ next. GoesOnBy next lines.old lines.new bytes.old bytes.new) }
+    ensures most { OnOk result (length bytes.new ≤ KEPT) }
+    ensures asks { lines.new.asks ≡ lines.old.asks }
+    ensures stopped { IfErr result (λ stop. stop ≡ NoMemory) }
+{
+    if let Some(count) = add_next(lines, bytes) {
+        lines.pass(count);
+        return Ok(Next::Kept);
+    }
+    keep_any(lines, bytes)
+}
+
+/// Adds the next line and its CRLF, if it stands whole among those bytes, doesn't begin with a dot, and there is room for it;
+/// how many bytes it has. Of None nothing changes.
+#[inline(always)]
+fn add_next(lines: &Lines, bytes: &mut Gathered) -> Option<usize>
+    ensures { MatchOption result (bytes.new ≡ bytes.old) (AddsNext lines.now.unread bytes.old bytes.new) }
+{
+    let text = lines.unread();
+    if text.is_empty() || text[0] == b'.' {
+        return None;
+    }
+    bytes.add_line(text)
+}
+
+/// The same of any line.
+#[inline(never)]
+fn keep_any(lines: &mut Lines, bytes: &mut Gathered) -> Result<Next, Stop>
+    requires { length bytes.old ≤ KEPT }
+    ensures next { IfOk result (λ next. GoesOnBy next lines.old lines.new bytes.old bytes.new) }
+    ensures most { OnOk result (length bytes.new ≤ KEPT) }
     ensures asks { lines.new.asks ≡ lines.old.asks }
     ensures stopped { IfErr result (λ stop. stop ≡ NoMemory) }
 {
@@ -178,56 +227,28 @@ fn is_dot(line: &[u8]) -> bool
 }
 
 /// Adds what a line says to a datagram, as far as it is kept.
-fn keep_line(bytes: &mut Vec<u8>, line: &[u8]) -> Result<(), Stop>
-    requires { length bytes.old.items ≤ KEPT }
-    ensures kept { OnOk result (bytes.new.items ≡ take KEPT (bytes.old.items ++ Events.said line.now)) }
-    ensures most { OnOk result (length bytes.new.items ≤ KEPT) }
-    ensures stopped { IfErr result (λ stop. stop ≡ NoMemory) }
-{
-    let part = unstuffed(line);
-    let room = KEPT - bytes.as_slice().len();
-    if part.len() < room.saturating_sub(1) {
-        put_whole(bytes, part)?;
-        return Ok(());
-    }
-    keep_cut(bytes, line)
-}
-
-/// The same where it may be cut.
-fn keep_cut(bytes: &mut Vec<u8>, line: &[u8]) -> Result<(), Stop>
-    requires { length bytes.old.items ≤ KEPT }
-    ensures kept { OnOk result (bytes.new.items ≡ take KEPT (bytes.old.items ++ Events.said line.now)) }
-    ensures most { OnOk result (length bytes.new.items ≤ KEPT) }
+fn keep_line(bytes: &mut Gathered, line: &[u8]) -> Result<(), Stop>
+    requires { length bytes.old ≤ KEPT }
+    ensures kept { OnOk result (bytes.new ≡ take KEPT (bytes.old ++ Events.said line.now)) }
+    ensures most { OnOk result (length bytes.new ≤ KEPT) }
     ensures stopped { IfErr result (λ stop. stop ≡ NoMemory) }
 {
     keep(bytes, unstuffed(line))?;
     keep(bytes, b"\r\n")
 }
 
-/// Adds a line and its CRLF.
-fn put_whole(bytes: &mut Vec<u8>, line: &[u8]) -> Result<(), Stop>
-    ensures kept { OnOk result (bytes.new.items ≡ bytes.old.items ++ line.now ++ 13 ∷ 10 ∷ []) }
-    ensures stopped { IfErr result (λ stop. stop ≡ NoMemory) }
-{
-    bytes.reserve(line.len().saturating_add(2))?;
-    bytes.extend_from_slice(line)?;
-    bytes.push_reserved(b'\r');
-    bytes.push_reserved(b'\n');
-    Ok(())
-}
-
 /// Adds a part to a datagram, as far as it is kept.
-fn keep(bytes: &mut Vec<u8>, part: &[u8]) -> Result<(), Stop>
-    requires { length bytes.old.items ≤ KEPT }
-    ensures kept { OnOk result (bytes.new.items ≡ take KEPT (bytes.old.items ++ part.now)) }
-    ensures most { OnOk result (length bytes.new.items ≤ KEPT) }
+fn keep(bytes: &mut Gathered, part: &[u8]) -> Result<(), Stop>
+    requires { length bytes.old ≤ KEPT }
+    ensures kept { OnOk result (bytes.new ≡ take KEPT (bytes.old ++ part.now)) }
+    ensures most { OnOk result (length bytes.new ≤ KEPT) }
     ensures stopped { IfErr result (λ stop. stop ≡ NoMemory) }
 {
     let room = KEPT - bytes.as_slice().len();
     if part.len() <= room {
-        bytes.extend_from_slice(part)?;
+        bytes.extend(part)?;
     } else {
-        bytes.extend_from_slice(&part[..room])?;
+        bytes.extend(&part[..room])?;
     }
     Ok(())
 }

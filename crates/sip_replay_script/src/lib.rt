@@ -10,6 +10,7 @@ mod device;
 mod event;
 mod event_text;
 pub mod examples;
+mod gathered;
 mod head_line;
 pub mod laws;
 mod lines;

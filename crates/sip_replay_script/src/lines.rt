@@ -91,6 +91,15 @@ impl Lines {
         }
     }
 
+    /// The bytes that were read and not given yet.
+    #[inline(always)]
+    pub(crate) fn unread(&self) -> &[u8]
+        ensures unread { result.now ≡ self.now.unread }
+        ensures few { length result.now ≤ 8192 }
+    {
+        &self.buffer[self.start..self.end]
+    }
+
     /// The next line, without its LF, where it stands whole among the unread bytes: so it can be used from there, and
     /// is copied once. `pass` goes on behind it.
     pub(crate) fn front(&self) -> Option<&[u8]>

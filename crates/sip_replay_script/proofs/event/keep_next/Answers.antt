@@ -1,8 +1,6 @@
-use Rattle.std.proofs.Common.{sym, ◌∙◌}
-use Rattle.sip_replay_script.proofs.Datagrams.{passes_line, keeps_next}
+use Rattle.sip_replay_script.proofs.Datagrams.{keeps_added}
 use Rattle.sip_replay_script.proofs.event.keep_next.Goals as goal
 
-pub returns-clause-next : goal.returns-clause-next
-returns-clause-next c =
-    keeps_next c.args.lines.now c.pass-2.new.self c.in-Some.line.now c.args.bytes.now.items c.keep_line.new.bytes.items
-    (passes_line c.args.lines.now c.pass-2.new.self c.in-Some.line.now c.in-Some.ensures c.pass-2.ensures.unread c.pass-2.ensures.number c.pass-2.ensures.asks) (sym c.is_dot.ensures ∙ c.if-is_dot.false) c.in_ok-keep_line.ensures.kept
+pub returns-in-Some-clause-next : goal.returns-in-Some-clause-next
+returns-in-Some-clause-next c =
+    keeps_added c.args.lines.now c.pass.new.self c.args.bytes.now c.add_next.new.bytes c.in-Some.count c.in-Some.ensures c.pass.ensures.unread c.pass.ensures.number c.pass.ensures.asks

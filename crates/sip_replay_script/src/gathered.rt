@@ -1,0 +1,164 @@
+ghost use Rattle.std.specs.Prelude.{◌≡◌, ◌≤◌, ◌+◌, ◌++◌, ◌∷◌, [], ℕ, length, take, drop, vec_len, OnOk, IfOk, MatchOption};
+ghost use Rattle.httparse.specs.Pieces.{IsRunIn, first_set};
+ghost use Rattle.sip_replay_script.specs.Gathered.{is_inside, AddsLine, CopiesLine};
+
+use std::alloc::AllocError;
+use std::marker::Model;
+use std::simd::prelude::*;
+
+/// So many bytes are looked at and copied at once.
+const LANES: usize = 16;
+
+/// How much room is made at first.
+const FIRST_ROOM: usize = 2048;
+
+/// One byte more than a datagram has. What comes behind isn't kept: a datagram over 65,507 bytes is
+/// refused as too long, whatever its bytes are.
+pub(crate) const KEPT: usize = 65_508;
+
+/// The bytes of a datagram, which are gathered line by line at the front of room that is longer: so a line is copied while
+/// its end is looked for. Seen as these bytes.
+#[derive(Drop)]
+pub(crate) struct Gathered {
+    room: Vec<u8>,
+    count: usize,
+}
+
+impl Model for Gathered {
+    ghost use Rattle.std.specs.Prelude.{ℕ, List, ◌≤◌, take, vec_len};
+
+    ghost Value = { List ℕ };
+
+    ghost view = { λ g. take g.count g.room.items };
+
+    ghost invariant = { λ g. (g.count ≤ vec_len g.room) × (vec_len g.room ≤ 65508) };
+}
+
+/// The place of the lowest bit that is set, or the number of lanes where none is.
+#[inline(always)]
+fn first_set(mask: u64) -> usize
+    ensures { result ≡ first_set mask 16 }
+{
+    if mask == 0 {
+        LANES
+    } else {
+        mask.trailing_zeros() as usize
+    }
+}
+
+/// How many bytes from a place on stand before an LF, of those that are looked at at once.
+#[inline(always)]
+fn run_in_lanes(text: &[u8], at: usize) -> usize
+    requires { at + 16 ≤ length text.now }
+    ensures { IsRunIn is_inside text.now at 16 result }
+{
+    let lanes = u8x16::from_slice(&text[at..]);
+    first_set(lanes.simd_eq(u8x16::splat(b'\n')).to_bitmask())
+}
+
+/// Copies so many bytes from a place on to a place of the room. Behind them the room stays.
+#[inline(always)]
+fn copy_lanes(text: &[u8], from: usize, room: &mut [u8], to: usize)
+    requires from { from + 16 ≤ length text.now }
+    requires to { to + 16 ≤ length room.old }
+    ensures copied { take (to + 16) room.new ≡ take to room.old ++ take 16 (drop from text.now) }
+    ensures len { length room.new ≡ length room.old }
+{
+    u8x16::from_slice(&text[from..]).copy_to_slice(&mut room[to..]);
+}
+
+/// Copies the line at the front of a text to a place of the room, if LF ends it and there is room for it and two bytes more;
+/// how many bytes it has. The room behind it may change.
+#[inline(always)]
+fn copy_line(text: &[u8], room: &mut [u8], at: usize) -> Option<usize>
+    requires { at ≤ length room.old }
+    ensures copied { MatchOption result (take at room.new ≡ take at room.old) (CopiesLine text.now room.old room.new at) }
+    ensures len { length room.new ≡ length room.old }
+{
+    let limit = text.len().min((room.len() - at).saturating_sub(2));
+    let mut done = 0;
+    while limit - done >= LANES {
+        let run = run_in_lanes(text, done);
+        copy_lanes(text, done, room, at + done);
+        if run < LANES {
+            return Some(done + run);
+        }
+        done += LANES;
+    }
+    None
+}
+
+/// Puts bytes at a place of the room.
+#[inline(always)]
+fn put_at(room: &mut [u8], at: usize, bytes: &[u8])
+    requires { at + length bytes.now ≤ length room.old }
+    ensures put { take (at + length bytes.now) room.new ≡ take at room.old ++ bytes.now }
+    ensures len { length room.new ≡ length room.old }
+{
+    room[at..at + bytes.len()].copy_from_slice(bytes);
+}
+
+/// Makes the room long enough for so many bytes.
+#[inline(never)]
+fn grow(room: &mut Vec<u8>, wanted: usize) -> Result<(), AllocError>
+    requires { (wanted ≤ 65508) × (vec_len room.old ≤ 65508) }
+    ensures same { (n : ℕ) → n ≤ vec_len room.old → take n room.new.items ≡ take n room.old.items }
+    ensures enough { OnOk result (wanted ≤ vec_len room.new) }
+    ensures more { vec_len room.old ≤ vec_len room.new }
+    ensures most { vec_len room.new ≤ 65508 }
+{
+    if wanted <= room.len() {
+        return Ok(());
+    }
+    let doubled = (room.len() * 2).max(FIRST_ROOM);
+    room.resize(doubled.max(wanted).min(KEPT), 0)
+}
+
+impl Gathered {
+    /// No bytes, in room that was used before.
+    pub(crate) fn in_room(room: Vec<u8>) -> Self
+        ensures { result ≡ [] }
+    {
+        let mut room = room;
+        room.truncate(KEPT);
+        Gathered { room, count: 0 }
+    }
+
+    /// The room, whatever stands in it.
+    pub(crate) fn into_room(self) -> Vec<u8> {
+        let Gathered { room, count: _ } = self;
+        room
+    }
+
+    /// The bytes.
+    pub(crate) fn as_slice(&self) -> &[u8]
+        ensures bytes { result.now ≡ self.now }
+        ensures short { length result.now ≤ 65508 }
+    {
+        &self.room[..self.count]
+    }
+
+    /// Adds bytes at the end.
+    pub(crate) fn extend(&mut self, part: &[u8]) -> Result<(), AllocError>
+        requires { length self.old + length part.now ≤ 65508 }
+        ensures { OnOk result (self.new ≡ self.old ++ part.now) }
+    {
+        grow(&mut self.room, self.count + part.len())?;
+        put_at(self.room.as_mut_slice(), self.count, part);
+        self.count += part.len();
+        Ok(())
+    }
+
+    /// Adds the line at the front of a text, and CRLF, if LF ends it and the room is long enough; how many bytes it has. Of
+    /// None nothing changes.
+    #[inline(always)]
+    pub(crate) fn add_line(&mut self, text: &[u8]) -> Option<usize>
+        ensures { MatchOption result (self.new ≡ self.old) (AddsLine text.now self.old self.new) }
+    {
+        let count = copy_line(text, self.room.as_mut_slice(), self.count)?;
+        let end = self.count + count;
+        put_at(self.room.as_mut_slice(), end, b"\r\n");
+        self.count = end + 2;
+        Some(count)
+    }
+}
