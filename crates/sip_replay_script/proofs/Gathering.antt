@@ -1,12 +1,12 @@
 -- Lines that are copied where they are looked for.
 use Rattle.std.proofs.Common.{◌≡◌, ℕ, ◌+◌, ◌<◌, ◌≤◌, Bool, true, false, List, [], ◌∷◌, ◌++◌, length, take, drop, get_or, refl, sym, ap, subst, ◌∙◌, arith, inl, inr, append-nil, take-add}
-use Rattle.std.specs.Prelude.{◌==◌, not}
+use Rattle.std.specs.Prelude.{not, slice_set}
 use Rattle.std.proofs.lemmas.Bool.{cases_lt, eqb-true}
-use Rattle.std.proofs.lemmas.List.{take-take, length-take-le, append_assoc}
+use Rattle.std.proofs.lemmas.List.{take-take, take_more_set, length-set, length-take-le, append_assoc}
 use Rattle.std.proofs.Math.Seq.{take-append-add}
 use Rattle.httparse.specs.Pieces.{AllPassBetween, IsRunIn}
 use Rattle.sip_replay_script.specs.Lines.{is_end, EndsAt}
-use Rattle.sip_replay_script.specs.Gathered.{is_inside, CopiesLine}
+use Rattle.sip_replay_script.specs.Gathered.{is_inside}
 use Rattle.sip_replay_script.proofs.LineEnds.{ends_at}
 
 -- what is kept of what stands at a place
@@ -55,3 +55,11 @@ pub nothing_before : (new old text : List ℕ) (at done : ℕ) → at ≤ length
 nothing_before new old text at done within e =
     let none : at + 0 ≡ at = omega arith in
     sym (ap (λ n. take n new) none) ∙ cut_back new old text at done 0 (omega arith) within e ∙ append-nil (take at old)
+
+-- two bytes, one after the other
+pub two_put : (xs : List ℕ) (at x y : ℕ) → at + 2 ≤ length xs → take (at + 2) (slice_set (slice_set xs at x) (at + 1) y) ≡ take at xs ++ x ∷ y ∷ []
+two_put xs at x y fits =
+    let two : at + 2 ≡ at + 1 + 1 = omega arith in
+    let long : length (slice_set xs at x) ≡ length xs = length-set xs at x in
+    ap (λ n. take n (slice_set (slice_set xs at x) (at + 1) y)) two ∙ take_more_set (slice_set xs at x) (at + 1) y (omega (arith, long, fits))
+    ∙ ap (λ l. l ++ y ∷ []) (take_more_set xs at x (omega (arith, fits))) ∙ append_assoc (take at xs) (x ∷ []) (y ∷ [])

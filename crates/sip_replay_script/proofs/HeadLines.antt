@@ -11,16 +11,9 @@ digit_more n behind all some lt is =
 pub digit_only : (n : ℕ) (behind all : List ℕ) → n < 10 → decimal n ++ behind ≡ all → (48 + n) ∷ behind ≡ all
 digit_only n behind all lt is = ap (λ l. l ++ behind) (sym (decimal_digit n lt)) ∙ is
 
-some_digit : (n : ℕ) → n < 2 ^ 64 → 1 ≤ length (decimal n)
+pub some_digit : (n : ℕ) → n < 2 ^ 64 → 1 ≤ length (decimal n)
 some_digit n lt =
     decimal_by_steps (λ _ ds. 1 ≤ length ds) (λ k small. omega arith) (λ k ds some least. omega (arith, least, length-append ds ((48 + k % 10) ∷ []))) n lt
-
--- the digits that are left have room
-pub digits_fit : (n number : ℕ) (behind before : List ℕ) → n < 2 ^ 64 → number < 2 ^ 64 → decimal n ++ behind ≡ decimal number ++ before → length behind + 1 ≤ length before + 20
-digits_fit n number behind before lt small is =
-    let most : length (decimal number) ≤ 20 = length-decimal-le 20 number (omega arith) (omega (arith, small)) small in
-    let least : 1 ≤ length (decimal n) = some_digit n lt in
-    omega (arith, most, least, ap length is, length-append (decimal n) behind, length-append (decimal number) before)
 
 -- a part that was put in front stands behind what was put in front of it
 pub behind_front : (front part behind mid all : List ℕ) → mid ≡ part ++ behind → all ≡ front ++ mid → all ≡ (front ++ part) ++ behind
@@ -39,3 +32,10 @@ address_first a b c d e t t1 t2 t3 t4 t5 t6 t7 t8 t9 is1 is2 is3 is4 is5 is6 is7
     let s3 : t9 ≡ ((((((a ++ dot) ++ b) ++ dot) ++ c) ++ dot) ++ d) ++ t2 = behind_front (((((a ++ dot) ++ b) ++ dot) ++ c) ++ dot) d t2 t3 t9 is3 s4 in
     let s2 : t9 ≡ (((((((a ++ dot) ++ b) ++ dot) ++ c) ++ dot) ++ d) ++ (58 ∷ [])) ++ t1 = behind_front ((((((a ++ dot) ++ b) ++ dot) ++ c) ++ dot) ++ d) (58 ∷ []) t1 t2 t9 is2 s3 in
     behind_front (((((((a ++ dot) ++ b) ++ dot) ++ c) ++ dot) ++ d) ++ (58 ∷ [])) e t t1 t9 is1 s2
+
+-- a number has few digits, and one less without its last
+pub few_digits : (n : ℕ) → n < 2 ^ 64 → length (decimal n) ≤ 20
+few_digits n small = length-decimal-le 20 n (omega arith) (omega (arith, small)) small
+
+pub digits_less : (n : ℕ) → 10 ≤ n → n < 2 ^ 64 → length (decimal n) ≡ length (decimal (n / 10)) + 1
+digits_less n some small = ap length (decimal_step n some small) ∙ length-append (decimal (n / 10)) ((48 + n % 10) ∷ [])

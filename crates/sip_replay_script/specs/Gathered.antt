@@ -1,5 +1,5 @@
 -- Lines that are copied where they are looked for.
-use Rattle.std.specs.Prelude.{◌≡◌, ◌+◌, ◌<◌, ◌≤◌, ◌==◌, ℕ, Bool, false, not, List, [], ◌∷◌, ◌++◌, length, take, slice_index}
+use Rattle.std.specs.Prelude.{◌≡◌, ◌+◌, ◌≤◌, ◌==◌, ℕ, Bool, false, not, List, [], ◌∷◌, ◌++◌, length, take, slice_index}
 use Rattle.sip_replay_script.specs.Lines.{is_end, EndsAt}
 
 -- a byte of a line

@@ -98,6 +98,18 @@ fn put_at(room: &mut [u8], at: usize, bytes: &[u8])
     room[at..at + bytes.len()].copy_from_slice(bytes);
 }
 
+/// Puts CRLF at a place of the room.
+#[inline(always)]
+#[tactic(auto, using(crate::proofs::Gathering::two_put))]
+fn put_end(room: &mut [u8], at: usize)
+    requires { at + 2 ≤ length room.old }
+    ensures put { take (at + 2) room.new ≡ take at room.old ++ 13 ∷ 10 ∷ [] }
+    ensures len { length room.new ≡ length room.old }
+{
+    room[at] = b'\r';
+    room[at + 1] = b'\n';
+}
+
 /// Makes the room long enough for so many bytes.
 #[inline(never)]
 fn grow(room: &mut Vec<u8>, wanted: usize) -> Result<(), AllocError>
@@ -157,7 +169,7 @@ impl Gathered {
     {
         let count = copy_line(text, self.room.as_mut_slice(), self.count)?;
         let end = self.count + count;
-        put_at(self.room.as_mut_slice(), end, b"\r\n");
+        put_end(self.room.as_mut_slice(), end);
         self.count = end + 2;
         Some(count)
     }

@@ -1,4 +1,4 @@
-ghost use Rattle.std.specs.Prelude.{◌≡◌, ◌≤◌, ◌<◌, ◌+◌, ◌++◌, ◌∷◌, [], decimal, length};
+ghost use Rattle.std.specs.Prelude.{◌≡◌, ◌≤◌, ◌<◌, ◌+◌, ◌-◌, ◌++◌, ◌∷◌, [], decimal, drop, length};
 
 use std::marker::Model;
 
@@ -21,6 +21,33 @@ impl Model for HeadLine {
     ghost view = { λ h. drop h.start h.room };
 
     ghost invariant = { λ h. h.start ≤ 208 };
+}
+
+/// Puts a byte in front of a place.
+#[inline(always)]
+fn put_before(room: &mut [u8; 208], place: usize, byte: u8)
+    requires { (1 ≤ place) × (place ≤ 208) }
+    ensures { drop (place - 1) room.new ≡ byte ∷ drop place room.old }
+{
+    room[place - 1] = byte;
+}
+
+/// Puts the digits of a number in decimal in front of a place; where they begin.
+#[inline(always)]
+fn put_digits(room: &mut [u8; 208], end: usize, number: u64) -> usize
+    requires { (20 ≤ end) × (end ≤ 208) }
+    ensures text { drop result room.new ≡ decimal number ++ drop end room.old }
+    ensures within { (result ≤ 208) × (end ≤ result + 20) }
+{
+    let mut left = number;
+    let mut start = end;
+    while left >= 10 {
+        put_before(room, start, b'0' + (left % 10) as u8);
+        start -= 1;
+        left /= 10;
+    }
+    put_before(room, start, b'0' + left as u8);
+    start - 1
 }
 
 impl HeadLine {
@@ -59,18 +86,12 @@ impl HeadLine {
     }
 
     /// Puts a number in decimal in front.
-    #[tactic(auto, using(crate::proofs::HeadLines::digit_more, crate::proofs::HeadLines::digits_fit))]
     pub(crate) fn put_number(&mut self, number: u64)
         requires { length self.old + 20 ≤ 208 }
         ensures text { self.new ≡ decimal number ++ self.old }
         ensures size { length self.new ≤ length self.old + 20 }
     {
-        let mut left = number;
-        while left >= 10 {
-            self.put(b'0' + (left % 10) as u8);
-            left /= 10;
-        }
-        self.put(b'0' + left as u8);
+        self.start = put_digits(&mut self.room, self.start, number);
     }
 
     /// Its bytes.

@@ -1,8 +1,8 @@
-use Rattle.std.proofs.Common.{ℕ, List, sym, subst, ◌∙◌, ap, ◌++◌, take, arith}
+use Rattle.std.proofs.Common.{sym, ◌∙◌, ap, ◌++◌, take, arith}
 use Rattle.std.proofs.lemmas.Result.{err_from_is_err_and}
 use Rattle.sip_replay_script.specs.Devices.{later}
 use Rattle.sip_replay_script.specs.Lines.{GivesLine, IsSpent}
-use Rattle.sip_replay_script.specs.Events.{is_dot, said, GivesDatagram}
+use Rattle.sip_replay_script.specs.Events.{is_dot, said}
 use Rattle.sip_replay_script.proofs.Datagrams.{gathers_lines, gathers_dot, gathers_more, gathers_all, datagram_stops, datagram_over}
 use Rattle.sip_replay_script.proofs.event.gather.Goals as goal
 

@@ -1,5 +1,4 @@
-use Rattle.std.proofs.Common.{◌≡◌, ◌+◌, ◌++◌, take, drop, ap, ◌∙◌, arith, take-add}
-use Rattle.std.proofs.lemmas.List.{append_assoc}
+use Rattle.std.proofs.Common.{◌≡◌, ◌+◌, ◌++◌, take, ◌∙◌, arith}
 use Rattle.sip_replay_script.proofs.Gathering.{all_passed, copied_more, cut_back, line_ends, nothing_before}
 use Rattle.sip_replay_script.proofs.gathered.copy_line.Goals as goal
 

@@ -1,7 +1,8 @@
-use Rattle.std.proofs.Common.{◌++◌, ◌∙◌, decimal, arith}
-use Rattle.sip_replay_script.proofs.HeadLines.{digit_only}
+use Rattle.std.proofs.Common.{decimal, drop, length, ap, arith, length-append}
+use Rattle.sip_replay_script.proofs.HeadLines.{few_digits}
 use Rattle.sip_replay_script.proofs.head_line.HeadLine.put_number.Goals as goal
 
-pub returns-clause-text : goal.returns-clause-text
-returns-clause-text c =
-    c.put-2.ensures.text ∙ digit_only c.loop-left.left c.loop-left.self (decimal c.args.number ++ c.args.self.now) (omega (arith, c.loop-left-test.false)) c.loop-left.invariant
+pub returns-clause-size : goal.returns-clause-size
+returns-clause-size c =
+    let few = few_digits c.args.number (omega arith) in
+    omega (arith, few, ap length c.put_digits-self-inside.ensures.text, length-append (decimal c.args.number) (drop c.self.inside.start c.self.inside.room), ap length c.self.view_is)
