@@ -54,6 +54,10 @@ none_kept : (p : Bool) (fs gs : List Final) → p ≡ false → cond p fs [] ≡
 none_kept false fs gs e = refl
 none_kept true fs gs e = absurd (cc)
 
+-- where one went to the caller before, none is kept
+pub not_kept : (f : Final) (r : OpenRequest) → is_answering r.side ≡ false → with_final f r ≡ r
+not_kept f r e = ap (λ (t : Bool). record r { finals = cond t (r.finals ++ f ∷ []) r.finals }) e
+
 -- it leaves no answer kept, whether it was kept before or not
 forgotten : (now : ℕ) (up : Upward) (f : Final) (r : OpenRequest) → is_provisional up.status ≡ false → answered now up r ≡ answered now up (with_final f r)
 forgotten now up f r e =

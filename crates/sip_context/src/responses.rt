@@ -10,6 +10,7 @@ use crate::finals::keep_final;
 use crate::relayed::{further, kept_final, relayed_provisional, relayed_success};
 use crate::sent::Sent;
 use crate::settling::{settle, settle_alone};
+use crate::side::is_answering;
 use sip_base::Shared;
 use sip_best::Final;
 use sip_context_branches::state::{
@@ -218,6 +219,26 @@ fn hear_further(
     Ok(sent)
 }
 
+/// The first final answer of a branch came, of which nothing goes to the caller at once: it is kept while none went before.
+#[tactic(auto, using(crate::proofs::Settled::not_kept))]
+fn finish_untold(
+    alloc: Global,
+    now: u64,
+    request: &mut OpenRequest,
+    branch: &Branch,
+    status: u16,
+    response: &View<'_>,
+) -> Result<(), AllocError>
+    requires { now + 32000 < 2 ^ 64 }
+    ensures { OnOk result (request.new ≡ Contexts.with_answer request.old branch.now now status response.now) }
+{
+    if !is_answering(request.side) {
+        return finish_relayed(alloc, now, request, branch, status, response);
+    }
+    let answer = kept_final(alloc, status, response)?;
+    finish(alloc, now, request, branch, answer, response)
+}
+
 /// The first final response of a target is taken: what of it goes to the caller at once, if anything does. It is kept only if
 /// nothing does, since what goes to the caller leaves no answer kept.
 #[tactic(auto, using(crate::proofs::Settled::final_told, crate::proofs::Settled::final_untold))]
@@ -241,8 +262,7 @@ fn take_final(
             Ok(Some(up))
         }
         None => {
-            let answer = kept_final(alloc, status, response)?;
-            finish(alloc, now, open_request, branch, answer, response)?;
+            finish_untold(alloc, now, open_request, branch, status, response)?;
             Ok(None)
         }
     }
