@@ -1,20 +1,29 @@
--- The tail of a request as it is written, field by field.
-use Rattle.std.proofs.Common.{◌≡◌, ℕ, true, false, List, [], ◌∷◌, ◌++◌, length, refl, sym, ap, ◌∙◌, append_assoc, append-nil, flat_map, Option}
+-- The tail of a request as it is written, field by field, behind its top Via.
+use Rattle.std.proofs.Common.{◌≡◌, ℕ, Bool, true, false, cond, ◌&&◌, ◌==◌, nat_lt, List, [], ◌∷◌, ◌++◌, length, map, filter, refl, sym, ap, ◌∙◌, append_assoc, append-nil, flat_map, Option, Some, None}
 use Rattle.std.specs.Prelude.{decimal, codes}
+use Rattle.std.specs.Option.{option_map_or}
+use Rattle.std.specs.Str.{bytes_eq}
 use Rattle.std.proofs.lemmas.List.Concat.{flat_map-append}
+use Rattle.std.proofs.lemmas.Slice.Eq.{bytes_eq-Decides}
+use Rattle.sip_text.specs.Words.{without_case}
 use Rattle.sip_message_fields.specs.declared.field.Field.{Field}
+use Rattle.sip_message_fields.specs.declared.field_name.FieldName.{FieldName}
+use Rattle.sip_message_fields.specs.declared.field_name.FieldName.TheVariants as Name
+use Rattle.sip_message_fields.specs.FieldName.{is_same_name, spelling}
+use Rattle.sip_message_fields.specs.Values.{with_first}
 use Rattle.sip_message_form.specs.declared.message.Message.{Message}
 use Rattle.sip_message_form.specs.Text.{field_text}
 use Rattle.sip_header.specs.declared.max_forwards.MaxForwards.{MaxForwards}
 use Rattle.sip_header.specs.declared.max_forwards.MaxForwards.TheVariants.{Absent, Hops, Malformed}
-use Rattle.sip_header.specs.MaxForwards.{max_forwards_of}
+use Rattle.sip_header.specs.MaxForwards.{hops_in, max_forwards_of}
+use Rattle.sip_header_credentials.specs.Credentials.{credentials_of, is_realm}
 use Rattle.sip_route.specs.declared.routes_kept.RoutesKept.{RoutesKept}
-use Rattle.sip_route.specs.RoutesKept.{stays}
+use Rattle.sip_route.specs.RoutesKept.{stays, behind_route}
 use Rattle.sip_route.specs.RoutesKept as Routes
 use Rattle.sip_edit.specs.Onward.{is_for_realm}
 use Rattle.sip_edit.specs.OwnRequests.{seventy}
-use Rattle.sip_edit.specs.Lowering.{hops_left, default_hops, lowered_field, hops_behind, fields_on}
-use Rattle.sip_edit.specs.Tail.{tail_of, default_text}
+use Rattle.sip_edit.specs.Lowering.{hops_left, default_hops, lowered_field, hops_behind, fields_on, fields_by}
+use Rattle.sip_edit.specs.Tail.{behind, tail_of, default_text}
 use Rattle.sip_edit.proofs.GoingOn as Going
 
 -- ---- field by field
@@ -35,6 +44,50 @@ passed_on hops routes realm field fields is for_realm = ap (λ (w : List Field).
 pub none_left : (hops : Option ℕ) (routes : RoutesKept) (realm : List ℕ) → flat_map field_text (fields_on hops routes realm []) ≡ []
 none_left hops routes realm = ap (λ (w : List Field). flat_map field_text w) (Going.none_left hops routes realm)
 
+-- ---- a top Via is nothing else
+
+via_is : (name : FieldName) → is_same_name name Name.Via ≡ true → without_case (spelling name) ≡ without_case (codes "Via")
+via_is name e = (bytes_eq-Decides (without_case (spelling name)) (without_case (codes "Via"))).0 e
+
+no_route : (name : FieldName) → is_same_name name Name.Via ≡ true → is_same_name name Name.Route ≡ false
+no_route name e = ap (λ (w : List ℕ). bytes_eq w (without_case (codes "Route"))) (via_is name e)
+
+no_credentials : (name : FieldName) → is_same_name name Name.Via ≡ true → is_same_name name Name.ProxyAuthorization ≡ false
+no_credentials name e = ap (λ (w : List ℕ). bytes_eq w (without_case (codes "Proxy-Authorization"))) (via_is name e)
+
+no_hops : (name : FieldName) → is_same_name name Name.Via ≡ true → is_same_name name Name.MaxForwards ≡ false
+no_hops name e = ap (λ (w : List ℕ). bytes_eq w (without_case (codes "Max-Forwards"))) (via_is name e)
+
+stays_there : (routes : RoutesKept) (top : Field) → is_same_name top.name Name.Route ≡ false → stays routes top ≡ true
+stays_there routes top differs = ap (λ (t : Bool). cond t (routes.skipped == 0 && nat_lt 0 routes.kept) true) differs
+
+routes_behind : (routes : RoutesKept) (top : Field) → is_same_name top.name Name.Route ≡ false → Routes.behind routes top ≡ routes
+routes_behind routes top differs = ap (λ (t : Bool). cond t (behind_route routes) routes) differs
+
+for_no_realm : (realm : List ℕ) (top : Field) → is_same_name top.name Name.ProxyAuthorization ≡ false → is_for_realm realm top ≡ false
+for_no_realm realm top differs = ap (λ (t : Bool). t && option_map_or (λ c. is_realm realm c.realm) (credentials_of top.value) false) differs
+
+not_lowered : (hops : Option ℕ) (top : Field) → is_same_name top.name Name.MaxForwards ≡ false → lowered_field hops top ≡ top
+not_lowered None top differs = refl
+not_lowered (Some n) top differs = ap (λ (t : Bool). cond t (record top { value = decimal n }) top) differs
+
+hops_stay : (hops : Option ℕ) (top : Field) → is_same_name top.name Name.MaxForwards ≡ false → hops_behind hops top ≡ hops
+hops_stay None top differs = refl
+hops_stay (Some n) top differs = ap (λ (t : Bool). cond t None (Some n)) differs
+
+top_goes_on : (hops : Option ℕ) (routes : RoutesKept) (realm : List ℕ) (top : Field) (others : List Field) → is_same_name top.name Name.Via ≡ true →
+    fields_on hops routes realm (top ∷ others) ≡ top ∷ fields_on hops routes realm others
+top_goes_on hops routes realm top others e =
+    Going.passed_on hops routes realm top others (stays_there routes top (no_route top.name e)) (for_no_realm realm top (no_credentials top.name e))
+    ∙ ap (λ (w : Field). w ∷ fields_on (hops_behind hops top) (Routes.behind routes top) realm others) (not_lowered hops top (no_hops top.name e))
+    ∙ ap (λ (h : Option ℕ). top ∷ fields_on h (Routes.behind routes top) realm others) (hops_stay hops top (no_hops top.name e))
+    ∙ ap (λ (r : RoutesKept). top ∷ fields_on hops r realm others) (routes_behind routes top (no_route top.name e))
+
+-- and says nothing of the hops
+hops_without : (top : Field) (others : List Field) → is_same_name top.name Name.MaxForwards ≡ false → max_forwards_of (top ∷ others) ≡ max_forwards_of others
+hops_without top others differs =
+    ap (λ (t : Bool). hops_in (map (λ field. field.value) (cond t (top ∷ filter (λ field. is_same_name field.name Name.MaxForwards) others) (filter (λ field. is_same_name field.name Name.MaxForwards) others)))) differs
+
 -- ---- a Max-Forwards that it gets
 
 default_is : (hops : MaxForwards) → default_text hops ≡ flat_map field_text (default_hops hops)
@@ -43,6 +96,20 @@ default_is (Hops n) = refl
 default_is Malformed = refl
 
 -- ---- the whole
+
+abbrev edited : Field → List ℕ → Field
+edited top via = record top { value = via }
+
+onward_are : (routes : RoutesKept) (realm via : List ℕ) (fields : List Field) (top : Field) (others : List Field) → fields ≡ top ∷ others → is_same_name top.name Name.Via ≡ true →
+    fields_by routes realm (with_first Name.Via via fields)
+    ≡ edited top via ∷ (fields_on (hops_left (max_forwards_of fields)) routes realm others ++ default_hops (max_forwards_of fields))
+onward_are routes realm via fields top others is e =
+    let hops : max_forwards_of (edited top via ∷ others) ≡ max_forwards_of fields
+    = hops_without (edited top via) others (no_hops top.name e) ∙ sym (hops_without top others (no_hops top.name e)) ∙ ap max_forwards_of (sym is) in
+    ap (λ (w : List Field). fields_by routes realm (with_first Name.Via via w)) is
+    ∙ ap (λ (t : Bool). fields_by routes realm (cond t (edited top via ∷ others) (top ∷ with_first Name.Via via others))) e
+    ∙ ap (λ (h : MaxForwards). fields_on (hops_left h) routes realm (edited top via ∷ others) ++ default_hops h) hops
+    ∙ ap (λ (w : List Field). w ++ default_hops (max_forwards_of fields)) (top_goes_on (hops_left (max_forwards_of fields)) routes realm (edited top via) others e)
 
 lines : (first : List ℕ) (fields more : List Field) → first ++ flat_map field_text fields ++ flat_map field_text more ≡ first ++ flat_map field_text (fields ++ more)
 lines first fields more =
@@ -58,3 +125,15 @@ whole_is routes realm empty text m none written =
     ∙ ap (λ (w : List ℕ). empty ++ flat_map field_text (fields_on (hops_left hops) routes realm m.fields) ++ w ++ codes "Content-Length: " ++ decimal (length m.body) ++ codes "\r\n\r\n" ++ m.body) (default_is hops)
     ∙ ap (λ (w : List ℕ). w ++ flat_map field_text (fields_on (hops_left hops) routes realm m.fields) ++ flat_map field_text (default_hops hops) ++ codes "Content-Length: " ++ decimal (length m.body) ++ codes "\r\n\r\n" ++ m.body) none
     ∙ ap (λ (w : List ℕ). w ++ codes "Content-Length: " ++ decimal (length m.body) ++ codes "\r\n\r\n" ++ m.body) (lines [] (fields_on (hops_left hops) routes realm m.fields) (default_hops hops))
+
+pub tail_is : (routes : RoutesKept) (realm via empty text : List ℕ) (m : Message) (top : Field) (others : List Field) → m.fields ≡ top ∷ others → is_same_name top.name Name.Via ≡ true → empty ≡ [] →
+    text ≡ empty ++ field_text (record top { value = via }) ++ flat_map field_text (fields_on (hops_left (max_forwards_of m.fields)) routes realm others)
+    ++ default_text (max_forwards_of m.fields) ++ codes "Content-Length: " ++ decimal (length m.body) ++ codes "\r\n\r\n" ++ m.body →
+    text ≡ tail_of routes realm (record m { fields = with_first Name.Via via m.fields })
+tail_is routes realm via empty text m top others is e none written =
+    let hops : MaxForwards = max_forwards_of m.fields in
+    written
+    ∙ ap (λ (w : List ℕ). empty ++ field_text (edited top via) ++ flat_map field_text (fields_on (hops_left hops) routes realm others) ++ w ++ codes "Content-Length: " ++ decimal (length m.body) ++ codes "\r\n\r\n" ++ m.body) (default_is hops)
+    ∙ ap (λ (w : List ℕ). w ++ field_text (edited top via) ++ flat_map field_text (fields_on (hops_left hops) routes realm others) ++ flat_map field_text (default_hops hops) ++ codes "Content-Length: " ++ decimal (length m.body) ++ codes "\r\n\r\n" ++ m.body) none
+    ∙ ap (λ (w : List ℕ). w ++ codes "Content-Length: " ++ decimal (length m.body) ++ codes "\r\n\r\n" ++ m.body) (lines (field_text (edited top via)) (fields_on (hops_left hops) routes realm others) (default_hops hops))
+    ∙ ap (λ (w : List Field). behind w m.body) (sym (onward_are routes realm via m.fields top others is e))

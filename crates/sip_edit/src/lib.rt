@@ -37,5 +37,5 @@ pub use own_via::{branch_text, own_via_to, own_via_value, pop_via};
 pub use received_request::{response_address, with_top_via};
 pub use record_route::push_record_route;
 pub use tail::{text_onward, text_to_target};
-pub use tail_text::tail_of;
+pub use tail_text::{received_tail, tail_of};
 pub use top_via::{received_via, received_via_of};

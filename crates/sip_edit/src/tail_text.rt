@@ -1,21 +1,25 @@
-ghost use Rattle.std.specs.Prelude.{◌≡◌, ◌++◌, decimal, IfOk, OnOk};
+ghost use Rattle.std.specs.Prelude.{◌≡◌, ◌++◌, decimal, codes, length, IfOk, OnOk};
 ghost use Rattle.std.specs.List.{flat_map};
+ghost use Rattle.sip_message_fields.specs.declared.field_name.FieldName.TheVariants as Name;
+ghost use Rattle.sip_message_fields.specs.Values.{with_first};
 ghost use Rattle.sip_message_form.specs.Text.{field_text};
+ghost use Rattle.sip_header.specs.MaxForwards as Hops;
 ghost use Rattle.sip_edit.specs.Lowering as Lowering;
 ghost use Rattle.sip_edit.specs.OwnRequests;
 ghost use Rattle.sip_edit.specs.Tail as Tails;
 
 use crate::onward::{hops_left, is_for_realm};
+use crate::received_request::with_top_via;
 use sip_header::{MaxForwards, max_forwards_of};
 use sip_message_fields::{FieldName, KnownName, Value, ViewField, ViewName};
-use sip_message_form::{View, put_body, put_field};
+use sip_message_form::{View, put_body, put_field, put_line};
 use sip_route::RoutesKept;
 use sip_text::{Buffer, Bytes};
 use std::alloc::{AllocError, Global};
 
-/// The most bytes of a tail beside its fields and its body: the line that tells the body's length, with the empty line behind
-/// it.
-const REST_OF_TAIL: usize = 40;
+/// The most bytes of a tail beside its fields and its body: the name of its top Via, and the line that tells the body's length,
+/// with the empty line behind it.
+const REST_OF_TAIL: usize = 47;
 
 /// Adds a field with a number as its value.
 fn put_number(out: &mut Buffer, field: &ViewField<'_>, number: u8) -> Result<(), AllocError>
@@ -97,6 +101,29 @@ fn put_default(out: &mut Buffer, hops: MaxForwards) -> Result<(), AllocError>
     }
 }
 
+/// Adds the tail of a request whose top Via is the first of its fields, and gets this value.
+fn put_tail(
+    alloc: Global,
+    out: &mut Buffer,
+    realm: &[u8],
+    routes: RoutesKept,
+    request: &View<'_>,
+    via: &[u8],
+    top: &ViewField<'_>,
+    others: &[ViewField<'_>],
+) -> Result<(), AllocError>
+    ensures { OnOk result (out.new ≡ out.old ++ field_text (record top.now { value = via.now })
+        ++ flat_map field_text (Lowering.fields_on (Lowering.hops_left (Hops.max_forwards_of request.now.fields)) routes realm.now others.now)
+        ++ Tails.default_text (Hops.max_forwards_of request.now.fields)
+        ++ codes "Content-Length: " ++ decimal (length request.now.body) ++ codes "\r\n\r\n" ++ request.now.body) }
+{
+    let hops = max_forwards_of(request.fields());
+    put_line(out, top.name().spelling(), via)?;
+    put_onward(alloc, out, realm, routes, hops_left(hops), others)?;
+    put_default(out, hops)?;
+    put_body(out, request.body())
+}
+
 /// How many bytes some fields have with their CRLFs.
 fn room_of(fields: &[ViewField<'_>]) -> usize {
     let mut room: usize = 0;
@@ -143,5 +170,47 @@ pub fn tail_of(
     put_onward(alloc, &mut out, realm, routes, hops_left(hops), fields)?;
     put_default(&mut out, hops)?;
     put_body(&mut out, request.body())?;
+    in_its_room(alloc, out, room)
+}
+
+/// The tail of a request whose top Via gets this value, by an edited view of the request.
+fn viewed_tail(
+    alloc: Global,
+    realm: &[u8],
+    routes: RoutesKept,
+    request: &View<'_>,
+    via: &[u8],
+) -> Result<Bytes, AllocError>
+    ensures { IfOk result (λ tail. tail ≡ Tails.tail_of routes realm.now
+        (record request.now { fields = with_first Name.Via via.now request.now.fields })) }
+{
+    let received = with_top_via(alloc, request, via)?;
+    tail_of(alloc, realm, routes, &received)
+}
+
+/// The tail of a request whose top Via gets this value (RFC 3261 18.2.1), as `tail_of` gives it. Where the top Via is the first
+/// field, as it mostly is, it is written straight from the request's fields. `AllocError` is the only refusal.
+pub fn received_tail(
+    alloc: Global,
+    realm: &[u8],
+    routes: RoutesKept,
+    request: &View<'_>,
+    via: &[u8],
+) -> Result<Bytes, AllocError>
+    ensures { IfOk result (λ tail. tail ≡ Tails.tail_of routes realm.now
+        (record request.now { fields = with_first Name.Via via.now request.now.fields })) }
+{
+    let Some((top, others)) = request.fields().as_slice().split_first() else {
+        return viewed_tail(alloc, realm, routes, request, via);
+    };
+    if !top.name().is_same(&FieldName::Via) {
+        return viewed_tail(alloc, realm, routes, request, via);
+    }
+    let room = room_of(others)
+        .saturating_add(via.len())
+        .saturating_add(request.body().len())
+        .saturating_add(REST_OF_TAIL);
+    let mut out = Buffer::with_room(alloc, room)?;
+    put_tail(alloc, &mut out, realm, routes, request, via, top, others)?;
     in_its_room(alloc, out, room)
 }
