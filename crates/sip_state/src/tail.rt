@@ -3,7 +3,7 @@ ghost use Rattle.sip_message_fields.specs.declared.field_name.FieldName.TheVaria
 ghost use Rattle.sip_message_fields.specs.Values.{with_first};
 ghost use Rattle.sip_edit.specs.Tail.{tail_of};
 
-use sip_edit::{tail_of, with_top_via};
+use sip_edit::received_tail;
 use sip_message_form::View;
 use sip_route::RoutesKept;
 use sip_text::Bytes;
@@ -31,8 +31,7 @@ impl Tail {
         ensures { IfOk result (λ tail. tail.text ≡ tail_of tail.routes tail.realm
             (record request.now { fields = with_first Name.Via via.now request.now.fields })) }
     {
-        let received = with_top_via(alloc, request, via)?;
-        let text = tail_of(alloc, realm, routes, &received)?;
+        let text = received_tail(alloc, realm, routes, request, via)?;
         let realm = Bytes::copy(alloc, realm)?;
         Ok(Tail {
             realm,
