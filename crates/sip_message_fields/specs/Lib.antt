@@ -6,3 +6,4 @@ pub mod Values
 pub mod Piece
 pub mod Slice
 pub mod KeptField
+pub mod Lines

@@ -100,6 +100,14 @@ impl<'a> ViewName<'a> {
         }
     }
 
+    /// Which name it is, if this project knows it.
+    #[inline]
+    pub(crate) fn known(&self) -> Option<KnownName>
+        ensures { name_seen result (spelling self.now) ≡ self.now }
+    {
+        self.known
+    }
+
     /// The name in its full spelling (RFC 3261 20); another name as it was written.
     #[inline]
     pub fn spelling(&self) -> &[u8]
