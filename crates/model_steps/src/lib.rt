@@ -21,6 +21,7 @@ pub mod context_model {
 /// Of `sip_state`.
 pub mod state {
     pub use model_verdict::state::{
-        Branch, Heard, LastAnswer, OpenRequest, Phase, Server, Side, Upward, received_value,
+        AnswerText, Branch, Heard, LastAnswer, OpenRequest, Phase, Server, Side, Upward,
+        received_value,
     };
 }

@@ -20,6 +20,7 @@ pub mod context_model {
 /// Of `sip_state`.
 pub mod state {
     pub use model_context::state::{
-        Branch, Heard, LastAnswer, Names, OpenRequest, Phase, Server, Side, Upward, received_value,
+        AnswerText, Branch, Heard, LastAnswer, Names, OpenRequest, Phase, Server, Side, Upward,
+        received_value,
     };
 }

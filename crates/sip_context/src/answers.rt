@@ -4,15 +4,14 @@ ghost use Rattle.sip_context_branches.specs.state.State as States;
 ghost use Rattle.sip_context_branches.specs.context_model.Branches as Contexts;
 
 use crate::side::{is_answering, side_after};
-use sip_base::Shared;
 use sip_best::{Final, best};
 use sip_context_branches::all_final;
 use sip_context_branches::state::{
-    LastAnswer, OpenRequest, Server, Upward, Written, first_resend, is_invite, is_provisional,
-    is_success,
+    AnswerText, LastAnswer, OpenRequest, Server, Upward, Written, first_resend, is_invite,
+    is_provisional, is_success,
 };
 use sip_context_packets::written_answer;
-use sip_text::{Bytes, Items};
+use sip_text::Items;
 use std::alloc::{AllocError, Global};
 
 /// The message of an answer with its text, which is made here if none came.
@@ -25,7 +24,7 @@ fn message_of(
     ensures { IfOk result (λ message. message ≡ (Contexts.upward_of server.now request.now answer).message) }
 {
     match answer.message {
-        Some(message) => Written::of(alloc, message),
+        Some(message) => Ok(Written::of(message)),
         None => written_answer(alloc, server, request, answer.status),
     }
 }
@@ -75,20 +74,21 @@ pub(crate) fn best_upward(
 
 /// The bytes of an answer that are kept, to be sent again: none of a 2xx to an INVITE (RFC 3261 13.3.1.4, RFC 6026
 /// 7.1).
-fn kept_text(alloc: Global, request: &OpenRequest, up: &Upward) -> Result<Shared<Bytes>, AllocError>
+fn kept_text(request: &OpenRequest, up: &Upward) -> Result<AnswerText, AllocError>
     ensures { IfOk result (λ text. text ≡ (Contexts.last_answer request.now up.now.status (text_of up.now.message)).text) }
 {
     if is_invite(request) && is_success(up.status) {
-        return Shared::new(alloc, Bytes::new(alloc));
+        return Ok(AnswerText::none());
     }
-    up.message.text().clone()
+    let message = up.message.message().clone()?;
+    Ok(AnswerText::of_message(message))
 }
 
 /// The answer that was sent last.
-fn last_answer(alloc: Global, request: &OpenRequest, up: &Upward) -> Result<LastAnswer, AllocError>
+fn last_answer(request: &OpenRequest, up: &Upward) -> Result<LastAnswer, AllocError>
     ensures { IfOk result (λ answer. answer ≡ Contexts.last_answer request.now up.now.status (text_of up.now.message)) }
 {
-    let text = kept_text(alloc, request, up)?;
+    let text = kept_text(request, up)?;
     Ok(LastAnswer {
         status: up.status,
         text,
@@ -106,7 +106,7 @@ pub fn answered(
     requires { now + 32000 < 2 ^ 64 }
     ensures { OnOk result (request.new ≡ Contexts.answered now up.now request.old) }
 {
-    request.answer = Some(last_answer(alloc, request, up)?);
+    request.answer = Some(last_answer(request, up)?);
     request.side = side_after(now, request.side, up.status);
     request.again = first_resend(now);
     if !is_provisional(up.status) {

@@ -10,7 +10,7 @@ use sip_context_branches::is_final;
 use sip_context_branches::state::{
     Branch, OpenRequest, Phase, Upward, Written, is_invite, is_success,
 };
-use sip_edit::pop_via;
+use sip_edit::kept_without_via;
 use sip_message_form::{Kept, View};
 use std::alloc::{AllocError, Global};
 
@@ -18,16 +18,14 @@ use std::alloc::{AllocError, Global};
 fn kept_response(alloc: Global, response: &View<'_>) -> Result<Shared<Kept>, AllocError>
     ensures { IfOk result (λ answer. answer ≡ without_top_via response.now) }
 {
-    let popped = pop_via(alloc, response)?;
-    Shared::new(alloc, Kept::of(alloc, &popped)?)
+    Shared::new(alloc, kept_without_via(alloc, response)?)
 }
 
-/// A response without its top Via, which goes on at once: it is kept with its text.
+/// A response without its top Via, which goes on at once.
 fn written_response(alloc: Global, response: &View<'_>) -> Result<Written, AllocError>
     ensures { IfOk result (λ answer. answer ≡ without_top_via response.now) }
 {
-    let popped = pop_via(alloc, response)?;
-    Written::of_view(alloc, &popped)
+    Ok(Written::of(kept_response(alloc, response)?))
 }
 
 /// An answer from a branch, as it goes to the caller (RFC 3261 16.7 step 3).

@@ -61,7 +61,7 @@ pub fn answer_again(request: &OpenRequest) -> Option<&[u8]>
     match &request.answer {
         Some(answer) => {
             if goes_again(request, answer) {
-                Some(answer.text.get().as_slice())
+                Some(answer.text.as_slice())
             } else {
                 None
             }

@@ -29,7 +29,7 @@ pub use retransmission::{branch_due, is_acked_again};
 /// Of `sip_state`.
 pub mod state {
     pub use model_context::state::{
-        Branch, LastAnswer, OpenRequest, Phase, Resend, Server, Side, Upward, Written,
+        AnswerText, Branch, LastAnswer, OpenRequest, Phase, Resend, Server, Side, Upward, Written,
         first_resend, is_decline, is_failure, is_invite, is_provisional, is_success,
     };
 }

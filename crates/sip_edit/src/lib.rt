@@ -33,7 +33,7 @@ pub use branch_id::{BranchId, branch_of_text};
 pub use onward::{onward_base, onward_base_by, onward_uri, to_target};
 pub use own_request_text::{ack_text, cancel_text};
 pub use own_requests::{ack_of, ack_with, cancel_of};
-pub use own_via::{branch_text, own_via_to, own_via_value, pop_via};
+pub use own_via::{branch_text, kept_without_via, own_via_to, own_via_value, pop_via};
 pub use received_request::{response_address, with_top_via};
 pub use record_route::push_record_route;
 pub use tail::{text_onward, text_to_target};

@@ -1,9 +1,10 @@
-ghost use Rattle.std.specs.Prelude.{◌≡◌, ◌++◌, codes, decimal, IfOk, OnOk};
+ghost use Rattle.std.specs.Prelude.{◌≡◌, ◌++◌, codes, decimal, drop, IfOk, IsTrue, OnOk};
+ghost use Rattle.sip_message_fields.specs.declared.field_name.FieldName.TheVariants as Name;
 ghost use Rattle.sip_message_fields.specs.Values;
 ghost use Rattle.sip_edit.specs.OwnVia;
 
 use sip_message_fields::{FieldName, ViewField, ViewFields};
-use sip_message_form::View;
+use sip_message_form::{Kept, View};
 use sip_route::Own;
 use sip_text::{Buffer, Bytes, hex_text};
 use std::alloc::{AllocError, Global};
@@ -103,4 +104,26 @@ pub fn pop_via<'v>(alloc: Global, response: &'v View<'_>) -> Result<View<'v>, Al
 {
     let fields = without_first(alloc, response.fields().as_slice(), &FieldName::Via)?;
     Ok(response.with_fields(fields))
+}
+
+/// Whether the top Via of a response is its first field, as it mostly is.
+fn is_via_first(response: &View<'_>) -> bool
+    ensures { IsTrue result → drop 1 response.now.fields ≡ Values.without_first Name.Via response.now.fields }
+{
+    match response.fields().as_slice().split_first() {
+        Some((first, _)) => first.name().is_same(&FieldName::Via),
+        None => false,
+    }
+}
+
+/// A response without its top Via, as it goes back (RFC 3261 16.7 step 3), which is written and kept. `AllocError` is the
+/// only refusal.
+pub fn kept_without_via(alloc: Global, response: &View<'_>) -> Result<Kept, AllocError>
+    ensures { IfOk result (λ kept. kept ≡ OwnVia.without_top_via response.now) }
+{
+    if is_via_first(response) {
+        return Kept::without_first(alloc, response);
+    }
+    let popped = pop_via(alloc, response)?;
+    Kept::of(alloc, &popped)
 }

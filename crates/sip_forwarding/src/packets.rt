@@ -67,7 +67,7 @@ pub(crate) fn upward_packet(
 ) -> Result<Packet, AllocError>
     ensures { IfOk result (λ packet. packet ≡ Sendings.answer_to false request.now (text_of up.now.message)) }
 {
-    let text = Bytes::copy(alloc, up.message.text().get().as_slice())?;
+    let text = Bytes::copy(alloc, up.message.text())?;
     answer_to(alloc, false, request, text)
 }
 

@@ -6,7 +6,7 @@ ghost use Rattle.sip_context_branches.specs.context_model.Sending as Sendings;
 ghost use Rattle.sip_forwarding.specs.Arrivals.{arrival_of};
 
 use crate::arrival::{Arrival, arriving};
-use model_steps::state::{Heard, LastAnswer, OpenRequest, Server, Side};
+use model_steps::state::{AnswerText, Heard, LastAnswer, OpenRequest, Server, Side};
 use sip_base::Shared;
 use sip_context::context_packets::{answer_packet, made_answer};
 use sip_event::Packet;
@@ -56,7 +56,7 @@ fn make(
         status,
         extras,
     )?;
-    let kept = Shared::new(alloc, text.clone()?)?;
+    let kept = AnswerText::copy(alloc, text.as_slice())?;
     let packet = answer_packet(alloc, false, arrival.number, request, arrival.from, text)?;
     let answer = LastAnswer { status, text: kept };
     Ok(Made { packet, answer })

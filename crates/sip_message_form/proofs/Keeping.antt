@@ -11,7 +11,7 @@ use Rattle.sip_message_form.specs.declared.message.Start.TheVariants.{Request, S
 use Rattle.sip_message_form.specs.declared.message.Message.{Message}
 use Rattle.sip_message_form.specs.declared.kept_start.KeptStart.{KeptStart}
 use Rattle.sip_message_form.specs.KeptStart.{start_kept, IsStartStored, IsStartPut}
-use Rattle.sip_message_form.specs.Kept.{message_kept, IsMessageStored}
+use Rattle.sip_message_form.specs.Kept.{message_kept, ArePartsStored}
 
 keeps_again : (a b c : List ℕ) → Keeps a b → Keeps b c → Keeps a c
 keeps_again a b c first second = record {
@@ -22,7 +22,7 @@ keeps_again a b c first second = record {
 abbrev of_parts : Option ℕ → List ℕ → List ℕ → List ℕ → Start
 of_parts code first uri version = option_map_or (λ c. Status c first) code (Request first uri version)
 
-same_parts : (code : Option ℕ) (a b c x y z : List ℕ) → a ≡ x → b ≡ y → c ≡ z → of_parts code a b c ≡ of_parts code x y z
+pub same_parts : (code : Option ℕ) (a b c x y z : List ℕ) → a ≡ x → b ≡ y → c ≡ z → of_parts code a b c ≡ of_parts code x y z
 same_parts code a b c x y z e f g =
     ap (λ (w : List ℕ). of_parts code w b c) e ∙ ap (λ (w : List ℕ). of_parts code x w c) f ∙ ap (λ (w : List ℕ). of_parts code x y w) g
 
@@ -36,11 +36,11 @@ request_put old one two new method uri version a b c first second third = record
 pub status_put : (old new reason : List ℕ) (code : ℕ) (a : Span) → IsPut old reason new a → IsStartPut old (Status code reason) new (record { code = Some code; first = a; uri = a; version = a })
 status_put old new reason code a is = record { same = ap (λ (w : List ℕ). Status code w) is.bytes; within = record { first = is.within; uri = is.within; version = is.within }; keeps = is.keeps }
 
-start_stays : (old new : List ℕ) (kept : KeptStart) → Keeps old new → IsStartStored old kept → start_kept new kept ≡ start_kept old kept
+pub start_stays : (old new : List ℕ) (kept : KeptStart) → Keeps old new → IsStartStored old kept → start_kept new kept ≡ start_kept old kept
 start_stays old new kept keeps is =
     same_parts kept.code (part new kept.first) (part new kept.uri) (part new kept.version) (part old kept.first) (part old kept.uri) (part old kept.version) (keeps.bytes kept.first is.first) (keeps.bytes kept.uri is.uri) (keeps.bytes kept.version is.version)
 
-abbrev whole : Start → List Field → List ℕ → Message
+abbrev pub whole : Start → List Field → List ℕ → Message
 whole start fields body = record { start = start; fields = fields; body = body }
 
 pub kept_is : (empty one two new : List ℕ) (message : Message) (start : KeptStart) (body : Span) (list : List KeptField) → IsStartPut empty message.start one start → IsPut one message.body two body → AreFieldsPut two message.fields new list
@@ -52,7 +52,7 @@ kept_is empty one two new message start body list s b f =
     ∙ ap (λ (w : List ℕ). whole message.start message.fields w) (f.keeps.bytes body b.within ∙ b.bytes)
 
 pub kept_within : (empty one two new : List ℕ) (message : Message) (start : KeptStart) (body : Span) (list : List KeptField) → IsStartPut empty message.start one start → IsPut one message.body two body → AreFieldsPut two message.fields new list
-    → IsMessageStored new start list body
+    → ArePartsStored new start list body
 kept_within empty one two new message start body list s b f =
     let keeps : Keeps one new = keeps_again one two new b.keeps f.keeps in record {
       start_within = record { first = keeps.within start.first s.within.first; uri = keeps.within start.uri s.within.uri; version = keeps.within start.version s.within.version };

@@ -1,2 +1,3 @@
 pub mod Keeping
 pub mod Longer
+pub mod StoredText

@@ -23,3 +23,8 @@ pub record IsStartPut (old : List ℕ) (start : Start) (new : List ℕ) (kept : 
   pub same : start_kept new kept ≡ start
   pub within : IsStartStored new kept
   pub keeps : Keeps old new
+
+-- a first line stands in a store
+pub record IsStartKept (start : Start) (store : List ℕ) (kept : KeptStart) : Type 0 where
+  pub same : start_kept store kept ≡ start
+  pub within : IsStartStored store kept

@@ -1,20 +1,25 @@
-ghost use Rattle.std.specs.Prelude.{◌≡◌, IfOk, All, map};
+ghost use Rattle.std.specs.Prelude.{◌≡◌, IfOk, All, drop, map};
 ghost use Rattle.sip_message_fields.specs.Values;
 ghost use Rattle.sip_message_fields.specs.KeptField.{field_kept, IsStored};
+ghost use Rattle.sip_message_form.specs.Text.{text_of};
 ghost use Rattle.sip_message_form.specs.ViewStart.{start_seen};
 
-use crate::kept_start::{KeptStart, put_start, start_in};
+use crate::kept_start::{KeptStart, start_in};
+use crate::kept_text::{put_body_text, put_start_line};
+use crate::lengths::rest_length;
 use crate::message_view::View;
+use crate::view_length::first_line_length;
 use crate::view_start::ViewStart;
+use crate::view_writing::put_fields;
 use sip_message_fields::{
-    FieldName, KeptField, ViewFields, fields_in, fields_in_with_first, put, put_fields,
+    FieldName, KeptField, ViewField, ViewFields, fields_in, fields_in_with_first, lines_at,
 };
 use sip_text::{Buffer, Span};
 use std::alloc::{AllocError, Global};
 use std::marker::Model;
 
-/// A message that is kept beyond its datagram, seen as that message: its bytes stand once, in one store, and spans
-/// name its first line, its fields and its body.
+/// A message that is kept beyond its datagram, seen as that message: its written form stands in one store, and spans name
+/// its first line, its fields and its body in it.
 #[derive(Drop)]
 pub struct Kept {
     store: Buffer,
@@ -34,22 +39,54 @@ impl Model for Kept {
     ghost invariant = { λ k. IsMessageStored k.store k.start k.list.items k.body };
 }
 
+/// The message of a first line, fields and a body, which is written once.
+fn written(
+    alloc: Global,
+    start: &ViewStart<'_>,
+    fields: &[ViewField<'_>],
+    body: &[u8],
+) -> Result<Kept, AllocError>
+    ensures { IfOk result (λ kept. kept ≡ record { start = start_seen start.now; fields = fields.now; body = body.now }) }
+{
+    let lines = lines_at(alloc, fields, first_line_length(start)?)?;
+    let room = lines.end.saturating_add(rest_length(body.len()));
+    let mut store = Buffer::with_room(alloc, room)?;
+    let first_line = put_start_line(&mut store, start)?;
+    put_fields(&mut store, fields)?;
+    let span = put_body_text(&mut store, body)?;
+    Ok(Kept {
+        store,
+        start: first_line,
+        list: lines.list,
+        body: span,
+    })
+}
+
 impl Kept {
-    /// The message of a view, in two pieces of memory: its bytes, and the spans of its fields. `AllocError` is the
+    /// The message of a view, in two pieces of memory: its written form, and the spans of its fields. `AllocError` is the
     /// only refusal.
     pub fn of(alloc: Global, view: &View<'_>) -> Result<Self, AllocError>
         ensures { IfOk result (λ kept. kept ≡ view.now) }
     {
-        let mut store = Buffer::with_room(alloc, view.written_length())?;
-        let start = put_start(&mut store, view.start())?;
-        let body = put(&mut store, view.body())?;
-        let list = put_fields(alloc, &mut store, view.fields().as_slice())?;
-        Ok(Kept {
-            store,
-            start,
-            list,
-            body,
-        })
+        written(alloc, view.start(), view.fields().as_slice(), view.body())
+    }
+
+    /// The message of a view without its first field. `AllocError` is the only refusal.
+    pub fn without_first(alloc: Global, view: &View<'_>) -> Result<Self, AllocError>
+        ensures { IfOk result (λ kept. kept ≡ record view.now { fields = drop 1 view.now.fields }) }
+    {
+        let fields = view.fields().as_slice();
+        match fields.split_first() {
+            Some((_, others)) => written(alloc, view.start(), others, view.body()),
+            None => written(alloc, view.start(), fields, view.body()),
+        }
+    }
+
+    /// Its written form, of which no byte is copied. Takes no memory.
+    pub fn text(&self) -> &[u8]
+        ensures { result.now ≡ text_of self.now }
+    {
+        self.store.as_slice()
     }
 
     /// The store, and the fields as spans in it: what each span names is a spelling or a value.

@@ -3,9 +3,13 @@ ghost use Rattle.std.specs.Prelude.{◌≡◌, ◌+◌, length, decimal, min, �
 use itoa::Buffer;
 
 /// The length of a decimal number.
+#[tactic(auto, using(std::proofs::lemmas::Fmt::decimal_digit))]
 fn number_length(number: u64) -> usize
     ensures { result ≡ length (decimal number) }
 {
+    if number < 10 {
+        return 1;
+    }
     let mut buffer = Buffer::new();
     buffer.format(number).len()
 }
@@ -37,6 +41,16 @@ pub(crate) fn line_length(name: &[u8], value: &[u8]) -> usize
     (name.len() + value.len()).saturating_add(b": \r\n".len())
 }
 
+/// The length of what stands behind the fields of a message with a body of this length, or the greatest `usize` where it is
+/// longer.
+pub(crate) fn rest_length(body: usize) -> usize
+    ensures { result ≡ min (length (decimal body) + body + 20) (2 ^ 64 - 1) }
+{
+    number_length(body as u64)
+        .saturating_add(body)
+        .saturating_add(b"Content-Length: \r\n\r\n".len())
+}
+
 /// The length of a message whose start line, fields and body are so long, or the greatest `usize` where it is
 /// longer.
 pub(crate) fn whole_length(start: usize, fields: usize, body: usize) -> usize
@@ -44,7 +58,6 @@ pub(crate) fn whole_length(start: usize, fields: usize, body: usize) -> usize
 {
     start
         .saturating_add(fields)
-        .saturating_add(number_length(body as u64))
-        .saturating_add(body)
-        .saturating_add(b"\r\nContent-Length: \r\n\r\n".len())
+        .saturating_add(b"\r\n".len())
+        .saturating_add(rest_length(body))
 }

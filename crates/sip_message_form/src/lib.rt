@@ -1,5 +1,5 @@
-//! A SIP message in its forms: with bytes of its own (`Message`), as parts of what was read (`View`), kept in one
-//! store (`Kept`), and written (`write`, RFC 3261 7); and why bytes are none.
+//! A SIP message in its forms: with bytes of its own (`Message`), as parts of what was read (`View`), kept as its written
+//! form (`Kept`) or in fewer bytes (`KeptParts`), and written (`write`, RFC 3261 7); and why bytes are none.
 //!
 //! - Used: every room that holds a message.
 //! - Not here: the reader of datagrams (`sip_message`).
@@ -12,7 +12,9 @@
 
 mod error;
 mod kept;
+mod kept_parts;
 mod kept_start;
+mod kept_text;
 mod lengths;
 mod message;
 mod message_view;
@@ -26,6 +28,7 @@ mod writing;
 
 pub use error::ReadError;
 pub use kept::Kept;
+pub use kept_parts::KeptParts;
 pub use message::{Message, Start};
 pub use message_view::View;
 pub use putting::{put_body, put_line, put_request_line, put_status_line};

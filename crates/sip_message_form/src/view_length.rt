@@ -1,4 +1,4 @@
-ghost use Rattle.std.specs.Prelude.{◌≡◌, length, min, ◌-◌, ◌^◌};
+ghost use Rattle.std.specs.Prelude.{◌≡◌, ◌++◌, codes, length, min, ◌-◌, ◌^◌, IfOk};
 ghost use Rattle.std.specs.List.{flat_map};
 ghost use Rattle.sip_message_form.specs.Text.{start_text, field_text, text_of};
 ghost use Rattle.sip_message_form.specs.ViewStart.{start_seen};
@@ -7,6 +7,7 @@ use crate::lengths::{line_length, request_length, status_length, whole_length};
 use crate::message_view::View;
 use crate::view_start::ViewStart;
 use sip_message_fields::ViewField;
+use std::alloc::AllocError;
 
 /// The length of a start line without its CRLF, or the greatest `usize` where it is longer.
 fn start_length(start: &ViewStart<'_>) -> usize
@@ -41,6 +42,16 @@ fn fields_length(fields: &[ViewField<'_>]) -> usize
         length = longer;
     }
     length
+}
+
+/// The length of a start line with its CRLF. `AllocError` is the only refusal.
+pub(crate) fn first_line_length(start: &ViewStart<'_>) -> Result<usize, AllocError>
+    ensures { IfOk result (λ room. room ≡ length (start_text (start_seen start.now) ++ codes "\r\n")) }
+{
+    match start_length(start).checked_add(b"\r\n".len()) {
+        Some(length) => Ok(length),
+        None => Err(AllocError),
+    }
 }
 
 impl<'a> View<'a> {

@@ -7,3 +7,4 @@ pub mod TopVia
 pub mod Names
 pub mod Tail
 pub mod Heard
+pub mod AnswerText

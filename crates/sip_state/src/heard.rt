@@ -30,7 +30,7 @@ use sip_edit::{onward_base_by, text_to_target, to_target};
 use sip_header::Via;
 use sip_hops::Hops;
 use sip_message_fields::{FieldName, Value};
-use sip_message_form::{Kept, View, ViewStart, write_view};
+use sip_message_form::{KeptParts, View, ViewStart, write_view};
 use sip_route::{Own, RoutesKept};
 use sip_text::{Bytes, Items};
 use sip_uri::Addr;
@@ -40,7 +40,7 @@ use std::marker::Model;
 /// A request that is kept beyond its datagram, seen as that message, with what is read of it once.
 #[derive(Drop)]
 pub struct Heard {
-    message: Kept,
+    message: KeptParts,
     via: TopVia,
     /// Of a request that goes on, in a block of its own: one that is answered here has none.
     onward: Option<Shared<Onward>>,
@@ -58,7 +58,7 @@ impl Model for Heard {
 }
 
 /// Which Routes of a message are left for a server.
-fn unread_routes(alloc: Global, message: &Kept, own: &Own) -> Result<RoutesKept, AllocError>
+fn unread_routes(alloc: Global, message: &KeptParts, own: &Own) -> Result<RoutesKept, AllocError>
     ensures { IfOk result (λ kept. kept ≡ kept_by own.now (facts_in message.now)) }
 {
     let request = message.view(alloc)?;
@@ -67,7 +67,7 @@ fn unread_routes(alloc: Global, message: &Kept, own: &Own) -> Result<RoutesKept,
 }
 
 /// Whether a message names a dialog.
-fn unread_names_dialog(alloc: Global, message: &Kept) -> Result<bool, AllocError>
+fn unread_names_dialog(alloc: Global, message: &KeptParts) -> Result<bool, AllocError>
     ensures { IfOk result (λ names. names ≡ is_some (Spec.dialog_by (Spec.names_in message.now))) }
 {
     let request = message.view(alloc)?;
@@ -76,7 +76,7 @@ fn unread_names_dialog(alloc: Global, message: &Kept) -> Result<bool, AllocError
 }
 
 /// The dialog that a message names.
-fn unread_dialog(alloc: Global, message: &Kept) -> Result<Option<DialogId>, AllocError>
+fn unread_dialog(alloc: Global, message: &KeptParts) -> Result<Option<DialogId>, AllocError>
     ensures { IfOk result (λ id. id ≡ Spec.dialog_by (Spec.names_in message.now)) }
 {
     let request = message.view(alloc)?;
@@ -87,7 +87,7 @@ fn unread_dialog(alloc: Global, message: &Kept) -> Result<Option<DialogId>, Allo
 /// The dialog that an answer with a tag of To to a message names.
 fn unread_dialog_to(
     alloc: Global,
-    message: &Kept,
+    message: &KeptParts,
     to_tag: &[u8],
 ) -> Result<Option<DialogId>, AllocError>
     ensures { IfOk result (λ id. id ≡ Spec.dialog_to to_tag.now (Spec.names_in message.now)) }
@@ -98,7 +98,7 @@ fn unread_dialog_to(
 }
 
 /// The value that the top Via of a message gets, which came from an address.
-fn unread_via(alloc: Global, message: &Kept, from: Addr) -> Result<Value<'static>, AllocError>
+fn unread_via(alloc: Global, message: &KeptParts, from: Addr) -> Result<Value<'static>, AllocError>
     ensures { IfOk result (λ value. with_first Name.Via value message.now.fields ≡ received_fields from message.now.fields) }
 {
     let request = message.view(alloc)?;
@@ -106,7 +106,7 @@ fn unread_via(alloc: Global, message: &Kept, from: Addr) -> Result<Value<'static
 }
 
 /// Where the answers to a message go that came from an address.
-fn unread_reply(alloc: Global, message: &Kept, from: Addr) -> Result<Addr, AllocError>
+fn unread_reply(alloc: Global, message: &KeptParts, from: Addr) -> Result<Addr, AllocError>
     ensures { IfOk result (λ address. address ≡ response_address message.now from) }
 {
     let request = message.view(alloc)?;
@@ -131,7 +131,7 @@ fn put_unread(
     alloc: Global,
     out: &mut Items<Addr>,
     hops: &Hops,
-    message: &Kept,
+    message: &KeptParts,
 ) -> Result<(), AllocError>
     ensures { OnOk result (out.new ≡ out.old ++ addresses_in (address_of hops.now.addresses) message.now.fields) }
 {
@@ -152,7 +152,7 @@ impl Heard {
         requires { top_via request.now ≡ Some via.now }
         ensures { IfOk result (λ heard. heard ≡ request.now) }
     {
-        let message = Kept::of(alloc, request)?;
+        let message = KeptParts::of(alloc, request)?;
         let via = TopVia::of(alloc, request, via, from)?;
         Ok(Heard {
             message,
@@ -176,7 +176,7 @@ impl Heard {
         requires via { top_via request.now ≡ Some via.now }
         ensures { IfOk result (λ heard. heard ≡ request.now) }
     {
-        let message = Kept::of(alloc, request)?;
+        let message = KeptParts::of(alloc, request)?;
         let via = TopVia::of(alloc, request, via, from)?;
         let onward = Onward::of(alloc, own, realm, request, &via, names)?;
         Ok(Heard {

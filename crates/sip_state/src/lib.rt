@@ -13,6 +13,7 @@
 //! ```
 #![tactic(auto)]
 
+mod answer_text;
 mod branch;
 pub mod dialogs;
 mod heard;
@@ -28,6 +29,7 @@ mod tail;
 mod top_via;
 mod written;
 
+pub use answer_text::AnswerText;
 pub use branch::{Branch, Phase};
 pub use heard::Heard;
 pub use names::Names;

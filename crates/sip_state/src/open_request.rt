@@ -1,10 +1,11 @@
 use crate::Heard;
+use crate::answer_text::AnswerText;
 use crate::branch::Branch;
 use crate::resend::Resend;
 use crate::written::Written;
 use sip_base::Shared;
 use sip_best::Final;
-use sip_text::{Bytes, Items};
+use sip_text::Items;
 use sip_transaction_table::Key;
 use sip_uri::Addr;
 
@@ -55,7 +56,7 @@ pub enum Side {
 #[derive(Clone, Drop)]
 pub struct LastAnswer {
     pub status: u16,
-    pub text: Shared<Bytes>,
+    pub text: AnswerText,
 }
 
 /// An open request. What many of its states have in common is shared: a clone copies its branches and its numbers, and no text.

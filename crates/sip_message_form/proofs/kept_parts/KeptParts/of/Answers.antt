@@ -4,7 +4,7 @@ use Rattle.sip_message_fields.specs.KeptField.{IsPut, AreFieldsPut}
 use Rattle.sip_message_form.specs.declared.message.Start.{Start}
 use Rattle.sip_message_form.specs.KeptStart.{IsStartPut}
 use Rattle.sip_message_form.proofs.Keeping.{kept_is, kept_within}
-use Rattle.sip_message_form.proofs.kept.Kept.of.Goals as goal
+use Rattle.sip_message_form.proofs.kept_parts.KeptParts.of.Goals as goal
 
 pub invariant_of-result : goal.invariant_of-result
 invariant_of-result c =

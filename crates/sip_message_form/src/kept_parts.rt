@@ -1,0 +1,91 @@
+ghost use Rattle.std.specs.Prelude.{◌≡◌, IfOk};
+ghost use Rattle.sip_message_fields.specs.Values;
+ghost use Rattle.sip_message_form.specs.ViewStart.{start_seen};
+
+use crate::kept_start::{KeptStart, put_start, start_in};
+use crate::message_view::View;
+use crate::view_start::ViewStart;
+use sip_message_fields::{
+    FieldName, KeptField, ViewFields, fields_in, fields_in_with_first, put, put_fields,
+};
+use sip_text::{Buffer, Span};
+use std::alloc::{AllocError, Global};
+use std::marker::Model;
+
+/// A message that is kept in as few bytes as can be, seen as that message: no name that this project knows is spelled. Its
+/// parts stand once, in one store, and spans name its first line, its fields and its body.
+#[derive(Drop)]
+pub struct KeptParts {
+    store: Buffer,
+    start: KeptStart,
+    list: Vec<KeptField>,
+    body: Span,
+}
+
+impl Model for KeptParts {
+    ghost use Rattle.sip_message_form.specs.declared.message.Message.{Message};
+    ghost use Rattle.sip_message_form.specs.Kept.{message_kept, ArePartsStored};
+
+    ghost Value = { Message };
+
+    ghost view = { λ k. message_kept k.store k.start k.list.items k.body };
+
+    ghost invariant = { λ k. ArePartsStored k.store k.start k.list.items k.body };
+}
+
+impl KeptParts {
+    /// The message of a view, in two pieces of memory: its bytes, and the spans of its fields. `AllocError` is the
+    /// only refusal.
+    pub fn of(alloc: Global, view: &View<'_>) -> Result<Self, AllocError>
+        ensures { IfOk result (λ kept. kept ≡ view.now) }
+    {
+        let mut store = Buffer::with_room(alloc, view.written_length())?;
+        let start = put_start(&mut store, view.start())?;
+        let body = put(&mut store, view.body())?;
+        let list = put_fields(alloc, &mut store, view.fields().as_slice())?;
+        Ok(KeptParts {
+            store,
+            start,
+            list,
+            body,
+        })
+    }
+
+    /// Its first line, of which no byte is copied. Takes no memory.
+    pub fn start(&self) -> ViewStart<'_>
+        ensures { start_seen result ≡ self.now.start }
+    {
+        start_in(self.store.as_slice(), self.start)
+    }
+
+    /// Views of its fields, of which no byte is copied. `AllocError` is the only refusal.
+    pub fn fields<'k>(&'k self, alloc: Global) -> Result<ViewFields<'k>, AllocError>
+        ensures { IfOk result (λ fields. fields ≡ self.now.fields) }
+    {
+        fields_in(alloc, self.store.as_slice(), self.list.as_slice())
+    }
+
+    /// A view of the message, of which no byte is copied. `AllocError` is the only refusal.
+    pub fn view<'k>(&'k self, alloc: Global) -> Result<View<'k>, AllocError>
+        ensures { IfOk result (λ view. view ≡ self.now) }
+    {
+        let store = self.store.as_slice();
+        let fields = fields_in(alloc, store, self.list.as_slice())?;
+        Ok(View::new(start_in(store, self.start), fields, self.body.of(store)))
+    }
+
+    /// A view of the message, the first field of a name with another value. No byte is copied. `AllocError` is the only
+    /// refusal.
+    pub fn view_with_first<'k>(
+        &'k self,
+        alloc: Global,
+        name: &FieldName,
+        value: &'k [u8],
+    ) -> Result<View<'k>, AllocError>
+        ensures { IfOk result (λ view. view ≡ record self.now { fields = Values.with_first name.now value.now self.now.fields }) }
+    {
+        let store = self.store.as_slice();
+        let fields = fields_in_with_first(alloc, store, self.list.as_slice(), name, value)?;
+        Ok(View::new(start_in(store, self.start), fields, self.body.of(store)))
+    }
+}
