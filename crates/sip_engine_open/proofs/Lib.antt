@@ -7,3 +7,4 @@ mod Lists
 mod Moments
 mod Results
 mod Steps
+mod Quiet

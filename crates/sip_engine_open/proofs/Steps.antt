@@ -24,8 +24,8 @@ use Rattle.sip_location.specs.Binding.{live}
 use Rattle.sip_location.specs.Sameness.{SameBindings}
 use Rattle.sip_location.specs.declared.binding.Binding.{Binding}
 use Rattle.sip_proxy.specs.steps_model.Effect.{changed, dialogs_after, nothing, replaced}
-use Rattle.sip_proxy.specs.steps_model.Step.{Does, IsDeadline, IsOverdue, IsQuiet, IsResend, IsTime, NoneAgainBefore, NoneAgainBy, NoneBefore, NoneBy, moment_of, originals, resent, retransmissions, OfSide, OfBranch}
-use Rattle.sip_proxy.specs.context_model.Retransmission.{IsResent, OfAnswer, OfRequest, answer_due, answer_next, answers_again, branch_due, branch_next, goes_again, insists, is_cancelled_again, is_sent_again, resent_branch, with_resend}
+use Rattle.sip_proxy.specs.steps_model.Step.{Does, IsDeadline, IsQuiet, IsResend, IsTime, NoneAgainBefore, NoneAgainBy, NoneBefore, NoneBy, moment_of, originals, resent, retransmissions, OfSide, OfBranch}
+use Rattle.sip_proxy.specs.context_model.Retransmission.{OfAnswer, OfRequest, answer_due, answer_next, answers_again, branch_due, branch_next, goes_again, insists, is_cancelled_again, is_sent_again, resent_branch, with_resend}
 use Rattle.sip_dialog_lessons.specs.state.SameState.{SameState}
 use Rattle.sip_dialog_lessons.specs.state.State.{has_left, is_closed, is_ended, is_invite}
 use Rattle.sip_dialog_lessons.specs.state.declared.branch.Branch.{Branch}

@@ -1,5 +1,5 @@
 -- What a step without a datagram is made of.
-use Rattle.std.specs.Prelude.{ℕ, ◌≡◌, true, List, [], Contains, Option, Some}
+use Rattle.std.specs.Prelude.{ℕ, ◌≡◌, true, List, [], Contains, Option, Some, None}
 use Rattle.sip_event.specs.declared.event.StepOut.{StepOut}
 use Rattle.sip_event.specs.declared.packet.Packet.{Packet}
 use Rattle.sip_proxy.specs.Drafts.{IsDrafted}
@@ -8,6 +8,11 @@ use Rattle.sip_proxy.specs.context_model.Branches.{Change}
 use Rattle.sip_proxy.specs.declared.drafting.Draft.{Draft}
 use Rattle.sip_proxy.specs.fork.Due.{IsOfOwner, is_of}
 use Rattle.sip_proxy.specs.fork.declared.due.Due.{Due}
+use Rattle.sip_proxy.specs.fork.declared.due.Due.TheVariants as What
+use Rattle.sip_proxy.specs.fork.transaction_table.declared.transaction.Transaction.{Transaction}
+use Rattle.sip_proxy.specs.fork.transaction_table.declared.transaction.Transaction.TheVariants as Transactions
+use Rattle.sip_proxy.specs.fork.context.Inputs.{changing, outcome_of}
+use Rattle.sip_proxy.specs.fork.Quiet.{alone}
 use Rattle.sip_proxy.specs.forwarding.Forwarding.{AreSent, Teach}
 use Rattle.sip_hops.specs.declared.host_address.HostAddress.{HostAddress}
 use Rattle.sip_proxy.specs.context.declared.input.Input.{Input}
@@ -77,3 +82,19 @@ pub record IsFired (rows : List HostAddress) (server : Server) (due : ℕ) (what
   pub is_due : IsDueAs r due input
   pub is_part : IsOfPart r what input
   pub drafted : IsDrafted rows server due r input draft
+
+-- ---- the end of a transaction
+
+-- the transaction whose deadline passes, if one does
+abbrev pub ending_of : Due → Option Transaction
+ending_of What.AnswerAgain = None
+ending_of What.AnswerEnds = Some Transactions.Server
+ending_of (What.BranchAgain place) = None
+ending_of (What.BranchEnds place) = Some (Transactions.Client place)
+
+-- What is due of an open request at its moment makes it this one, and nothing is sent.
+pub record IsQuietEnd (due : ℕ) (what : Due) (r next : OpenRequest) : Type 0 where
+  pub input : Input
+  pub is_due : IsDueAs r due input
+  pub is_part : IsOfPart r what input
+  pub outcome : (server : Server) → outcome_of server due r input ≡ changing (alone next) []

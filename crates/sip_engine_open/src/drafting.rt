@@ -1,14 +1,17 @@
-ghost use Rattle.std.specs.Prelude.{◌≡◌, ◌≤◌, ◌<◌, ◌^◌, length, slice_get, Some, IfOk};
+ghost use Rattle.std.specs.Prelude.{◌≡◌, ◌≤◌, ◌<◌, ◌^◌, length, slice_get, Some, IfOk, IfSome};
 ghost use Rattle.sip_proxy.specs.fork.Due.{IsDue, IsFirst};
 ghost use Rattle.sip_proxy.specs.fork.Keeping.{IsKeptAs};
 ghost use Rattle.sip_dialog_lessons.specs.Lessons.{beginnings};
 ghost use Rattle.sip_dialog_lessons.specs.state.declared.open_request.OpenRequest.{OpenRequest};
-ghost use Rattle.sip_engine_open.specs.TimeSteps.{IsDueAs, IsFired, IsOfPart};
+ghost use Rattle.sip_dialog_lessons.specs.state.declared.server.Server as Declared;
+ghost use Rattle.sip_proxy.specs.fork.Ending.{IsDeadlineOf, ended};
+ghost use Rattle.sip_engine_open.specs.TimeSteps.{IsDueAs, IsFired, IsOfPart, IsQuietEnd, ending_of};
 
 use sip_dialog_lessons::state::{Branch, OpenRequest, Server};
 use sip_hops::Hops;
 use sip_proxy::context::Input;
 use sip_proxy::fork::{Due, First};
+use sip_proxy::transaction_table::Transaction;
 use sip_proxy::{Draft, Proxy};
 use sip_timers::Timers;
 use std::alloc::{AllocError, Global};
@@ -26,6 +29,7 @@ fn input_of<'a>(request: &'a OpenRequest, first: First) -> Input<'a>
     requires { IsDue request.now first.due first.what }
     ensures due { IsDueAs request.now first.due result }
     ensures part { IsOfPart request.now first.what result }
+    ensures ends { IfSome (ending_of first.what) (λ transaction. IsDeadlineOf request.now transaction result) }
 {
     match first.what {
         Due::AnswerAgain => Input::AnswerAgain,
@@ -36,6 +40,37 @@ fn input_of<'a>(request: &'a OpenRequest, first: First) -> Input<'a>
         Due::BranchEnds { place } => Input::BranchDeadline {
             branch: branch_of(request, place),
         },
+    }
+}
+
+/// The transaction whose deadline passes, if one does.
+fn transaction_of(what: Due) -> Option<Transaction>
+    ensures { result ≡ ending_of what }
+{
+    match what {
+        Due::AnswerAgain => None,
+        Due::AnswerEnds => Some(Transaction::Server),
+        Due::BranchAgain { .. } => None,
+        Due::BranchEnds { place } => Some(Transaction::Client { place }),
+    }
+}
+
+/// The transaction that what is due first does no more than to end, if it does: nothing is sent, and nothing else of its open
+/// request changes. Takes no memory.
+pub(crate) fn quiet_end<T: Timers>(proxy: &Proxy<T>, first: First) -> Option<Transaction>
+    requires first { IsFirst proxy.now.state.requests first }
+    requires later { proxy.now.state.moment ≤ first.due }
+    ensures quiet { IfSome result (λ transaction. (r : OpenRequest) → slice_get proxy.now.state.requests first.place ≡ Some r
+        → IsQuietEnd first.due first.what r (ended transaction r)) }
+    ensures kept { IfSome result (λ transaction. (server : Declared.Server) (r : OpenRequest) → slice_get proxy.now.state.requests first.place ≡ Some r
+        → IsKeptAs first.due r (ended transaction r)) }
+{
+    let transaction = transaction_of(first.what)?;
+    let _input = input_of(proxy.get(first.place), first);
+    if proxy.ends_quietly(first.place, transaction) {
+        Some(transaction)
+    } else {
+        None
     }
 }
 

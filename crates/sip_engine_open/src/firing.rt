@@ -4,9 +4,9 @@ ghost use Rattle.sip_proxy.specs.steps_model.Step.{IsDeadline, IsResend, IsStep,
 ghost use Rattle.sip_engine_open.specs.Next.{IsNext};
 ghost use Rattle.sip_engine_open.specs.Timers.{IsFiredFirst};
 
-use crate::drafting::draft_first;
+use crate::drafting::{draft_first, quiet_end};
 use crate::next::due_by;
-use crate::stepping::{change, pass};
+use crate::stepping::{change, end, pass};
 use sip_dialog_lessons::state::Server;
 use sip_event::StepOut;
 use sip_hops::Hops;
@@ -37,6 +37,9 @@ fn fire_first<T: Timers>(
     ensures unchanged { OnErr result (proxy.new.state ≡ proxy.old.state) }
     ensures timers { OnErr result (proxy.new.timers ≡ proxy.old.timers) }
 {
+    if let Some(transaction) = quiet_end(proxy, first) {
+        return Ok(end(alloc, proxy, first.due, first.place, transaction));
+    }
     let draft = draft_first(alloc, server, hops, proxy, first)?;
     change(alloc, proxy, first.due, first.place, draft)
 }

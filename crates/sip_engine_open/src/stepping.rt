@@ -1,5 +1,7 @@
 ghost use Rattle.std.specs.Prelude.{◌≡◌, ◌≤◌, ◌<◌, [], length, slice_get, Some, IfOk, OnErr};
 ghost use Rattle.sip_proxy.specs.Proxy.{MayCome};
+ghost use Rattle.sip_proxy.specs.fork.Ending.{ended, left_invite};
+ghost use Rattle.sip_proxy.specs.Expiring.{expiring};
 ghost use Rattle.sip_proxy.specs.fork.Keeping.{IsKeptAs};
 ghost use Rattle.sip_dialog_lessons.specs.Lessons.{beginnings};
 ghost use Rattle.sip_proxy.specs.steps_model.Effect.{replaced};
@@ -7,6 +9,7 @@ ghost use Rattle.sip_dialog_lessons.specs.state.declared.open_request.OpenReques
 ghost use Rattle.sip_engine_open.specs.TimeSteps.{Leaves};
 
 use sip_event::StepOut;
+use sip_proxy::transaction_table::Transaction;
 use sip_proxy::{Draft, Proxy};
 use sip_text::Items;
 use sip_timers::Timers;
@@ -50,4 +53,27 @@ pub(crate) fn change<T: Timers>(
         packets,
         records: Items::new(alloc),
     })
+}
+
+/// A moment in milliseconds comes, a transaction of the open request at a place ends, and nothing is sent. Takes no memory.
+pub(crate) fn end<T: Timers>(
+    alloc: Global,
+    proxy: &mut Proxy<T>,
+    now: u64,
+    place: usize,
+    transaction: Transaction,
+) -> StepOut
+    requires moment { MayCome proxy.old.state now }
+    requires place { place < length proxy.old.state.requests }
+    requires kept { (r : OpenRequest) → slice_get proxy.old.state.requests place ≡ Some r → IsKeptAs now r (ended transaction r) }
+    ensures { (r : OpenRequest) → slice_get proxy.old.state.requests place ≡ Some r
+        → Leaves now [] (replaced (ended transaction r) proxy.old.state.requests) (expiring (left_invite (ended transaction r))) proxy.old.state result
+        proxy.new.state }
+{
+    proxy.end(now, place, transaction);
+    StepOut {
+        at: now,
+        packets: Items::new(alloc),
+        records: Items::new(alloc),
+    }
 }

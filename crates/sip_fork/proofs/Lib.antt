@@ -18,3 +18,5 @@ mod Reasons
 mod Sent
 mod Tying
 mod Walks
+mod Ends
+mod Quietly

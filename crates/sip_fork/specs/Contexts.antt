@@ -58,6 +58,11 @@ pub record IsPrepared (plan : Plan) : Type 0 where
   pub keys : HasKeys plan.request plan.keys
   pub numbers : HasNumbers plan.request
 
+-- A request as it is to be opened is placed: there are keys for its branches, and its numbers are of their types.
+pub record IsPlaced (r : Request) : Type 0 where
+  pub keys : HasKeys r.open_request r.branches
+  pub numbers : HasNumbers r.open_request
+
 -- The moments of each open request are near the last one that came, which is at most a millisecond behind the one by which
 -- timers were told that they aren't due.
 pub record AreOnTime (moment reached : ℕ) (requests : List OpenRequest) : Type 0 where

@@ -1,19 +1,14 @@
-ghost use Rattle.std.specs.Prelude.{◌≡◌, ◌≤◌, ◌<◌, ◌^◌, IfOk, IfErr, OnOk};
+ghost use Rattle.std.specs.Prelude.{◌≡◌, ◌<◌, ◌^◌, IfOk};
 ghost use Rattle.std.specs.List.{AllByRecursion, list_all};
 ghost use Rattle.model_steps.specs.context_model.BranchById.{HasNumbers};
 ghost use Rattle.sip_dialog_lessons.specs.state.State as States;
 ghost use Rattle.sip_dialog_lessons.specs.state.declared.branch.Branch.{Branch};
 ghost use Rattle.sip_request.specs.Named.{HasKeys};
-ghost use Rattle.sip_request.specs.Near.{most_timers};
-ghost use Rattle.sip_timers.specs.declared.error.TimerError.TheVariants.{NoMemory};
 
 use crate::row::Standing;
 use sip_context::Sent;
 use sip_dialog_lessons::state::{Branch, OpenRequest, Phase, Side};
-use sip_request::transactions_model::TimerKeys;
 use sip_request::{Plan, Request};
-use sip_text::Items;
-use sip_timers::{TimerError, Timers};
 use sip_transaction_table::Held;
 use std::alloc::{AllocError, Global};
 use std::marker::Model;
@@ -36,20 +31,21 @@ impl Model for Change {
     ghost invariant = { λ c. IsPrepared c.plan };
 }
 
-/// A request as it is to be opened, with all the memory that it takes; seen as the request.
+/// A request as it is to be opened, where it is to stand, with all the memory that it takes; seen as the request.
 #[derive(Drop)]
 pub struct Opening {
-    pub(crate) change: Change,
-    /// Where it is to stand.
     pub(crate) place: Held<Standing>,
 }
 
 impl Model for Opening {
     ghost use Rattle.sip_dialog_lessons.specs.state.declared.open_request.OpenRequest.{OpenRequest};
+    ghost use Rattle.sip_fork.specs.Contexts.{IsPlaced};
 
     ghost Value = { OpenRequest };
 
-    ghost view = { λ o. o.change };
+    ghost view = { λ o. o.place.open_request };
+
+    ghost invariant = { λ o. IsPlaced o.place };
 }
 
 /// What an input makes of an open request: the request as it is to be, and what is sent.
@@ -59,44 +55,8 @@ pub struct Prepared {
     pub sent: Sent,
 }
 
-/// Keys that mean nothing.
-const NO_KEYS: TimerKeys = TimerKeys {
-    again: 0,
-    last: 0,
-    call: 0,
-};
-
-/// A closed request of the same number and key, without answers and branches.
-fn closed_like(alloc: Global, open_request: &OpenRequest) -> Result<OpenRequest, AllocError> {
-    let key = open_request.key.clone()?;
-    let request = open_request.request.clone()?;
-    Ok(OpenRequest {
-        key,
-        request,
-        source: open_request.source,
-        number: open_request.number,
-        arrived_at: open_request.arrived_at,
-        answer: None,
-        side: Side::Closed,
-        again: open_request.again,
-        finals: Items::new(alloc),
-        branches: Items::new(alloc),
-    })
-}
-
-/// Memory for a request, in which a closed one stands until it is opened.
-fn place_for(alloc: Global, open_request: &OpenRequest) -> Result<Held<Standing>, AllocError> {
-    let open_request = closed_like(alloc, open_request)?;
-    let request = Request {
-        open_request,
-        side: NO_KEYS,
-        branches: Items::new(alloc),
-    };
-    Held::new(alloc, Standing { request })
-}
-
 /// Whether the transactions of all branches have ended.
-fn have_ended(branches: &[Branch]) -> bool
+pub(crate) fn have_ended(branches: &[Branch]) -> bool
     ensures { result ≡ list_all (λ (b : Branch). States.is_ended b.phase) branches.now }
 {
     branches
@@ -147,17 +107,6 @@ impl Change {
         Change { plan }
     }
 
-    /// Makes room for the timers that the request may name. `NoMemory` is the only refusal.
-    pub(crate) fn reserve<T: Timers>(&self, timers: &mut T) -> Result<(), TimerError>
-        ensures ok { OnOk result (most_timers self.now ≤ T.room timers.new) }
-        ensures kept { T.room timers.old ≤ T.room timers.new }
-        ensures same { T.pending timers.new ≡ T.pending timers.old }
-        ensures still { T.reached timers.new ≡ T.reached timers.old }
-        ensures refused { IfErr result (λ e. e ≡ NoMemory) }
-    {
-        self.plan.reserve(timers)
-    }
-
     /// The request.
     pub fn request(&self) -> &OpenRequest
         ensures { result.now ≡ self.now }
@@ -179,15 +128,16 @@ impl Opening {
         ensures { IfOk result (λ opening. opening ≡ request) }
     {
         let plan = Plan::of(alloc, request)?;
-        let place = place_for(alloc, &plan.request)?;
-        let change = Change::of_plan(plan);
-        Ok(Opening { change, place })
+        let request = Request::planned(plan);
+        let _number = has_numbers(&request.open_request);
+        let place = Held::new(alloc, Standing { request })?;
+        Ok(Opening { place })
     }
 
     /// The request.
-    pub fn change(&self) -> &Change
+    pub fn request(&self) -> &OpenRequest
         ensures { result.now ≡ self.now }
     {
-        &self.change
+        &self.place.get().request.open_request
     }
 }

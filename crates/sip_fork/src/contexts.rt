@@ -1,4 +1,4 @@
-ghost use Rattle.std.specs.Prelude.{◌≡◌, ◌<◌, ◌≤◌, ◌==◌, [], ℕ, false, ◌+◌, ◌-◌, ◌^◌, max, length, position, find, nat_le, slice_get};
+ghost use Rattle.std.specs.Prelude.{◌≡◌, ◌<◌, ◌≤◌, ◌==◌, [], ℕ, true, false, ◌+◌, ◌-◌, ◌^◌, max, length, position, find, nat_le, slice_get};
 ghost use Rattle.std.specs.Prelude.{option_map, None, Some, IfOk, IfErr, IfSome, OnOk, MatchOption};
 ghost use Rattle.std.specs.List.{All, AllPairs};
 ghost use Rattle.std.specs.Option.{option_and_then};
@@ -14,16 +14,21 @@ ghost use Rattle.model_steps.specs.Step.{NoneBefore, NoneAgainBefore};
 ghost use Rattle.sip_fork.specs.Keeping.{IsKeptAs, IsOf};
 ghost use Rattle.sip_request.specs.transactions_model.Near.{IsWithin};
 ghost use Rattle.sip_request.specs.Near.{most_timers};
-ghost use Rattle.sip_context.specs.Inputs.{outcome, outcome_of};
+ghost use Rattle.sip_context.specs.Inputs.{changing, outcome, outcome_of};
+ghost use Rattle.sip_fork.specs.Quiet.{alone};
+ghost use Rattle.sip_context.specs.declared.input.Input as Inputs;
+ghost use Rattle.sip_dialog_lessons.specs.state.declared.server.Server as Servers;
+ghost use Rattle.sip_fork.specs.Ending.{IsDeadlineOf, ended, left_invite};
 ghost use Rattle.sip_fork.specs.Contexts.{IsFitting, IsSame};
 ghost use Rattle.sip_fork.specs.Due.{IsFirst, IsFirstAt, IsNothingDue, IsOfFirst};
 ghost use Rattle.sip_fork.specs.Places.{branch_at};
 
 use crate::change::{Change, Opening, Prepared};
 use crate::due::{First, what_at};
+use crate::ending::{ends_quietly, invite_number, leaves_with};
 use crate::keeping::{inputs_fit, inputs_keep};
 use crate::lookup::place_of_sent;
-use crate::moving::{change_row, close_row, open_row};
+use crate::moving::{change_row, close_row, end_row, open_row};
 use crate::planning::prepared;
 use crate::queue::Queue;
 use crate::row::Standing;
@@ -34,7 +39,7 @@ use sip_dialog_lessons::state::{OpenRequest, Server};
 use sip_edit::branch_of_text;
 use sip_request::transactions_model::bounds::time_passes;
 use sip_timers::{TimerError, Timers};
-use sip_transaction_table::{Key, Table};
+use sip_transaction_table::{Key, Table, Transaction};
 use std::alloc::{AllocError, Global};
 use std::marker::Model;
 
@@ -224,18 +229,18 @@ impl<T: Timers> Contexts<T> {
     }
 
     /// Makes room for the timers of a request as it is to be. `NoMemory` is the only refusal; room that was there stays.
-    pub fn prepare(&mut self, change: &Change) -> Result<(), TimerError>
+    pub fn prepare(&mut self, request: &OpenRequest) -> Result<(), TimerError>
         ensures requests { self.new.requests ≡ self.old.requests }
         ensures pending { self.new.pending ≡ self.old.pending }
         ensures moment { self.new.moment ≡ self.old.moment }
         ensures reached { self.new.reached ≡ self.old.reached }
         ensures places { self.new.places ≡ self.old.places }
-        ensures ok { OnOk result (most_timers change.now ≤ self.new.room) }
+        ensures ok { OnOk result (most_timers request.now ≤ self.new.room) }
         ensures room { self.old.room ≤ self.new.room }
         ensures refused { IfErr result (λ e. e ≡ NoMemory) }
     {
         let _open = &self.table;
-        change.reserve(&mut self.timers)
+        sip_request::reserve(&mut self.timers, request)
     }
 
     /// The open request at a place becomes what was prepared, of its number and its key, and its timers follow; one that stays
@@ -256,6 +261,47 @@ impl<T: Timers> Contexts<T> {
             close_row(&mut self.table, &mut self.timers, place);
         } else {
             change_row(&mut self.table, &mut self.timers, place, change);
+        }
+    }
+
+    /// Whether the deadline of a transaction of the open request at a place does no more than to end it: nothing is sent, and
+    /// nothing else of the request changes. Takes no memory.
+    pub fn ends_quietly(&self, place: usize, transaction: Transaction) -> bool
+        requires { place < length self.now.requests }
+        ensures outcome { result ≡ true → (r : OpenRequest) → slice_get self.now.requests place ≡ Some r → (server : Servers.Server) (now : ℕ) (input : Inputs.Input)
+            → IsDeadlineOf r transaction input → outcome_of server now r input ≡ changing (alone (ended transaction r)) [] }
+        ensures kept { result ≡ true → (r : OpenRequest) → slice_get self.now.requests place ≡ Some r → (server : Servers.Server) (now : ℕ) (input : Inputs.Input)
+            → self.now.moment ≤ now → IsOf r now input → IsDeadlineOf r transaction input → IsKeptAs now r (ended transaction r) }
+    {
+        inputs_keep();
+        let _moment = self.moment;
+        let row = self.table.get(place);
+        ends_quietly(&row.request.open_request, transaction)
+    }
+
+    /// A transaction of the open request at a place ends where the request stands, and its timers are stopped; a request that
+    /// stays open no longer is closed. Gives the number of an INVITE that is. Takes no memory.
+    pub fn end(&mut self, place: usize, transaction: Transaction) -> Option<u64>
+        requires place { place < length self.old.requests }
+        requires kept { (r : OpenRequest) → slice_get self.old.requests place ≡ Some r → IsKeptAs self.old.moment r (ended transaction r) }
+        ensures requests { (r : OpenRequest) → slice_get self.old.requests place ≡ Some r
+            → self.new.requests ≡ replaced (ended transaction r) self.old.requests }
+        ensures left { (r : OpenRequest) → slice_get self.old.requests place ≡ Some r → result ≡ left_invite (ended transaction r) }
+        ensures moment { self.new.moment ≡ self.old.moment }
+        ensures reached { self.new.reached ≡ self.old.reached }
+        ensures places { self.old.places ≤ self.new.places }
+        ensures room { self.old.room ≤ self.new.room }
+    {
+        time_passes();
+        let row = self.table.get(place);
+        let request = &row.request.open_request;
+        if leaves_with(request, transaction) {
+            let left = invite_number(request);
+            close_row(&mut self.table, &mut self.timers, place);
+            left
+        } else {
+            end_row(&mut self.table, &mut self.timers, place, transaction);
+            None
         }
     }
 

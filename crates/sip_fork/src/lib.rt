@@ -14,6 +14,7 @@ mod change;
 mod contexts;
 pub mod dialogs;
 mod due;
+mod ending;
 pub mod keeping;
 mod lookup;
 mod moving;
@@ -21,12 +22,18 @@ pub mod nearness;
 pub mod openings;
 mod planning;
 mod queue;
+mod quiet;
 mod row;
 mod timing;
 
 pub use change::{Change, Opening, Prepared};
 pub use contexts::Contexts;
 pub use due::{Due, First};
+
+/// Of `sip_transaction_table`.
+pub mod transaction_table {
+    pub use sip_transaction_table::Transaction;
+}
 
 /// Of `sip_context`.
 pub mod context {

@@ -1,16 +1,22 @@
 ghost use Rattle.std.specs.Prelude.{◌≡◌, ◌<◌, ◌≤◌, ◌+◌, ◌++◌, ◌∷◌, [], length, map, position, remove, slice_get, slice_set, Some, None};
 ghost use Rattle.std.specs.List.{All};
 ghost use Rattle.sip_transaction_table.specs.Key.{same_key};
+ghost use Rattle.sip_request.specs.Named.{HasKeys, IsReady, named_by};
 ghost use Rattle.sip_request.specs.Near.{most_timers};
+ghost use Rattle.sip_timers.specs.Moves.{Moves};
+ghost use Rattle.sip_timers.specs.Timers.{KeysDiffer};
 ghost use Rattle.sip_request.specs.declared.request.Request.{Request};
+ghost use Rattle.sip_request.specs.transactions_model.Fits.{Fits};
+ghost use Rattle.sip_request.specs.transactions_model.Near.{IsWithin};
 ghost use Rattle.sip_fork.specs.Contexts.{AreTied, IsFitting, IsSame};
+ghost use Rattle.sip_fork.specs.Ending.{ended};
 
 use crate::change::{Change, Opening};
+use crate::ending::stop;
 use crate::queue::Queue;
 use crate::row::Standing;
-use sip_request::Request;
 use sip_timers::Timers;
-use sip_transaction_table::Table;
+use sip_transaction_table::{Held, Table, Transaction};
 
 /// Closes the request at a place: its timers are stopped.
 pub(crate) fn close_row<T: Timers>(table: &mut Table<Standing>, timers: &mut Queue<T>, place: usize)
@@ -47,7 +53,44 @@ pub(crate) fn change_row<T: Timers>(
     let Change { plan } = change;
     let row = table.get(place);
     let request = row.request.changed(timers, plan);
-    let _was = table.replace(place, Standing { request });
+    table.replace(place, Standing { request });
+}
+
+/// A transaction of the request at a place ends where it stands: its timers are stopped.
+pub(crate) fn end_row<T: Timers>(
+    table: &mut Table<Standing>,
+    timers: &mut Queue<T>,
+    place: usize,
+    transaction: Transaction,
+)
+    requires place { place < length table.old.rows }
+    requires tied { AreTied timers.old.pending timers.old.reached table.old.rows }
+    requires fits { (r : Request) → slice_get table.old.rows place ≡ Some r → Fits (ended transaction r.open_request) }
+    requires within { (r : Request) → slice_get table.old.rows place ≡ Some r → IsWithin (timers.old.reached + 1) (ended transaction r.open_request) }
+    ensures rows { (r : Request) → slice_get table.old.rows place ≡ Some r → map (λ (r : Request). r.open_request) table.new.rows
+        ≡ slice_set (map (λ (r : Request). r.open_request) table.old.rows) place (ended transaction r.open_request) }
+    ensures tied { AreTied timers.new.pending timers.new.reached table.new.rows }
+    ensures places { table.new.room ≡ table.old.room }
+    ensures room { timers.old.room ≤ timers.new.room }
+    ensures still { timers.new.reached ≡ timers.old.reached }
+{
+    let row = table.get(place);
+    stop(timers, &row.request, transaction);
+    table.end(place, transaction);
+}
+
+/// Sets the timers of a request where it stands.
+fn begin<T: Timers>(place: &mut Held<Standing>, timers: &mut Queue<T>)
+    requires apart { KeysDiffer timers.old.pending }
+    requires ready { IsReady timers.old.reached timers.old.room (record { request = place.old.open_request; keys = place.old.branches }) }
+    ensures moves { Moves timers.old.pending [] timers.new.pending (named_by place.new) }
+    ensures request { place.new.open_request ≡ place.old.open_request }
+    ensures keys { HasKeys place.new.open_request place.new.branches }
+    ensures left { timers.old.room ≤ timers.new.room + most_timers place.old.open_request }
+    ensures still { timers.new.reached ≡ timers.old.reached }
+{
+    let standing = place.get_mut();
+    standing.request.begin(timers);
 }
 
 /// Opens a request behind all others: its timers are set.
@@ -68,9 +111,7 @@ pub(crate) fn open_row<T: Timers>(
     ensures room { timers.old.room ≤ timers.new.room + most_timers opening }
     ensures still { timers.new.reached ≡ timers.old.reached }
 {
-    let Opening { change, mut place } = opening;
-    let Change { plan } = change;
-    let request = Request::open(timers, plan);
-    let _closed = place.replace(Standing { request });
+    let Opening { mut place } = opening;
+    begin(&mut place, timers);
     table.push(place);
 }

@@ -1,9 +1,12 @@
 ghost use Rattle.std.specs.Prelude.{◌≡◌};
 ghost use Rattle.model_steps.specs.verdict_model.Verdict;
+ghost use Rattle.sip_request.specs.Ended.{become};
+ghost use Rattle.sip_fork.specs.Ending.{ended};
 
+use crate::ending;
 use sip_dialog_lessons::state::OpenRequest;
 use sip_request::Request;
-use sip_transaction_table::{Key, Row};
+use sip_transaction_table::{Key, Row, Transaction};
 use std::marker::Model;
 
 /// An open request as a row of the table, seen as the request.
@@ -51,6 +54,8 @@ impl Row for Standing {
 
     ghost is_cancelled_by = { λ key r. Verdict.is_cancelled_by key r.open_request };
 
+    ghost ended = { λ t r. become (ended t r.open_request) r };
+
     fn number(&self) -> u64 {
         self.request.open_request.number
     }
@@ -61,5 +66,9 @@ impl Row for Standing {
 
     fn is_cancelled_by(&self, cancel: &Key) -> bool {
         is_named_by(&self.request.open_request, cancel)
+    }
+
+    fn end(&mut self, transaction: Transaction) {
+        ending::end(&mut self.request, transaction);
     }
 }

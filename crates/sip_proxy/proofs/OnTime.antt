@@ -2,6 +2,7 @@
 use Rattle.std.proofs.Common.{◌≡◌, ℕ, ◌+◌, ◌≤◌, ◌-◌, max, sym, subst, arith}
 use Rattle.std.proofs.Math.Nat.{le-max_right}
 use Rattle.sip_fork.specs.Contexts.{IsFitting}
+use Rattle.sip_fork.specs.Keeping.{IsKeptAs}
 use Rattle.sip_fork.specs.request.Near.{most_timers}
 use Rattle.sip_forwarding.specs.transactions_model.Fits.{Fits}
 use Rattle.sip_forwarding.specs.transactions_model.Near.{IsWithin}
@@ -22,3 +23,6 @@ fitting passes old now reached free r e fits near room = record { fits = fits; w
 
 pub near : Passes → (old now moment : ℕ) (r : OpenRequest) → moment ≡ max old now → IsWithin now r → IsWithin moment r
 near passes old now moment r e h = subst (λ (n : ℕ). IsWithin n r) (sym e) (passes now (max old now) r (le-max_right old now) h)
+
+pub kept : Passes → (old now moment : ℕ) (r x : OpenRequest) → moment ≡ max old now → IsKeptAs now r x → IsKeptAs moment r x
+kept passes old now moment r x e k = record { fits = k.fits; within = near passes old now moment x e k.within; number = k.number; key = k.key }

@@ -1,5 +1,6 @@
 pub mod Drafts
 pub mod Proxy
+pub mod Expiring
 pub use Rattle.sip_fork.specs.context
 pub use Rattle.sip_core.specs.context_model
 pub use Rattle.sip_forwarding.specs as forwarding

@@ -14,6 +14,7 @@ ghost use Rattle.sip_proxy.specs.Proxy.{Becomes, MayCome};
 use crate::changing::{fits_once_it_came, open_at, reserve_dialog};
 use crate::drafting::Draft;
 use crate::proxy::Proxy;
+use sip_dialog_lessons::state::OpenRequest;
 use sip_event::Packet;
 use sip_fork::{Change, Contexts, Opening};
 use sip_forwarding::Drafted;
@@ -22,18 +23,18 @@ use sip_timers::Timers;
 use std::alloc::AllocError;
 
 /// For how many timers a request needs room. None where memory doesn't go so far.
-fn timers_of(change: &Change) -> Option<usize>
-    ensures { IfSome result (λ timers. timers ≡ most_timers change.now) }
+fn timers_of(request: &OpenRequest) -> Option<usize>
+    ensures { IfSome result (λ timers. timers ≡ most_timers request.now) }
 {
-    let branches = change.request().branches.as_slice().len();
+    let branches = request.branches.as_slice().len();
     branches.checked_mul(3)?.checked_add(3)
 }
 
 /// For how many timers two requests need room. None where memory doesn't go so far.
-fn timers_of_both(opened: &Change, change: &Change) -> Option<usize>
-    ensures { IfSome result (λ timers. timers ≡ most_timers opened.now + most_timers change.now) }
+fn timers_of_both(opened: &OpenRequest, changed: &OpenRequest) -> Option<usize>
+    ensures { IfSome result (λ timers. timers ≡ most_timers opened.now + most_timers changed.now) }
 {
-    timers_of(opened)?.checked_add(timers_of(change)?)
+    timers_of(opened)?.checked_add(timers_of(changed)?)
 }
 
 /// Makes room for so many timers. `AllocError` is the only refusal.
@@ -53,16 +54,16 @@ fn reserve_timers<T: Timers>(contexts: &mut Contexts<T>, timers: usize) -> Resul
 /// Makes room for one more request, and for the timers of it and of another one. `AllocError` is the only refusal.
 fn reserve_both<T: Timers>(
     contexts: &mut Contexts<T>,
-    opened: &Change,
-    change: &Change,
+    opened: &OpenRequest,
+    changed: &OpenRequest,
 ) -> Result<(), AllocError>
     ensures requests { contexts.new.requests ≡ contexts.old.requests }
     ensures pending { contexts.new.pending ≡ contexts.old.pending }
     ensures moment { contexts.new.moment ≡ contexts.old.moment }
     ensures places { OnOk result (1 ≤ contexts.new.places) }
-    ensures room { OnOk result (most_timers opened.now + most_timers change.now ≤ contexts.new.room) }
+    ensures room { OnOk result (most_timers opened.now + most_timers changed.now ≤ contexts.new.room) }
 {
-    let Some(timers) = timers_of_both(opened, change) else {
+    let Some(timers) = timers_of_both(opened, changed) else {
         return Err(AllocError);
     };
     contexts.reserve_one()?;
@@ -136,7 +137,7 @@ impl<T: Timers> Proxy<T> {
     {
         let Draft { change, drafted } = draft;
         let Drafted { packets, lessons } = drafted;
-        reserve_both(&mut self.contexts, opened.change(), &change)?;
+        reserve_both(&mut self.contexts, opened.request(), change.request())?;
         reserve_dialog(&mut self.dialogs, &lessons)?;
         open_and_change_at(&mut self.contexts, now, opened, place, change);
         lessons.take(&mut self.dialogs, now);

@@ -16,6 +16,7 @@ use crate::drafting::Draft;
 use crate::proxy::Proxy;
 use sip_dialog::Dialogs;
 use sip_dialog_lessons::Lessons;
+use sip_dialog_lessons::state::OpenRequest;
 use sip_event::Packet;
 use sip_fork::{Change, Contexts, Opening};
 use sip_forwarding::Drafted;
@@ -25,14 +26,17 @@ use sip_timers::Timers;
 use std::alloc::AllocError;
 
 /// Makes room for the timers of a request. `AllocError` is the only refusal.
-fn reserve_timers<T: Timers>(contexts: &mut Contexts<T>, change: &Change) -> Result<(), AllocError>
+fn reserve_timers<T: Timers>(
+    contexts: &mut Contexts<T>,
+    request: &OpenRequest,
+) -> Result<(), AllocError>
     ensures requests { contexts.new.requests ≡ contexts.old.requests }
     ensures pending { contexts.new.pending ≡ contexts.old.pending }
     ensures moment { contexts.new.moment ≡ contexts.old.moment }
     ensures places { contexts.new.places ≡ contexts.old.places }
-    ensures ok { OnOk result (most_timers change.now ≤ contexts.new.room) }
+    ensures ok { OnOk result (most_timers request.now ≤ contexts.new.room) }
 {
-    match contexts.prepare(change) {
+    match contexts.prepare(request) {
         Ok(()) => Ok(()),
         Err(_) => Err(AllocError),
     }
@@ -55,6 +59,7 @@ pub(crate) fn fits_once_it_came()
     ensures fitting { (old now reached free : ℕ) (r : OpenRequest) → reached ≡ max old (now - 1) → Fits r → IsWithin now r → most_timers r
         ≤ free → IsFitting reached free r }
     ensures within { (old now moment : ℕ) (r : OpenRequest) → moment ≡ max old now → IsWithin now r → IsWithin moment r }
+    ensures kept { (old now moment : ℕ) (r x : OpenRequest) → moment ≡ max old now → IsKeptAs now r x → IsKeptAs moment r x }
 {
     time_passes();
 }
@@ -101,15 +106,18 @@ pub(crate) fn open_at<T: Timers>(contexts: &mut Contexts<T>, now: u64, opening: 
 }
 
 /// Makes room for one more request. `AllocError` is the only refusal.
-fn reserve_open<T: Timers>(contexts: &mut Contexts<T>, change: &Change) -> Result<(), AllocError>
+fn reserve_open<T: Timers>(
+    contexts: &mut Contexts<T>,
+    request: &OpenRequest,
+) -> Result<(), AllocError>
     ensures requests { contexts.new.requests ≡ contexts.old.requests }
     ensures pending { contexts.new.pending ≡ contexts.old.pending }
     ensures moment { contexts.new.moment ≡ contexts.old.moment }
     ensures places { OnOk result (1 ≤ contexts.new.places) }
-    ensures room { OnOk result (most_timers change.now ≤ contexts.new.room) }
+    ensures room { OnOk result (most_timers request.now ≤ contexts.new.room) }
 {
     contexts.reserve_one()?;
-    reserve_timers(contexts, change)
+    reserve_timers(contexts, request)
 }
 
 impl<T: Timers> Proxy<T> {
@@ -135,7 +143,7 @@ impl<T: Timers> Proxy<T> {
     {
         let Draft { change, drafted } = draft;
         let Drafted { packets, lessons } = drafted;
-        reserve_timers(&mut self.contexts, &change)?;
+        reserve_timers(&mut self.contexts, change.request())?;
         reserve_dialog(&mut self.dialogs, &lessons)?;
         change_at(&mut self.contexts, now, place, change);
         lessons.take(&mut self.dialogs, now);
@@ -158,7 +166,7 @@ impl<T: Timers> Proxy<T> {
         ensures timers { OnErr result (self.new.timers ≡ self.old.timers) }
         ensures room { self.new.room ≡ self.old.room }
     {
-        reserve_open(&mut self.contexts, opening.change())?;
+        reserve_open(&mut self.contexts, opening.request())?;
         reserve_dialog(&mut self.dialogs, &lessons)?;
         open_at(&mut self.contexts, now, opening);
         lessons.take(&mut self.dialogs, now);

@@ -10,6 +10,7 @@
 mod cancelling;
 mod changing;
 mod drafting;
+mod ending;
 mod judging;
 mod proxy;
 mod registering;
@@ -25,6 +26,11 @@ pub mod context {
 /// Of `sip_fork`.
 pub mod fork {
     pub use sip_fork::{Due, First, Opening};
+}
+
+/// Of `sip_transaction_table`.
+pub mod transaction_table {
+    pub use sip_fork::transaction_table::Transaction;
 }
 
 /// Of `sip_forwarding`.

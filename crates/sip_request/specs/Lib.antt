@@ -3,4 +3,5 @@ pub mod Likeness
 pub mod Near
 pub mod Walk
 pub mod Named
+pub mod Ended
 pub use Rattle.model_transactions.specs as transactions_model

@@ -1,4 +1,4 @@
-ghost use Rattle.std.specs.Prelude.{◌≡◌, ◌≤◌, ◌<◌, ◌+◌, ◌*◌, ◌^◌, ◌++◌, [], true, length, IfSome, MatchOption};
+ghost use Rattle.std.specs.Prelude.{◌≡◌, ◌≤◌, ◌<◌, ◌+◌, ◌*◌, ◌^◌, ◌++◌, [], true, length, IfNone, IfSome, MatchOption};
 ghost use Rattle.sip_timers.specs.Moves.{IsHeld, Moves};
 ghost use Rattle.model_transactions.specs.Ties.{branch_timers, branches_timers, owner_of, part_timers};
 ghost use Rattle.sip_request.specs.Likeness.{AreAlike};
@@ -34,6 +34,7 @@ fn stood_at(was: &OpenRequest, keys: &[TimerKeys], place: usize) -> Option<Stood
     ensures left { MatchOption result (left_timers was.now keys.now place ≡ [])
         (λ s. left_timers was.now keys.now place ≡ part_standing s.keys s.part ++ left_timers was.now keys.now s.behind) }
     ensures within { IfSome result (λ s. (s.behind ≡ place + 1) × (place < length keys.now)) }
+    ensures past { IfNone result (left_timers was.now keys.now (place + 1) ≡ []) }
 {
     let branches = was.branches.as_slice();
     if place >= branches.len() {
@@ -184,6 +185,24 @@ pub(crate) fn stop_left<T: Timers>(
     while let Some(stood) = stood_at(was, keys, at) {
         stop_part(timers, stood.part, stood.keys);
         at = stood.behind;
+    }
+}
+
+/// Stops the timers of the branch at a place.
+pub(crate) fn stop_at<T: Timers>(
+    timers: &mut T,
+    was: &OpenRequest,
+    keys: &[TimerKeys],
+    place: usize,
+)
+    requires held { IsHeld (T.pending timers.old) (left_timers was.now keys.now place) }
+    requires timed { IsNear (2 ^ 64) was.now }
+    ensures moves { Moves (T.pending timers.old) (left_timers was.now keys.now place) (T.pending timers.new) (left_timers was.now keys.now (place + 1)) }
+    ensures left { T.room timers.old ≤ T.room timers.new }
+    ensures still { T.reached timers.new ≡ T.reached timers.old }
+{
+    if let Some(stood) = stood_at(was, keys, place) {
+        stop_part(timers, stood.part, stood.keys);
     }
 }
 

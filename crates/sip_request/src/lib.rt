@@ -20,7 +20,7 @@ mod slots;
 pub use naming::{branch_part, side_part};
 pub use near::near_later;
 pub use part::{Part, PartTimers};
-pub use request::{Plan, Request};
+pub use request::{Plan, Request, reserve};
 
 /// Of `model_transactions`.
 pub mod transactions_model {

@@ -4,11 +4,14 @@ ghost use Rattle.sip_timers.specs.declared.error.TimerError.TheVariants.{NoMemor
 ghost use Rattle.sip_timers.specs.Moves.{IsHeld, Moves};
 ghost use Rattle.sip_request.specs.Near.{IsNear, most_timers};
 ghost use Rattle.sip_request.specs.Named.{HasKeys, IsReady, named_by};
+ghost use Rattle.sip_request.specs.Ended.{become, branch_ended, ended_at, side_ended};
 
-use crate::part::NO_KEYS;
+use crate::branches::stop_at;
+use crate::naming::side_part;
+use crate::part::{NO_KEYS, stop_part};
 use crate::retiming::{begin, end, retime};
 use model_transactions::TimerKeys;
-use model_transactions::state::OpenRequest;
+use model_transactions::state::{Branch, OpenRequest, Phase, Side};
 use sip_text::Items;
 use sip_timers::{TimerError, Timers};
 use std::alloc::{AllocError, Global};
@@ -38,21 +41,21 @@ impl Plan {
         let keys = blank_keys(alloc, request.branches.as_slice().len())?;
         Ok(Plan { request, keys })
     }
+}
 
-    /// Makes room for the timers that the plan may start. `NoMemory` is the only refusal.
-    pub fn reserve<T: Timers>(&self, timers: &mut T) -> Result<(), TimerError>
-        ensures ok { OnOk result (most_timers self.now.request ≤ T.room timers.new) }
-        ensures kept { T.room timers.old ≤ T.room timers.new }
-        ensures same { T.pending timers.new ≡ T.pending timers.old }
-        ensures still { T.reached timers.new ≡ T.reached timers.old }
-        ensures refused { IfErr result (λ e. e ≡ NoMemory) }
-    {
-        let branches = self.request.branches.as_slice().len();
-        if branches >= MOST_BRANCHES {
-            return Err(TimerError::NoMemory);
-        }
-        timers.reserve(3 * branches + 3)
+/// Makes room for the timers that an open request may name. `NoMemory` is the only refusal.
+pub fn reserve<T: Timers>(timers: &mut T, request: &OpenRequest) -> Result<(), TimerError>
+    ensures ok { OnOk result (most_timers request.now ≤ T.room timers.new) }
+    ensures kept { T.room timers.old ≤ T.room timers.new }
+    ensures same { T.pending timers.new ≡ T.pending timers.old }
+    ensures still { T.reached timers.new ≡ T.reached timers.old }
+    ensures refused { IfErr result (λ e. e ≡ NoMemory) }
+{
+    let branches = request.branches.as_slice().len();
+    if branches >= MOST_BRANCHES {
+        return Err(TimerError::NoMemory);
     }
+    timers.reserve(3 * branches + 3)
 }
 
 /// From so many branches on, their timers can't be counted.
@@ -69,24 +72,40 @@ fn blank_keys(alloc: Global, count: usize) -> Result<Items<TimerKeys>, AllocErro
     Ok(keys)
 }
 
+/// The branch at a place among some ends.
+fn end_at(branches: &mut [Branch], place: usize)
+    ensures { branches.new ≡ ended_at place branches.old }
+{
+    if place < branches.len() {
+        branches[place].phase = Phase::Ended;
+    }
+}
+
 impl Request {
-    /// An open request that came: its timers are set, and no others.
-    pub fn open<T: Timers>(timers: &mut T, plan: Plan) -> Self
-        requires apart { KeysDiffer (T.pending timers.old) }
-        requires ready { IsReady (T.reached timers.old) (T.room timers.old) plan }
-        ensures moves { Moves (T.pending timers.old) [] (T.pending timers.new) (named_by result) }
+    /// The request as it was planned, none of whose timers is set.
+    pub fn planned(plan: Plan) -> Self
         ensures request { result.open_request ≡ plan.request }
-        ensures keys { HasKeys result.open_request result.branches }
-        ensures left { T.room timers.old ≤ T.room timers.new + most_timers plan.request }
-        ensures still { T.reached timers.new ≡ T.reached timers.old }
+        ensures keys { result.branches ≡ plan.keys }
     {
-        let Plan { request, mut keys } = plan;
-        let side = begin(timers, &request, keys.as_mut_slice());
+        let Plan { request, keys } = plan;
         Request {
             open_request: request,
-            side,
+            side: NO_KEYS,
             branches: keys,
         }
+    }
+
+    /// An open request that came: its timers are set, and no others. Takes no memory.
+    pub fn begin<T: Timers>(&mut self, timers: &mut T)
+        requires apart { KeysDiffer (T.pending timers.old) }
+        requires ready { IsReady (T.reached timers.old) (T.room timers.old) (record { request = self.old.open_request; keys = self.old.branches }) }
+        ensures moves { Moves (T.pending timers.old) [] (T.pending timers.new) (named_by self.new) }
+        ensures request { self.new.open_request ≡ self.old.open_request }
+        ensures keys { HasKeys self.new.open_request self.new.branches }
+        ensures left { T.room timers.old ≤ T.room timers.new + most_timers self.old.open_request }
+        ensures still { T.reached timers.new ≡ T.reached timers.old }
+    {
+        self.side = begin(timers, &self.open_request, self.branches.as_mut_slice());
     }
 
     /// The request as it was planned, which takes its place: its timers follow. Takes no memory.
@@ -114,6 +133,43 @@ impl Request {
             side,
             branches: keys,
         }
+    }
+
+    /// The timers of the answering side, which is to close, are stopped.
+    pub fn stop_side<T: Timers>(&self, timers: &mut T)
+        requires { IsHeld (T.pending timers.old) (named_by self.now) }
+        ensures moves { Moves (T.pending timers.old) (named_by self.now) (T.pending timers.new)
+            (named_by (become (side_ended self.now.open_request) self.now)) }
+        ensures left { T.room timers.old ≤ T.room timers.new }
+        ensures still { T.reached timers.new ≡ T.reached timers.old }
+    {
+        stop_part(timers, side_part(&self.open_request), self.side);
+    }
+
+    /// The timers of the branch at a place, which is to end, are stopped.
+    pub fn stop_branch<T: Timers>(&self, timers: &mut T, place: usize)
+        requires held { IsHeld (T.pending timers.old) (named_by self.now) }
+        requires timed { IsNear (2 ^ 64) self.now.open_request }
+        ensures moves { Moves (T.pending timers.old) (named_by self.now) (T.pending timers.new)
+            (named_by (become (branch_ended place self.now.open_request) self.now)) }
+        ensures left { T.room timers.old ≤ T.room timers.new }
+        ensures still { T.reached timers.new ≡ T.reached timers.old }
+    {
+        stop_at(timers, &self.open_request, self.branches.as_slice(), place);
+    }
+
+    /// The answering side closes. Its timers were stopped.
+    pub fn end_side(&mut self)
+        ensures { self.new ≡ become (side_ended self.old.open_request) self.old }
+    {
+        self.open_request.side = Side::Closed;
+    }
+
+    /// The branch at a place ends. Its timers were stopped.
+    pub fn end_branch(&mut self, place: usize)
+        ensures { self.new ≡ become (branch_ended place self.old.open_request) self.old }
+    {
+        end_at(self.open_request.branches.as_mut_slice(), place);
     }
 
     /// The request is open no longer: its timers are stopped.

@@ -1,4 +1,6 @@
 ghost use Rattle.std.specs.Prelude.{◌≡◌, IfOk};
+ghost use Rattle.std.specs.Borrow.{Lends, sem};
+ghost use Rattle.sip_transaction_table.specs.contracts.held.Held.{the_row};
 
 use std::alloc::{AllocError, Global};
 use std::marker::Model;
@@ -10,6 +12,8 @@ pub struct Held<T: Drop> {
 }
 
 impl<T: Drop> Model for Held<T> {
+    ghost use Rattle.std.specs.Prelude.{◌≡◌};
+
     ghost Value = { T };
 
     ghost view = { λ h. h.owned.value };
@@ -31,12 +35,20 @@ impl<T: Drop> Held<T> {
         &self.owned
     }
 
-    /// Puts another value in its place, and gives the old one back. Takes no memory.
-    pub fn replace(&mut self, value: T) -> T
-        ensures new { self.new ≡ value }
-        ensures old { result ≡ self.old }
+    /// The value, which may be changed. Takes no memory.
+    pub fn get_mut(&mut self) -> &mut T
+        ensures* writes_back { sem 𝓛 (Lends (the_row T.row) T.row self.entry result (λ value. value)) }
+        ensures value { result.now ≡ self.old }
     {
-        Box::replace(&mut self.owned, value)
+        self.owned.as_mut()
+    }
+
+    /// Puts another value in its place. Takes no memory.
+    pub fn set(&mut self, value: T)
+        ensures { self.new ≡ value }
+    {
+        let place = self.owned.as_mut();
+        *place = value;
     }
 
     /// The value, taken out of its memory.

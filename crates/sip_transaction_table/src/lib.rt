@@ -20,8 +20,10 @@ mod keys;
 mod numbered;
 mod row;
 mod table;
+mod transaction;
 
 pub use held::Held;
 pub use key::{Key, same_key};
 pub use row::Row;
 pub use table::Table;
+pub use transaction::Transaction;

@@ -4,7 +4,7 @@ ghost use Rattle.sip_transaction_table.specs.Key.{same_key};
 
 use crate::held::Held;
 use crate::row::Row;
-use crate::{Key, same_key};
+use crate::{Key, Transaction, same_key};
 use std::alloc::{AllocError, Global};
 use std::marker::Model;
 
@@ -95,14 +95,22 @@ impl<R: Row> Numbered<R> {
         let _pushed = self.rows.push(row).unwrap();
     }
 
-    /// Puts a row in the place of one with its number, and gives that one back. Takes no memory.
-    pub(crate) fn replace(&mut self, place: usize, row: R) -> R
+    /// Puts a row in the place of one with its number. Takes no memory.
+    pub(crate) fn replace(&mut self, place: usize, row: R)
         requires number { (r : R) → slice_get self.old place ≡ Some r → R.number row ≡ R.number r }
         requires place { place < length self.old }
-        ensures new { self.new ≡ slice_set self.old place row }
-        ensures old { slice_get self.old place ≡ Some result }
+        ensures { self.new ≡ slice_set self.old place row }
     {
-        self.rows[place].replace(row)
+        self.rows[place].set(row);
+    }
+
+    /// A transaction of the row at a place ends; its number and its key stay. Takes no memory.
+    pub(crate) fn end(&mut self, place: usize, transaction: Transaction)
+        requires { place < length self.old }
+        ensures ended { (r : R) → slice_get self.old place ≡ Some r → self.new ≡ slice_set self.old place (R.ended transaction r) }
+        ensures key { (r : R) → slice_get self.old place ≡ Some r → R.key (R.ended transaction r) ≡ R.key r }
+    {
+        self.rows[place].get_mut().end(transaction);
     }
 
     /// Takes a row out. Takes no memory.

@@ -1,7 +1,8 @@
 ghost use Rattle.std.specs.Prelude.{◌≡◌, ℕ, Bool};
 ghost use Rattle.sip_transaction_table.specs.declared.key.Key.{Key};
+ghost use Rattle.sip_transaction_table.specs.declared.transaction.Transaction.{Transaction};
 
-use crate::Key;
+use crate::{Key, Transaction};
 
 /// What stands in a table: an open request, by its number and its key.
 pub trait Row: Drop {
@@ -14,6 +15,9 @@ pub trait Row: Drop {
     // Whether a CANCEL with this key names it.
     ghost is_cancelled_by: { Key → Self → Bool };
 
+    // What it is once one of its transactions ended.
+    ghost ended: { Transaction → Self → Self };
+
     /// The number of the datagram that opened it.
     fn number(&self) -> u64
         ensures { result ≡ number self.now };
@@ -25,4 +29,10 @@ pub trait Row: Drop {
     /// Whether a CANCEL with this key names it (RFC 3261 9.2).
     fn is_cancelled_by(&self, cancel: &Key) -> bool
         ensures { result ≡ is_cancelled_by cancel.now self.now };
+
+    /// One of its transactions ends; its number and its key stay. Takes no memory.
+    fn end(&mut self, transaction: Transaction)
+        ensures ended { self.new ≡ ended transaction self.old }
+        ensures number { number self.new ≡ number self.old }
+        ensures key { key self.new ≡ key self.old };
 }

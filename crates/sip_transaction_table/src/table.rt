@@ -8,7 +8,7 @@ use crate::held::Held;
 use crate::keys::Keys;
 use crate::numbered::Numbered;
 use crate::row::Row;
-use crate::{Key, same_key};
+use crate::{Key, Transaction, same_key};
 use std::alloc::{AllocError, Global};
 use std::marker::Model;
 
@@ -136,16 +136,24 @@ impl<R: Row> Table<R> {
         self.rows.push(row);
     }
 
-    /// Puts a row in the place of one with its number and its key, and gives that one back. Takes no memory.
-    pub fn replace(&mut self, place: usize, row: R) -> R
+    /// Puts a row in the place of one with its number and its key. Takes no memory.
+    pub fn replace(&mut self, place: usize, row: R)
         requires place { place < length self.old.rows }
         requires number { (r : R) → slice_get self.old.rows place ≡ Some r → R.number row ≡ R.number r }
         requires key { (r : R) → slice_get self.old.rows place ≡ Some r → R.key row ≡ R.key r }
         ensures rows { self.new.rows ≡ slice_set self.old.rows place row }
-        ensures old { slice_get self.old.rows place ≡ Some result }
         ensures room { self.new.room ≡ self.old.room }
     {
-        self.rows.replace(place, row)
+        self.rows.replace(place, row);
+    }
+
+    /// A transaction of the open request at a place ends where it stands. Takes no memory.
+    pub fn end(&mut self, place: usize, transaction: Transaction)
+        requires { place < length self.old.rows }
+        ensures rows { (r : R) → slice_get self.old.rows place ≡ Some r → self.new.rows ≡ slice_set self.old.rows place (R.ended transaction r) }
+        ensures room { self.new.room ≡ self.old.room }
+    {
+        self.rows.end(place, transaction);
     }
 
     /// Closes the request at a place: takes its row out, and its key isn't open any more. Takes no memory.

@@ -1,0 +1,32 @@
+use Rattle.std.proofs.Common.{◌≡◌, List, Some, slice_get, refl, sym, subst}
+use Rattle.sip_request.specs.declared.request.Request.{Request}
+use Rattle.sip_request.specs.Ended.{become}
+use Rattle.sip_fork.specs.Contexts.{AreTied}
+use Rattle.sip_fork.specs.Ending.{ended}
+use Rattle.sip_fork.proofs.Ends.{kept_ended}
+use Rattle.sip_fork.proofs.Tying.{changed, held_at, kept_at, seen_changed, timed_at}
+use Rattle.sip_fork.proofs.moving.end_row.Goals as goal
+
+pub stop-requires-clause-held : goal.stop-requires-clause-held
+stop-requires-clause-held g c =
+    let at : slice_get c.args.table.now.rows c.args.place ≡ Some c.row.inside.request = rw c.row.view_is c.get-row.ensures.row in
+    held_at c.args.timers.now.pending c.args.timers.now.reached c.args.table.now.rows c.args.place c.row.inside.request c.requires.tied at
+
+pub stop-requires-clause-timed : goal.stop-requires-clause-timed
+stop-requires-clause-timed g c =
+    let at : slice_get c.args.table.now.rows c.args.place ≡ Some c.row.inside.request = rw c.row.view_is c.get-row.ensures.row in
+    timed_at c.args.timers.now.pending c.args.timers.now.reached c.args.table.now.rows c.args.place c.row.inside.request c.requires.tied at
+
+pub returns-clause-rows : goal.returns-clause-rows
+returns-clause-rows g c = λ r at.
+    seen_changed c.args.table.now.rows c.end.new.self.rows c.args.place (become (ended c.args.transaction r.open_request) r) (ended c.args.transaction r.open_request) (c.end.ensures.rows r at) refl
+
+pub returns-clause-tied : goal.returns-clause-tied
+returns-clause-tied g c =
+    let row : Request = c.row.inside.request in
+    let at : slice_get c.args.table.now.rows c.args.place ≡ Some row = rw c.row.view_is c.get-row.ensures.row in
+    subst (λ (xs : List Request). AreTied c.stop.new.timers.pending c.stop.new.timers.reached xs) (sym (c.end.ensures.rows row at))
+    (changed c.args.timers.now.pending c.stop.new.timers.pending c.args.timers.now.reached c.stop.new.timers.reached c.args.table.now.rows c.args.place row (become (ended c.args.transaction row.open_request) row) c.requires.tied at
+    c.stop.ensures.still
+    (kept_ended c.args.timers.now.reached c.args.transaction row (kept_at c.args.timers.now.pending c.args.timers.now.reached c.args.table.now.rows c.args.place row c.requires.tied at) (c.requires.fits row at) (c.requires.within row at))
+    c.stop.ensures.moves)
