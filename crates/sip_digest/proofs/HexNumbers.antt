@@ -33,10 +33,3 @@ fits n i lt le =
     let e : 16 ^ suc i ≡ 16 ^ i * 16 = pow-suc 16 i in
     let most : 16 ^ suc i ≤ 16 ^ 32 = pow-le-pow_right {n = 16} (omega arith) {i = suc i} {j = 32} (omega arith) in
     omega (arith, e, most)
-
--- the same of at most 16
-pub fits_half : (n i : ℕ) → n < 16 ^ i → i < 16 → n * 16 + 16 ≤ 2 ^ 64
-fits_half n i lt le =
-    let e : 16 ^ suc i ≡ 16 ^ i * 16 = pow-suc 16 i in
-    let most : 16 ^ suc i ≤ 16 ^ 16 = pow-le-pow_right {n = 16} (omega arith) {i = suc i} {j = 16} (omega arith) in
-    omega (arith, e, most)

@@ -7,3 +7,4 @@ pub mod LiveRows
 pub mod Rows
 pub mod Lookups
 pub mod LowerTexts
+pub mod LowerLanes

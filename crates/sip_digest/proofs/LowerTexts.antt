@@ -1,5 +1,5 @@
 -- A nonce's text, read from the left, with the word so far.
-use Rattle.std.proofs.Common.{◌≡◌, ℕ, zero, suc, ◌+◌, ◌*◌, ◌/◌, ◌%◌, ◌^◌, ◌<◌, ◌≤◌, ◌-◌, Bool, true, false, cond, List, [], ◌∷◌, ◌++◌, length, take, drop, Option, Some, None, refl, sym, ap, ap₂, ◌∙◌, arith, eqb-true, length-drop, take-append-drop}
+use Rattle.std.proofs.Common.{◌≡◌, ℕ, zero, suc, ◌+◌, ◌*◌, ◌/◌, ◌%◌, ◌^◌, ◌<◌, ◌-◌, Bool, true, false, cond, List, [], ◌∷◌, ◌++◌, length, take, drop, Option, Some, None, refl, sym, ap, ap₂, ◌∙◌, arith, eqb-true, length-drop, take-append-drop}
 use Rattle.std.proofs.Math.Nat.{pow-suc, mul_assoc, mul_comm, div-div-eq-div-mul}
 use Rattle.std.proofs.lemmas.Bool.{agree_below_at, and_from}
 use Rattle.std.proofs.lemmas.Bool.Decides.{nat_tests}
@@ -191,24 +191,3 @@ by_halves text front back long at_front at_back =
         ≡ option_and_then (λ high. option_map (λ low. high * 2 ^ 64 + low) (read_lower 0 bs)) o
     by_high bs is None = refl
     by_high bs is (Some high) = behind_half high bs is
-
--- ---- the table of digits
-
--- what stands in the table
-abbrev pub code_of : Option ℕ → ℕ
-code_of None = 16
-code_of (Some d) = d
-
-some_coded : (o : Option ℕ) (code : ℕ) → code ≡ code_of o → code < 16 → Some code ≡ o
-some_coded None code is lt = absurd (omega (arith, is, lt))
-some_coded (Some d) code is lt = ap (λ (k : ℕ). Some k) is
-
-none_coded : (o : Option ℕ) (code : ℕ) → code ≡ code_of o → 16 ≤ code → ((d : ℕ) → o ≡ Some d → d < 16) → None ≡ o
-none_coded None code is le small = refl
-none_coded (Some d) code is le small = let less = small d refl in absurd (omega (arith, is, le, less))
-
-pub lower_some : (b code : ℕ) → code ≡ code_of (lower_value b) → code < 16 → Some code ≡ lower_value b
-lower_some b code is lt = some_coded (lower_value b) code is lt
-
-pub lower_none : (b code : ℕ) → code ≡ code_of (lower_value b) → 16 ≤ code → None ≡ lower_value b
-lower_none b code is le = none_coded (lower_value b) code is le (λ d e. (is_lower b d e).small)

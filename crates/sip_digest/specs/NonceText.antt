@@ -1,5 +1,6 @@
 -- The text of a nonce (this project's choice).
-use Rattle.std.specs.Prelude.{ℕ, ◌+◌, ◌*◌, ◌-◌, ◌&&◌, ◌==◌, nat_le, if◌then◌else◌, List, [], ◌∷◌, length, Option, Some, None}
+use Rattle.std.specs.Prelude.{ℕ, ◌+◌, ◌*◌, ◌-◌, ◌%◌, ◌≡◌, ◌<◌, map, ◌&&◌, ◌==◌, nat_le, if◌then◌else◌, List, [], ◌∷◌, length, Option, Some, None}
+use Rattle.std.specs.Simd.Lanes.{Each1}
 use Rattle.std.specs.Str.{bytes_eq}
 use Rattle.std.specs.Int.{w128, to_be_bytes}
 use Rattle.std.specs.Option.{option_and_then}
@@ -28,3 +29,22 @@ lower_value b = if nat_le 48 b && nat_le b 57 then Some (b - 48) else if nat_le 
 abbrev pub read_lower : ℕ → List ℕ → Option ℕ
 read_lower n [] = Some n
 read_lower n (b ∷ bs) = option_and_then (λ d. read_lower (n * 16 + d) bs) (lower_value b)
+
+-- the value of a byte that is a digit in lower case
+abbrev pub lane_value : ℕ → ℕ
+lane_value b = if nat_le 48 b && nat_le b 57 then b - 48 else (b + 256 - 87) % 256
+
+-- the number that digits of these values write behind one
+abbrev pub join : ℕ → List ℕ → ℕ
+join n [] = n
+join n (v ∷ vs) = join (n * 16 + v) vs
+
+-- sixteen values of digits
+pub record HasDigits (values : List ℕ) : Type 0 where
+  pub size : length values ≡ 16
+  pub small : Each1 (λ v. v < 16) values
+
+-- sixteen digits in lower case, by the values that they have
+pub record AreLower (digits : List ℕ) : Type 0 where
+  pub values : HasDigits (map lane_value digits)
+  pub read : read_lower 0 digits ≡ Some (join 0 (map lane_value digits))

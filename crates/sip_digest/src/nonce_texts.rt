@@ -1,7 +1,8 @@
-ghost use Rattle.std.specs.Prelude.{◌≡◌, ◌≤◌, ◌<◌, length, IfSome};
-ghost use Rattle.sip_digest.specs.NonceText.{nonce_text, lower_value, read_lower, word_of};
+ghost use Rattle.std.specs.Prelude.{◌≡◌, true, false, None, length, map};
+ghost use Rattle.sip_digest.specs.NonceText.{AreLower, HasDigits, join, lane_value, nonce_text, read_lower, word_of};
 
 use hex::encode_to_slice;
+use std::simd::prelude::*;
 
 /// What the high half of a word counts.
 const HALF: u128 = 1 << 64;
@@ -17,43 +18,54 @@ pub fn nonce_text(word: u128) -> [u8; 32]
     text
 }
 
-/// For each byte its value as a hexadecimal digit in lower case, or 16.
-static LOWER_VALUES: [u8; 256] = [
-    16, 16, 16, 16, 16, 16, 16, 16, 16, 16, 16, 16, 16, 16, 16, 16, 16, 16, 16, 16, 16, 16, 16, 16,
-    16, 16, 16, 16, 16, 16, 16, 16, 16, 16, 16, 16, 16, 16, 16, 16, 16, 16, 16, 16, 16, 16, 16, 16,
-    0, 1, 2, 3, 4, 5, 6, 7, 8, 9, 16, 16, 16, 16, 16, 16, 16, 16, 16, 16, 16, 16, 16, 16, 16, 16,
-    16, 16, 16, 16, 16, 16, 16, 16, 16, 16, 16, 16, 16, 16, 16, 16, 16, 16, 16, 16, 16, 16, 16, 10,
-    11, 12, 13, 14, 15, 16, 16, 16, 16, 16, 16, 16, 16, 16, 16, 16, 16, 16, 16, 16, 16, 16, 16, 16,
-    16, 16, 16, 16, 16, 16, 16, 16, 16, 16, 16, 16, 16, 16, 16, 16, 16, 16, 16, 16, 16, 16, 16, 16,
-    16, 16, 16, 16, 16, 16, 16, 16, 16, 16, 16, 16, 16, 16, 16, 16, 16, 16, 16, 16, 16, 16, 16, 16,
-    16, 16, 16, 16, 16, 16, 16, 16, 16, 16, 16, 16, 16, 16, 16, 16, 16, 16, 16, 16, 16, 16, 16, 16,
-    16, 16, 16, 16, 16, 16, 16, 16, 16, 16, 16, 16, 16, 16, 16, 16, 16, 16, 16, 16, 16, 16, 16, 16,
-    16, 16, 16, 16, 16, 16, 16, 16, 16, 16, 16, 16, 16, 16, 16, 16, 16, 16, 16, 16, 16, 16, 16, 16,
-    16, 16, 16, 16, 16, 16, 16, 16, 16, 16, 16, 16, 16, 16,
-];
-
-/// The value of a hexadecimal digit in lower case.
-#[inline]
-fn lower_digit(byte: u8) -> Option<u8>
-    ensures value { result ≡ lower_value byte }
-    ensures small { IfSome result (λ digit. digit < 16) }
+/// Whether 16 bytes are hexadecimal digits in lower case.
+#[inline(always)]
+fn are_lower(digits: &[u8]) -> bool
+    requires { length digits.now ≡ 16 }
+    ensures right { result ≡ true → AreLower digits.now }
+    ensures wrong { result ≡ false → read_lower 0 digits.now ≡ None }
 {
-    let digit = LOWER_VALUES[byte as usize];
-    if digit < 16 { Some(digit) } else { None }
+    let lanes = u8x16::from_slice(digits);
+    let numbers = lanes - u8x16::splat(b'0');
+    let letters = lanes - u8x16::splat(b'a');
+    let others = numbers.simd_ge(u8x16::splat(10)) & letters.simd_ge(u8x16::splat(6));
+    others.to_bitmask() == 0
 }
 
-/// The number that at most 16 hexadecimal digits in lower case write: half of a word, which is made in registers.
-#[tactic(auto, using(crate::proofs::HexNumbers::one_more, crate::proofs::HexNumbers::fits_half, std::proofs::lemmas::List::at_drop_more, std::proofs::lemmas::List::drop_all))]
+/// The values of 16 hexadecimal digits in lower case.
+#[inline(always)]
+fn lane_values(digits: &[u8]) -> u8x16
+    requires { length digits.now ≡ 16 }
+    ensures { result ≡ map lane_value digits.now }
+{
+    let lanes = u8x16::from_slice(digits);
+    let numbers = lanes - u8x16::splat(b'0');
+    let letters = lanes - u8x16::splat(b'a' - 10);
+    numbers.simd_lt(u8x16::splat(10)).select(numbers, letters)
+}
+
+/// The number whose 16 hexadecimal digits have these values.
+#[inline(always)]
+fn joined(values: u8x16) -> u64
+    requires { HasDigits values }
+    ensures { result ≡ join 0 values }
+{
+    let high: u8x8 = values.swizzle([0, 2, 4, 6, 8, 10, 12, 14]);
+    let low: u8x8 = values.swizzle([1, 3, 5, 7, 9, 11, 13, 15]);
+    u64::from_be_bytes((high * u8x8::splat(16) + low).to_array())
+}
+
+/// The number that 16 hexadecimal digits in lower case write: half of a word.
+#[tactic(auto, using(crate::proofs::LowerLanes::half_is, crate::proofs::LowerLanes::half_has))]
 fn half_of(digits: &[u8]) -> Option<u64>
-    requires { length digits.now ≤ 16 }
+    requires { length digits.now ≡ 16 }
     ensures { result ≡ read_lower 0 digits.now }
 {
-    let mut half: u64 = 0;
-    for byte in digits {
-        let digit = lower_digit(*byte)?;
-        half = half * 16 + u64::from(digit);
+    if are_lower(digits) {
+        Some(joined(lane_values(digits)))
+    } else {
+        None
     }
-    Some(half)
 }
 
 /// The word that a nonce's text names: 32 hexadecimal digits in lower case. None of any other text. Takes
