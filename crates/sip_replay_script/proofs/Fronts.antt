@@ -1,5 +1,5 @@
 -- Texts written in parts, and fronts of texts.
-use Rattle.std.proofs.Common.{◌≡◌, ℕ, ◌+◌, ◌<◌, get_or, ◌-◌, ◌≤◌, List, [], ◌∷◌, ◌++◌, length, take, drop, Option, None, Some, refl, sym, ◌∙◌, ap, subst, append-nil, append_assoc, take-append-drop}
+use Rattle.std.proofs.Common.{◌≡◌, ℕ, ◌+◌, ◌<◌, get_or, ◌-◌, ◌≤◌, List, [], ◌∷◌, ◌++◌, length, take, drop, Option, None, Some, refl, sym, ◌∙◌, ap, subst, append-nil, append_assoc, take-append-drop, length-drop, arith}
 use Rattle.std.specs.Io.KnownBytes.{Appends, Keeps}
 use Rattle.std.proofs.KnownBytes.{Appends-nil, Appends-trans}
 use Rattle.std.proofs.lemmas.List.{take_all, take_rest, take_more}
@@ -32,6 +32,16 @@ front_of a b text i h = record { done = take i text; rest = drop i text; cut = s
 pub front_kept : (a b c : Option (List ℕ)) (text : List ℕ) (i : ℕ) → Appends a b (take i text) → Appends b c [] → WritesFront a c text
 front_kept a b c text i h1 h2 = front_of a c text i (subst (λ list. Appends a c list) (append-nil (take i text)) (Appends-trans a b c _ _ h1 h2))
 
+-- nothing of a text that has no bytes
+pub nothing_of : (a : Option (List ℕ)) (text : List ℕ) → length text ≡ 0 → Appends a a text
+nothing_of a [] none = Appends-nil a
+nothing_of a (b ∷ bs) none = absurd (omega (arith, none))
+
+-- the rest behind a part
+pub appends_rest : (a b c : Option (List ℕ)) (text : List ℕ) (i : ℕ) → Appends a b (take i text) → Appends b c (take (length text - i) (drop i text)) → Appends a c text
+appends_rest a b c text i h1 h2 =
+    subst (λ list. Appends a c list) (take-append-drop i text) (Appends-trans a b c _ _ h1 (subst (λ list. Appends b c list) (take_all (length text - i) (drop i text) (omega (arith, length-drop i text))) h2))
+
 -- nothing of it
 pub front_none : (a : Option (List ℕ)) (text : List ℕ) → WritesFront a a text
 front_none a text = record { done = []; rest = text; cut = refl; written = Appends-nil a }
@@ -56,6 +66,16 @@ front_first a b first second h = record { done = h.done; rest = h.rest ++ second
 
 pub front_second : (a b c : Option (List ℕ)) (first second : List ℕ) → Appends a b first → WritesFront b c second → WritesFront a c (first ++ second)
 front_second a b c first second h1 h2 = record { done = first ++ h2.done; rest = h2.rest; cut = ap (λ list. first ++ list) h2.cut ∙ sym (append_assoc first h2.done h2.rest); written = Appends-trans a b c _ _ h1 h2.written }
+
+-- a front of the rest behind a part
+pub front_rest : (a b c : Option (List ℕ)) (text : List ℕ) (i : ℕ) → Appends a b (take i text) → WritesFront b c (take (length text - i) (drop i text)) → WritesFront a c text
+front_rest a b c text i h1 h2 =
+    subst (λ list. WritesFront a c list) (take-append-drop i text)
+    (front_second a b c (take i text) (drop i text) h1 (subst (λ list. WritesFront b c list) (take_all (length text - i) (drop i text) (omega (arith, length-drop i text))) h2))
+
+-- no byte of it
+pub front_nothing : (a b : Option (List ℕ)) (text : List ℕ) → Appends a b [] → WritesFront a b text
+front_nothing a b text h = record { done = []; rest = text; cut = refl; written = h }
 
 -- parts, up to one that isn't written whole
 pub front_part : {X : Type 0} (f : X → List ℕ) (xs : List X) (i : ℕ) (x : X) (a b c : Option (List ℕ)) → i < length xs → x ≡ get_or xs i x → Appends a b (flat_map f (take i xs)) → WritesFront b c (f x) → WritesFront a c (flat_map f xs)

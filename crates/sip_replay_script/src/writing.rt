@@ -27,9 +27,27 @@ fn put_some<W: TellingWriter>(writer: &mut W, rest: &[u8]) -> Result<usize, Stop
     }
 }
 
-/// Writes a text whole, whatever parts the writer takes at a time.
-#[tactic(auto, using(crate::proofs::Fronts::appends_all, crate::proofs::Written::appends_nothing, crate::proofs::Fronts::front_of, crate::proofs::Fronts::front_kept, crate::proofs::Calls::later_more))]
+/// Writes a text whole, whatever parts the writer takes at a time. Mostly it takes the whole.
+#[tactic(auto, using(crate::proofs::Fronts::appends_all, crate::proofs::Fronts::nothing_of, crate::proofs::Fronts::appends_rest, crate::proofs::Fronts::front_rest, crate::proofs::Fronts::front_nothing))]
 pub fn put<W: TellingWriter>(writer: &mut W, text: &[u8]) -> Result<(), Stop>
+    ensures ok { OnOk result (Appends (W.contents writer.old) (W.contents writer.new) text.now) }
+    ensures front { OnErr result (WritesFront (W.contents writer.old) (W.contents writer.new) text.now) }
+    ensures failed { IfErr result (λ stop. (stop ≡ Write) × GaveUp (W.has_failed writer.new) (W.called writer.new)) }
+{
+    if text.is_empty() {
+        return Ok(());
+    }
+    let done = put_some(writer, text)?;
+    if done == text.len() {
+        return Ok(());
+    }
+    put_parts(writer, &text[done..])
+}
+
+/// The same, part by part.
+#[inline(never)]
+#[tactic(auto, using(crate::proofs::Fronts::appends_all, crate::proofs::Written::appends_nothing, crate::proofs::Fronts::front_of, crate::proofs::Fronts::front_kept, crate::proofs::Calls::later_more))]
+fn put_parts<W: TellingWriter>(writer: &mut W, text: &[u8]) -> Result<(), Stop>
     ensures ok { OnOk result (Appends (W.contents writer.old) (W.contents writer.new) text.now) }
     ensures front { OnErr result (WritesFront (W.contents writer.old) (W.contents writer.new) text.now) }
     ensures failed { IfErr result (λ stop. (stop ≡ Write) × GaveUp (W.has_failed writer.new) (W.called writer.new)) }

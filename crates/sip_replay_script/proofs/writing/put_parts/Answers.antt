@@ -1,7 +1,7 @@
 use Rattle.std.proofs.Common.{rules}
 use Rattle.sip_replay_script.proofs.Fronts.{appends_slice}
 use Rattle.sip_replay_script.proofs.Calls.{later_more}
-use Rattle.sip_replay_script.proofs.writing.put.Goals as goal
+use Rattle.sip_replay_script.proofs.writing.put_parts.Goals as goal
 
 pub loop-tries-preserved : goal.loop-tries-preserved
 loop-tries-preserved g c = (
