@@ -1,4 +1,4 @@
-ghost use Rattle.std.specs.Prelude.{◌≡◌, ◌≤◌, ◌<◌, ◌+◌, ◌-◌, ◌++◌, ◌∷◌, [], decimal, drop, length};
+ghost use Rattle.std.specs.Prelude.{◌≡◌, ◌≤◌, ◌<◌, ◌+◌, ◌-◌, ◌*◌, ◌/◌, ◌%◌, ◌++◌, ◌∷◌, [], decimal, drop, length};
 
 use std::marker::Model;
 
@@ -32,6 +32,26 @@ fn put_before(room: &mut [u8; 208], place: usize, byte: u8)
     room[place - 1] = byte;
 }
 
+/// The two digits of each number below 100, one pair behind the other.
+static PAIRS: [u8; 200] = *b"\
+    0001020304050607080910111213141516171819\
+    2021222324252627282930313233343536373839\
+    4041424344454647484950515253545556575859\
+    6061626364656667686970717273747576777879\
+    8081828384858687888990919293949596979899";
+
+/// Puts the two digits of a number below 100 in front of a place.
+#[inline(always)]
+fn put_pair(room: &mut [u8; 208], place: usize, number: u8)
+    requires place { (2 ≤ place) × (place ≤ 208) }
+    requires number { number < 100 }
+    ensures { drop (place - 2) room.new ≡ (48 + number / 10) ∷ (48 + number % 10) ∷ drop place room.old }
+{
+    let first = 2 * usize::from(number);
+    put_before(room, place, PAIRS[first + 1]);
+    put_before(room, place - 1, PAIRS[first]);
+}
+
 /// Puts the digits of a number in decimal in front of a place; where they begin.
 #[inline(always)]
 fn put_digits(room: &mut [u8; 208], end: usize, number: u64) -> usize
@@ -41,10 +61,14 @@ fn put_digits(room: &mut [u8; 208], end: usize, number: u64) -> usize
 {
     let mut left = number;
     let mut start = end;
-    while left >= 10 {
-        put_before(room, start, b'0' + (left % 10) as u8);
-        start -= 1;
-        left /= 10;
+    while left >= 100 {
+        put_pair(room, start, (left % 100) as u8);
+        start -= 2;
+        left /= 100;
+    }
+    if left >= 10 {
+        put_pair(room, start, left as u8);
+        return start - 2;
     }
     put_before(room, start, b'0' + left as u8);
     start - 1
