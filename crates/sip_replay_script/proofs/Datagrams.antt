@@ -1,5 +1,5 @@
 -- The lines of a datagram, one after the other.
-use Rattle.std.proofs.Common.{◌≡◌, ℕ, zero, suc, ◌+◌, ◌≤◌, ◌<◌, List, [], ◌∷◌, ◌++◌, length, take, drop, Bool, true, false, Option, Some, None, inl, inr, refl, sym, subst, ◌∙◌, ap, ap₂, arith, append_assoc, append-nil, length-append}
+use Rattle.std.proofs.Common.{◌≡◌, ℕ, zero, suc, ◌+◌, ◌≤◌, ◌<◌, List, [], ◌∷◌, ◌++◌, length, take, drop, Bool, true, false, Option, Some, None, inl, inr, refl, sym, subst, ◌∙◌, ap, ap₂, arith, append_assoc, append-nil, length-append, take-append-drop}
 use Rattle.std.specs.List.{flat_map, list_any}
 use Rattle.std.specs.Prelude.{◌||◌, ◌&&◌, ◌==◌, nat_lt, slice_index, count_by, IfSome, if◌then◌else◌}
 use Rattle.std.specs.Io.KnownBytes.{Consumes, Keeps, IsAtEnd}
@@ -13,11 +13,11 @@ use Rattle.sip_replay_script.specs.declared.script.DatagramHead.{DatagramHead}
 use Rattle.sip_replay_script.specs.declared.script.Line.{Line}
 use Rattle.sip_replay_script.specs.declared.script.Line.TheVariants.{Head, Whole}
 use Rattle.sip_replay_script.specs.Script.{line_of, datagram_at, unstuffed}
-use Rattle.sip_replay_script.specs.Lines.{Reading, BeginsWith, EndsAt, PassesLine, IsLine, IsUnended, is_end, pending, left, GivesLine, IsOver, LineStops}
+use Rattle.sip_replay_script.specs.Lines.{Reading, BeginsWith, PassesLine, IsLine, IsUnended, is_end, pending, left, GivesLine, IsOver, LineStops}
 use Rattle.sip_replay_script.specs.declared.stop.Stop.{Stop}
 use Rattle.sip_replay_script.specs.declared.stop.Stop.TheVariants as stops
-use Rattle.sip_replay_script.specs.Gathered.{AddsNext}
-use Rattle.std.proofs.lemmas.List.{length-take-le, take_all, drop_all, drop-append-le}
+use Rattle.sip_replay_script.specs.Gathered.{AddsLines}
+use Rattle.std.proofs.lemmas.List.{take_all, drop_all, drop-append-le}
 use Rattle.sip_replay_script.proofs.Keeping.{front_of_both}
 use Rattle.sip_replay_script.proofs.LineEnds.{ends_add, one_end}
 use Rattle.sip_replay_script.specs.Events.{ended, is_dot, said, SaysBytes, KeepsAll, KeepsLine, KeepsLines, GivesDatagram, GivesEvent, GivesSaid, IsNoDatagram, IsNoEvent, DatagramStops, EventStops}
@@ -149,6 +149,21 @@ says_both text whole more further a b = record {
   are_lines = All-append IsLine a.lines b.lines a.are_lines b.are_lines;
   no_dot = list_any-append is_dot a.lines b.lines ∙ neither (list_any is_dot a.lines) (list_any is_dot b.lines) a.no_dot b.no_dot;
   bytes_are = ap₂ (λ (l m : List ℕ). l ++ m) a.bytes_are b.bytes_are ∙ sym (flat_map-append said a.lines b.lines);
+}
+
+-- and others behind them
+pub keeps_both : (old mid new : Reading) (before middle after : List ℕ) → KeepsLines old mid before middle → KeepsLines mid new middle after → KeepsLines old new before after
+keeps_both old mid new before middle after all more = record {
+  text = all.text ++ more.text;
+  whole = all.whole ++ more.whole;
+  says = says_both all.text all.whole more.text more.whole all.says more.says;
+  unread = all.unread ∙ ap (λ l. all.text ++ l) more.unread ∙ sym (append_assoc all.text more.text new.unread);
+  number =
+      let first : mid.number ≡ old.number + count_by is_end all.text = all.number in
+      let next : new.number ≡ mid.number + count_by is_end more.text = more.number in
+      let sum : count_by is_end (all.text ++ more.text) ≡ count_by is_end all.text + count_by is_end more.text = ends_add all.text more.text in
+      omega (arith, first, next, sum);
+  kept = kept_more (before ++ all.whole) more.whole middle after all.kept more.kept ∙ ap (take 65508) (append_assoc before all.whole more.whole);
 }
 
 unread_passed : (old new : Reading) (rest : Option (List ℕ)) (text : List ℕ) → old.unread ≡ text ++ new.unread → Consumes (pending old rest) (pending new rest) text
@@ -303,9 +318,9 @@ pub said_head_stops : (F : Type 0) (old mid : Reading) (before middle : Option (
     → EventStops F (pending old before) stop
 said_head_stops F old mid before middle head stop s h = head_stops F old mid before middle s.line head stop s.given s.says h
 
--- ---- a line that was added where it was found
+-- ---- a line that begins with no dot
 
-not_dot : (text : List ℕ) (count : ℕ) → (slice_index text 0 == 46) ≡ false → is_dot (take count text) ≡ false
+pub not_dot : (text : List ℕ) (count : ℕ) → (slice_index text 0 == 46) ≡ false → is_dot (take count text) ≡ false
 not_dot text zero e = refl
 not_dot [] (suc n) e = refl
 not_dot (x ∷ xs) (suc n) e = rw e refl
@@ -314,22 +329,23 @@ and_false : (a : Bool) → (a && false) ≡ false
 and_false true = refl
 and_false false = refl
 
-not_stuffed : (text : List ℕ) (count : ℕ) → (slice_index text 0 == 46) ≡ false → unstuffed (take count text) ≡ take count text
+pub not_stuffed : (text : List ℕ) (count : ℕ) → (slice_index text 0 == 46) ≡ false → unstuffed (take count text) ≡ take count text
 not_stuffed text zero e = refl
 not_stuffed [] (suc n) e = refl
 not_stuffed (x ∷ xs) (suc n) e =
     let line = x ∷ take n xs in
     ap (λ t. if nat_lt 0 (length line) && t then take n xs else line) e ∙ ap (λ t. if t then take n xs else line) (and_false (nat_lt 0 (length line)))
 
-pub keeps_added : (old new : Reading) (before after : List ℕ) (count : ℕ) → AddsNext old.unread before after count → new.unread ≡ drop (count + 1) old.unread → new.number ≡ old.number + 1 → new.asks ≡ old.asks → KeepsLine old new before after
-keeps_added old new before after count next unread number asks =
-    let line : List ℕ = take count old.unread in
-    let ends : EndsAt old.unread count = next.adds.ends in
-    let inside : count < length old.unread = ends.inside in
-    let few : length old.unread ≤ 8192 = next.few in
-    let long : length line ≡ count = length-take-le count old.unread (omega (arith, inside)) in
-    let begins : BeginsWith old.unread line = record { rest = drop (count + 1) old.unread; is_line = record { short = omega (arith, long, inside, few); single = ends.single }; cut = ends.cut } in
-    let says : after ≡ before ++ said line = next.adds.added ∙ ap (λ l. before ++ (l ++ 13 ∷ 10 ∷ [])) (sym (not_stuffed old.unread count next.undotted)) in
-    let short : length (before ++ said line) ≤ 65508 = subst (λ (l : List ℕ). length l ≤ 65508) says next.adds.short in
-    keeps_next old new line before after (passes_line old new line begins (unread ∙ ap (λ n. drop (n + 1) old.unread) (sym long)) number asks) (not_dot old.unread count next.undotted)
-    (says ∙ sym (take_all 65508 (before ++ said line) short))
+-- ---- lines that were copied where they were found
+
+pub keeps_added : (old new : Reading) (before after : List ℕ) (count lines : ℕ) → AddsLines old.unread before after count lines → new.unread ≡ drop count old.unread → new.number ≡ old.number + lines → KeepsLines old new before after
+keeps_added old new before after count lines adds unread number =
+    let short : length (before ++ adds.whole) ≤ 65508 = subst (λ (l : List ℕ). length l ≤ 65508) adds.added adds.short in
+    record {
+      text = take count old.unread;
+      whole = adds.whole;
+      says = adds.says;
+      unread = sym (take-append-drop count old.unread) ∙ ap (λ l. take count old.unread ++ l) (sym unread);
+      number = number ∙ ap (λ n. old.number + n) (sym adds.counted);
+      kept = adds.added ∙ sym (take_all 65508 (before ++ adds.whole) short);
+    }

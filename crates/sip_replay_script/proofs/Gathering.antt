@@ -1,13 +1,15 @@
 -- Lines that are copied where they are looked for.
-use Rattle.std.proofs.Common.{◌≡◌, ℕ, ◌+◌, ◌<◌, ◌≤◌, Bool, true, false, List, [], ◌∷◌, ◌++◌, length, take, drop, get_or, refl, sym, ap, subst, ◌∙◌, arith, inl, inr, append-nil, take-add}
-use Rattle.std.specs.Prelude.{not, slice_set}
+use Rattle.std.proofs.Common.{◌≡◌, ℕ, ◌+◌, ◌-◌, ◌*◌, ◌<◌, ◌≤◌, Bool, true, false, List, [], ◌∷◌, ◌++◌, length, take, drop, get_or, refl, sym, ap, subst, ◌∙◌, arith, inl, inr, append-nil, take-add, length-drop, length-append}
+use Rattle.std.specs.Prelude.{◌==◌, not, count_by, slice_index, slice_set}
 use Rattle.std.proofs.lemmas.Bool.{cases_lt, eqb-true}
-use Rattle.std.proofs.lemmas.List.{take-take, take_more_set, length-set, length-take-le, append_assoc}
+use Rattle.std.proofs.lemmas.List.{get_or-drop, take-take, take_more_set, length-set, length-take-le, append_assoc}
 use Rattle.std.proofs.Math.Seq.{take-append-add}
 use Rattle.httparse.specs.Pieces.{AllPassBetween, IsRunIn}
-use Rattle.sip_replay_script.specs.Lines.{is_end, EndsAt}
-use Rattle.sip_replay_script.specs.Gathered.{is_inside}
-use Rattle.sip_replay_script.proofs.LineEnds.{ends_at}
+use Rattle.sip_replay_script.specs.Lines.{is_end, EndsAt, IsLine}
+use Rattle.sip_replay_script.specs.Events.{ended, said, SaysBytes}
+use Rattle.sip_replay_script.specs.Gathered.{is_inside, AddsLines, CopiesLine, CopiesLines}
+use Rattle.sip_replay_script.proofs.Datagrams.{no_lines, not_dot, not_stuffed, says_more}
+use Rattle.sip_replay_script.proofs.LineEnds.{ends_add, ends_at, one_end}
 
 -- what is kept of what stands at a place
 pub cut_back : (new old run : List ℕ) (at k n : ℕ) → n ≤ k → at ≤ length old → take (at + k) new ≡ take at old ++ take k run → take (at + n) new ≡ take at old ++ take n run
@@ -63,3 +65,97 @@ two_put xs at x y fits =
     let long : length (slice_set xs at x) ≡ length xs = length-set xs at x in
     ap (λ n. take n (slice_set (slice_set xs at x) (at + 1) y)) two ∙ take_more_set (slice_set xs at x) (at + 1) y (omega (arith, long, fits))
     ∙ ap (λ l. l ++ y ∷ []) (take_more_set xs at x (omega (arith, fits))) ∙ append_assoc (take at xs) (x ∷ []) (y ∷ [])
+
+-- ---- lines one after the other
+
+pub copies_none : (text room : List ℕ) (at : ℕ) → CopiesLines text room room at 0 0
+copies_none text room at = record {
+  whole = [];
+  within = omega arith;
+  says = no_lines;
+  counted = refl;
+  size = refl;
+  fewer = omega arith;
+  copied = let none : at + (0 + 0) ≡ at = omega arith in ap (λ n. take n room) none ∙ sym (append-nil (take at room));
+}
+
+-- what changes behind them
+pub copies_still : (text old mid new : List ℕ) (at count lines : ℕ) → CopiesLines text old mid at count lines → take (at + count + lines) new ≡ take (at + count + lines) mid → CopiesLines text old new at count lines
+copies_still text old mid new at count lines c same = record {
+  whole = c.whole;
+  within = c.within;
+  says = c.says;
+  counted = c.counted;
+  size = c.size;
+  fewer = c.fewer;
+  copied = let sum : at + (count + lines) ≡ at + count + lines = omega arith in ap (λ n. take n new) sum ∙ same ∙ ap (λ n. take n mid) (sym sum) ∙ c.copied;
+}
+
+-- a line with its LF
+line_and_end : (rest : List ℕ) (size : ℕ) → EndsAt rest size → take (size + 1) rest ≡ ended (take size rest)
+line_and_end rest size ends =
+    let inside : size < length rest = ends.inside in
+    let long : length (take size rest) ≡ size = length-take-le size rest (omega (arith, inside)) in
+    ap (take (size + 1)) ends.cut ∙ ap (λ n. take (n + 1) (take size rest ++ 10 ∷ drop (size + 1) rest)) (sym long) ∙ take-append-add (take size rest) (10 ∷ drop (size + 1) rest) 1
+
+more_copied : (old mid copied new whole line : List ℕ) (at k size : ℕ) → take (at + k) mid ≡ take at old ++ whole → take (at + k + size) copied ≡ take (at + k) mid ++ line
+    → take (at + k + size + 2) new ≡ take (at + k + size) copied ++ 13 ∷ 10 ∷ [] → take (at + k + size + 2) new ≡ take at old ++ (whole ++ (line ++ 13 ∷ 10 ∷ []))
+more_copied old mid copied new whole line at k size so_far one put =
+    put ∙ ap (λ l. l ++ 13 ∷ 10 ∷ []) (one ∙ ap (λ l. l ++ line) so_far) ∙ append_assoc (take at old ++ whole) line (13 ∷ 10 ∷ []) ∙ append_assoc (take at old) whole (line ++ 13 ∷ 10 ∷ [])
+
+-- a line more
+pub copies_more : (text old mid copied new : List ℕ) (at count lines size : ℕ) → CopiesLines text old mid at count lines → CopiesLine (drop count text) mid copied (at + count + lines) size
+    → take (at + count + lines + size + 2) new ≡ take (at + count + lines + size) copied ++ 13 ∷ 10 ∷ [] → (slice_index text count == 46) ≡ false → length text ≤ 8192
+    → CopiesLines text old new at (count + (size + 1)) (lines + 1)
+copies_more text old mid copied new at count lines size c one put undotted few =
+    let rest : List ℕ = drop count text in
+    let line : List ℕ = take size rest in
+    let ends : EndsAt rest size = one.ends in
+    let inside : size < length rest = ends.inside in
+    let sizes : length rest ≡ length text - count = length-drop count text in
+    let long : length line ≡ size = length-take-le size rest (omega (arith, inside)) in
+    let zero_on : count + 0 ≡ count = omega arith in
+    let first : slice_index rest 0 ≡ slice_index text count = get_or-drop count text 0 0 ∙ ap (λ n. get_or text n 0) zero_on in
+    let undot : (slice_index rest 0 == 46) ≡ false = ap (λ b. b == 46) first ∙ undotted in
+    let is_line : IsLine line = record { short = omega (arith, long, inside, sizes, few); single = ends.single } in
+    let plain : said line ≡ line ++ 13 ∷ 10 ∷ [] = ap (λ l. l ++ 13 ∷ 10 ∷ []) (not_stuffed rest size undot) in
+    let more : take (count + (size + 1)) text ≡ take count text ++ ended line = take-add count (size + 1) text ∙ ap (λ l. take count text ++ l) (line_and_end rest size ends) in
+    let single : count_by is_end (ended line) ≡ 1 = one_end line is_line in
+    let sum : count_by is_end (take count text ++ ended line) ≡ count_by is_end (take count text) + count_by is_end (ended line) = ends_add (take count text) (ended line) in
+    let counted : count_by is_end (take count text) ≡ lines = c.counted in
+    let size_so_far : length c.whole ≡ count + lines = c.size in
+    let both : length (c.whole ++ said line) ≡ length c.whole + length (said line) = length-append c.whole (said line) in
+    let said_long : length (said line) ≡ size + 2 = ap length plain ∙ length-append line (13 ∷ 10 ∷ []) ∙ ap (λ n. n + 2) long in
+    let fewer : lines ≤ count = c.fewer in
+    let k : at + count + lines ≡ at + (count + lines) = omega arith in
+    let end : at + (count + (size + 1) + (lines + 1)) ≡ at + (count + lines) + size + 2 = omega arith in
+    let one_at : take (at + (count + lines) + size) copied ≡ take (at + (count + lines)) mid ++ line = subst (λ (n : ℕ). take (n + size) copied ≡ take n mid ++ line) k one.copied in
+    let put_at : take (at + (count + lines) + size + 2) new ≡ take (at + (count + lines) + size) copied ++ 13 ∷ 10 ∷ [] = subst (λ (n : ℕ). take (n + size + 2) new ≡ take (n + size) copied ++ 13 ∷ 10 ∷ []) k put in
+    record {
+      whole = c.whole ++ said line;
+      within = omega (arith, inside, sizes);
+      says = subst (λ l. SaysBytes l (c.whole ++ said line)) (sym more) (says_more (take count text) c.whole line c.says is_line (not_dot rest size undot));
+      counted = ap (count_by is_end) more ∙ omega (arith, sum, single, counted);
+      size = omega (arith, both, said_long, size_so_far);
+      fewer = omega (arith, fewer);
+      copied = ap (λ n. take n new) end ∙ more_copied old mid copied new c.whole line at (count + lines) size c.copied one_at put_at ∙ ap (λ l. take at old ++ (c.whole ++ l)) (sym plain);
+    }
+
+-- the same of bytes at whose end they stand
+pub adds_lines : (text old new : List ℕ) (at front count lines : ℕ) → CopiesLines (take front text) old new at count lines → front ≤ length text → at + 2 * front ≤ length old → length new ≡ length old → length old ≤ 65508
+    → AddsLines text (take at old) (take (at + (count + lines)) new) count lines
+adds_lines text old new at front count lines c le fits same most =
+    let within : count ≤ length (take front text) = c.within in
+    let long : length (take front text) ≡ front = length-take-le front text le in
+    let shorter : take count (take front text) ≡ take count text = take-take count front text (omega (arith, within, long)) in
+    let fewer : lines ≤ count = c.fewer in
+    let size : length (take (at + (count + lines)) new) ≡ at + (count + lines) = length-take-le (at + (count + lines)) new (omega (arith, fits, same, fewer, within, long)) in
+    record {
+      whole = c.whole;
+      within = omega (arith, within, long, le);
+      says = subst (λ l. SaysBytes l c.whole) shorter c.says;
+      counted = ap (count_by is_end) (sym shorter) ∙ c.counted;
+      fewer = fewer;
+      added = c.copied;
+      short = omega (arith, size, fits, same, fewer, within, long, most);
+    }

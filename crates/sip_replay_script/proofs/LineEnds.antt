@@ -99,6 +99,12 @@ range_behind xs unread start stop count is le lt =
     let same : start + count + 1 ≡ start + (count + 1) = omega arith in
     ap (λ n. slice_range xs n stop) same ∙ range_rest xs start stop (count + 1) (omega (arith, most, ap length is, lt, le)) ∙ ap (drop (count + 1)) is
 
+-- and so many bytes
+pub range_further : (xs unread : List ℕ) (start stop count : ℕ) → slice_range xs start stop ≡ unread → start ≤ stop → count ≤ length unread → slice_range xs (start + count) stop ≡ drop count unread
+range_further xs unread start stop count is le few =
+    let most : length (slice_range xs start stop) ≤ stop - start = omega (arith, length-take (stop - start) (drop start xs)) in
+    range_rest xs start stop count (omega (arith, most, ap length is, few, le)) ∙ ap (drop count) is
+
 -- a line ends in a part
 pub part_ends : (xs ys : List ℕ) (start stop asks number place : ℕ) (before after : List ℕ) → ys ≡ xs → EndsAt (slice_range ys start stop) place → after ≡ before ++ take place (slice_range ys start stop)
     → EndsLine (record { unread = slice_range xs start stop; asks = asks; number = number }) (record { unread = slice_range xs (start + (place + 1)) stop; asks = asks; number = number + 1 }) before after

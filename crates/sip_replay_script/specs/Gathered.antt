@@ -1,6 +1,7 @@
 -- Lines that are copied where they are looked for.
-use Rattle.std.specs.Prelude.{◌≡◌, ◌+◌, ◌≤◌, ◌==◌, ℕ, Bool, false, not, List, [], ◌∷◌, ◌++◌, length, take, slice_index}
+use Rattle.std.specs.Prelude.{◌≡◌, ◌+◌, ◌≤◌, ℕ, Bool, not, List, ◌++◌, length, take, count_by}
 use Rattle.sip_replay_script.specs.Lines.{is_end, EndsAt}
+use Rattle.sip_replay_script.specs.Events.{SaysBytes}
 
 -- a byte of a line
 abbrev pub is_inside : ℕ → Bool
@@ -13,14 +14,23 @@ pub record CopiesLine (text old new : List ℕ) (at count : ℕ) : Type 0 where
   pub copied : take (at + count) new ≡ take at old ++ take count text
   pub fits : at + count + 2 ≤ length new
 
--- a text begins with a line of so many bytes, which LF ends: it was added to the bytes, with CRLF in its place, and of these no more stand there than are kept
-pub record AddsLine (text before after : List ℕ) (count : ℕ) : Type 0 where
-  pub ends : EndsAt text count
-  pub added : after ≡ before ++ (take count text ++ 13 ∷ 10 ∷ [])
-  pub short : length after ≤ 65508
+-- The first bytes of a text are so many lines, none of which is a dot: what they say stands at that place of the room now, behind what stood before it, and is
+-- longer than they are by a byte for each.
+pub record CopiesLines (text old new : List ℕ) (at count lines : ℕ) : Type 0 where
+  pub whole : List ℕ
+  pub within : count ≤ length text
+  pub says : SaysBytes (take count text) whole
+  pub counted : count_by is_end (take count text) ≡ lines
+  pub size : length whole ≡ count + lines
+  pub fewer : lines ≤ count
+  pub copied : take (at + (count + lines)) new ≡ take at old ++ whole
 
--- the same of a text that was read, and doesn't begin with a dot
-pub record AddsNext (text before after : List ℕ) (count : ℕ) : Type 0 where
-  pub adds : AddsLine text before after count
-  pub few : length text ≤ 8192
-  pub undotted : (slice_index text 0 == 46) ≡ false
+-- the same of a text whose lines were added to bytes, of which no more stand there than are kept
+pub record AddsLines (text before after : List ℕ) (count lines : ℕ) : Type 0 where
+  pub whole : List ℕ
+  pub within : count ≤ length text
+  pub says : SaysBytes (take count text) whole
+  pub counted : count_by is_end (take count text) ≡ lines
+  pub fewer : lines ≤ count
+  pub added : after ≡ before ++ whole
+  pub short : length after ≤ 65508

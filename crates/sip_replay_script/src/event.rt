@@ -1,9 +1,8 @@
-ghost use Rattle.std.specs.Prelude.{◌≡◌, ◌≤◌, ◌++◌, [], true, false, length, take, OnOk, IfOk, IfErr, IfSome, IfNone, MatchOption};
+ghost use Rattle.std.specs.Prelude.{◌≡◌, ◌≤◌, ◌++◌, [], true, false, length, take, OnOk, IfOk, IfErr, IfSome, IfNone};
 ghost use Rattle.sip_replay_script.specs.Devices.{later};
 ghost use Rattle.sip_replay_script.specs.Events;
 ghost use Rattle.sip_replay_script.specs.Events.{GivesEvent, GivesDatagram, GivesFirst, GoesOnBy, KeepsAll, KeepsLines, EventStops};
 ghost use Rattle.sip_replay_script.specs.Events.{DatagramStops};
-ghost use Rattle.sip_replay_script.specs.Gathered.{AddsNext};
 ghost use Rattle.sip_replay_script.specs.Lines.{left, pending, IsOver, IsSpent, LineStops};
 ghost use Rattle.sip_replay_script.specs.Script;
 ghost use Rattle.sip_replay_script.specs.declared.stop.Stop.TheVariants.{NoMemory};
@@ -159,45 +158,31 @@ fn keep_lines(lines: &mut Lines, bytes: &mut Gathered) -> Result<bool, Stop>
     ensures asks { lines.new.asks ≡ lines.old.asks }
     ensures stopped { IfErr result (λ stop. stop ≡ NoMemory) }
 {
+    keep_plain(lines, bytes);
     loop {
-        match keep_next(lines, bytes)? {
-            Next::Kept => {}
+        match keep_any(lines, bytes)? {
+            Next::Kept => keep_plain(lines, bytes),
             Next::Dot => return Ok(true),
             Next::Unended => return Ok(false),
         }
     }
 }
 
-/// Passes the next line, if it stands whole among the bytes that were read, and adds what it says, unless it is the dot.
+/// Passes lines that stand whole among the bytes that were read, and adds what they say, up to one that begins with a dot: most
+/// of a datagram at once, where there is room for them.
 #[inline(always)]
-fn keep_next(lines: &mut Lines, bytes: &mut Gathered) -> Result<Next, Stop>
+fn keep_plain(lines: &mut Lines, bytes: &mut Gathered)
     requires { length bytes.old ≤ KEPT }
-    ensures next { IfOk result (λ next. GoesOnBy next lines.old lines.new bytes.old bytes.new) }
-    ensures most { OnOk result (length bytes.new ≤ KEPT) }
+    ensures kept { KeepsLines lines.old lines.new bytes.old bytes.new }
+    ensures most { length bytes.new ≤ KEPT }
     ensures asks { lines.new.asks ≡ lines.old.asks }
-    ensures stopped { IfErr result (λ stop. stop ≡ NoMemory) }
+    ensures fewer { length lines.new.unread ≤ length lines.old.unread }
 {
-    if let Some(count) = add_next(lines, bytes) {
-        lines.pass(count);
-        return Ok(Next::Kept);
-    }
-    keep_any(lines, bytes)
+    let passed = bytes.add_lines(lines.unread());
+    lines.pass_lines(passed.count, passed.lines);
 }
 
-/// Adds the next line and its CRLF, if it stands whole among those bytes, doesn't begin with a dot, and there is room for it;
-/// how many bytes it has. Of None nothing changes.
-#[inline(always)]
-fn add_next(lines: &Lines, bytes: &mut Gathered) -> Option<usize>
-    ensures { MatchOption result (bytes.new ≡ bytes.old) (AddsNext lines.now.unread bytes.old bytes.new) }
-{
-    let text = lines.unread();
-    if text.is_empty() || text[0] == b'.' {
-        return None;
-    }
-    bytes.add_line(text)
-}
-
-/// The same of any line.
+/// Passes the next line, if it stands whole among the bytes that were read, and adds what it says, unless it is the dot.
 #[inline(never)]
 fn keep_any(lines: &mut Lines, bytes: &mut Gathered) -> Result<Next, Stop>
     requires { length bytes.old ≤ KEPT }

@@ -1,6 +1,6 @@
-ghost use Rattle.std.specs.Prelude.{◌≡◌, ◌≤◌, ◌+◌, ◌++◌, ◌∷◌, [], ℕ, length, take, drop, vec_len, OnOk, IfOk, MatchOption};
+ghost use Rattle.std.specs.Prelude.{◌≡◌, ◌≤◌, ◌+◌, ◌*◌, ◌++◌, ◌∷◌, [], ℕ, length, take, drop, vec_len, OnOk, MatchOption};
 ghost use Rattle.httparse.specs.Pieces.{IsRunIn, first_set};
-ghost use Rattle.sip_replay_script.specs.Gathered.{is_inside, AddsLine, CopiesLine};
+ghost use Rattle.sip_replay_script.specs.Gathered.{is_inside, AddsLines, CopiesLine, CopiesLines};
 
 use std::alloc::AllocError;
 use std::marker::Model;
@@ -67,17 +67,16 @@ fn copy_lanes(text: &[u8], from: usize, room: &mut [u8], to: usize)
     u8x16::from_slice(&text[from..]).copy_to_slice(&mut room[to..]);
 }
 
-/// Copies the line at the front of a text to a place of the room, if LF ends it and there is room for it and two bytes more;
-/// how many bytes it has. The room behind it may change.
+/// Copies the line at the front of a text to a place of the room, if LF is found to end it; how many bytes it has. The room
+/// behind it may change.
 #[inline(always)]
 fn copy_line(text: &[u8], room: &mut [u8], at: usize) -> Option<usize>
-    requires { at ≤ length room.old }
+    requires { at + 2 * length text.now ≤ length room.old }
     ensures copied { MatchOption result (take at room.new ≡ take at room.old) (CopiesLine text.now room.old room.new at) }
     ensures len { length room.new ≡ length room.old }
 {
-    let limit = text.len().min((room.len() - at).saturating_sub(2));
     let mut done = 0;
-    while limit - done >= LANES {
+    while text.len() - done >= LANES {
         let run = run_in_lanes(text, done);
         copy_lanes(text, done, room, at + done);
         if run < LANES {
@@ -108,6 +107,36 @@ fn put_end(room: &mut [u8], at: usize)
 {
     room[at] = b'\r';
     room[at + 1] = b'\n';
+}
+
+/// How many bytes of a text were passed, which are so many lines, each with its LF.
+#[derive(Clone, Copy)]
+pub(crate) struct Passed {
+    pub count: usize,
+    pub lines: usize,
+}
+
+/// Copies lines at the front of a text to a place of the room, each with CRLF behind it, up to one that begins with a dot or
+/// isn't found to end. The room behind them may change.
+#[inline(never)]
+fn copy_lines(text: &[u8], room: &mut [u8], at: usize) -> Passed
+    requires room { at + 2 * length text.now ≤ length room.old }
+    requires few { length text.now ≤ 8192 }
+    ensures copied { CopiesLines text.now room.old room.new at result.count result.lines }
+    ensures len { length room.new ≡ length room.old }
+{
+    let mut count: usize = 0;
+    let mut lines: usize = 0;
+    while count < text.len() && text[count] != b'.' {
+        let to = at + count + lines;
+        let Some(length) = copy_line(&text[count..], room, to) else {
+            break;
+        };
+        put_end(room, to + length);
+        count += length + 1;
+        lines += 1;
+    }
+    Passed { count, lines }
 }
 
 /// Makes the room long enough for so many bytes.
@@ -161,16 +190,17 @@ impl Gathered {
         Ok(())
     }
 
-    /// Adds the line at the front of a text, and CRLF, if LF ends it and the room is long enough; how many bytes it has. Of
-    /// None nothing changes.
+    /// Adds lines at the front of a text, each with CRLF in place of its LF, as long as the room is for them, none begins with
+    /// a dot, and they are found to end; which were passed.
     #[inline(always)]
-    pub(crate) fn add_line(&mut self, text: &[u8]) -> Option<usize>
-        ensures { MatchOption result (self.new ≡ self.old) (AddsLine text.now self.old self.new) }
+    pub(crate) fn add_lines(&mut self, text: &[u8]) -> Passed
+        requires { length text.now ≤ 8192 }
+        ensures { AddsLines text.now self.old self.new result.count result.lines }
     {
-        let count = copy_line(text, self.room.as_mut_slice(), self.count)?;
-        let end = self.count + count;
-        put_end(self.room.as_mut_slice(), end);
-        self.count = end + 2;
-        Some(count)
+        let fits = (self.room.len() - self.count) / 2;
+        let front = &text[..text.len().min(fits)];
+        let passed = copy_lines(front, self.room.as_mut_slice(), self.count);
+        self.count += passed.count + passed.lines;
+        passed
     }
 }

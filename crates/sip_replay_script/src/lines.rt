@@ -121,6 +121,17 @@ impl Lines {
         self.number += 1;
     }
 
+    /// Goes on behind so many bytes, which are so many lines that stand whole among the unread bytes, each with its LF.
+    pub(crate) fn pass_lines(&mut self, count: usize, lines: usize)
+        requires { (count ≤ length self.old.unread) × (lines ≤ count) }
+        ensures unread { self.new.unread ≡ drop count self.old.unread }
+        ensures number { self.new.number ≡ self.old.number + lines }
+        ensures asks { self.new.asks ≡ self.old.asks }
+    {
+        self.start += count;
+        self.number += lines as u64;
+    }
+
     /// Whether there is an unread byte; if all were given, the reader is asked.
     fn fill<R: TellingReader>(&mut self, reader: &mut R) -> Result<bool, Stop>
         ensures kept { OnOk result (Keeps (pending self.old (R.remaining reader.old)) (pending self.new (R.remaining reader.new))) }

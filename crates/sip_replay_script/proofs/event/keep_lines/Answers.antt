@@ -1,19 +1,21 @@
-use Rattle.std.proofs.Common.{◌<◌, length, refl, subst, ◌∙◌, arith}
+use Rattle.std.proofs.Common.{◌<◌, ◌≤◌, length, subst, ◌∙◌, arith}
 use Rattle.sip_replay_script.specs.Events.{GoesOnBy, KeepsLine}
-use Rattle.sip_replay_script.proofs.Datagrams.{keeps_none, keeps_more, keeps_less}
+use Rattle.sip_replay_script.proofs.Datagrams.{keeps_both, keeps_more, keeps_less}
 use Rattle.sip_replay_script.proofs.event.keep_lines.Goals as goal
 
-pub loop-init : goal.loop-init
-loop-init c = (c.requires, keeps_none c.args.lines.now c.args.bytes.now c.requires, refl, omega arith)
+pub loop-lines-init : goal.loop-lines-init
+loop-lines-init c = (c.keep_plain.ensures.most, c.keep_plain.ensures.kept, c.keep_plain.ensures.asks, c.keep_plain.ensures.fewer)
 
-pub loop-preserved : goal.loop-preserved
-loop-preserved c =
-    let one : KeepsLine c.loop.lines c.keep_next.new.lines c.loop.bytes c.keep_next.new.bytes =
-    subst (λ next. GoesOnBy next c.loop.lines c.keep_next.new.lines c.loop.bytes c.keep_next.new.bytes) c.in-Kept.is c.in_ok-keep_next.ensures.next in
-    let fewer : length c.keep_next.new.lines.unread < length c.loop.lines.unread = keeps_less c.loop.lines c.keep_next.new.lines c.loop.bytes c.keep_next.new.bytes one in
-    let before = c.loop.invariant.3 in (
-      c.in_ok-keep_next.ensures.most,
-      keeps_more c.args.lines.now c.loop.lines c.keep_next.new.lines c.args.bytes.now c.loop.bytes c.keep_next.new.bytes c.loop.invariant.1 one,
-      c.keep_next.ensures.asks ∙ c.loop.invariant.2,
-      omega (arith, fewer, before),
+pub loop-lines-preserved : goal.loop-lines-preserved
+loop-lines-preserved c =
+    let one : KeepsLine c.loop-lines.lines c.keep_any.new.lines c.loop-lines.bytes c.keep_any.new.bytes =
+    subst (λ next. GoesOnBy next c.loop-lines.lines c.keep_any.new.lines c.loop-lines.bytes c.keep_any.new.bytes) c.in-Kept.is c.in_ok-keep_any.ensures.next in
+    let fewer : length c.keep_any.new.lines.unread < length c.loop-lines.lines.unread = keeps_less c.loop-lines.lines c.keep_any.new.lines c.loop-lines.bytes c.keep_any.new.bytes one in
+    let further : length c.keep_plain-in-Kept.new.lines.unread ≤ length c.keep_any.new.lines.unread = c.keep_plain-in-Kept.ensures.fewer in
+    let before = c.loop-lines.invariant.3 in (
+      c.keep_plain-in-Kept.ensures.most,
+      keeps_both c.args.lines.now c.keep_any.new.lines c.keep_plain-in-Kept.new.lines c.args.bytes.now c.keep_any.new.bytes c.keep_plain-in-Kept.new.bytes
+          (keeps_more c.args.lines.now c.loop-lines.lines c.keep_any.new.lines c.args.bytes.now c.loop-lines.bytes c.keep_any.new.bytes c.loop-lines.invariant.1 one) c.keep_plain-in-Kept.ensures.kept,
+      c.keep_plain-in-Kept.ensures.asks ∙ c.keep_any.ensures.asks ∙ c.loop-lines.invariant.2,
+      omega (arith, fewer, further, before),
     )

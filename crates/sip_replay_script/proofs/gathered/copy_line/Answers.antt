@@ -10,8 +10,8 @@ returns-then-run-lt-LANES-clause-copied c =
     let further : take (a.at + (l.done + 16)) c.copy_lanes.new.room ≡ take a.at a.room.now ++ take (l.done + 16) a.text.now = copied_more a.text.now a.room.now l.room c.copy_lanes.new.room a.at l.done l.invariant.1 c.copy_lanes.ensures.copied in
     record {
       ends = line_ends a.text.now l.done run l.invariant.3 c.run_in_lanes-run.ensures c.if-run-lt-LANES.true (omega arith);
-      copied = cut_back c.copy_lanes.new.room a.room.now a.text.now a.at (l.done + 16) (l.done + run) (omega arith) c.requires further;
-      fits = omega arith;
+      copied = cut_back c.copy_lanes.new.room a.room.now a.text.now a.at (l.done + 16) (l.done + run) (omega arith) (omega (arith, c.requires)) further;
+      fits = omega (arith, c.copy_lanes.ensures.len, l.invariant.2);
     }
 
 pub loop-done-preserved : goal.loop-done-preserved
@@ -28,4 +28,4 @@ pub returns-clause-copied : goal.returns-clause-copied
 returns-clause-copied c =
     let a = c.args in
     let l = c.loop-done in
-    nothing_before l.room a.room.now a.text.now a.at l.done c.requires l.invariant.1
+    nothing_before l.room a.room.now a.text.now a.at l.done (omega (arith, c.requires)) l.invariant.1

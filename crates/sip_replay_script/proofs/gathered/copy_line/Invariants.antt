@@ -6,8 +6,8 @@ use Rattle.sip_replay_script.proofs.gathered.copy_line.Given as goal
 -- the bytes so far are copied, and none of them is LF
 abbrev pub invariant-loop-done : goal.invariant-loop-done
 invariant-loop-done l =
-    (l.done ≤ l.limit) × (take (l.at + l.done) l.room ≡ take l.at l.initial.room ++ take l.done l.text)
+    (l.done ≤ length l.text) × (take (l.at + l.done) l.room ≡ take l.at l.initial.room ++ take l.done l.text)
     × (length l.room ≡ length l.initial.room) × AllPassBetween is_inside l.text 0 l.done
 
 abbrev pub decreases-loop-done : goal.decreases-loop-done
-decreases-loop-done l = l.limit - l.done
+decreases-loop-done l = length l.text - l.done
