@@ -1,13 +1,15 @@
 -- Sixteen digits in lower case, each in a lane.
-use Rattle.std.proofs.Common.{◌≡◌, ℕ, zero, suc, ◌+◌, ◌*◌, ◌-◌, ◌%◌, ◌^◌, ◌<◌, Bool, true, false, cond, not, ◌||◌, List, [], ◌∷◌, ◌++◌, length, map, get_or, replicate, Option, Some, None, refl, sym, ap, ap₂, ◌∙◌, subst, arith}
+use Rattle.std.proofs.Common.{◌≡◌, ℕ, ltb, zero, suc, ◌+◌, ◌*◌, ◌-◌, ◌/◌, ◌%◌, ◌^◌, ◌<◌, Bool, true, false, cond, not, ◌||◌, List, [], ◌∷◌, ◌++◌, length, map, get_or, replicate, Option, Some, None, refl, sym, ap, ap₂, ◌∙◌, subst, arith}
 use Rattle.std.proofs.lemmas.Bool.{agree_below, agree_below_at, and_parts, eqb-true, ltb-true}
 use Rattle.std.proofs.lemmas.Simd.{Each1-get_or, map-map, mask_l-mod, pick_l_left, pick_l_whole}
 use Rattle.std.proofs.lemmas.List.{length-map}
-use Rattle.std.specs.Prelude.{◌&&◌, ◌==◌, nat_le, nat_lt}
-use Rattle.std.specs.Int.{w64, from_be_bytes}
+use Rattle.std.specs.Prelude.{◌&&◌, ◌==◌, nat_le, nat_lt, slice_index}
+use Rattle.std.specs.Int.{w64, w128, byte_at, from_be_bytes, to_be_bytes}
+use Rattle.hex.specs.Hex.{encode_with, lower_digits}
 use Rattle.std.specs.Option.{option_and_then}
 use lib.Lanes.{Each1, pick_l, sel_l, zip2, mask_l, top}
-use Rattle.sip_digest.specs.NonceText.{AreLower, HasDigits, join, lane_value, lower_value, read_lower}
+use Rattle.sip_digest.specs.NonceText.{AreLower, HasDigits, join, lane_digit, lane_value, lower_value, nonce_text, read_lower}
+use Rattle.sip_digest.proofs.NonceTexts.{byte_is}
 
 -- ---- what is computed lane by lane
 
@@ -157,3 +159,35 @@ joins values h =
     ∷ pair 8 9 (omega arith) (omega arith) t ∷ pair 10 11 (omega arith) (omega arith) t ∷ pair 12 13 (omega arith) (omega arith) t ∷ pair 14 15 (omega arith) (omega arith) t ∷ []))
     ∙ eight (at 0) (at 1) (at 2) (at 3) (at 4) (at 5) (at 6) (at 7) (at 8) (at 9) (at 10) (at 11) (at 12) (at 13) (at 14) (at 15)
     ∙ ap (join 0) (pick_l_whole 0 values 16 size)
+
+-- ---- the text of a word
+
+top_of : (b : Bool) → top 7 (cond b 255 0) ≡ b
+top_of true = refl
+top_of false = refl
+
+-- the digits that were chosen
+pub digits_are : (v : List ℕ) {z : List ℕ} → z ≡ map (λ x. cond (top 7 (cond (ltb x 10) 255 0)) ((x + 48) % 256) ((x + 87) % 256)) v → z ≡ map lane_digit v
+digits_are v is = is ∙ each v
+  where
+    each : (xs : List ℕ) → map (λ x. cond (top 7 (cond (ltb x 10) 255 0)) ((x + 48) % 256) ((x + 87) % 256)) xs ≡ map lane_digit xs
+    each [] = refl
+    each (x ∷ xs) = ap₂ (λ y ys. y ∷ ys) (ap (λ b. cond b ((x + 48) % 256) ((x + 87) % 256)) (top_of (ltb x 10))) (each xs)
+
+low_byte : (k n : ℕ) → byte_at k n < 256
+low_byte k n = let e = byte_is k n in omega (arith, e)
+
+pub text_is : (f g : ℕ → ℕ → ℕ) (word : ℕ) (bytes text : List ℕ)
+    → text ≡ map lane_digit (pick_l 0 (zip2 f bytes (replicate 16 4) ++ zip2 g bytes (replicate 16 15)) (0 ∷ 16 ∷ 1 ∷ 17 ∷ 2 ∷ 18 ∷ 3 ∷ 19 ∷ 4 ∷ 20 ∷ 5 ∷ 21 ∷ 6 ∷ 22 ∷ 7 ∷ 23 ∷ 8 ∷ 24 ∷ 9 ∷ 25 ∷ 10 ∷ 26 ∷ 11 ∷ 27 ∷ 12 ∷ 28 ∷ 13 ∷ 29 ∷ 14 ∷ 30 ∷ 15 ∷ 31 ∷ []))
+    → bytes ≡ to_be_bytes w128 word → agree_below (λ b. lane_digit (f b 4) == slice_index lower_digits (b / 16)) (λ _. true) 256 ≡ true
+    → agree_below (λ b. lane_digit (g b 15) == slice_index lower_digits (b % 16)) (λ _. true) 256 ≡ true → text ≡ nonce_text word
+unfolding nonce_text encode_with
+text_is f g word bytes text is are above below =
+    let high : (k : ℕ) → lane_digit (f (byte_at k word) 4) ≡ slice_index lower_digits (byte_at k word / 16) =
+    λ k. eqb-true (lane_digit (f (byte_at k word) 4)) (slice_index lower_digits (byte_at k word / 16))
+    (agree_below_at (λ b. lane_digit (f b 4) == slice_index lower_digits (b / 16)) (λ _. true) 256 (byte_at k word) above (low_byte k word)) in
+    let low : (k : ℕ) → lane_digit (g (byte_at k word) 15) ≡ slice_index lower_digits (byte_at k word % 16) =
+    λ k. eqb-true (lane_digit (g (byte_at k word) 15)) (slice_index lower_digits (byte_at k word % 16))
+    (agree_below_at (λ b. lane_digit (g b 15) == slice_index lower_digits (b % 16)) (λ _. true) 256 (byte_at k word) below (low_byte k word)) in
+    is ∙ ap (λ bs. map lane_digit (pick_l 0 (zip2 f bs (replicate 16 4) ++ zip2 g bs (replicate 16 15)) (0 ∷ 16 ∷ 1 ∷ 17 ∷ 2 ∷ 18 ∷ 3 ∷ 19 ∷ 4 ∷ 20 ∷ 5 ∷ 21 ∷ 6 ∷ 22 ∷ 7 ∷ 23 ∷ 8 ∷ 24 ∷ 9 ∷ 25 ∷ 10 ∷ 26 ∷ 11 ∷ 27 ∷ 12 ∷ 28 ∷ 13 ∷ 29 ∷ 14 ∷ 30 ∷ 15 ∷ 31 ∷ []))) are
+    ∙ (λ t. high 15 t ∷ low 15 t ∷ high 14 t ∷ low 14 t ∷ high 13 t ∷ low 13 t ∷ high 12 t ∷ low 12 t ∷ high 11 t ∷ low 11 t ∷ high 10 t ∷ low 10 t ∷ high 9 t ∷ low 9 t ∷ high 8 t ∷ low 8 t ∷ high 7 t ∷ low 7 t ∷ high 6 t ∷ low 6 t ∷ high 5 t ∷ low 5 t ∷ high 4 t ∷ low 4 t ∷ high 3 t ∷ low 3 t ∷ high 2 t ∷ low 2 t ∷ high 1 t ∷ low 1 t ∷ high 0 t ∷ low 0 t ∷ [])

@@ -1,5 +1,5 @@
 -- The text of a nonce (this project's choice).
-use Rattle.std.specs.Prelude.{ℕ, ◌+◌, ◌*◌, ◌-◌, ◌%◌, ◌≡◌, ◌<◌, map, ◌&&◌, ◌==◌, nat_le, if◌then◌else◌, List, [], ◌∷◌, length, Option, Some, None}
+use Rattle.std.specs.Prelude.{ℕ, ◌+◌, ◌*◌, ◌-◌, ◌%◌, ◌≡◌, ◌<◌, map, ◌&&◌, ◌==◌, nat_le, nat_lt, if◌then◌else◌, List, [], ◌∷◌, length, Option, Some, None}
 use Rattle.std.specs.Simd.Lanes.{Each1}
 use Rattle.std.specs.Str.{bytes_eq}
 use Rattle.std.specs.Int.{w128, to_be_bytes}
@@ -33,6 +33,10 @@ read_lower n (b ∷ bs) = option_and_then (λ d. read_lower (n * 16 + d) bs) (lo
 -- the value of a byte that is a digit in lower case
 abbrev pub lane_value : ℕ → ℕ
 lane_value b = if nat_le 48 b && nat_le b 57 then b - 48 else (b + 256 - 87) % 256
+
+-- the digit in lower case of a value below 16
+abbrev pub lane_digit : ℕ → ℕ
+lane_digit v = if nat_lt v 10 then (v + 48) % 256 else (v + 87) % 256
 
 -- the number that digits of these values write behind one
 abbrev pub join : ℕ → List ℕ → ℕ

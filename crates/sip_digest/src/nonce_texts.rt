@@ -1,21 +1,38 @@
 ghost use Rattle.std.specs.Prelude.{◌≡◌, true, false, None, length, map};
-ghost use Rattle.sip_digest.specs.NonceText.{AreLower, HasDigits, join, lane_value, nonce_text, read_lower, word_of};
+ghost use Rattle.sip_digest.specs.NonceText.{AreLower, HasDigits, join, lane_digit, lane_value, nonce_text, read_lower, word_of};
 
-use hex::encode_to_slice;
 use std::simd::prelude::*;
 
 /// What the high half of a word counts.
 const HALF: u128 = 1 << 64;
 
+/// The digits of values below 16, in lower case.
+#[inline(always)]
+fn lane_digits(values: u8x32) -> u8x32
+    requires { length values ≡ 32 }
+    ensures { result ≡ map lane_digit values }
+{
+    let letters = values + u8x32::splat(b'a' - 10);
+    values
+        .simd_lt(u8x32::splat(10))
+        .select(values + u8x32::splat(b'0'), letters)
+}
+
 /// The text of the nonce of a word: its 32 hexadecimal digits in lower case, the high half first.
-#[tactic(auto, unfolding(crate::specs::NonceText::nonce_text))]
 pub fn nonce_text(word: u128) -> [u8; 32]
     ensures { result ≡ nonce_text word }
 {
-    let mut text = [0u8; 32];
-    let done = encode_to_slice(word.to_be_bytes().as_slice(), &mut text);
-    prove!(done.is_ok());
-    text
+    let bytes = u8x16::from_array(word.to_be_bytes());
+    let high = bytes >> u8x16::splat(4);
+    let low = bytes & u8x16::splat(15);
+    let values: u8x32 = high.shuffle(
+        low,
+        [
+            0, 16, 1, 17, 2, 18, 3, 19, 4, 20, 5, 21, 6, 22, 7, 23, 8, 24, 9, 25, 10, 26, 11, 27,
+            12, 28, 13, 29, 14, 30, 15, 31,
+        ],
+    );
+    lane_digits(values).to_array()
 }
 
 /// Whether 16 bytes are hexadecimal digits in lower case.
