@@ -12,7 +12,7 @@ use Rattle.sip_event.specs.declared.event.Event.{Event}
 use Rattle.sip_replay_script.specs.declared.script.DatagramHead.{DatagramHead}
 use Rattle.sip_replay_script.specs.declared.script.Line.{Line}
 use Rattle.sip_replay_script.specs.declared.script.Line.TheVariants.{Head, Whole}
-use Rattle.sip_replay_script.specs.Script.{line_of, datagram_at, unstuffed}
+use Rattle.sip_replay_script.specs.Script.{line_of, datagram_at, event_of, unstuffed}
 use Rattle.sip_replay_script.specs.Lines.{Reading, BeginsWith, PassesLine, IsLine, IsUnended, is_end, pending, left, GivesLine, IsOver, LineStops}
 use Rattle.sip_replay_script.specs.declared.stop.Stop.{Stop}
 use Rattle.sip_replay_script.specs.declared.stop.Stop.TheVariants as stops
@@ -349,3 +349,9 @@ keeps_added old new before after count lines adds unread number =
       number = number ∙ ap (λ n. old.number + n) (sym adds.counted);
       kept = adds.added ∙ sym (take_all 65508 (before ++ adds.whole) short);
     }
+
+-- ---- an event, whose bytes were gathered or copied
+
+pub event_gathered : (old new : Reading) (before after : Option (List ℕ)) (line : Line) (bytes seen : List ℕ) (event : Event) → GivesEvent old new before after (event_of line bytes) → seen ≡ bytes → event ≡ event_of line seen
+    → GivesEvent old new before after event
+event_gathered old new before after line bytes seen event h same is = subst (λ e. GivesEvent old new before after e) (sym (is ∙ ap (event_of line) same)) h

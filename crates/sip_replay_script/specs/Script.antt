@@ -42,6 +42,11 @@ head_of at_text from_text word_text = do
 abbrev pub datagram_at : DatagramHead → List ℕ → Event
 datagram_at head bytes = Datagram head.at head.word head.from bytes
 
+-- the event that a line begins: a datagram whose bytes are given, or what the line holds whole
+abbrev pub event_of : Line → List ℕ → Event
+event_of (Head head) bytes = datagram_at head bytes
+event_of (Whole event) bytes = event
+
 -- what stands behind the word `datagram`, `hex`, `time` or `fault` and its space
 abbrev pub datagram_line : List ℕ → Option Line
 datagram_line text = do

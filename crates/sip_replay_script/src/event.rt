@@ -10,14 +10,15 @@ ghost use Rattle.sip_replay_script.specs.declared.stop.Stop.TheVariants.{NoMemor
 use crate::device::TellingReader;
 use crate::gathered::{Gathered, KEPT};
 use crate::lines::Lines;
-use crate::script::{DatagramHead, Line, line_of, unstuffed};
+use crate::script::{Line, line_of, unstuffed};
 use crate::stop::Stop;
 use sip_event::Event;
 use sip_text::Bytes;
-use std::alloc::Global;
+use std::alloc::{AllocError, Global};
 use std::mem;
 
 /// The next event of a script; `None` at its end. What it is gathered in may be kept for the next.
+#[tactic(auto, using(crate::proofs::Datagrams::event_gathered))]
 pub fn next_event<R: TellingReader>(
     alloc: Global,
     lines: &mut Lines,
@@ -31,13 +32,53 @@ pub fn next_event<R: TellingReader>(
     ensures asked { later lines.new.asks (R.asked reader.new) ≡ later lines.old.asks (R.asked reader.old) }
     ensures less { lines.new.asks ≤ lines.old.asks }
 {
-    match first_line(alloc, lines, reader, room)? {
+    let mut bytes = Gathered::in_room(mem::replace(room, Vec::new(alloc)));
+    let Some(line) = next_line(alloc, lines, reader, &mut bytes)? else {
+        return Ok(None);
+    };
+    let event = event_at(alloc, line, bytes.as_slice())?;
+    *room = bytes.into_room();
+    Ok(Some(event))
+}
+
+/// The event that a line begins, a datagram with a copy of these bytes.
+fn event_at(alloc: Global, line: Line, bytes: &[u8]) -> Result<Event, AllocError>
+    ensures { IfOk result (λ event. event ≡ Script.event_of line bytes.now) }
+{
+    match line {
+        Line::Whole(event) => Ok(event),
+        Line::Head(head) => Ok(Event::Datagram {
+            at: head.at,
+            word: head.word,
+            from: head.from,
+            bytes: Bytes::copy(alloc, bytes)?,
+        }),
+    }
+}
+
+/// The line that begins the next event of a script; `None` at its end. Behind the head of a datagram its bytes are gathered, so
+/// that they are used from there.
+pub fn next_line<R: TellingReader>(
+    alloc: Global,
+    lines: &mut Lines,
+    reader: &mut R,
+    bytes: &mut Gathered,
+) -> Result<Option<Line>, Stop>
+    ensures given { IfOk result (λ found. IfSome found
+        (λ line. GivesEvent lines.old lines.new (R.remaining reader.old) (R.remaining reader.new) (Script.event_of line bytes.new))) }
+    ensures over { IfOk result (λ found. IfNone found (IsOver lines.old lines.new (R.remaining reader.old) (R.remaining reader.new))) }
+    ensures stopped { IfErr result (EventStops (IsSpent (R.has_failed reader.new) lines.new.asks) (pending lines.old (R.remaining reader.old))) }
+    ensures asked { later lines.new.asks (R.asked reader.new) ≡ later lines.old.asks (R.asked reader.old) }
+    ensures less { lines.new.asks ≤ lines.old.asks }
+{
+    match first_line(alloc, lines, reader)? {
         First::Over => Ok(None),
         First::Says(None) => Err(Stop::Script),
-        First::Says(Some(Line::Whole(event))) => Ok(Some(event)),
+        First::Says(Some(Line::Whole(event))) => Ok(Some(Line::Whole(event))),
         First::Says(Some(Line::Head(head))) => {
-            let bytes = datagram_bytes(alloc, lines, reader, room)?;
-            Ok(Some(datagram_at(head, bytes)))
+            bytes.clear();
+            gather(alloc, lines, reader, bytes)?;
+            Ok(Some(Line::Head(head)))
         }
     }
 }
@@ -56,7 +97,6 @@ fn first_line<R: TellingReader>(
     alloc: Global,
     lines: &mut Lines,
     reader: &mut R,
-    room: &mut Vec<u8>,
 ) -> Result<First, Stop>
     ensures given { IfOk result (λ first. GivesFirst first lines.old lines.new (R.remaining reader.old) (R.remaining reader.new)) }
     ensures stopped { IfErr result (LineStops (IsSpent (R.has_failed reader.new) lines.new.asks) (pending lines.old (R.remaining reader.old))) }
@@ -69,42 +109,26 @@ fn first_line<R: TellingReader>(
         lines.pass(count);
         return Ok(First::Says(said));
     }
-    if !lines.next(reader, room)? {
-        return Ok(First::Over);
-    }
-    Ok(First::Says(line_of(alloc, room)?))
+    parted_line(alloc, lines, reader)
 }
 
-/// A datagram whose bytes are known.
-fn datagram_at(head: DatagramHead, bytes: Bytes) -> Event
-    ensures { result ≡ Script.datagram_at head bytes }
-{
-    Event::Datagram {
-        at: head.at,
-        word: head.word,
-        from: head.from,
-        bytes,
-    }
-}
-
-/// The bytes that the lines up to a line `.` say.
-fn datagram_bytes<R: TellingReader>(
+/// The same of a line that reaches past the bytes that were read.
+#[inline(never)]
+fn parted_line<R: TellingReader>(
     alloc: Global,
     lines: &mut Lines,
     reader: &mut R,
-    room: &mut Vec<u8>,
-) -> Result<Bytes, Stop>
-    ensures given { IfOk result (λ bytes. GivesDatagram lines.old lines.new (R.remaining reader.old) (R.remaining reader.new) bytes) }
-    ensures fewer { OnOk result (left lines.new ≤ left lines.old) }
-    ensures stopped { IfErr result (DatagramStops (IsSpent (R.has_failed reader.new) lines.new.asks) (pending lines.old (R.remaining reader.old))) }
+) -> Result<First, Stop>
+    ensures given { IfOk result (λ first. GivesFirst first lines.old lines.new (R.remaining reader.old) (R.remaining reader.new)) }
+    ensures stopped { IfErr result (LineStops (IsSpent (R.has_failed reader.new) lines.new.asks) (pending lines.old (R.remaining reader.old))) }
     ensures asked { later lines.new.asks (R.asked reader.new) ≡ later lines.old.asks (R.asked reader.old) }
     ensures less { lines.new.asks ≤ lines.old.asks }
 {
-    let mut bytes = Gathered::in_room(mem::replace(room, Vec::new(alloc)));
-    gather(alloc, lines, reader, &mut bytes)?;
-    let copy = Bytes::copy(alloc, bytes.as_slice())?;
-    *room = bytes.into_room();
-    Ok(copy)
+    let mut line = Vec::new(alloc);
+    if !lines.next(reader, &mut line)? {
+        return Ok(First::Over);
+    }
+    Ok(First::Says(line_of(alloc, &line)?))
 }
 
 /// Gathers the bytes that the lines up to a line `.` say.

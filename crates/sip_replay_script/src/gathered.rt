@@ -2,7 +2,7 @@ ghost use Rattle.std.specs.Prelude.{◌≡◌, ◌≤◌, ◌+◌, ◌*◌, ◌+
 ghost use Rattle.httparse.specs.Pieces.{IsRunIn, first_set};
 ghost use Rattle.sip_replay_script.specs.Gathered.{is_inside, AddsLines, CopiesLine, CopiesLines};
 
-use std::alloc::AllocError;
+use std::alloc::{AllocError, Global};
 use std::marker::Model;
 use std::simd::prelude::*;
 
@@ -19,7 +19,7 @@ pub(crate) const KEPT: usize = 65_508;
 /// The bytes of a datagram, which are gathered line by line at the front of room that is longer: so a line is copied while
 /// its end is looked for. Seen as these bytes.
 #[derive(Drop)]
-pub(crate) struct Gathered {
+pub struct Gathered {
     room: Vec<u8>,
     count: usize,
 }
@@ -165,6 +165,23 @@ impl Gathered {
         Gathered { room, count: 0 }
     }
 
+    /// No bytes, and no room.
+    pub fn new(alloc: Global) -> Self
+        ensures { result ≡ [] }
+    {
+        Gathered {
+            room: Vec::new(alloc),
+            count: 0,
+        }
+    }
+
+    /// Goes back to no bytes. The room stays.
+    pub(crate) fn clear(&mut self)
+        ensures { self.new ≡ [] }
+    {
+        self.count = 0;
+    }
+
     /// The room, whatever stands in it.
     pub(crate) fn into_room(self) -> Vec<u8> {
         let Gathered { room, count: _ } = self;
@@ -172,7 +189,7 @@ impl Gathered {
     }
 
     /// The bytes.
-    pub(crate) fn as_slice(&self) -> &[u8]
+    pub fn as_slice(&self) -> &[u8]
         ensures bytes { result.now ≡ self.now }
         ensures short { length result.now ≤ 65508 }
     {

@@ -20,8 +20,9 @@ mod stop;
 mod writing;
 
 pub use device::{TellingReader, TellingWriter};
-pub use event::next_event;
+pub use event::{next_event, next_line};
 pub use event_text::{empty_text, fault_text, hex_front, time_text};
+pub use gathered::Gathered;
 pub use head_line::HeadLine;
 pub use lines::Lines;
 pub use print::{head_text, print_step};
