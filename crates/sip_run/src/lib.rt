@@ -17,7 +17,7 @@ mod taking;
 pub use due::fire_next;
 pub use outcome::Run;
 pub use running::run;
-pub use taking::{event_moment, take_event};
+pub use taking::{event_moment, take_datagram, take_event};
 
 /// Of `sip_engine`.
 pub mod engine {

@@ -1,6 +1,7 @@
 ghost use Rattle.std.specs.Prelude.{◌≡◌, None, IsOk, IfOk, IfErr, OnOk, OnErr};
 ghost use Rattle.sip_engine.specs.model.Run.{event_moment};
 ghost use Rattle.sip_engine.specs.steps_model.Step.{Given, IsStep, moment_of};
+ghost use Rattle.sip_event.specs.declared.event.Event.TheVariants.{Datagram};
 ghost use Rattle.sip_run.specs.Due.{NothingDueBy};
 ghost use Rattle.sip_run.specs.Refusals.{NeedsNoMemory, RefusesStep, refusal_of_event};
 
@@ -8,6 +9,7 @@ use sip_engine::{Engine, StepError};
 use sip_event::{Event, StepOut};
 use sip_policy::Rules;
 use sip_timers::Timers;
+use sip_uri::Addr;
 
 /// The moment of an event.
 pub fn event_moment(event: &Event) -> u64
@@ -42,8 +44,27 @@ pub fn take_event<T: Timers, R: Rules>(
             word,
             from,
             bytes,
-        } => engine.deliver(*at, *word, *from, bytes.as_slice()),
+        } => take_datagram(engine, *at, *word, *from, bytes.as_slice()),
         Event::Time { at } => engine.fire(*at),
         Event::Fault { at, ticket } => engine.fault(*at, *ticket),
     }
+}
+
+/// The same of a datagram, whose bytes may stand anywhere.
+#[tactic(auto, using(crate::proofs::Refusing::refused_as, crate::proofs::Refusing::not_refused))]
+pub fn take_datagram<T: Timers, R: Rules>(
+    engine: &mut Engine<T, R>,
+    at: u64,
+    word: u128,
+    from: Addr,
+    bytes: &[u8],
+) -> Result<StepOut, StepError>
+    requires { NothingDueBy (moment_of engine.old.state at) engine.old.state }
+    ensures server { engine.new.server ≡ engine.old.server }
+    ensures step { IfOk result (λ out. IsStep engine.old.server engine.old.state (Given (Datagram at word from bytes.now)) out engine.new.state) }
+    ensures not_refused { OnOk result (refusal_of_event engine.old.state (Datagram at word from bytes.now) ≡ None) }
+    ensures unchanged { OnErr result (engine.new ≡ engine.old) }
+    ensures refused { IfErr result (RefusesStep (refusal_of_event engine.old.state (Datagram at word from bytes.now))) }
+{
+    engine.deliver(at, word, from, bytes)
 }
