@@ -1,11 +1,12 @@
-ghost use Rattle.std.specs.Prelude.{◌≡◌, ◌≤◌, ◌⊎◌, [], ◌∷◌, true, false, None, Err, IfOk, IfErr, OnOk};
+ghost use Rattle.std.specs.Prelude.{◌≡◌, ◌≤◌, ◌⊎◌, ℕ, List, [], ◌∷◌, true, false, None, Err, IfOk, IfErr, OnOk};
 ghost use Rattle.model_bounds.specs.model.Run.{event_moment};
 ghost use Rattle.model_bounds.specs.steps_model.Step.{Given, IsStep, moment_of};
 ghost use Rattle.model_bounds.specs.state.State.{first_state};
 ghost use Rattle.sip_run.specs.Due.{NothingDueBy};
-ghost use Rattle.sip_run.specs.Refusals.{refusal_of_event};
+ghost use Rattle.sip_run.specs.Refusals.{RefusesStep, refusal_of_event};
 ghost use Rattle.sip_replay_script.specs.Devices.{later, GaveUp};
 ghost use Rattle.sip_replay_script.specs.Lines.{pending, IsOver, IsSpent};
+ghost use Rattle.sip_replay_script.specs.Script.{event_of};
 ghost use Rattle.sip_replay.specs.Errors.{IsAsked, IsFaulted};
 ghost use Rattle.sip_replay.specs.Refusals.{IsRefused, Refuses, StepStops, TakingStops};
 ghost use Rattle.sip_replay.specs.Replays.{server_with, IsLawfulReplay, IsReplay, Plays, PlaysNext};
@@ -16,13 +17,13 @@ use model_bounds::bounds::every_history_is_bounded;
 use model_bounds::model::laws::every_run_has_access;
 use model_bounds::model::runs::runs_join;
 use sip_config_types::Config;
-use sip_event::{Boot, Event, StepOut};
+use sip_event::{Boot, StepOut};
 use sip_policy::Rules;
 use sip_replay_script::{
-    Lines, Stop, TellingReader, TellingWriter, hand_on, next_event, print_step,
+    Gathered, Line, Lines, Stop, TellingReader, TellingWriter, hand_on, next_line, print_step,
 };
-use sip_run::engine::Engine;
-use sip_run::event_moment;
+use sip_run::engine::{Engine, StepError};
+use sip_run::{event_moment, take_datagram, take_event};
 use sip_timers::Timers;
 use std::alloc::Global;
 
@@ -83,9 +84,9 @@ fn play<T: Timers, R: Rules, I: TellingReader, W: TellingWriter>(
         Ok(lines) => lines,
         Err(_) => return Err(ReplayError::NoMemory),
     };
-    let mut line = Vec::new(alloc);
+    let mut bytes = Gathered::new(alloc);
     runs_join();
-    while take_next(alloc, &mut engine, &mut lines, &mut line, reader, writer)? {}
+    while take_next(alloc, &mut engine, &mut lines, &mut bytes, reader, writer)? {}
     Ok(())
 }
 
@@ -94,7 +95,7 @@ fn take_next<T: Timers, R: Rules, I: TellingReader, W: TellingWriter>(
     alloc: Global,
     engine: &mut Engine<T, R>,
     lines: &mut Lines,
-    line: &mut Vec<u8>,
+    bytes: &mut Gathered,
     reader: &mut I,
     writer: &mut W,
 ) -> Result<bool, ReplayError>
@@ -111,46 +112,78 @@ fn take_next<T: Timers, R: Rules, I: TellingReader, W: TellingWriter>(
     ensures less { lines.new.asks ≤ lines.old.asks }
 {
     let first = lines.number() + 1;
-    let event = match next_event(alloc, lines, reader, line) {
-        Ok(Some(event)) => event,
+    let line = match next_line(alloc, lines, reader, bytes) {
+        Ok(Some(line)) => line,
         Ok(None) => return Ok(false),
         Err(stop) => return Err(ReplayError::at_line(stop, first)),
     };
-    match take_event(alloc, engine, event, writer) {
+    match take_line(alloc, engine, line, bytes, writer) {
         Ok(()) => Ok(true),
         Err(stop) => Err(ReplayError::at_line(stop, first)),
     }
 }
 
-/// Fires what is due, takes the event, and prints all these steps.
-fn take_event<T: Timers, R: Rules, W: TellingWriter>(
+/// Fires what is due, takes the event that a line begins, and prints all these steps. The bytes are those of a datagram.
+fn take_line<T: Timers, R: Rules, W: TellingWriter>(
     alloc: Global,
     engine: &mut Engine<T, R>,
-    event: Event,
+    line: Line,
+    bytes: &Gathered,
     writer: &mut W,
 ) -> Result<(), Stop>
     ensures server { engine.new.server ≡ engine.old.server }
-    ensures taken { OnOk result (Plays engine.old.server engine.old.state engine.new.state (event ∷ []) None (W.contents writer.old)
-        (W.contents writer.new)) }
-    ensures stopped { IfErr result (TakingStops engine.old.server engine.old.state event (W.contents writer.old) (W.contents writer.new)
-        (GaveUp (W.has_failed writer.new) (W.called writer.new))) }
+    ensures taken { OnOk result (Plays engine.old.server engine.old.state engine.new.state (event_of line bytes.now ∷ []) None
+        (W.contents writer.old) (W.contents writer.new)) }
+    ensures stopped { IfErr result (TakingStops engine.old.server engine.old.state (event_of line bytes.now) (W.contents writer.old)
+        (W.contents writer.new) (GaveUp (W.has_failed writer.new) (W.called writer.new))) }
 {
-    fire_due(alloc, engine, event_moment(&event), writer)?;
-    let out = own_step(engine, &event)?;
+    fire_due(alloc, engine, line_moment(&line), writer)?;
+    let out = own_step(engine, &line, bytes)?;
     print_step(alloc, writer, &out)?;
     Ok(())
 }
 
+/// The moment of the event that a line begins.
+fn line_moment(line: &Line) -> u64
+    ensures { (bytes : List ℕ) → result ≡ event_moment (event_of line.now bytes) }
+{
+    match line {
+        Line::Head(head) => head.at,
+        Line::Whole(event) => event_moment(event),
+    }
+}
+
 /// The event's own step.
 #[tactic(auto, using(crate::proofs::Stopping::step_stops))]
-fn own_step<T: Timers, R: Rules>(engine: &mut Engine<T, R>, event: &Event) -> Result<StepOut, Stop>
-    requires { NothingDueBy (moment_of engine.old.state (event_moment event.now)) engine.old.state }
+fn own_step<T: Timers, R: Rules>(
+    engine: &mut Engine<T, R>,
+    line: &Line,
+    bytes: &Gathered,
+) -> Result<StepOut, Stop>
+    requires { NothingDueBy (moment_of engine.old.state (event_moment (event_of line.now bytes.now))) engine.old.state }
     ensures server { engine.new.server ≡ engine.old.server }
-    ensures step { IfOk result (λ out. IsStep engine.old.server engine.old.state (Given event.now) out engine.new.state) }
-    ensures stopped { IfErr result (StepStops (refusal_of_event engine.old.state event.now)) }
+    ensures step { IfOk result (λ out. IsStep engine.old.server engine.old.state (Given (event_of line.now bytes.now)) out engine.new.state) }
+    ensures stopped { IfErr result (StepStops (refusal_of_event engine.old.state (event_of line.now bytes.now))) }
 {
-    match sip_run::take_event(engine, event) {
+    match taken(engine, line, bytes.as_slice()) {
         Ok(out) => Ok(out),
         Err(e) => Err(stop_of(e)),
+    }
+}
+
+/// The same, with the refusal that the engine gives.
+fn taken<T: Timers, R: Rules>(
+    engine: &mut Engine<T, R>,
+    line: &Line,
+    bytes: &[u8],
+) -> Result<StepOut, StepError>
+    requires { NothingDueBy (moment_of engine.old.state (event_moment (event_of line.now bytes.now))) engine.old.state }
+    ensures server { engine.new.server ≡ engine.old.server }
+    ensures step { IfOk result (λ out. IsStep engine.old.server engine.old.state (Given (event_of line.now bytes.now)) out engine.new.state) }
+    ensures refused { IfErr result (RefusesStep (refusal_of_event engine.old.state (event_of line.now bytes.now))) }
+{
+    match line {
+        Line::Head(head) => take_datagram(engine, head.at, head.word, head.from, bytes),
+        Line::Whole(event) => take_event(engine, event),
     }
 }

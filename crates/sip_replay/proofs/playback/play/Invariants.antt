@@ -6,13 +6,13 @@ use Rattle.sip_replay.specs.Replays.{server_with}
 use Rattle.sip_replay.proofs.Replaying.{Replays}
 use Rattle.sip_replay.proofs.playback.play.Given as goal
 
-abbrev pub invariant-loop-line : goal.invariant-loop-line
-invariant-loop-line g l =
+abbrev pub invariant-loop-bytes : goal.invariant-loop-bytes
+invariant-loop-bytes g l =
     (l.engine.server ≡ server_with l.fn.config l.fn.boot.word)
     × Replays (server_with l.fn.config l.fn.boot.word) (first_state l.fn.boot.first) l.engine.state l.initial.lines l.lines (g.I.TellingReader.remaining l.initial.reader) (g.I.TellingReader.remaining l.reader)
     (g.W.TellingWriter.contents l.initial.writer) (g.W.TellingWriter.contents l.writer)
     × (l.lines.asks ≤ l.initial.lines.asks)
     × (later l.lines.asks (g.I.TellingReader.asked l.reader) ≡ later l.initial.lines.asks (g.I.TellingReader.asked l.initial.reader))
 
-abbrev pub decreases-loop-line : goal.decreases-loop-line
-decreases-loop-line g l = left l.lines
+abbrev pub decreases-loop-bytes : goal.decreases-loop-bytes
+decreases-loop-bytes g l = left l.lines
