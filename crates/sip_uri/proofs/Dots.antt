@@ -121,6 +121,21 @@ before_is text (Some x) = ap (option_map (λ n. (n, Some x.1))) (sym (number_rea
 pub number_at_is : (text : List ℕ) → read_on None text ≡ number_at text
 number_at_is text = read_is None text ∙ before_is text (split_at_byte 46 text)
 
+-- the first byte is a digit, or there is no number
+pub first_digit : (text : List ℕ) (b : ℕ) (bs : List ℕ) → text ≡ b ∷ bs → is_ascii_digit b ≡ true → read_on (Some (digit_value b)) bs ≡ number_at text
+first_digit text b bs whole is = sym (ap number_at whole ∙ sym (number_at_is (b ∷ bs)) ∙ by_dot (b == 46) refl)
+  where
+    by_dot : (t : Bool) → (b == 46) ≡ t → read_on None (b ∷ bs) ≡ read_on (Some (digit_value b)) bs
+    by_dot true e = absurd (grind (arith, nat_tests))
+    by_dot false e = rw (e, is) refl
+
+pub no_digit : (text : List ℕ) (b : ℕ) (bs : List ℕ) → text ≡ b ∷ bs → is_ascii_digit b ≡ false → None ≡ number_at text
+no_digit text b bs whole other = sym (ap number_at whole ∙ sym (number_at_is (b ∷ bs)) ∙ by_dot (b == 46) refl)
+  where
+    by_dot : (t : Bool) → (b == 46) ≡ t → read_on None (b ∷ bs) ≡ None
+    by_dot true e = rw e refl
+    by_dot false e = rw (e, other) refl
+
 -- ---- the numbers
 
 -- the parts of a text that was cut at its first dot, or the text as one part

@@ -1,5 +1,6 @@
 pub mod Dotted
 pub mod Dots
+pub mod Ports
 pub mod Places
 pub mod Collecting
 pub mod Tests

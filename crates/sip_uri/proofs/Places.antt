@@ -7,6 +7,7 @@ use Rattle.std.specs.Option.{option_and_then}
 use Rattle.std.specs.List.{list_all, prefix_len}
 use Rattle.sip_uri.specs.Host.{is_host_byte, is_host, begins_bracket, is_not, host_length, place_of, is_place_byte, IsPlaceAt, IsNameAt}
 use Rattle.sip_uri.specs.Port.{port_of, port_value}
+use Rattle.sip_uri.proofs.Ports.{port_bytes}
 
 -- a host with the port that is written behind it
 abbrev with_port : List ℕ → List ℕ → Option (List ℕ × Option (List ℕ))
@@ -193,38 +194,32 @@ port_plain (b ∷ name) digits all of_port =
     let both = and_both (is_host_byte b) (list_all is_host_byte name) all in
     rw both.0 (port_plain name digits both.1 of_port)
 
-pub host_at : (n : ℕ) (text name rest : List ℕ) → n ≡ prefix_len is_host_byte text → name ≡ take n text → rest ≡ drop n text → (length name == 0) ≡ false → IsPlaceAt text name None rest
-host_at n text name rest long front behind some =
-    let all : list_all is_host_byte name ≡ true = name_run n text name long front in
+-- what was cut is what both parts make
+pub both_parts : (n : ℕ) (text front rest : List ℕ) → front ≡ take n text → rest ≡ drop n text → text ≡ front ++ rest
+both_parts n text front rest before behind = sym (take-append-drop n text) ∙ ap (λ (w : List ℕ). w ++ drop n text) (sym before) ∙ ap (λ (w : List ℕ). front ++ w) (sym behind)
+
+-- what follows a name that was split off
+pub host_at : (name rest : List ℕ) → list_all is_host_byte name ≡ true → (length name == 0) ≡ false → IsPlaceAt (name ++ rest) name None rest
+host_at name rest all some =
     record {
       front = name;
-      whole = sym (take-append-drop n text) ∙ ap (λ (w : List ℕ). w ++ drop n text) (sym front) ∙ ap (λ (w : List ℕ). name ++ w) (sym behind);
+      whole = refl;
       plain = name_plain name all;
       is_place = sym (ap place_of (append-nil name)) ∙ sym (place_there name [] all some refl);
     }
 
-pub name_at : (n : ℕ) (text name rest : List ℕ) → n ≡ prefix_len is_host_byte text → name ≡ take n text → rest ≡ drop n text → (length name == 0) ≡ false → IsNameAt text name rest
-name_at n text name rest long front behind some =
-    record {
-      whole = sym (take-append-drop n text) ∙ ap (λ (w : List ℕ). w ++ drop n text) (sym front) ∙ ap (λ (w : List ℕ). name ++ w) (sym behind);
-      bytes = name_run n text name long front;
-      some = some;
-    }
+pub name_at : (name rest : List ℕ) → list_all is_host_byte name ≡ true → (length name == 0) ≡ false → IsNameAt (name ++ rest) name rest
+name_at name rest all some = record { whole = refl; bytes = all; some = some }
 
 port_is : (digits : List ℕ) (number : ℕ) → port_value digits ≡ Some number → port_of (58 ∷ digits) ≡ Some (Some digits)
 port_is digits number is = rw is refl
 
-pub port_at : (n k : ℕ) (text name rest after digits last : List ℕ) (number : ℕ) → n ≡ prefix_len is_host_byte text → name ≡ take n text → rest ≡ drop n text → (length name == 0) ≡ false → rest ≡ 58 ∷ after
-    → k ≡ prefix_len is_host_byte after → digits ≡ take k after → last ≡ drop k after → port_value digits ≡ Some number → IsPlaceAt text name (Some digits) last
-port_at n k text name rest after digits last number long front behind some colon long_port first back is =
-    let all : list_all is_host_byte name ≡ true = name_run n text name long front in
-    let of_port : list_all is_host_byte digits ≡ true = name_run k after digits long_port first in
-    let cut : after ≡ digits ++ last = sym (take-append-drop k after) ∙ ap (λ (w : List ℕ). w ++ drop k after) (sym first) ∙ ap (λ (w : List ℕ). digits ++ w) (sym back) in
+pub port_at : (name rest after digits last : List ℕ) (number : ℕ) → list_all is_host_byte name ≡ true → (length name == 0) ≡ false → rest ≡ 58 ∷ after → after ≡ digits ++ last → port_value digits ≡ Some number
+    → IsPlaceAt (name ++ rest) name (Some digits) last
+port_at name rest after digits last number all some colon cut is =
     record {
       front = name ++ 58 ∷ digits;
-      whole =
-          sym (take-append-drop n text) ∙ ap (λ (w : List ℕ). w ++ drop n text) (sym front) ∙ ap (λ (w : List ℕ). name ++ w) (sym behind ∙ colon ∙ ap (λ (w : List ℕ). 58 ∷ w) cut)
-          ∙ sym (append_assoc name (58 ∷ digits) last);
-      plain = port_plain name digits all of_port;
+      whole = ap (λ (w : List ℕ). name ++ w) (colon ∙ ap (λ (w : List ℕ). 58 ∷ w) cut) ∙ sym (append_assoc name (58 ∷ digits) last);
+      plain = port_plain name digits all (port_bytes digits number is);
       is_place = sym (place_there name (58 ∷ digits) all some refl) ∙ ap (λ o. option_map (λ port. (name, port)) o) (port_is digits number is);
     }

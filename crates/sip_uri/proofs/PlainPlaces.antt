@@ -8,9 +8,7 @@ use Rattle.sip_uri.specs.Host.{is_not, is_host_byte, is_place_byte, place_of, Is
 use Rattle.sip_uri.specs.Parts.{is_user_byte}
 use Rattle.sip_uri.specs.Port.{port_value}
 use Rattle.sip_uri.specs.declared.scheme.Scheme.TheVariants as Scheme
-use Rattle.sip_uri.specs.declared.parameters.Parameter.{Parameter}
 use Rattle.sip_uri.specs.declared.user.UserInfo.{UserInfo}
-use Rattle.sip_uri.specs.declared.uri.Uri.{Uri}
 use Rattle.sip_uri.specs.Reading.{user_of, user_from, rest_of, reading_of, is_of_place, AreTexts, HasPlace}
 use Rattle.sip_uri.specs.PlainPlace.{HasUser, IsPlain, loose_routing, is_plain_byte, IsUriAt}
 use Rattle.sip_uri.proofs.Tests.{and_both, all_join, others, never_split}

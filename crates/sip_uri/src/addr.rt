@@ -1,4 +1,4 @@
-ghost use Rattle.std.specs.Prelude.{◌≡◌, IfOk, OnOk, codes, decimal, ◌++◌, option_map};
+ghost use Rattle.std.specs.Prelude.{◌≡◌, Some, IfOk, OnOk, codes, decimal, ◌++◌, option_map};
 ghost use Rattle.std.specs.Option.{option_and_then};
 ghost use Rattle.sip_uri.specs.Addresses;
 
@@ -45,34 +45,39 @@ pub fn ip_text(alloc: Global, ip: [u8; 4]) -> Result<Bytes, AllocError>
     Ok(text)
 }
 
-/// A number of an address with one more digit: 0 to 255, without leading zeros.
-fn one_more(number: Option<u8>, byte: u8) -> Option<u8>
-    ensures { result ≡ Addresses.one_more number byte }
+/// A number of an address with one more digit: 1 to 255, since none has a leading zero.
+#[inline]
+fn one_more(number: u8, byte: u8) -> Option<u8>
+    ensures { result ≡ Addresses.one_more (Some number) byte }
 {
-    if !byte.is_ascii_digit() {
+    if number == 0 || !byte.is_ascii_digit() {
         return None;
     }
-    let digit = byte - b'0';
-    match number {
-        None => Some(digit),
-        Some(0) => None,
-        Some(number) => number.checked_mul(10)?.checked_add(digit),
+    let longer = u32::from(number) * 10 + u32::from(byte - b'0');
+    if longer <= 255 {
+        Some(longer as u8)
+    } else {
+        None
     }
 }
 
 /// The number at the front of a text, up to its first dot, and what follows that dot, if there is one.
-#[tactic(auto, using(crate::proofs::Dots::number_at_is, std::proofs::lemmas::List::at_drop_more, std::proofs::lemmas::List::drop_all))]
+#[tactic(auto, using(crate::proofs::Dots::no_digit, std::proofs::lemmas::List::at_drop_more, std::proofs::lemmas::List::drop_all))]
 fn number_at(text: &[u8]) -> Option<(u8, Option<&[u8]>)>
     ensures { option_map (λ x. (x.0, option_map (λ rest. rest.now) x.1)) result ≡ Addresses.number_at text.now }
 {
-    let mut number = None;
-    for at in 0..text.len() {
-        if text[at] == b'.' {
-            return Some((number?, Some(&text[at + 1..])));
-        }
-        number = Some(one_more(number, text[at])?);
+    let (first, rest) = text.split_first()?;
+    if !first.is_ascii_digit() {
+        return None;
     }
-    Some((number?, None))
+    let mut number = *first - b'0';
+    for at in 0..rest.len() {
+        if rest[at] == b'.' {
+            return Some((number, Some(&rest[at + 1..])));
+        }
+        number = one_more(number, rest[at])?;
+    }
+    Some((number, None))
 }
 
 /// The number behind a dot, if one was there.

@@ -1,11 +1,11 @@
-ghost use Rattle.std.specs.Prelude.{◌≡◌, ◌≤◌, false, length, take, drop, option_map, Some, IfSome, is_some};
+ghost use Rattle.std.specs.Prelude.{◌≡◌, ◌≤◌, ◌++◌, true, false, length, take, drop, option_map, Some, IfSome, is_some};
 ghost use Rattle.std.specs.List.{list_all, prefix_len};
 ghost use Rattle.std.specs.Option.{option_and_then};
 ghost use Rattle.sip_uri.specs.Host;
 ghost use Rattle.sip_uri.specs.Host.{place_of, host_port_of, IsPlaceAt, IsNameAt};
 ghost use Rattle.sip_uri.specs.Port.{port_of, port_value};
 
-use crate::port::{port_behind, port_value};
+use crate::port::{port_at, port_behind};
 
 /// The flag of a byte that may stand in a host name.
 const IN_NAME: u8 = 1;
@@ -138,6 +138,7 @@ fn cut_address(text: &[u8]) -> Option<(&[u8], &[u8])>
 }
 
 /// How many bytes of a host name stand at the front of a text.
+#[inline(never)]
 fn name_length(text: &[u8]) -> usize
     ensures value { result ≡ prefix_len Host.is_host_byte text.now }
     ensures within { result ≤ length text.now }
@@ -199,6 +200,39 @@ pub fn host_port(text: &[u8]) -> Option<(&[u8], Option<u16>)>
     }
 }
 
+/// How many bytes of a host name stand at the front of a text, as a text, and what follows them.
+#[inline]
+#[tactic(auto, using(crate::proofs::Places::both_parts, crate::proofs::Places::name_run))]
+pub(crate) fn split_name(text: &[u8]) -> (&[u8], &[u8])
+    ensures whole { text.now ≡ result.0.now ++ result.1.now }
+    ensures bytes { list_all Host.is_host_byte result.0.now ≡ true }
+{
+    text.split_at(name_length(text))
+}
+
+/// The port behind a `:` at the front of what follows a host name, by its digits and its number, and what follows both.
+/// None where the name is empty, or no port stands behind a `:`.
+#[inline]
+pub(crate) fn place_by<'v>(
+    host: &'v [u8],
+    rest: &'v [u8],
+) -> Option<(&'v [u8], Option<(&'v [u8], u16)>, &'v [u8])>
+    requires { list_all Host.is_host_byte host.now ≡ true }
+    ensures place { IfSome result (λ x. IsPlaceAt (host.now ++ rest.now) x.0.now (option_map (λ port. port.0.now) x.1) x.2.now) }
+    ensures number { IfSome result (λ x. IfSome x.1 (λ port. port_value port.0.now ≡ Some port.1)) }
+    ensures name { IfSome result (λ x. is_some x.1 ≡ false → IsNameAt (host.now ++ rest.now) x.0.now x.2.now) }
+{
+    if host.is_empty() {
+        return None;
+    }
+    let Some((b':', behind)) = rest.split_first() else {
+        return Some((host, None, rest));
+    };
+    let (length, number) = port_at(behind)?;
+    let (digits, rest) = behind.split_at(length);
+    Some((host, Some((digits, number)), rest))
+}
+
 /// The host name at the front of a text, a port behind its `:`, by its digits and its number, and what follows both: so
 /// each byte is read once. None where neither stands there so, as of an address in brackets. Takes no memory.
 pub fn place_at(text: &[u8]) -> Option<(&[u8], Option<(&[u8], u16)>, &[u8])>
@@ -206,14 +240,6 @@ pub fn place_at(text: &[u8]) -> Option<(&[u8], Option<(&[u8], u16)>, &[u8])>
     ensures number { IfSome result (λ x. IfSome x.1 (λ port. port_value port.0.now ≡ Some port.1)) }
     ensures name { IfSome result (λ x. is_some x.1 ≡ false → IsNameAt text.now x.0.now x.2.now) }
 {
-    let (host, rest) = text.split_at(name_length(text));
-    if host.is_empty() {
-        return None;
-    }
-    let Some((b':', behind)) = rest.split_first() else {
-        return Some((host, None, rest));
-    };
-    let (digits, rest) = behind.split_at(name_length(behind));
-    let number = port_value(digits)?;
-    Some((host, Some((digits, number)), rest))
+    let (host, rest) = split_name(text);
+    place_by(host, rest)
 }

@@ -1,8 +1,8 @@
 ghost use Rattle.std.specs.Prelude.{◌≡◌, ◌⊎◌, true, codes, option_map, IfSome, Some, None};
 ghost use Rattle.sip_uri.specs.PlainPlace.{HasUser, IsPlain, IsUriAt};
 
+use crate::host::{place_at, place_by, split_name};
 use crate::parts::behind_place;
-use crate::place_at;
 use crate::scheme::behind_sip;
 use crate::user::plain_user;
 use sip_text::split_once;
@@ -65,13 +65,15 @@ pub fn plain_uri_at(text: &[u8]) -> Option<(&[u8], Option<u16>, &[u8])>
     ensures { IfSome result (λ x. IsUriAt text.now x.0.now x.1 x.2.now) }
 {
     let text = behind_sip(text)?;
-    let (name, port, rest) = place_at(text)?;
-    if port.is_some() {
-        return Some((name, number_of(port), rest));
-    }
+    let (name, rest) = split_name(text);
     let Some((b'@', place)) = rest.split_first() else {
-        return Some((name, None, rest));
+        let (host, port, rest) = place_by(name, rest)?;
+        return Some((host, number_of(port), rest));
     };
-    let (host, port, rest) = place_at(place)?;
+    if name.is_empty() {
+        return None;
+    }
+    let (host, rest) = split_name(place);
+    let (host, port, rest) = place_by(host, rest)?;
     Some((host, number_of(port), rest))
 }

@@ -1,4 +1,4 @@
-use Rattle.std.proofs.Common.{ap, sym, ◌∙◌}
+use Rattle.std.proofs.Common.{sym, ◌∙◌}
 use Rattle.sip_uri.proofs.PlainPlaces.{plain_from}
 use Rattle.sip_uri.proofs.plain.plain_place.Goals as goal
 

@@ -1,21 +1,23 @@
-use Rattle.std.proofs.Common.{◌≡◌, ◌∷◌, Some, None, refl, ap, sym, ◌∙◌, rules}
-use Rattle.std.specs.Prelude.{option_map}
-use Rattle.sip_uri.proofs.PlainPlaces.{alone_at, user_at, numbered, no_number}
+use Rattle.std.proofs.Common.{◌≡◌, ℕ, List, ◌∷◌, ◌++◌, Some, refl, ap, sym, subst, ◌∙◌, rules}
+use Rattle.std.specs.Prelude.{codes, option_map}
+use Rattle.sip_uri.specs.Host.{IsPlaceAt}
+use Rattle.sip_uri.proofs.Places.{name_at}
+use Rattle.sip_uri.proofs.PlainPlaces.{alone_at, user_at, numbered}
 use Rattle.sip_uri.proofs.plain.plain_uri_at.Goals as goal
-
-pub returns-then-is_some : goal.returns-then-is_some
-returns-then-is_some c =
-    alone_at c.args.text.now c.in_ok-text.text.now c.in_ok-name.name.now c.in_ok-name.rest.now c.in_ok-name.rest.now (option_map (λ p. p.0.now) c.in_ok-name.port) c.number_of.result c.in_ok-text.ensures c.in_ok-name.ensures.place
-    (numbered c.in_ok-name.port c.in_ok-name.ensures.number ∙ ap (λ n. option_map (λ k. Some k) n) (sym c.number_of.ensures)) refl
 
 pub returns-in_default : goal.returns-in_default
 returns-in_default c =
-    alone_at c.args.text.now c.in_ok-text.text.now c.in_ok-name.name.now c.in_ok-name.rest.now c.in_ok-name.rest.now (option_map (λ p. p.0.now) c.in_ok-name.port) None c.in_ok-text.ensures c.in_ok-name.ensures.place
-    (numbered c.in_ok-name.port c.in_ok-name.ensures.number ∙ ap (λ n. option_map (λ k. Some k) n) (no_number c.in_ok-name.port (sym c.is_some.ensures ∙ c.if-is_some.false))) refl
+    alone_at c.args.text.now (c.split_name.result.0.now ++ c.split_name.result.1.now) c.in_ok-host.host.now c.in_ok-host.rest.now c.in_ok-host.rest.now (option_map (λ p. p.0.now) c.in_ok-host.port) c.number_of.result
+    (c.in_ok-text.ensures ∙ ap (λ (w : List ℕ). codes "sip:" ++ w) c.split_name.ensures.whole) c.in_ok-host.ensures.place
+    (numbered c.in_ok-host.port c.in_ok-host.ensures.number ∙ ap (λ n. option_map (λ k. Some k) n) (sym c.number_of.ensures)) refl
 
 pub returns : goal.returns
 returns c =
-    let mark : c.in_ok-name.rest.now ≡ 64 ∷ c.in-Some-eq64-default.place.now = search rules in
-    user_at c.args.text.now c.in_ok-text.text.now c.in_ok-name.name.now c.in_ok-name.rest.now c.in-Some-eq64-default.place.now c.in_ok-host.host.now c.in_ok-host.rest.now (option_map (λ p. p.0.now) c.in_ok-host.port) c.number_of-2.result
-    c.in_ok-text.ensures (c.in_ok-name.ensures.name (sym c.is_some.ensures ∙ c.if-is_some.false)) mark c.in_ok-host.ensures.place
-    (numbered c.in_ok-host.port c.in_ok-host.ensures.number ∙ ap (λ n. option_map (λ k. Some k) n) (sym c.number_of-2.ensures))
+    let mark : c.split_name.result.1.now ≡ 64 ∷ c.in-Some-eq64-default.place.now = search rules in
+    let port = option_map (λ p. p.0.now) c.in_ok-host-2.port in
+    let there : IsPlaceAt c.in-Some-eq64-default.place.now c.in_ok-host-2.host.now port c.in_ok-host-2.rest.now =
+    subst (λ (w : List ℕ). IsPlaceAt w c.in_ok-host-2.host.now port c.in_ok-host-2.rest.now) (sym c.split_name-2.ensures.whole) c.in_ok-host-2.ensures.place in
+    user_at c.args.text.now (c.split_name.result.0.now ++ c.split_name.result.1.now) c.split_name.result.0.now c.split_name.result.1.now c.in-Some-eq64-default.place.now c.in_ok-host-2.host.now c.in_ok-host-2.rest.now port c.number_of-2.result
+    (c.in_ok-text.ensures ∙ ap (λ (w : List ℕ). codes "sip:" ++ w) c.split_name.ensures.whole)
+    (name_at c.split_name.result.0.now c.split_name.result.1.now c.split_name.ensures.bytes (sym c.is_empty.ensures ∙ c.if-is_empty.false)) mark there
+    (numbered c.in_ok-host-2.port c.in_ok-host-2.ensures.number ∙ ap (λ n. option_map (λ k. Some k) n) (sym c.number_of-2.ensures))
