@@ -38,4 +38,4 @@ pub use parameters::{Parameter, Parameters, branch_of, parameter_of, tag_of, val
 pub use plain_address::bracketed_place;
 pub use route::route_of;
 pub use via::{Via, via_of};
-pub use written_address::WrittenAddress;
+pub use written_address::{WrittenAddress, written_address_of};

@@ -291,6 +291,17 @@ fn are_parameters(behind: Option<&[u8]>) -> bool
     true
 }
 
+/// The same where mostly nothing is left, as behind the one parameter that most values have.
+#[inline]
+fn are_others(behind: Option<&[u8]>) -> bool
+    ensures { result ≡ is_some (parameters_in (parts_behind 59 (option_map (λ x. x.now) behind.entry))) }
+{
+    match behind {
+        Some(_) => are_parameters(behind),
+        None => true,
+    }
+}
+
 /// The parameters that the rest of a value writes, each behind a `;`, of any form.
 #[tactic(auto, using(crate::proofs::Lookup::some_said, crate::proofs::Lookup::none_said))]
 fn any_parameters<'v>(behind: Option<&'v [u8]>) -> Option<Parameters<'v>>
@@ -335,7 +346,7 @@ fn parameters_behind<'v>(
     requires { Begins text.now (record { name = first.name.now; value = Some first.value.now }) (option_map (λ y. y.now) others) }
     ensures { result ≡ parameters_in (parts_at 59 text.now) }
 {
-    if !are_parameters(others) {
+    if !are_others(others) {
         return None;
     }
     Some(Parameters {

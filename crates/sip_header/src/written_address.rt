@@ -148,7 +148,8 @@ fn plain_address(value: &[u8]) -> Option<WrittenAddress<'_>>
 
 /// What the value of a field says that holds an address, as `name_addr_of` does. None where it is malformed. `AllocError`
 /// is the only refusal.
-pub(crate) fn written_address_of(
+#[inline(always)]
+pub fn written_address_of(
     alloc: Global,
     value: &[u8],
 ) -> Result<Option<WrittenAddress<'_>>, AllocError>
