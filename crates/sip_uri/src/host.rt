@@ -137,18 +137,26 @@ fn cut_address(text: &[u8]) -> Option<(&[u8], &[u8])>
     Some((host, rest))
 }
 
-/// How many bytes of a host name stand at the front of a text.
+/// How many bytes of a host name stand at the front of a text. Two are looked at in a turn, which costs less for each.
 #[inline(never)]
 fn name_length(text: &[u8]) -> usize
     ensures value { result ≡ prefix_len Host.is_host_byte text.now }
     ensures within { result ≤ length text.now }
 {
-    for at in 0..text.len() {
+    let mut at = 0;
+    while at + 1 < text.len() {
         if !is_host_byte(text[at]) {
             return at;
         }
+        if !is_host_byte(text[at + 1]) {
+            return at + 1;
+        }
+        at += 2;
     }
-    text.len()
+    if at < text.len() && is_host_byte(text[at]) {
+        return at + 1;
+    }
+    at
 }
 
 /// The host name at the front of a text, and what follows it, which is a port or nothing where the text is of the
