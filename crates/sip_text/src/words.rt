@@ -47,16 +47,25 @@ pub fn is_token(bytes: &[u8]) -> bool
     all_token_bytes(bytes)
 }
 
-/// How many bytes of a token stand at the front of a text.
+/// How many bytes of a token stand at the front of a text. Two are looked at in a turn, which costs less for each.
+#[inline(never)]
 fn token_length(bytes: &[u8]) -> usize
     ensures { result ≡ length (take_while Rattle.sip_text.specs.Words.is_token_byte bytes.now) }
 {
-    for at in 0..bytes.len() {
+    let mut at = 0;
+    while at + 1 < bytes.len() {
         if !is_token_byte(bytes[at]) {
             return at;
         }
+        if !is_token_byte(bytes[at + 1]) {
+            return at + 1;
+        }
+        at += 2;
     }
-    bytes.len()
+    if at < bytes.len() && is_token_byte(bytes[at]) {
+        return at + 1;
+    }
+    at
 }
 
 /// The bytes of a token at the front of a text, which may be none, and what follows them. Takes no memory.
