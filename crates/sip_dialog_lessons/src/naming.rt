@@ -8,7 +8,7 @@ ghost use Rattle.sip_header.specs.CoreFields.{name_addr_in};
 ghost use Rattle.sip_state.specs.Dialogs as Dialogs;
 
 use sip_dialog::DialogId;
-use sip_header::{NameAddr, name_addr_of, tag_of};
+use sip_header::{WrittenAddress, tag_of, written_address_of};
 use sip_message_fields::{KeptField, KnownName};
 use sip_message_form::Kept;
 use sip_state::OpenRequest;
@@ -55,7 +55,7 @@ fn count_of_to(store: &[u8], list: &[KeptField]) -> usize
 
 /// What the one To of a kept message says, if there is one.
 #[tactic(auto, using(crate::proofs::OneTo::none_there, crate::proofs::OneTo::several_there, crate::proofs::OneTo::one_there))]
-fn to_of<'v>(alloc: Global, message: &'v Kept) -> Result<Option<NameAddr<'v>>, AllocError>
+fn to_of<'v>(alloc: Global, message: &'v Kept) -> Result<Option<WrittenAddress<'v>>, AllocError>
     ensures { IfOk result (λ to. to ≡ result_ok (name_addr_in Name.To message.now.fields)) }
 {
     let (store, list) = message.places();
@@ -65,7 +65,7 @@ fn to_of<'v>(alloc: Global, message: &'v Kept) -> Result<Option<NameAddr<'v>>, A
     if 1 < count_of_to(store, list) {
         return Ok(None);
     }
-    name_addr_of(alloc, value)
+    written_address_of(alloc, value)
 }
 
 /// The dialog that an answer names for an open INVITE (RFC 3261 12.1.1). `AllocError` is the only refusal.
@@ -80,7 +80,7 @@ pub fn answered_dialog(
     let Some(to) = to_of(alloc, answer)? else {
         return Ok(None);
     };
-    match tag_of(&to.parameters) {
+    match tag_of(to.parameters()) {
         Some(to_tag) => request.request.get().dialog_to(alloc, to_tag),
         None => Ok(None),
     }
