@@ -1,12 +1,13 @@
 -- What each call of a wheel leaves.
-use Rattle.std.proofs.Common.{◌≡◌, ◌≢◌, ℕ, ◌+◌, ◌/◌, ◌%◌, ◌≤◌, ◌<◌, List, [], ◌∷◌, ◌++◌, length, eqb, leb, cond, true, false, refl, ap, sym, ◌∙◌, arith, subst, set, drop, Option, Some, None}
+use Rattle.std.proofs.Common.{◌≡◌, ◌≢◌, ℕ, ◌+◌, ◌/◌, ◌%◌, ◌≤◌, ◌<◌, List, [], ◌∷◌, ◌++◌, length, eqb, leb, cond, true, false, refl, ap, sym, ◌∙◌, arith, subst, set, drop, ltb, Option, Some, None}
 use Rattle.std.specs.Prelude.{not, ◌&&◌, count_by, IfNone, IfSome, MatchOption}
 use Rattle.std.proofs.lemmas.Bool.Decides.{nat_tests}
 use Rattle.std.proofs.lemmas.List.{length-set, length-append, get_or_past}
 use Rattle.std.proofs.lemmas.List.Elements.{filter-append}
 use Rattle.sip_timers.specs.declared.timer.Timer.{Timer}
 use Rattle.sip_timers.specs.Timers.{placed, without, keys_with, first_due, popped, AreOrdered}
-use Rattle.sip_timers_wheel.specs.Lists.{list_at, concat, least}
+use Rattle.sip_timers_wheel.specs.Lists.{list_at, concat, first_of, least}
+use Rattle.sip_timers_wheel.specs.Threads.{sooner}
 use Rattle.sip_timers_wheel.specs.Places.{slot_of, start_of, level_of, width}
 use Rattle.sip_timers_wheel.specs.Order.{due_at}
 use Rattle.sip_timers_wheel.specs.Wheel.{IsWheel, pending_in, IsFirstSlot, IsEmptyLevel, AreMoved, AreUnreached, GoesElsewhere}
@@ -15,7 +16,7 @@ use Rattle.sip_timers_wheel.proofs.Moments.{slot_known, slot-late, slot-none, sl
 use Rattle.sip_timers_wheel.proofs.Lists.{count-cons, without-none}
 use Rattle.sip_timers_wheel.proofs.Changes.{by_same, seen, pushed-in_place, pushed-pending, key-here, gone-in_place, gone-pending}
 use Rattle.sip_timers_wheel.proofs.Moves.{by_moment, near_by_slot, moved-more, new-slot}
-use Rattle.sip_timers_wheel.proofs.First.{none-least, head-late, head-first, none-pending}
+use Rattle.sip_timers_wheel.proofs.First.{none-least, head-late, head-first, none-pending, some-is}
 
 -- a moment whose slot has a list is near
 pub near-by : (b d : ℕ) → slot_of b d < 321 → d < b + 1073741824
@@ -178,6 +179,42 @@ module _ (stays : StaysOrdered) (b : ℕ) (lists : List (List Timer)) (wheel : I
   pub none-late : (result : Option Timer) → result ≡ least (list_at lists 320) → IfNone result ((due : ℕ) → first_due (pending_in lists) ≡ Some due → b < due)
   none-late None e = first-later stays b lists wheel (sym e)
   none-late (Some l) e = tt
+
+-- ---- the first one, as it is remembered
+
+pub none-first : (ts : List Timer) → ts ≡ [] → None ≡ first_of ts
+none-first ts e = ap (λ l. first_of l) (sym e)
+
+pub some-first : (t : Timer) (ts : List Timer) → ts ≡ t ∷ drop 1 ts → Some t ≡ first_of ts
+some-first t ts e = ap (λ l. first_of l) (sym e)
+
+pub match-first : (result : Option Timer) (ts : List Timer) → MatchOption result (ts ≡ []) (λ first. ts ≡ first ∷ drop 1 ts) → result ≡ first_of ts
+match-first None ts e = none-first ts e
+match-first (Some t) ts e = some-first t ts e
+
+pub first-is : (t : Timer) (ts : List Timer) → Some t ≡ first_of ts → ts ≡ t ∷ drop 1 ts
+first-is t [] e = absurd (grind (arith, e))
+first-is t (u ∷ us) e = ap (λ x. x ∷ us) (some-is u t (sym e))
+
+pub first-placed : (t : Timer) (ts : List Timer) → sooner (first_of ts) (Some t) ≡ first_of (placed t ts)
+first-placed t [] = refl
+first-placed t (u ∷ us) = elim (ltb t.due u.due) as (λ v. Some (cond v t u) ≡ first_of (cond v (t ∷ u ∷ us) (u ∷ placed t us))) [
+  | true ↦ refl
+  | false ↦ refl
+]
+
+pub first-without : (key : ℕ) (t : Timer) (ts : List Timer) → Some t ≡ first_of ts → t.key ≢ key → Some t ≡ first_of (without key ts)
+first-without key t [] e n = absurd (grind (arith, e))
+first-without key t (u ∷ us) e n =
+    let same : u ≡ t = some-is u t (sym e) in
+    elim (eqb u.key key) as (λ v. (eqb u.key key ≡ v) → Some t ≡ first_of (cond (not v) (u ∷ without key us) (without key us))) [
+      | true ↦ (λ k. absurd (grind (arith, nat_tests, k, n, ap (λ x. x.key) same)))
+      | false ↦ (λ k. e)
+    ] refl
+
+pub none-due : (b : ℕ) (ts : List Timer) → None ≡ first_of ts → (due : ℕ) → first_due ts ≡ Some due → b < due
+none-due b [] e due h = absurd (grind (arith, h))
+none-due b (t ∷ ts) e due h = absurd (grind (arith, e))
 
 -- ---- what isn't reached
 

@@ -26,3 +26,8 @@ earlier t (Some u) = if nat_lt u.due t.due then u else t
 abbrev pub least : List Timer → Option Timer
 least [] = None
 least (t ∷ ts) = Some (earlier t (least ts))
+
+-- the timer in front, if there is one
+abbrev pub first_of : List Timer → Option Timer
+first_of [] = None
+first_of (t ∷ ts) = Some t

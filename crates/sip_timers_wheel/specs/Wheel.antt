@@ -1,7 +1,7 @@
 -- The lists of a timer wheel.
-use Rattle.std.specs.Prelude.{◌≡◌, ◌≢◌, ◌≤◌, ◌<◌, ◌+◌, ◌*◌, ◌%◌, ℕ, List, [], ◌++◌, length, nat_eq, if◌then◌else◌}
+use Rattle.std.specs.Prelude.{◌≡◌, ◌≢◌, ◌≤◌, ◌<◌, ◌+◌, ◌*◌, ◌%◌, ℕ, List, [], ◌++◌, Option, length, nat_eq, if◌then◌else◌}
 use Rattle.sip_timers.specs.declared.timer.Timer.{Timer}
-use Rattle.sip_timers_wheel.specs.Lists.{list_at, concat}
+use Rattle.sip_timers_wheel.specs.Lists.{list_at, concat, first_of}
 use Rattle.sip_timers_wheel.specs.Places.{slot_of, late_slot, start_of}
 use Rattle.sip_timers_wheel.specs.Order.{due_at, in_order}
 
@@ -17,6 +17,11 @@ pending_in lists = in_order (concat lists)
 pub record IsWheel (reached : ℕ) (lists : List (List Timer)) : Type 0 where
   pub slots : length lists ≡ 321
   pub in_place : StandInPlace reached lists
+
+-- a wheel at a moment that knows which of its timers fires first
+pub record KnowsFirst (reached : ℕ) (lists : List (List Timer)) (known : Option Timer) : Type 0 where
+  pub wheel : IsWheel reached lists
+  pub first : known ≡ first_of (pending_in lists)
 
 -- the slot whose timers are due first: from its first moment on, and before its end; all others of the levels begin at that end or later
 pub record IsFirstSlot (reached : ℕ) (lists : List (List Timer)) (slot start end : ℕ) : Type 0 where

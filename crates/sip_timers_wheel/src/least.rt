@@ -43,7 +43,7 @@ fn find_least(rows: &Slab<Row>, head: &Head) -> Option<Timer>
 }
 
 /// The one of two timers that is due first, at a tie the first one.
-fn sooner(best: Option<Timer>, timer: Timer) -> Option<Timer>
+pub(crate) fn sooner(best: Option<Timer>, timer: Timer) -> Option<Timer>
     ensures { result ≡ sooner best (Some timer) }
 {
     match best {

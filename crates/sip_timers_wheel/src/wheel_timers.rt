@@ -1,9 +1,10 @@
 ghost use Rattle.std.specs.Prelude.{◌≡◌, ◌≤◌, ◌<◌, ℕ, List, [], ◌∷◌, drop, Some, IfNone, IfSome, MatchOption, length, max};
 ghost use Rattle.sip_timers.specs.declared.timer.Timer.{Timer};
 ghost use Rattle.sip_timers.specs.Timers.{first_due, keys_with, without};
-ghost use Rattle.sip_timers_wheel.specs.Lists.{list_at};
+ghost use Rattle.sip_timers_wheel.specs.Lists.{first_of, list_at};
 ghost use Rattle.sip_timers_wheel.specs.Wheel.{IsWheel, IsFirstSlot, IsEmptyLevel, AreMoved, AreUnreached, GoesElsewhere, pending_in};
 
+use crate::least::sooner;
 use crate::levels::Levels;
 use crate::places::{LATE, LEVELS, SLOTS, position, slot_of, width};
 use sip_timers::laws::{earlier_fires_first, timer_stands};
@@ -21,17 +22,19 @@ const TOO_FAR: u64 = 1 << 30;
 pub struct WheelTimers {
     levels: Levels,
     reached: u64,
+    /// The timer that fires first, which is asked for more often than another one takes its place.
+    first: Option<Timer>,
 }
 
 impl Model for WheelTimers {
     ghost use Rattle.sip_timers.specs.Queue.{TimerQueue};
-    ghost use Rattle.sip_timers_wheel.specs.Wheel.{IsWheel, pending_in};
+    ghost use Rattle.sip_timers_wheel.specs.Wheel.{KnowsFirst, pending_in};
 
     ghost Value = { TimerQueue };
 
     ghost view = { λ w. record { pending = pending_in w.levels.lists; reached = w.reached; room = w.levels.room } };
 
-    ghost invariant = { λ w. IsWheel w.reached w.levels.lists };
+    ghost invariant = { λ w. KnowsFirst w.reached w.levels.lists w.first };
 }
 
 impl Timers for WheelTimers {
@@ -45,6 +48,7 @@ impl Timers for WheelTimers {
         Ok(WheelTimers {
             levels: Levels::new(alloc)?,
             reached: 0,
+            first: None,
         })
     }
 
@@ -61,25 +65,26 @@ impl Timers for WheelTimers {
         }
         let slot = slot_of(self.reached, due);
         let key = self.levels.push(slot, due, name)?;
+        self.first = sooner(self.first, Timer { key, due, name });
         Ok(key)
     }
 
     fn cancel(&mut self, key: usize) {
-        take_out(&mut self.levels, self.reached, key);
+        self.first = take_out(&mut self.levels, self.reached, self.first, key);
     }
 
     fn next(&self) -> Option<(u64, Name)> {
-        let first = first_timer(&self.levels, self.reached)?;
+        let first = self.first?;
         Some((first.due, first.name))
     }
 
     fn pop_due(&mut self, now: u64) -> Option<Timer> {
         self.reach(now);
-        let first = late_timer(&self.levels, self.reached)?;
+        let first = self.first?;
         if first.due > now {
             return None;
         }
-        take_out(&mut self.levels, self.reached, first.key);
+        self.first = take_out(&mut self.levels, self.reached, self.first, first.key);
         Some(first)
     }
 }
@@ -123,46 +128,24 @@ fn first_slot(levels: &Levels, reached: u64) -> Option<FirstSlot>
     None
 }
 
-/// The timer that fires first.
-fn first_timer(levels: &Levels, reached: u64) -> Option<Timer>
-    requires { IsWheel reached levels.now.lists }
-    ensures { MatchOption result (pending_in levels.now.lists ≡ [])
-        (λ first. pending_in levels.now.lists ≡ first ∷ drop 1 (pending_in levels.now.lists)) }
+/// Looks up the timer that fires first, and remembers in its slot that it is due first there.
+fn find_first(levels: &mut Levels, reached: u64) -> Option<Timer>
+    requires { IsWheel reached levels.old.lists }
+    ensures first { result ≡ first_of (pending_in levels.old.lists) }
+    ensures same { levels.new.lists ≡ levels.old.lists }
+    ensures left { levels.old.room ≤ levels.new.room }
 {
     earlier_fires_first();
     if let Some(late) = levels.least(LATE) {
         return Some(late);
     }
-    match first_slot(levels, reached) {
-        Some(first) => levels.least(first.slot),
-        None => None,
-    }
+    let first = first_slot(levels, reached)?;
+    levels.remember_least(first.slot);
+    levels.least(first.slot)
 }
 
-/// The timer that fires first, if it is due by the moment that was reached: then it stands with what is late, and no slot of
-/// the levels is looked at.
-fn late_timer(levels: &Levels, reached: u64) -> Option<Timer>
-    requires { IsWheel reached levels.now.lists }
-    ensures some { IfSome result (λ first. pending_in levels.now.lists ≡ first ∷ drop 1 (pending_in levels.now.lists)) }
-    ensures none { IfNone result ((due : ℕ) → first_due (pending_in levels.now.lists) ≡ Some due → reached < due) }
-{
-    earlier_fires_first();
-    levels.least(LATE)
-}
-
-/// Looks up the timer that fires first, where it stands in a slot of the levels, so that to ask for it takes a fixed time.
-fn remember_first(levels: &mut Levels, reached: u64)
-    requires { IsWheel reached levels.old.lists }
-    ensures same { levels.new.lists ≡ levels.old.lists }
-    ensures left { levels.old.room ≤ levels.new.room }
-{
-    if let Some(first) = first_slot(levels, reached) {
-        levels.remember_least(first.slot);
-    }
-}
-
-/// Takes the timer of a key out.
-fn take_out(levels: &mut Levels, reached: u64, key: usize)
+/// Takes the timer of a key out of its slot.
+fn remove(levels: &mut Levels, reached: u64, key: usize)
     requires wheel { IsWheel reached levels.old.lists }
     requires present { 1 ≤ keys_with key (pending_in levels.old.lists) }
     ensures wheel { IsWheel reached levels.new.lists }
@@ -175,7 +158,24 @@ fn take_out(levels: &mut Levels, reached: u64, key: usize)
     let due = levels.due_of(key);
     let slot = slot_of(reached, due);
     levels.remove(slot, key);
-    remember_first(levels, reached);
+}
+
+/// Takes the timer of a key out, where this one fires first. Gives the one that fires first then.
+fn take_out(levels: &mut Levels, reached: u64, first: Option<Timer>, key: usize) -> Option<Timer>
+    requires wheel { IsWheel reached levels.old.lists }
+    requires first { first ≡ first_of (pending_in levels.old.lists) }
+    requires present { 1 ≤ keys_with key (pending_in levels.old.lists) }
+    ensures wheel { IsWheel reached levels.new.lists }
+    ensures first { result ≡ first_of (pending_in levels.new.lists) }
+    ensures gone { pending_in levels.new.lists ≡ without key (pending_in levels.old.lists) }
+    ensures once { keys_with key (pending_in levels.old.lists) ≤ 1 }
+    ensures left { levels.old.room ≤ levels.new.room }
+{
+    remove(levels, reached, key);
+    match first {
+        Some(first) if first.key != key => Some(first),
+        _ => find_first(levels, reached),
+    }
 }
 
 /// Moves the timers of each slot down that is reached by a moment.
