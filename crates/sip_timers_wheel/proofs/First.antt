@@ -129,7 +129,7 @@ module _ (b : ℕ) (lists : List (List Timer)) (level from offset due : ℕ) (wh
   slot-low : slot < 320
   slot-low = omega (arith, in-levels)
 
-  stands : slot_of b due ≡ slot
+  pub stands : slot_of b due ≡ slot
   stands = by_same (slot_of b due ≡ slot) slot (slot_of b due)
       (λ e. sym e)
       (λ n. absurd (omega (arith, some, ap (λ l. length l) (wheel.in_place due slot n))))

@@ -241,14 +241,14 @@ upto-3 c d h = by_level (level_of c d < 3) c d (λ at. omega (arith, at.level)) 
 upto-4 : (c d : ℕ) → d / 16777216 ≡ c / 16777216 → level_of c d < 4
 upto-4 c d h = by_level (level_of c d < 4) c d (λ at. omega (arith, at.level)) (λ at. omega (arith, at.level)) (λ at. omega (arith, at.level)) (λ at. omega (arith, at.level)) (λ at. absurd (at.below h))
 
--- what stands in a slot whose first moment is reached goes to a lower level, or is due
-level_falls : (b d : ℕ) → start_of b d < d → level_of (start_of b d) d < level_of b d
-level_falls b d lt = by_level (level_of (start_of b d) d < level_of b d) b d
-    (λ at. absurd (omega (arith, lt, start-at b d 0 at.level)))
-    (λ at. omega (arith, at.level, upto-1 (start_of b d) d (omega (arith, start-at b d 1 at.level))))
-    (λ at. omega (arith, at.level, upto-2 (start_of b d) d (omega (arith, start-at b d 2 at.level))))
-    (λ at. omega (arith, at.level, upto-3 (start_of b d) d (omega (arith, start-at b d 3 at.level))))
-    (λ at. omega (arith, at.level, upto-4 (start_of b d) d (omega (arith, start-at b d 4 at.level))))
+-- what stands in a slot of which a moment is reached goes to a lower level, or is due
+level_falls : (b c d : ℕ) → c < d → start_of b d ≤ c → c < start_of b d + width (level_of b d) → level_of c d < level_of b d
+level_falls b c d lt begun inside = by_level (level_of c d < level_of b d) b d
+    (λ at. absurd (omega (arith, lt, begun, start-at b d 0 at.level)))
+    (λ at. omega (arith, at.level, upto-1 c d (omega (arith, begun, inside, start-at b d 1 at.level, end-at b d 1 at.level))))
+    (λ at. omega (arith, at.level, upto-2 c d (omega (arith, begun, inside, start-at b d 2 at.level, end-at b d 2 at.level))))
+    (λ at. omega (arith, at.level, upto-3 c d (omega (arith, begun, inside, start-at b d 3 at.level, end-at b d 3 at.level))))
+    (λ at. omega (arith, at.level, upto-4 c d (omega (arith, begun, inside, start-at b d 4 at.level, end-at b d 4 at.level))))
 
 pub slot_in-range : (b d : ℕ) → b < d → d < b + 1073741824 → (level_of b d * 64 ≤ slot_of b d) × (slot_of b d < level_of b d * 64 + 64)
 slot_in-range b d lt near = (omega (arith, slot-in b d lt near), omega (arith, slot-in b d lt near))
@@ -256,15 +256,15 @@ slot_in-range b d lt near = (omega (arith, slot-in b d lt near), omega (arith, s
 pub slot_below : (b d : ℕ) → b < d → d < b + 1073741824 → slot_of b d < 320
 slot_below b d lt near = omega (arith, slot_in-range b d lt near, level_below b d)
 
-pub slot_falls : (b d : ℕ) → b < d → d < b + 1073741824 → slot_of (start_of b d) d ≢ slot_of b d
-slot_falls b d lt near =
-    elim (leb d (start_of b d)) as (λ v. (leb d (start_of b d) ≡ v) → slot_of (start_of b d) d ≢ slot_of b d) [
-      | true ↦ (λ e. let late : slot_of (start_of b d) d ≡ 320 = slot-late (start_of b d) d (grind (arith, nat_tests, e)) in (λ same. omega (arith, same, late, slot_below b d lt near)))
+pub slot_falls : (b c d : ℕ) → b < d → d < b + 1073741824 → start_of b d ≤ c → c < start_of b d + width (level_of b d) → slot_of c d ≢ slot_of b d
+slot_falls b c d lt near begun inside =
+    elim (leb d c) as (λ v. (leb d c ≡ v) → slot_of c d ≢ slot_of b d) [
+      | true ↦ (λ e. let late : slot_of c d ≡ 320 = slot-late c d (grind (arith, nat_tests, e)) in (λ same. omega (arith, same, late, slot_below b d lt near)))
       | false ↦ (λ e.
-          let later : start_of b d < d = grind (arith, nat_tests, e) in
+          let later : c < d = grind (arith, nat_tests, e) in
           let after : b < start_of b d = start_after b d lt in
-          let range : (level_of (start_of b d) d * 64 ≤ slot_of (start_of b d) d) × (slot_of (start_of b d) d < level_of (start_of b d) d * 64 + 64) = slot_in-range (start_of b d) d later (omega (arith, near, after)) in
-          (λ same. omega (arith, same, range, slot_in-range b d lt near, level_falls b d later)))
+          let range : (level_of c d * 64 ≤ slot_of c d) × (slot_of c d < level_of c d * 64 + 64) = slot_in-range c d later (omega (arith, near, after, begun)) in
+          (λ same. omega (arith, same, range, slot_in-range b d lt near, level_falls b c d later begun inside)))
     ] refl
 
 -- a slot that has a list is that of a level or of what is late

@@ -5,11 +5,11 @@ use Rattle.std.proofs.lemmas.List.{append-nil, append_assoc, get_or_past, length
 use Rattle.std.proofs.lemmas.List.Elements.{filter-append}
 use Rattle.sip_timers.specs.declared.timer.Timer.{Timer}
 use Rattle.sip_timers_wheel.specs.Lists.{list_at}
-use Rattle.sip_timers_wheel.specs.Places.{slot_of, start_of}
+use Rattle.sip_timers_wheel.specs.Places.{slot_of, start_of, level_of, width}
 use Rattle.sip_timers_wheel.specs.Order.{due_at}
 use Rattle.sip_timers_wheel.specs.Wheel.{StandInPlace, IsWheel, pending_in, IsFirstSlot, AreMoved, GoesElsewhere}
 use Rattle.sip_timers_wheel.proofs.Order.{StaysOrdered, due_at-other}
-use Rattle.sip_timers_wheel.proofs.Moments.{slot-late, slot-none, slot_below, slot_known, slot_stays, slot_falls}
+use Rattle.sip_timers_wheel.proofs.Moments.{slot-late, slot-none, slot_below, slot_known, slot_stays, slot_falls, same_start, same_slot, before_end}
 use Rattle.sip_timers_wheel.proofs.Lists.{list_at-same, list_at-other}
 use Rattle.sip_timers_wheel.proofs.Changes.{by_same, by_cases, same_pending}
 
@@ -105,82 +105,94 @@ module _ (start slot : ℕ) (moved : List Timer) (old now : List (List Timer)) (
 
 -- ---- all have moved
 
-module _ (b : ℕ) (old : List (List Timer)) (slot start end : ℕ) (wheel : IsWheel b old) (first : IsFirstSlot b old slot start end) where
+-- once a moment of the first slot is reached, by which its front timer is due at the earliest
+module _ (b : ℕ) (old : List (List Timer)) (slot start end due to : ℕ) (wheel : IsWheel b old) (first : IsFirstSlot b old slot start end) (front : slot_of b due ≡ slot) (begun : start ≤ to) (soon : to ≤ due) where
+  before : to < end
+  before = omega (arith, soon, first.own due front)
+
+  inside : (d : ℕ) → slot_of b d ≡ slot → to < start_of b d + width (level_of b d)
+  inside d at =
+      let near : (b < d) × (d < b + 1073741824) = near_by_slot b d (omega (arith, at, first.in_level)) in
+      let known : (b < due) × (due < b + 1073741824) = near_by_slot b due (omega (arith, front, first.in_level)) in
+      let starts : start_of b d ≡ start_of b due = same_start b d due near.0 near.1 known.0 known.1 (at ∙ sym front) in
+      let levels : level_of b d ≡ level_of b due = (same_slot b d due near.0 near.1 known.0 known.1 (at ∙ sym front)).0 in
+      omega (arith, soon, before_end b due, starts, ap (λ k. width k) levels)
+
   -- what stands in another slot stays there
-  stays-there : (d : ℕ) → slot_of b d ≢ slot → (due_at d (list_at old (slot_of b d)) ≡ []) ⊎ (slot_of start d ≡ slot_of b d)
-  stays-there d n = by_length ((due_at d (list_at old (slot_of b d)) ≡ []) ⊎ (slot_of start d ≡ slot_of b d)) (list_at old (slot_of b d))
+  stays-there : (d : ℕ) → slot_of b d ≢ slot → (due_at d (list_at old (slot_of b d)) ≡ []) ⊎ (slot_of to d ≡ slot_of b d)
+  stays-there d n = by_length ((due_at d (list_at old (slot_of b d)) ≡ []) ⊎ (slot_of to d ≡ slot_of b d)) (list_at old (slot_of b d))
       (λ none. inl (ap (λ l. due_at d l) none))
-      (λ some. by_moment ((due_at d (list_at old (slot_of b d)) ≡ []) ⊎ (slot_of start d ≡ slot_of b d)) b d
-      (λ late. inr (slot-late start d (omega (arith, late, first.ahead)) ∙ sym (slot-late b d late)))
-      (λ lt near. inr (slot_stays b start d (omega (arith, first.ahead)) lt near (omega (arith, first.spans, first.others d n (slot_below b d lt near) some))))
+      (λ some. by_moment ((due_at d (list_at old (slot_of b d)) ≡ []) ⊎ (slot_of to d ≡ slot_of b d)) b d
+      (λ late. inr (slot-late to d (omega (arith, late, first.ahead, begun)) ∙ sym (slot-late b d late)))
+      (λ lt near. inr (slot_stays b to d (omega (arith, first.ahead, begun)) lt near (omega (arith, before, first.others d n (slot_below b d lt near) some))))
       (λ far. inl (ap (λ l. due_at d l) (ap (λ i. list_at old i) (slot-none b d far) ∙ get_or_past old 321 [] (omega (arith, wheel.slots))))))
 
   -- what stands in the slot leaves it
-  leaves : (d : ℕ) → slot_of b d ≡ slot → slot_of start d ≢ slot
+  leaves : (d : ℕ) → slot_of b d ≡ slot → slot_of to d ≢ slot
   leaves d e =
       let near : (b < d) × (d < b + 1073741824) = near_by_slot b d (omega (arith, e, first.in_level)) in
-      subst (λ s. slot_of s d ≢ slot) (first.start_is d e) (λ k. slot_falls b d near.0 near.1 (k ∙ sym e))
+      (λ k. slot_falls b to d near.0 near.1 (omega (arith, begun, first.start_is d e)) (inside d e) (k ∙ sym e))
 
-  module _ (new : List (List Timer)) (moved : List Timer) (all : AreMoved start slot moved old new) (emptied : list_at new slot ≡ []) where
+  module _ (new : List (List Timer)) (moved : List Timer) (all : AreMoved to slot moved old new) (emptied : list_at new slot ≡ []) where
     all-moved : list_at old slot ≡ moved
     all-moved = all.left ∙ (ap (λ l. moved ++ l) emptied ∙ append-nil moved)
 
     same-dues : (d : ℕ) → due_at d moved ≡ due_at d (list_at old slot)
     same-dues d = ap (λ l. due_at d l) (sym all-moved)
 
-    to-its-slot : (d : ℕ) → slot_of start d ≢ slot → due_at d (list_at new (slot_of start d)) ≡ due_at d (list_at old (slot_of start d)) ++ due_at d (list_at old slot)
-    to-its-slot d n = all.others d (slot_of start d) n ∙ elim (eqb (slot_of start d) (slot_of start d)) as (λ v. (eqb (slot_of start d) (slot_of start d) ≡ v) → due_at d (list_at old (slot_of start d)) ++ cond v (due_at d moved) [] ≡ due_at d (list_at old (slot_of start d)) ++ due_at d (list_at old slot)) [
-      | true ↦ (λ e. ap (λ l. due_at d (list_at old (slot_of start d)) ++ l) (same-dues d))
-      | false ↦ (λ e. absurd (is-itself (slot_of start d) e))
+    to-its-slot : (d : ℕ) → slot_of to d ≢ slot → due_at d (list_at new (slot_of to d)) ≡ due_at d (list_at old (slot_of to d)) ++ due_at d (list_at old slot)
+    to-its-slot d n = all.others d (slot_of to d) n ∙ elim (eqb (slot_of to d) (slot_of to d)) as (λ v. (eqb (slot_of to d) (slot_of to d) ≡ v) → due_at d (list_at old (slot_of to d)) ++ cond v (due_at d moved) [] ≡ due_at d (list_at old (slot_of to d)) ++ due_at d (list_at old slot)) [
+      | true ↦ (λ e. ap (λ l. due_at d (list_at old (slot_of to d)) ++ l) (same-dues d))
+      | false ↦ (λ e. absurd (is-itself (slot_of to d) e))
     ] refl
 
-    to-no-other : (d i : ℕ) → i ≢ slot → i ≢ slot_of start d → due_at d (list_at new i) ≡ due_at d (list_at old i)
-    to-no-other d i n m = all.others d i n ∙ elim (eqb i (slot_of start d)) as (λ v. (eqb i (slot_of start d) ≡ v) → due_at d (list_at old i) ++ cond v (due_at d moved) [] ≡ due_at d (list_at old i)) [
-      | true ↦ (λ e. absurd (m (same-by i (slot_of start d) e)))
+    to-no-other : (d i : ℕ) → i ≢ slot → i ≢ slot_of to d → due_at d (list_at new i) ≡ due_at d (list_at old i)
+    to-no-other d i n m = all.others d i n ∙ elim (eqb i (slot_of to d)) as (λ v. (eqb i (slot_of to d) ≡ v) → due_at d (list_at old i) ++ cond v (due_at d moved) [] ≡ due_at d (list_at old i)) [
+      | true ↦ (λ e. absurd (m (same-by i (slot_of to d) e)))
       | false ↦ (λ e. append-nil (due_at d (list_at old i)))
     ] refl
 
-    nothing-left : (d i : ℕ) → i ≢ slot → i ≢ slot_of start d → due_at d (list_at old i) ≡ []
+    nothing-left : (d i : ℕ) → i ≢ slot → i ≢ slot_of to d → due_at d (list_at old i) ≡ []
     nothing-left d i n m = by_same (due_at d (list_at old i) ≡ []) i (slot_of b d)
         (λ e. subst (λ j. due_at d (list_at old j) ≡ []) (sym e) (by_cases (due_at d (list_at old (slot_of b d)) ≡ []) (stays-there d (λ k. n (e ∙ k))) (λ none. none) (λ same. absurd (m (e ∙ sym same)))))
         (λ o. wheel.in_place d i o)
 
-    pub moved-in_place : StandInPlace start new
+    pub moved-in_place : StandInPlace to new
     moved-in_place d i m = by_same (due_at d (list_at new i) ≡ []) i slot
         (λ e. ap (λ l. due_at d l) (ap (λ j. list_at new j) e ∙ emptied))
         (λ n. to-no-other d i n m ∙ nothing-left d i n m)
 
-    moved-dues : (d : ℕ) → due_at d (list_at new (slot_of start d)) ≡ due_at d (list_at old (slot_of b d))
-    moved-dues d = by_same (due_at d (list_at new (slot_of start d)) ≡ due_at d (list_at old (slot_of b d))) (slot_of b d) slot
+    moved-dues : (d : ℕ) → due_at d (list_at new (slot_of to d)) ≡ due_at d (list_at old (slot_of b d))
+    moved-dues d = by_same (due_at d (list_at new (slot_of to d)) ≡ due_at d (list_at old (slot_of b d))) (slot_of b d) slot
         (λ e. to-its-slot d (leaves d e)
-        ∙ (ap (λ l. l ++ due_at d (list_at old slot)) (wheel.in_place d (slot_of start d) (λ k. leaves d e (k ∙ e)))
+        ∙ (ap (λ l. l ++ due_at d (list_at old slot)) (wheel.in_place d (slot_of to d) (λ k. leaves d e (k ∙ e)))
         ∙ ap (λ j. due_at d (list_at old j)) (sym e)))
-        (λ n. by_cases (due_at d (list_at new (slot_of start d)) ≡ due_at d (list_at old (slot_of b d))) (stays-there d n)
-        (λ none. by_same (due_at d (list_at new (slot_of start d)) ≡ due_at d (list_at old (slot_of b d))) (slot_of start d) slot
+        (λ n. by_cases (due_at d (list_at new (slot_of to d)) ≡ due_at d (list_at old (slot_of b d))) (stays-there d n)
+        (λ none. by_same (due_at d (list_at new (slot_of to d)) ≡ due_at d (list_at old (slot_of b d))) (slot_of to d) slot
         (λ k. ap (λ l. due_at d l) (ap (λ j. list_at new j) k ∙ emptied) ∙ sym none)
-        (λ k. to-its-slot d k ∙ (ap (λ l. due_at d (list_at old (slot_of start d)) ++ l) (wheel.in_place d slot (λ z. n (sym z)))
-        ∙ (append-nil (due_at d (list_at old (slot_of start d)))
-        ∙ by_same (due_at d (list_at old (slot_of start d)) ≡ due_at d (list_at old (slot_of b d))) (slot_of start d) (slot_of b d)
+        (λ k. to-its-slot d k ∙ (ap (λ l. due_at d (list_at old (slot_of to d)) ++ l) (wheel.in_place d slot (λ z. n (sym z)))
+        ∙ (append-nil (due_at d (list_at old (slot_of to d)))
+        ∙ by_same (due_at d (list_at old (slot_of to d)) ≡ due_at d (list_at old (slot_of b d))) (slot_of to d) (slot_of b d)
         (λ z. ap (λ j. due_at d (list_at old j)) z)
-        (λ z. wheel.in_place d (slot_of start d) z ∙ sym none)))))
+        (λ z. wheel.in_place d (slot_of to d) z ∙ sym none)))))
         (λ same. to-its-slot d (λ k. n (sym same ∙ k))
-        ∙ (ap (λ l. due_at d (list_at old (slot_of start d)) ++ l) (wheel.in_place d slot (λ z. n (sym z)))
-        ∙ (append-nil (due_at d (list_at old (slot_of start d)))
+        ∙ (ap (λ l. due_at d (list_at old (slot_of to d)) ++ l) (wheel.in_place d slot (λ z. n (sym z)))
+        ∙ (append-nil (due_at d (list_at old (slot_of to d)))
         ∙ ap (λ j. due_at d (list_at old j)) same))))
 
-    pub moved-wheel : IsWheel start new
+    pub moved-wheel : IsWheel to new
     moved-wheel = record { slots = all.slots ∙ wheel.slots; in_place = moved-in_place }
 
     pub moved-pending : StaysOrdered → pending_in new ≡ pending_in old
-    moved-pending set = same_pending set start b new old moved-in_place wheel.in_place moved-dues
+    moved-pending set = same_pending set to b new old moved-in_place wheel.in_place moved-dues
 
 -- whatever is due in the first slot goes to another one
-pub first-goes : (b : ℕ) (old : List (List Timer)) (slot start end : ℕ) → IsWheel b old → IsFirstSlot b old slot start end → GoesElsewhere start slot old
-first-goes b old slot start end wheel first d some =
-    by_same ((slot_of start d ≢ slot) × (slot_of start d < length old)) slot (slot_of b d)
+pub first-goes : (b : ℕ) (old : List (List Timer)) (slot start end due to : ℕ) → IsWheel b old → IsFirstSlot b old slot start end → slot_of b due ≡ slot → start ≤ to → to ≤ due → GoesElsewhere to slot old
+first-goes b old slot start end due to wheel first front begun soon d some =
+    by_same ((slot_of to d ≢ slot) × (slot_of to d < length old)) slot (slot_of b d)
     (λ e.
     let near : (b < d) × (d < b + 1073741824) = near_by_slot b d (omega (arith, sym e, first.in_level)) in
-    (leaves b old slot start end wheel first d (sym e), omega (arith, wheel.slots, slot_known start d (omega (arith, near, first.ahead)))))
+    (leaves b old slot start end due to wheel first front begun soon d (sym e), omega (arith, wheel.slots, slot_known to d (omega (arith, near, first.ahead, begun)))))
     (λ n. absurd (grind (arith, some, ap (λ l. length l) (wheel.in_place d slot n))))
 
 -- where no slot is reached all stay

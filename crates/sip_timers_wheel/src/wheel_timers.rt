@@ -1,8 +1,9 @@
-ghost use Rattle.std.specs.Prelude.{◌≡◌, ◌≤◌, ◌<◌, ℕ, List, [], ◌∷◌, drop, Some, IfNone, IfSome, MatchOption, length, max};
+ghost use Rattle.std.specs.Prelude.{◌≡◌, ◌≤◌, ◌<◌, ℕ, List, [], Some, IfSome, MatchOption, length, max};
 ghost use Rattle.sip_timers.specs.declared.timer.Timer.{Timer};
-ghost use Rattle.sip_timers.specs.Timers.{first_due, keys_with, without};
+ghost use Rattle.sip_timers.specs.Timers.{keys_with, without};
 ghost use Rattle.sip_timers_wheel.specs.Lists.{first_of, list_at};
-ghost use Rattle.sip_timers_wheel.specs.Wheel.{IsWheel, IsFirstSlot, IsEmptyLevel, AreMoved, AreUnreached, GoesElsewhere, pending_in};
+ghost use Rattle.sip_timers_wheel.specs.Places.{slot_of};
+ghost use Rattle.sip_timers_wheel.specs.Wheel.{IsWheel, IsFirstSlot, IsEmptyLevel, AreMoved, GoesElsewhere, pending_in};
 
 use crate::least::sooner;
 use crate::levels::Levels;
@@ -103,18 +104,20 @@ impl WheelTimers {
     }
 }
 
-/// The slot of the levels whose timers are due first, and its first moment.
+/// The slot of the levels whose timers are due first, its first moment, and when the timer in front of it is due.
 #[derive(Clone, Copy)]
 struct FirstSlot {
     slot: usize,
     start: u64,
+    due: u64,
 }
 
 /// The first slot of the levels that has a timer.
 fn first_slot(levels: &Levels, reached: u64) -> Option<FirstSlot>
     requires { IsWheel reached levels.now.lists }
-    ensures { MatchOption result ((level : ℕ) → level < 5 → IsEmptyLevel levels.now.lists level)
+    ensures slot { MatchOption result ((level : ℕ) → level < 5 → IsEmptyLevel levels.now.lists level)
         (λ first. (end : ℕ) × IsFirstSlot reached levels.now.lists first.slot first.start end) }
+    ensures front { IfSome result (λ first. slot_of reached first.due ≡ first.slot) }
 {
     for level in 0..LEVELS {
         let from = ((position(level, reached) % 64 + 1) % 64) as usize;
@@ -122,7 +125,7 @@ fn first_slot(levels: &Levels, reached: u64) -> Option<FirstSlot>
             let slot = level * SLOTS + (from + offset) % SLOTS;
             let due = levels.first_due(slot)?;
             let start = position(level, due) * width(level);
-            return Some(FirstSlot { slot, start });
+            return Some(FirstSlot { slot, start, due });
         }
     }
     None
@@ -186,29 +189,33 @@ fn reach(levels: &mut Levels, reached: u64, now: u64)
     ensures same { pending_in levels.new.lists ≡ pending_in levels.old.lists }
     ensures left { levels.old.room ≤ levels.new.room }
 {
-    let mut begun = reached;
-    while let Some(start) = move_down(levels, begun, now) {
-        begun = start;
+    let mut so_far = reached;
+    while so_far < now {
+        so_far = move_down(levels, so_far, now);
     }
 }
 
-/// Moves the timers of the first slot down, where it begins by a moment, and gives its first moment.
-fn move_down(levels: &mut Levels, reached: u64, now: u64) -> Option<u64>
-    requires { IsWheel reached levels.old.lists }
-    ensures none { MatchOption result (AreUnreached reached now levels.new.lists × IsWheel reached levels.new.lists)
-        (λ start. (reached < start) × (start ≤ now) × IsWheel start levels.new.lists) }
+/// Moves the timers of the first slot down, where it begins by a moment, and gives the moment that is reached with this: that
+/// one, unless the timer in front of the slot is due before it.
+fn move_down(levels: &mut Levels, reached: u64, now: u64) -> u64
+    requires wheel { IsWheel reached levels.old.lists }
+    requires later { reached < now }
+    ensures wheel { IsWheel result levels.new.lists }
+    ensures further { reached < result }
+    ensures within { result ≤ now }
     ensures same { pending_in levels.new.lists ≡ pending_in levels.old.lists }
     ensures left { levels.old.room ≤ levels.new.room }
 {
     earlier_fires_first();
     let Some(first) = first_slot(levels, reached) else {
-        return None;
+        return now;
     };
     if first.start > now {
-        return None;
+        return now;
     }
-    empty_slot(levels, first.slot, first.start);
-    Some(first.start)
+    let so_far = now.min(first.due);
+    empty_slot(levels, first.slot, so_far);
+    so_far
 }
 
 /// Moves each timer of a slot to that of its moment.

@@ -1,15 +1,22 @@
-use Rattle.sip_timers_wheel.proofs.Moves.{first-goes, moved-wheel, moved-pending}
-use Rattle.sip_timers_wheel.proofs.Steps.{later-reached}
+use Rattle.std.proofs.Common.{arith}
+use Rattle.sip_timers_wheel.proofs.Moves.{first-goes, moved-wheel, moved-pending, unreached-wheel}
+use Rattle.sip_timers_wheel.proofs.Steps.{later-reached, none-reached}
 use Rattle.sip_timers_wheel.proofs.wheel_timers.move_down.Goals as goal
 
-pub returns-then-first-now-clause-none : goal.returns-then-first-now-clause-none
-returns-then-first-now-clause-none c = (later-reached c.args.reached c.args.now c.args.levels.now.lists c.in-Some.first.slot c.in-Some.first.start c.in-Some.ensures.0 c.in-Some.ensures.1 c.if-first-now.true, c.requires)
+pub returns-in_default-clause-wheel : goal.returns-in_default-clause-wheel
+returns-in_default-clause-wheel c = unreached-wheel c.args.reached c.args.now c.args.levels.now.lists c.requires.wheel (omega (arith, c.requires.later)) (none-reached c.args.reached c.args.now c.args.levels.now.lists c.in_default.ensures.slot)
+
+pub returns-then-first-now-clause-wheel : goal.returns-then-first-now-clause-wheel
+returns-then-first-now-clause-wheel c = unreached-wheel c.args.reached c.args.now c.args.levels.now.lists c.requires.wheel (omega (arith, c.requires.later)) (later-reached c.args.reached c.args.now c.args.levels.now.lists c.in-Some.first.slot c.in-Some.first.start c.in-Some.ensures.slot.0 c.in-Some.ensures.slot.1 c.if-first-now.true)
 
 pub empty_slot-requires-clause-goes : goal.empty_slot-requires-clause-goes
-empty_slot-requires-clause-goes c = first-goes c.args.reached c.args.levels.now.lists c.in-Some.first.slot c.in-Some.first.start c.in-Some.ensures.0 c.requires c.in-Some.ensures.1
+empty_slot-requires-clause-goes c = first-goes c.args.reached c.args.levels.now.lists c.in-Some.first.slot c.in-Some.first.start c.in-Some.ensures.slot.0 c.in-Some.first.due c.min-so_far.result c.requires.wheel c.in-Some.ensures.slot.1 c.in-Some.ensures.front (omega (arith, c.min-so_far.ensures, c.if-first-now.false, c.in-Some.ensures.slot.1.own c.in-Some.first.due c.in-Some.ensures.front)) (omega (arith, c.min-so_far.ensures))
 
-pub returns-clause-none : goal.returns-clause-none
-returns-clause-none c = (c.in-Some.ensures.1.ahead, c.if-first-now.false, moved-wheel c.args.reached c.args.levels.now.lists c.in-Some.first.slot c.in-Some.first.start c.in-Some.ensures.0 c.requires c.in-Some.ensures.1 c.empty_slot.new.levels.lists c.empty_slot.ensures.moved.0 c.empty_slot.ensures.moved.1 c.empty_slot.ensures.emptied)
+pub returns-clause-wheel : goal.returns-clause-wheel
+returns-clause-wheel c = moved-wheel c.args.reached c.args.levels.now.lists c.in-Some.first.slot c.in-Some.first.start c.in-Some.ensures.slot.0 c.in-Some.first.due c.min-so_far.result c.requires.wheel c.in-Some.ensures.slot.1 c.in-Some.ensures.front (omega (arith, c.min-so_far.ensures, c.if-first-now.false, c.in-Some.ensures.slot.1.own c.in-Some.first.due c.in-Some.ensures.front)) (omega (arith, c.min-so_far.ensures)) c.empty_slot.new.levels.lists c.empty_slot.ensures.moved.0 c.empty_slot.ensures.moved.1 c.empty_slot.ensures.emptied
+
+pub returns-clause-further : goal.returns-clause-further
+returns-clause-further c = omega (arith, c.min-so_far.ensures, c.requires.later, c.in-Some.ensures.slot.1.ahead, c.in-Some.ensures.slot.1.own c.in-Some.first.due c.in-Some.ensures.front)
 
 pub returns-clause-same : goal.returns-clause-same
-returns-clause-same c = moved-pending c.args.reached c.args.levels.now.lists c.in-Some.first.slot c.in-Some.first.start c.in-Some.ensures.0 c.requires c.in-Some.ensures.1 c.empty_slot.new.levels.lists c.empty_slot.ensures.moved.0 c.empty_slot.ensures.moved.1 c.empty_slot.ensures.emptied c.earlier_fires_first.ensures.set
+returns-clause-same c = moved-pending c.args.reached c.args.levels.now.lists c.in-Some.first.slot c.in-Some.first.start c.in-Some.ensures.slot.0 c.in-Some.first.due c.min-so_far.result c.requires.wheel c.in-Some.ensures.slot.1 c.in-Some.ensures.front (omega (arith, c.min-so_far.ensures, c.if-first-now.false, c.in-Some.ensures.slot.1.own c.in-Some.first.due c.in-Some.ensures.front)) (omega (arith, c.min-so_far.ensures)) c.empty_slot.new.levels.lists c.empty_slot.ensures.moved.0 c.empty_slot.ensures.moved.1 c.empty_slot.ensures.emptied c.earlier_fires_first.ensures.set
