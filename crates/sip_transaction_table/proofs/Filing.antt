@@ -1,12 +1,14 @@
 -- Rows whose keys are filed.
-use Rattle.std.proofs.Common.{◌≡◌, ℕ, ◌+◌, ◌≤◌, ◌<◌, ◌==◌, Bool, true, false, cond, List, [], ◌∷◌, ◌++◌, length, get_or, set, slice_get, position, remove, Some, None, refl, sym, ◌∙◌, ap, arith, ◌⊎◌, inl, inr}
+use Rattle.std.proofs.Common.{◌≡◌, ℕ, ◌+◌, ◌≤◌, ◌<◌, ◌==◌, Bool, true, false, cond, List, [], ◌∷◌, ◌++◌, length, get_or, set, slice_get, position, remove, map, take, drop, zero, suc, Some, None, refl, sym, ◌∙◌, ap, arith, ◌⊎◌, inl, inr}
 use Rattle.std.specs.Prelude.{count_by, if◌then◌else◌}
+use Rattle.std.specs.Option.{option_map}
 use Rattle.std.proofs.lemmas.Bool.{cases_lt}
 use Rattle.std.proofs.lemmas.Bool.Decides.{nat_tests}
 use Rattle.std.proofs.lemmas.List.Quantifiers.{all_pairs_push, all_pairs_remove}
 use Rattle.std.proofs.lemmas.List.Edits.{get_or-remove_below, get_or-remove_above, length-remove}
 use Rattle.std.proofs.lemmas.List.Sums.{sum_by_push, sum_by-set, sum_by-remove, get_or-le-sum_by, count_by-le-length}
-use Rattle.std.proofs.lemmas.Option.{slice_get_within, get_or_from_slice_get}
+use Rattle.std.proofs.lemmas.List.{length-map, map-append, drop-map, take-map}
+use Rattle.std.proofs.lemmas.Option.{slice_get_within, slice_get-map, same_Some, get_or_from_slice_get}
 use Rattle.sip_transaction_table.specs.declared.key.Key.{Key}
 use Rattle.sip_transaction_table.specs.Key.{same_key}
 use Rattle.sip_transaction_table.specs.Digest.{digest_of}
@@ -14,6 +16,17 @@ use Rattle.sip_transaction_table.specs.Keys.{Filed, count_in}
 use Rattle.sip_transaction_table.specs.Rows.{AreFiled}
 use Rattle.sip_transaction_table.proofs.Places.{first_at, nowhere, none_passes, all_pairs_set}
 use Rattle.sip_transaction_table.proofs.SameKey.{decides, turned}
+
+-- ---- lists of digests
+
+map-set_same : {X Y : Type 0} (f : X → Y) (xs : List X) (i : ℕ) (x y : X) → slice_get xs i ≡ Some x → f y ≡ f x → map f (set xs i y) ≡ map f xs
+map-set_same f [] i x y at e = refl
+map-set_same f (z ∷ xs) zero x y at e = ap (λ v. v ∷ map f xs) (e ∙ sym (ap f (get_or_from_slice_get (z ∷ xs) zero x x at)))
+map-set_same f (z ∷ xs) (suc i) x y at e = ap (λ vs. f z ∷ vs) (map-set_same f xs i x y at e)
+
+remove-map : {X Y : Type 0} (f : X → Y) (xs : List X) (i : ℕ) → map f (remove xs i) ≡ remove (map f xs) i
+remove-map f xs i =
+    map-append f (take i xs) (drop (suc i) xs) ∙ ap (λ ys. ys ++ map f (drop (suc i) xs)) (sym (take-map f i xs)) ∙ ap (λ ys. take i (map f xs) ++ ys) (sym (drop-map f (suc i) xs))
 
 module _ {R : Type 0} (key : R → Key) where
   -- whether a row has a key
@@ -66,15 +79,21 @@ module _ {R : Type 0} (key : R → Key) where
   -- one row more
   pub pushed : (rows : List R) (old new : Filed) (row : R) → AreFiled key rows old → position (has (key row)) rows ≡ None → new.secret ≡ old.secret
       → ((d : ℕ) → count_in d new.entries ≡ count_in d old.entries + (if digest_of old.secret (key row) == d then 1 else 0))
+      → new.digests ≡ old.digests ++ digest_of old.secret (key row) ∷ []
       → AreFiled key (rows ++ row ∷ []) new
-  pushed rows old new row h alone same counts = record {
+  pushed rows old new row h alone same counts more = record {
     apart = all_pairs_push Apart rows row h.apart (λ k d lt. none_passes (has (key row)) rows alone k d lt);
     counted = λ d. rw same (omega (arith, sum_by_push (λ r. cond (files old d r) 1 0) rows row, h.counted d, counts d));
+    digested = rw same (more ∙ (ap (λ ds. ds ++ digest_of old.secret (key row) ∷ []) h.digested ∙ sym (map-append (λ r. digest_of old.secret (key r)) rows (row ∷ []))));
   }
 
   -- as many keys of each digest, in another order
-  pub kept : (rows : List R) (old new : Filed) → AreFiled key rows old → new.secret ≡ old.secret → ((d : ℕ) → count_in d new.entries ≡ count_in d old.entries) → AreFiled key rows new
-  kept rows old new h same counts = record { apart = h.apart; counted = λ d. rw same (h.counted d ∙ sym (counts d)) }
+  pub kept : (rows : List R) (old new : Filed) → AreFiled key rows old → new.secret ≡ old.secret → ((d : ℕ) → count_in d new.entries ≡ count_in d old.entries) → new.digests ≡ old.digests → AreFiled key rows new
+  kept rows old new h same counts stay = record {
+    apart = h.apart;
+    counted = λ d. rw same (h.counted d ∙ sym (counts d));
+    digested = rw same (stay ∙ h.digested);
+  }
 
   -- another row in the place of one with its key
   pub replaced : (rows : List R) (filed : Filed) (i : ℕ) (r row : R) → AreFiled key rows filed → slice_get rows i ≡ Some r → key row ≡ key r → AreFiled key (set rows i row) filed
@@ -85,19 +104,33 @@ module _ {R : Type 0} (key : R → Key) where
         let was : cond {A = ℕ} (files filed d (get_or rows i r)) 1 0 ≡ cond {A = ℕ} (files filed d r) 1 0 = ap (λ (x : R). cond {A = ℕ} (files filed d x) 1 0) (get_or_from_slice_get rows i r r at) in
         let is : cond {A = ℕ} (files filed d row) 1 0 ≡ cond {A = ℕ} (files filed d r) 1 0 = ap (λ (k : Key). cond {A = ℕ} (digest_of filed.secret k == d) 1 0) same in
         omega (arith, sum_by-set (λ x. cond (files filed d x) 1 0) rows i row r within, was, is, h.counted d);
+    digested = h.digested ∙ sym (map-set_same (λ x. digest_of filed.secret (key x)) rows i r row at (ap (digest_of filed.secret) same));
   }
 
   -- one row less
   pub removed : (rows : List R) (old new : Filed) (i : ℕ) (r : R) → AreFiled key rows old → slice_get rows i ≡ Some r → new.secret ≡ old.secret
       → ((d : ℕ) → count_in d old.entries ≡ count_in d new.entries + (if digest_of old.secret (key r) == d then 1 else 0))
+      → new.digests ≡ remove old.digests i
       → AreFiled key (remove rows i) new
-  removed rows old new i r h at same counts = record {
+  removed rows old new i r h at same counts less = record {
     apart = all_pairs_remove Apart rows i (slice_get_within rows i r at) h.apart;
     counted = λ d.
         let within = slice_get_within rows i r at in
         let was : cond {A = ℕ} (files old d (get_or rows i r)) 1 0 ≡ cond {A = ℕ} (files old d r) 1 0 = ap (λ (x : R). cond {A = ℕ} (files old d x) 1 0) (get_or_from_slice_get rows i r r at) in
         rw same (omega (arith, sum_by-remove (λ x. cond (files old d x) 1 0) rows i r within, was, h.counted d, counts d));
+    digested = rw same (less ∙ (ap (λ ds. remove ds i) h.digested ∙ sym (remove-map (λ x. digest_of old.secret (key x)) rows i)));
   }
+
+  -- the digest of a row's key
+  pub digest_at : (rows : List R) (filed : Filed) (i : ℕ) (r : R) (d : ℕ) → AreFiled key rows filed → slice_get rows i ≡ Some r → slice_get filed.digests i ≡ Some d → d ≡ digest_of filed.secret (key r)
+  digest_at rows filed i r d h at is =
+      let seen : slice_get filed.digests i ≡ Some (digest_of filed.secret (key r)) =
+      ap (λ ds. slice_get ds i) h.digested ∙ (slice_get-map (λ x. digest_of filed.secret (key x)) rows i ∙ ap (option_map (λ x. digest_of filed.secret (key x))) at) in
+      same_Some d (digest_of filed.secret (key r)) (sym is ∙ seen)
+
+  -- as many digests as rows
+  pub as_many : (rows : List R) (filed : Filed) → AreFiled key rows filed → length filed.digests ≡ length rows
+  as_many rows filed h = ap length h.digested ∙ length-map rows (λ r. digest_of filed.secret (key r))
 
   -- whose key no other row has
   pub closed : (rows : List R) (filed : Filed) (i : ℕ) (r : R) → AreFiled key rows filed → slice_get rows i ≡ Some r → position (has (key r)) (remove rows i) ≡ None

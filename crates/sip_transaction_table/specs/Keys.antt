@@ -5,10 +5,12 @@ use Rattle.std.specs.Map.{lookup}
 use Rattle.sip_base.specs.declared.word_hasher.WordHasher.{WordHasher}
 use Rattle.sip_transaction_table.specs.declared.keys.Hint.{Hint}
 
--- What a file of keys shows: its secret, what it holds by digest, in an order that nothing rests on, and how many more keys it takes with no memory.
+-- What a file of keys shows: its secret, what it holds by digest, in an order that nothing rests on, the digests in the order of the rows, and how
+-- many more keys it takes with no memory.
 pub record Filed : Type 0 where
   pub secret : WordHasher
   pub entries : List (ℕ × Hint)
+  pub digests : List ℕ
   pub room : ℕ
 
 -- how many keys a hint counts

@@ -1,5 +1,5 @@
 -- The rows of a table.
-use Rattle.std.specs.Prelude.{◌≡◌, ℕ, ◌==◌, false, List, count_by}
+use Rattle.std.specs.Prelude.{◌≡◌, ℕ, ◌==◌, false, List, count_by, map}
 use Rattle.std.specs.List.{AllPairs}
 use Rattle.sip_transaction_table.specs.declared.key.Key.{Key}
 use Rattle.sip_transaction_table.specs.Key.{same_key}
@@ -11,7 +11,8 @@ pub record Rows (R : Type 0) : Type 0 where
   pub rows : List R
   pub room : ℕ
 
--- Keys differ from row to row, and each is filed, and nothing else.
+-- Keys differ from row to row, and each is filed, and nothing else; its digest is known.
 pub record AreFiled {R : Type 0} (key : R → Key) (rows : List R) (filed : Filed) : Type 0 where
   pub apart : AllPairs (λ a b. same_key (key a) (key b) ≡ false) rows
   pub counted : (d : ℕ) → count_by (λ r. digest_of filed.secret (key r) == d) rows ≡ count_in d filed.entries
+  pub digested : filed.digests ≡ map (λ r. digest_of filed.secret (key r)) rows

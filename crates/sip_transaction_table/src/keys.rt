@@ -1,4 +1,5 @@
-ghost use Rattle.std.specs.Prelude.{◌≡◌, ◌≤◌, ◌<◌, ◌+◌, ◌==◌, [], ℕ, if◌then◌else◌, IfNone, OnOk};
+ghost use Rattle.std.specs.Prelude.{◌≡◌, ◌≤◌, ◌<◌, ◌+◌, ◌==◌, ◌++◌, ◌∷◌, [], ℕ, Some, length, remove, slice_get, if◌then◌else◌};
+ghost use Rattle.std.specs.Prelude.{IfNone, IfOk, OnOk};
 ghost use Rattle.sip_transaction_table.specs.Digest.{digest_of};
 ghost use Rattle.sip_transaction_table.specs.Keys.{count_in};
 
@@ -18,31 +19,43 @@ pub(crate) struct Hint {
     pub(crate) others: u64,
 }
 
+/// How many rows there are room for.
+pub(crate) const ROOM: usize = 1024;
+
 /// How many keys are open by their digests under a secret, with the number of the newest one's row.
 #[derive(Drop)]
 pub(crate) struct Keys {
     secret: Keyed,
     hints: HashMap<u64, Hint>,
+    /// The digests of the keys in the order of their rows, so that a key isn't hashed again when its row closes.
+    digests: Vec<u64>,
 }
 
 impl Model for Keys {
+    ghost use Rattle.std.specs.Prelude.{◌≤◌};
     ghost use Rattle.std.specs.HashMap.{spare};
+    ghost use Rattle.std.specs.Vec.{vec_capacity};
     ghost use Rattle.sip_transaction_table.specs.Keys.{Filed};
 
     ghost Value = { Filed };
 
-    ghost view = { λ k. record { secret = k.secret; entries = k.hints.entries; room = spare k.hints } };
+    ghost view = { λ k. record { secret = k.secret; entries = k.hints.entries; digests = k.digests.items; room = spare k.hints } };
+
+    ghost invariant = { λ k. 1024 ≤ vec_capacity k.digests };
 }
 
 impl Keys {
-    /// No key. Takes no memory.
-    pub(crate) fn new(alloc: Global, keys: u128) -> Self
-        ensures { result.entries ≡ [] }
+    /// No key, and room for the digests of all rows that may stand. `AllocError` is the only refusal.
+    pub(crate) fn new(alloc: Global, keys: u128) -> Result<Self, AllocError>
+        ensures entries { IfOk result (λ keys. keys.entries ≡ []) }
+        ensures digests { IfOk result (λ keys. keys.digests ≡ []) }
     {
-        Keys {
+        let digests = Vec::with_capacity(alloc, ROOM)?;
+        Ok(Keys {
             secret: Keyed::new(keys),
             hints: HashMap::new(alloc),
-        }
+            digests,
+        })
     }
 
     /// The number of a row that may have this key. None says that no key of its digest is filed.
@@ -59,19 +72,22 @@ impl Keys {
     pub(crate) fn reserve(&mut self) -> Result<(), AllocError>
         ensures secret { self.new.secret ≡ self.old.secret }
         ensures counts { (d : ℕ) → count_in d self.new.entries ≡ count_in d self.old.entries }
+        ensures digests { self.new.digests ≡ self.old.digests }
         ensures ok { OnOk result (1 ≤ self.new.room) }
         ensures room { self.old.room ≤ self.new.room }
     {
         self.hints.reserve(1)
     }
 
-    /// Files a key, whose row has this number. Takes no memory.
+    /// Files a key, whose row has this number and stands behind all others. Takes no memory.
     pub(crate) fn add(&mut self, key: &Key, number: u64)
         requires room { 1 ≤ self.old.room }
+        requires rows { length self.old.digests < 1024 }
         requires few { count_in (digest_of self.old.secret key.now) self.old.entries < 1024 }
         ensures secret { self.new.secret ≡ self.old.secret }
         ensures counts { (d : ℕ) → count_in d self.new.entries ≡ count_in d self.old.entries
             + (if digest_of self.old.secret key.now == d then 1 else 0) }
+        ensures digests { self.new.digests ≡ self.old.digests ++ digest_of self.old.secret key.now ∷ [] }
         ensures room { self.old.room ≤ self.new.room + 1 }
     {
         let digest = digest_of(&self.secret, key);
@@ -81,17 +97,29 @@ impl Keys {
         };
         let inserted: Result<_, _> = self.hints.insert(digest, Hint { number, others });
         let _before = inserted.unwrap();
+        let _pushed = self.digests.push(digest).unwrap();
     }
 
-    /// Takes a key out. Takes no memory.
-    pub(crate) fn remove(&mut self, key: &Key)
-        requires { 1 ≤ count_in (digest_of self.old.secret key.now) self.old.entries }
+    /// The digest of the key of the row at a place, which is taken out.
+    pub(crate) fn take_digest(&mut self, place: usize) -> u64
+        requires { place < length self.old.digests }
+        ensures digest { slice_get self.old.digests place ≡ Some result }
+        ensures digests { self.new.digests ≡ remove self.old.digests place }
         ensures secret { self.new.secret ≡ self.old.secret }
-        ensures counts { (d : ℕ) → count_in d self.old.entries ≡ count_in d self.new.entries
-            + (if digest_of self.old.secret key.now == d then 1 else 0) }
+        ensures entries { self.new.entries ≡ self.old.entries }
+        ensures room { self.new.room ≡ self.old.room }
+    {
+        self.digests.remove(place)
+    }
+
+    /// Takes a key of a digest out, whose row's digest was taken. Takes no memory.
+    pub(crate) fn remove(&mut self, digest: u64)
+        requires { 1 ≤ count_in digest self.old.entries }
+        ensures secret { self.new.secret ≡ self.old.secret }
+        ensures counts { (d : ℕ) → count_in d self.old.entries ≡ count_in d self.new.entries + (if digest == d then 1 else 0) }
+        ensures digests { self.new.digests ≡ self.old.digests }
         ensures room { self.old.room ≤ self.new.room }
     {
-        let digest = digest_of(&self.secret, key);
         if let Some(hint) = self.hints.get_mut(&digest) {
             if hint.others > 0 {
                 hint.others -= 1;

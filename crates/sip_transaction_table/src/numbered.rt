@@ -3,13 +3,11 @@ ghost use Rattle.std.specs.List.{All, AllPairs};
 ghost use Rattle.sip_transaction_table.specs.Key.{same_key};
 
 use crate::held::Held;
+use crate::keys::ROOM;
 use crate::row::Row;
 use crate::{Key, Transaction, same_key};
 use std::alloc::{AllocError, Global};
 use std::marker::Model;
-
-/// How many rows there are room for.
-const ROOM: usize = 1024;
 
 /// At most 1,024 rows, whose numbers rise, seen as the list of them.
 #[derive(Drop)]

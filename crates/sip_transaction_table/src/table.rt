@@ -45,10 +45,8 @@ impl<R: Row> Table<R> {
         ensures { IfOk result (λ table. table.rows ≡ []) }
     {
         let rows = Numbered::new(alloc)?;
-        Ok(Table {
-            rows,
-            keys: Keys::new(alloc, keys),
-        })
+        let keys = Keys::new(alloc, keys)?;
+        Ok(Table { rows, keys })
     }
 
     /// How many requests are open: at most 1,024. Their numbers rise, and their keys differ. Takes no memory.
@@ -165,7 +163,8 @@ impl<R: Row> Table<R> {
         ensures room { self.old.room ≤ self.new.room }
     {
         let row = self.rows.remove(place);
-        self.keys.remove(row.key());
+        let digest = self.keys.take_digest(place);
+        self.keys.remove(digest);
         row
     }
 }
