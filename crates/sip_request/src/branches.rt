@@ -8,7 +8,7 @@ ghost use Rattle.sip_request.specs.Walk.{left_timers};
 
 use crate::likeness::are_as_far;
 use crate::naming::branch_part;
-use crate::part::{NO_KEYS, Part, no_part, stop_part, sync_part};
+use crate::part::{Part, set_part, stop_part, sync_part};
 use model_transactions::TimerKeys;
 use model_transactions::state::{Branch, OpenRequest};
 use sip_timers::Timers;
@@ -52,25 +52,19 @@ fn stood_at(was: &OpenRequest, keys: &[TimerKeys], place: usize) -> Option<Stood
     })
 }
 
-/// Whether a branch is the one at a place.
-fn is_at(was: &OpenRequest, place: usize, branch: &Branch) -> bool {
+/// Whether the branch at a place has keys and is this one.
+fn stands_at(was: &OpenRequest, keys: &[TimerKeys], place: usize, branch: &Branch) -> bool
+    ensures { result ≡ true → (place < length was.now.branches) × (place < length keys.now) }
+{
+    if place >= keys.len() {
+        return false;
+    }
     let branches = was.branches.as_slice();
     if place >= branches.len() {
         return false;
     }
     let stood = &branches[place];
     stood.number == branch.number && stood.is_cancel == branch.is_cancel
-}
-
-/// The branch at a place with its timers, if it is this one.
-fn partner(was: &OpenRequest, keys: &[TimerKeys], place: usize, branch: &Branch) -> Option<Stood>
-    requires { IsNear (2 ^ 64) was.now }
-    ensures left { IfSome result (λ s. left_timers was.now keys.now place ≡ part_standing s.keys s.part ++ left_timers was.now keys.now s.behind) }
-{
-    if !is_at(was, place, branch) {
-        return None;
-    }
-    stood_at(was, keys, place)
 }
 
 /// Lets the timers of a branch stand, and no others of the branch at a place if that is the same one: each is compared.
@@ -94,18 +88,17 @@ fn change_branch<T: Timers>(
     ensures still { T.reached timers.new ≡ T.reached timers.old }
 {
     let part = branch_part(next, branch);
-    match partner(was, was_keys, place, branch) {
-        None => {
-            let keys = sync_part(timers, &no_part(), NO_KEYS, &part);
-            Synced { keys, place }
-        }
-        Some(stood) => {
-            let keys = sync_part(timers, &stood.part, stood.keys, &part);
-            Synced {
-                keys,
-                place: stood.behind,
-            }
-        }
+    if !stands_at(was, was_keys, place, branch) {
+        let keys = set_part(timers, &part);
+        return Synced { keys, place };
+    }
+    let branches = was.branches.as_slice();
+    let stood = branch_part(was, &branches[place]);
+    let stood_keys = was_keys[place];
+    let keys = sync_part(timers, &stood, stood_keys, &part);
+    Synced {
+        keys,
+        place: place + 1,
     }
 }
 

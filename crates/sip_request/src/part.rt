@@ -3,9 +3,9 @@ ghost use Rattle.sip_timers.specs.Moves.{IsHeld, Moves};
 ghost use Rattle.model_transactions.specs.declared.timer_keys.TimerKeys.{TimerKeys};
 ghost use Rattle.sip_request.specs.Slots.{IsBefore, IsPartNear, part_standing, slot_timers};
 
-use crate::slots::{clear, standing, sync};
+use crate::slots::{clear, set, standing, sync};
 use model_transactions::TimerKeys;
-use sip_timers::{Letter, Owner, Timers};
+use sip_timers::{Letter, Name, Owner, Timers};
 
 /// The timers that a part of an open request has by its phase, each with its letter and the moment at which it is due, in
 /// milliseconds. No part has more than these three.
@@ -35,21 +35,6 @@ pub(crate) const NO_KEYS: TimerKeys = TimerKeys {
     last: 0,
     call: 0,
 };
-
-/// A part without timers.
-pub(crate) fn no_part() -> Part
-    ensures { (keys : TimerKeys) → part_standing keys result ≡ [] }
-{
-    Part {
-        request: 0,
-        owner: Owner::Server,
-        timers: PartTimers {
-            again: None,
-            last: None,
-            call: None,
-        },
-    }
-}
 
 /// Lets the timer of a slot of a part stand, and no other one in place of the timer of a slot of a part before, where one of
 /// the two has a timer. Gives the key.
@@ -138,6 +123,41 @@ pub(crate) fn sync_part<T: Timers>(
         next,
         next.timers.call,
     );
+    TimerKeys { again, last, call }
+}
+
+/// Sets the timer of a slot of a part, for which there is room. Gives the key.
+fn set_slot<T: Timers>(timers: &mut T, part: &Part, slot: Option<(Letter, u64)>) -> usize
+    requires room { 1 ≤ T.room timers.old }
+    requires near { IsBefore (T.reached timers.old + 2 ^ 30) slot }
+    ensures moves { Moves (T.pending timers.old) [] (T.pending timers.new) (slot_timers part.now.request part.now.owner result slot) }
+    ensures left { T.room timers.old ≤ T.room timers.new + 1 }
+    ensures still { T.reached timers.new ≡ T.reached timers.old }
+{
+    match slot {
+        None => 0,
+        Some((letter, due)) => {
+            let name = Name {
+                request: part.request,
+                owner: part.owner,
+                letter,
+            };
+            set(timers, due, name)
+        }
+    }
+}
+
+/// Sets the timers of a part, for which there is room. Gives the keys.
+pub(crate) fn set_part<T: Timers>(timers: &mut T, part: &Part) -> TimerKeys
+    requires room { 3 ≤ T.room timers.old }
+    requires near { IsPartNear (T.reached timers.old + 2 ^ 30) part.now.timers }
+    ensures moves { Moves (T.pending timers.old) [] (T.pending timers.new) (part_standing result part.now) }
+    ensures left { T.room timers.old ≤ T.room timers.new + 3 }
+    ensures still { T.reached timers.new ≡ T.reached timers.old }
+{
+    let again = set_slot(timers, part, part.timers.again);
+    let last = set_slot(timers, part, part.timers.last);
+    let call = set_slot(timers, part, part.timers.call);
     TimerKeys { again, last, call }
 }
 

@@ -9,7 +9,7 @@ ghost use Rattle.sip_request.specs.Near.{AreBefore, IsNear, most_timers};
 use crate::branches::{stop_left, sync_branches};
 use crate::likeness::{are_alike, are_sides_as_far};
 use crate::naming::side_part;
-use crate::part::{NO_KEYS, no_part, stop_part, sync_part};
+use crate::part::{set_part, stop_part, sync_part};
 use model_transactions::TimerKeys;
 use model_transactions::state::OpenRequest;
 use sip_timers::Timers;
@@ -83,7 +83,7 @@ pub(crate) fn begin<T: Timers>(
     ensures still { T.reached timers.new ≡ T.reached timers.old }
 {
     let part = side_part(next);
-    let side = sync_part(timers, &no_part(), NO_KEYS, &part);
+    let side = set_part(timers, &part);
     sync_branches(timers, next, &[], next, keys, false);
     side
 }

@@ -13,7 +13,7 @@ fn is_the(timer: Timer, due: u64, name: Name) -> bool
 }
 
 /// Sets a timer, and gives its key.
-fn set<T: Timers>(timers: &mut T, due: u64, name: Name) -> usize
+pub(crate) fn set<T: Timers>(timers: &mut T, due: u64, name: Name) -> usize
     requires room { 1 ≤ T.room timers.old }
     requires near { due < T.reached timers.old + 2 ^ 30 }
     ensures moves { Moves (T.pending timers.old) [] (T.pending timers.new) (record { key = result; due = due; name = name } ∷ []) }

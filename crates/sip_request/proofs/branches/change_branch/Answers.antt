@@ -1,23 +1,18 @@
-use Rattle.sip_request.proofs.Walking.{AreBefore-weaker, held_front, held_none, Moves-beside, Moves-matched, part_near}
+use Rattle.std.proofs.Common.{◌<◌, ap, arith, length, refl}
+use Rattle.std.proofs.lemmas.List.{get_or_default}
+use Rattle.sip_request.proofs.Walking.{AreBefore-weaker, left_more, Moves-matched, part_near}
 use Rattle.sip_request.proofs.branches.change_branch.Goals as goal
 
 pub branch_part-part-requires : goal.branch_part-part-requires
 branch_part-part-requires g c = AreBefore-weaker _ _ _ c.requires.moments c.requires.near
 
-pub sync_part-keys-requires-clause-held : goal.sync_part-keys-requires-clause-held
-sync_part-keys-requires-clause-held g c = held_none _ _ (c.no_part.ensures _) c.requires.held.keys_differ
+pub set_part-keys-requires-clause-near : goal.set_part-keys-requires-clause-near
+set_part-keys-requires-clause-near g c = part_near _ _ _ c.branch_part-part.ensures.timers c.requires.near
 
-pub sync_part-keys-requires-clause-near : goal.sync_part-keys-requires-clause-near
-sync_part-keys-requires-clause-near g c = part_near _ _ _ c.branch_part-part.ensures.timers c.requires.near
-
-pub sync_part-keys-requires-in-Some-clause-held : goal.sync_part-keys-requires-in-Some-clause-held
-sync_part-keys-requires-in-Some-clause-held g c = held_front _ _ _ _ c.in-Some.ensures.left c.requires.held
-
-pub sync_part-keys-requires-in-Some-clause-near : goal.sync_part-keys-requires-in-Some-clause-near
-sync_part-keys-requires-in-Some-clause-near g c = part_near _ _ _ c.branch_part-part.ensures.timers c.requires.near
-
-pub returns-in-None-clause-moves : goal.returns-in-None-clause-moves
-returns-in-None-clause-moves g c = Moves-beside _ _ _ _ _ _ (c.no_part.ensures _) (c.branch_part-part.ensures.names c.sync_part-keys.result) c.sync_part-keys.ensures.moves
-
-pub returns-in-Some-clause-moves : goal.returns-in-Some-clause-moves
-returns-in-Some-clause-moves g c = Moves-matched _ _ _ _ _ _ _ c.in-Some.ensures.left (c.branch_part-part.ensures.names c.sync_part-keys-in-Some.result) c.sync_part-keys-in-Some.ensures.moves
+pub returns-clause-moves : goal.returns-clause-moves
+returns-clause-moves g c =
+    let within : c.args.place < length c.as_slice-branches.result.now = omega (arith, (c.if-not-stands_at.ensures refl).0, ap length c.as_slice-branches.ensures) in
+    Moves-matched _ _ _ _ _ _ _
+    (left_more c.args.was.now c.as_slice-branches.result.now c.args.was_keys.now c.args.place c.index-branches-place.result _ _ c.as_slice-branches.ensures within (c.if-not-stands_at.ensures refl).1 c.index-branches-place.is (get_or_default c.args.was_keys.now c.args.place _ _ (c.if-not-stands_at.ensures refl).1) (c.branch_part-stood.ensures.names _))
+    (c.branch_part-part.ensures.names c.sync_part-keys.result)
+    c.sync_part-keys.ensures.moves
