@@ -6,7 +6,7 @@ use Rattle.std.specs.Option.{unwrap_or}
 use Rattle.std.proofs.lemmas.Bool.Decides.{nat_tests}
 use Rattle.std.proofs.lemmas.List.{length-drop, take_all}
 use Rattle.std.proofs.lemmas.List.Sums.{sum_by-append}
-use Rattle.std.proofs.lemmas.Option.{slice_get-get_or}
+use Rattle.std.proofs.lemmas.Option.{slice_get-get_or, slice_get_past}
 use Rattle.model_steps.specs.context_model.BranchById.{HasNumbers}
 use Rattle.model_steps.specs.context_model.Branches.{is_same_branch, overdue, phased, side_overdue, turned, with_phase}
 use Rattle.sip_transaction_table.specs.declared.transaction.Transaction.{Transaction}
@@ -20,7 +20,7 @@ use Rattle.sip_dialog_lessons.specs.state.declared.server.Server.{Server}
 use Rattle.sip_context.specs.declared.input.Input.{Input}
 use Rattle.sip_context.specs.declared.input.Input.TheVariants.{Response, BranchDeadline, SideDeadline, SendFault, Cancel, Ack, BranchAgain, AnswerAgain}
 use Rattle.sip_context.specs.Inputs.{changing, outcome_of}
-use Rattle.sip_fork.specs.Quiet.{alone}
+use Rattle.sip_fork.specs.Quiet.{alone, branch_ends_alone, ends_alone, found_ends_alone}
 use Rattle.sip_request.specs.Ended.{become, branch_ended, ended_at, side_ended}
 use Rattle.sip_request.specs.Named.{HasKeys}
 use Rattle.sip_request.specs.declared.request.Request.{Request}
@@ -222,3 +222,13 @@ pub quiet_is : (o : Bool) (r : OpenRequest) (bs : List Branch) (place : ℕ) (b 
 quiet_is o r bs place b same within is quiet one so =
     let there : slice_get bs place ≡ Some b = slice_get-get_or bs place b within ∙ ap (λ (x : Branch). Some x) (sym is) in
     branch_quiet r place b (subst (λ (xs : List Branch). slice_get xs place ≡ Some b) same there) (quiet so) (one so)
+
+-- ---- whether a deadline does no more
+
+pub ends_there : (o : Bool) (r : OpenRequest) (bs : List Branch) (place : ℕ) (b : Branch) → bs ≡ r.branches → place < length bs → b ≡ get_or bs place b → o ≡ branch_ends_alone r b → o ≡ ends_alone (Of.Client place) r
+ends_there o r bs place b same within is alike =
+    let there : slice_get bs place ≡ Some b = slice_get-get_or bs place b within ∙ ap (λ (x : Branch). Some x) (sym is) in
+    alike ∙ ap (found_ends_alone r) (sym (subst (λ (xs : List Branch). slice_get xs place ≡ Some b) same there))
+
+pub ends_nowhere : (r : OpenRequest) (bs : List Branch) (place : ℕ) → bs ≡ r.branches → length bs ≤ place → false ≡ ends_alone (Of.Client place) r
+ends_nowhere r bs place same past = ap (found_ends_alone r) (sym (slice_get_past r.branches place (subst (λ (xs : List Branch). length xs ≤ place) same past)))

@@ -15,7 +15,7 @@ ghost use Rattle.sip_fork.specs.Keeping.{IsKeptAs, IsOf};
 ghost use Rattle.sip_request.specs.transactions_model.Near.{IsWithin};
 ghost use Rattle.sip_request.specs.Near.{most_timers};
 ghost use Rattle.sip_context.specs.Inputs.{changing, outcome, outcome_of};
-ghost use Rattle.sip_fork.specs.Quiet.{alone};
+ghost use Rattle.sip_fork.specs.Quiet.{alone, ends_alone};
 ghost use Rattle.sip_context.specs.declared.input.Input as Inputs;
 ghost use Rattle.sip_dialog_lessons.specs.state.declared.server.Server as Servers;
 ghost use Rattle.sip_fork.specs.Ending.{IsDeadlineOf, ended, left_invite};
@@ -268,6 +268,7 @@ impl<T: Timers> Contexts<T> {
     /// nothing else of the request changes. Takes no memory.
     pub fn ends_quietly(&self, place: usize, transaction: Transaction) -> bool
         requires { place < length self.now.requests }
+        ensures exact { (r : OpenRequest) → slice_get self.now.requests place ≡ Some r → result ≡ ends_alone transaction r }
         ensures outcome { result ≡ true → (r : OpenRequest) → slice_get self.now.requests place ≡ Some r → (server : Servers.Server) (now : ℕ) (input : Inputs.Input)
             → IsDeadlineOf r transaction input → outcome_of server now r input ≡ changing (alone (ended transaction r)) [] }
         ensures kept { result ≡ true → (r : OpenRequest) → slice_get self.now.requests place ≡ Some r → (server : Servers.Server) (now : ℕ) (input : Inputs.Input)

@@ -5,7 +5,7 @@ ghost use Rattle.sip_dialog_lessons.specs.state.declared.branch.Branch.{Branch};
 ghost use Rattle.sip_dialog_lessons.specs.state.declared.server.Server.{Server};
 ghost use Rattle.sip_context.specs.declared.input.Input.{Input};
 ghost use Rattle.sip_context.specs.Inputs.{changing, outcome_of};
-ghost use Rattle.sip_fork.specs.Quiet.{alone};
+ghost use Rattle.sip_fork.specs.Quiet.{alone, ends_alone};
 ghost use Rattle.sip_request.specs.Ended.{become, ended_at};
 ghost use Rattle.sip_request.specs.Named.{named_by};
 ghost use Rattle.sip_request.specs.Near.{IsNear};
@@ -22,9 +22,10 @@ use sip_transaction_table::Transaction;
 
 /// Whether the deadline of a transaction of an open request does no more than to end it: nothing is sent, and nothing else
 /// of the request changes.
-#[tactic(auto, using(crate::proofs::Ends::quiet_is, crate::proofs::Ends::side_quiet))]
+#[tactic(auto, using(crate::proofs::Ends::quiet_is, crate::proofs::Ends::side_quiet, crate::proofs::Ends::ends_there, crate::proofs::Ends::ends_nowhere))]
 pub(crate) fn ends_quietly(request: &OpenRequest, transaction: Transaction) -> bool
-    ensures { result ≡ true → (server : Server) (now : ℕ) (input : Input) → IsDeadlineOf request.now transaction input
+    ensures exact { result ≡ ends_alone transaction request.now }
+    ensures outcome { result ≡ true → (server : Server) (now : ℕ) (input : Input) → IsDeadlineOf request.now transaction input
         → outcome_of server now request.now input ≡ changing (alone (ended transaction request.now)) [] }
 {
     match transaction {

@@ -7,7 +7,7 @@ ghost use Rattle.sip_dialog_lessons.specs.state.declared.open_request.OpenReques
 ghost use Rattle.sip_dialog_lessons.specs.state.declared.open_request.Side.TheVariants.{Closed};
 ghost use Rattle.sip_dialog_lessons.specs.state.declared.server.Server.{Server};
 ghost use Rattle.model_steps.specs.context_model.Branches as Contexts;
-ghost use Rattle.sip_fork.specs.Quiet.{IsThrough, alone};
+ghost use Rattle.sip_fork.specs.Quiet.{IsThrough, alone, branch_ends_alone, is_through, lingers};
 
 use sip_dialog_lessons::state::{Branch, OpenRequest, Phase, Side};
 
@@ -54,7 +54,8 @@ fn is_alone(branches: &[Branch], branch: &Branch) -> bool
 
 /// Whether nothing goes to the caller of a request any more by itself, and no branch is sent a CANCEL.
 fn is_through(request: &OpenRequest) -> bool
-    ensures { result ≡ true → IsThrough request.now }
+    ensures exact { result ≡ is_through request.now }
+    ensures through { result ≡ true → IsThrough request.now }
 {
     if is_answering(request.side) {
         return false;
@@ -68,7 +69,8 @@ fn is_through(request: &OpenRequest) -> bool
 /// Whether a branch ends by its deadline, with nothing.
 #[tactic(auto, using(crate::proofs::Quietly::cancel_ends, crate::proofs::Quietly::done_ends))]
 fn only_ends(branch: &Branch) -> bool
-    ensures { result ≡ true → (r : OpenRequest) → Contexts.branch_overdue r branch.now ≡ Contexts.with_phase branch.now Ended r }
+    ensures exact { result ≡ lingers branch.now }
+    ensures ends { result ≡ true → (r : OpenRequest) → Contexts.branch_overdue r branch.now ≡ Contexts.with_phase branch.now Ended r }
 {
     if branch.is_cancel {
         return true;
@@ -84,6 +86,7 @@ fn only_ends(branch: &Branch) -> bool
 /// Takes no memory.
 #[tactic(auto, using(crate::proofs::Quietly::branch_alone, crate::proofs::Quietly::one_by_test))]
 pub(crate) fn branch_ends_quietly(request: &OpenRequest, branch: &Branch) -> bool
+    ensures exact { result ≡ branch_ends_alone request.now branch.now }
     ensures quiet { result ≡ true → (server : Server) (now : ℕ)
         → Contexts.overdue server now request.now branch.now ≡ alone (Contexts.with_phase branch.now Ended request.now) }
     ensures one { result ≡ true → count_by (λ (x : Branch). Contexts.is_same_branch x branch.now) request.now.branches ≡ 1 }
@@ -101,7 +104,8 @@ pub(crate) fn branch_ends_quietly(request: &OpenRequest, branch: &Branch) -> boo
 /// changes. Takes no memory.
 #[tactic(auto, using(crate::proofs::Quietly::side_alone))]
 pub(crate) fn side_ends_quietly(request: &OpenRequest) -> bool
-    ensures { result ≡ true → (server : Server) (now : ℕ)
+    ensures exact { result ≡ is_through request.now }
+    ensures quiet { result ≡ true → (server : Server) (now : ℕ)
         → Contexts.side_overdue server now request.now ≡ alone (record request.now { side = Closed }) }
 {
     is_through(request)

@@ -3,7 +3,7 @@ use Rattle.std.specs.Option.{unwrap_or}
 use Rattle.sip_dialog_lessons.specs.state.declared.open_request.OpenRequest.{OpenRequest}
 use Rattle.sip_request.specs.declared.request.Request.{Request}
 use Rattle.sip_context.specs.Inputs.{Outcome, changing, outcome_of}
-use Rattle.sip_fork.specs.Quiet.{alone}
+use Rattle.sip_fork.specs.Quiet.{alone, ends_alone}
 use Rattle.sip_request.specs.transactions_model.Fits.{Fits}
 use Rattle.sip_request.specs.transactions_model.Near.{IsWithin}
 use Rattle.sip_fork.specs.Contexts.{Contexts, IsKept}
@@ -13,6 +13,14 @@ use Rattle.sip_fork.proofs.OnTime.{near_at}
 use Rattle.sip_fork.proofs.Tying.{contexts, kept_at, seen_at}
 use Rattle.sip_fork.proofs.contexts.Contexts.ends_quietly.Goals as goal
 
+pub returns-clause-exact : goal.returns-clause-exact
+returns-clause-exact g c = λ r at.
+    let row : Request = c.row.inside.request in
+    let there : slice_get c.self.inside.table.rows c.args.place ≡ Some row = rw c.row.view_is c.get-row.ensures.row in
+    let shown : slice_get c.args.self.now.requests c.args.place ≡ Some row.open_request = subst (λ (v : Contexts). slice_get v.requests c.args.place ≡ Some row.open_request) c.self.view_is (seen_at c.self.inside.table.rows c.args.place row there) in
+    let is_row : row.open_request ≡ r = ap (λ o. unwrap_or o r) (sym shown ∙ at) in
+    subst (λ (x : OpenRequest). c.ends_quietly.result ≡ ends_alone c.args.transaction x) is_row c.ends_quietly.ensures.exact
+
 pub returns-clause-outcome : goal.returns-clause-outcome
 returns-clause-outcome g c = λ quiet r at server now input is.
     let row : Request = c.row.inside.request in
@@ -20,7 +28,7 @@ returns-clause-outcome g c = λ quiet r at server now input is.
     let shown : slice_get c.args.self.now.requests c.args.place ≡ Some row.open_request = subst (λ (v : Contexts). slice_get v.requests c.args.place ≡ Some row.open_request) c.self.view_is (seen_at c.self.inside.table.rows c.args.place row there) in
     let is_row : row.open_request ≡ r = ap (λ o. unwrap_or o r) (sym shown ∙ at) in
     subst (λ (x : OpenRequest). IsDeadlineOf x c.args.transaction input → outcome_of server now x input ≡ changing (alone (ended c.args.transaction x)) []) is_row
-    (c.ends_quietly.ensures quiet server now input) is
+    (c.ends_quietly.ensures.outcome quiet server now input) is
 
 pub returns-clause-kept : goal.returns-clause-kept
 returns-clause-kept g c = λ quiet r at server now input later about is.
