@@ -7,18 +7,19 @@ use Rattle.std.proofs.lemmas.List.Folds.{list_all_at}
 use Rattle.memchr.specs.Find.{Nowhere, Passes, is_byte, is_byte3}
 use Rattle.httparse.specs.Pieces.{AllPassBetween, PassesIn}
 use Rattle.httparse.proofs.LaneLemmas.{covered}
-use Rattle.sip_text.specs.Lists.{is_blank, cut}
+use Rattle.sip_text.specs.Lists.{cut}
 use Rattle.sip_text.proofs.OneItem.{none_cuts, one_bracket, tight_item}
 use Rattle.sip_message.specs.Marks.{is_unmarked}
 use Rattle.sip_message.proofs.FieldsAgain.{and_both}
+use Rattle.sip_message.proofs.Spaced.{over_blank}
 
 nowhere : (xs : List ℕ) → list_all is_unmarked xs ≡ true → Nowhere (Passes (is_byte3 44 34 60) xs) 0 (length xs)
 nowhere xs all = λ k low lt here.
     let clash : true ≡ false = sym all ∙ list_all_at is_unmarked xs k 0 lt (ap not here) in
     absurd cc
 
-pub plain_value : (value : List ℕ) → 0 < length value → is_blank (get_or value 0 0) ≡ false → is_blank (get_or value (length value - 1) 0) ≡ false → list_all is_unmarked value ≡ true → cut value ≡ Some (value ∷ [])
-plain_value value some first last all = tight_item value some first last (none_cuts value (nowhere value all))
+pub plain_value : (value : List ℕ) → 0 < length value → 32 < get_or value 0 0 → 32 < get_or value (length value - 1) 0 → list_all is_unmarked value ≡ true → cut value ≡ Some (value ∷ [])
+plain_value value some first last all = tight_item value some (over_blank _ first) (over_blank _ last) (none_cuts value (nowhere value all))
 
 -- ---- a pair of brackets
 
@@ -53,14 +54,14 @@ rest_behind : (n : ℕ) (xs : List ℕ) → list_all is_unmarked (drop 1 xs) ≡
 rest_behind n [] all = refl
 rest_behind n (x ∷ xs) all = all_behind n xs all
 
-pub bracketed_value : (value inner : List ℕ) → 0 < length value → is_blank (get_or value 0 0) ≡ false → is_blank (get_or value (length value - 1) 0) ≡ false → get_or value 0 0 ≡ 60 → get_or value (length value - 1) 0 ≡ 62 → inner ≡ drop 1 value
+pub bracketed_value : (value inner : List ℕ) → 0 < length value → 32 < get_or value 0 0 → 32 < get_or value (length value - 1) 0 → get_or value 0 0 ≡ 60 → get_or value (length value - 1) 0 ≡ 62 → inner ≡ drop 1 value
     → list_all is_unmarked inner ≡ true → cut value ≡ Some (value ∷ [])
 bracketed_value value inner some first last begins ends is all =
     let f : FirstEnd value = first_end value (length value - 1) (omega (arith, some)) (ap (is_byte 62) ends) in
     let next : f.at + 1 ≡ suc f.at = omega arith in
     let rest : list_all is_unmarked (drop (f.at + 1) value) ≡ true =
     subst (λ (n : ℕ). list_all is_unmarked (drop n value) ≡ true) (sym next) (rest_behind f.at value (subst (λ (w : List ℕ). list_all is_unmarked w ≡ true) is all)) in
-    tight_item value some first last
+    tight_item value some (over_blank _ first) (over_blank _ last)
     (one_bracket value (drop (f.at + 1) value) f.at begins (record { low = omega arith; high = f.within; before = λ k low lt h. f.none k lt h }, f.here) refl (none_cuts (drop (f.at + 1) value) (nowhere (drop (f.at + 1) value) rest)))
 
 -- ---- by so many bytes at once

@@ -1,4 +1,4 @@
-ghost use Rattle.std.specs.Prelude.{◌≡◌, true, length, take, option_map, IfOk, IfSome, MatchResult, Some};
+ghost use Rattle.std.specs.Prelude.{◌≡◌, ◌∷◌, true, length, take, option_map, IfOk, IfSome, MatchResult, Some};
 ghost use Rattle.std.specs.List.{list_all};
 ghost use Rattle.sip_text.specs.Lists.{trimmed, end_trimmed};
 ghost use Rattle.sip_text.specs.Words.{is_token_text};
@@ -19,9 +19,7 @@ use crate::part_field::PartField;
 use crate::text_run::name_length;
 use httparse::is_header_value;
 use sip_message_fields::{Piece, ViewName, slice_before, slice_from};
-use sip_text::{
-    Buffer, is_space_or_tab, is_token, split_once, without_end_blanks, without_front_blanks,
-};
+use sip_text::{Buffer, is_token, split_once, without_end_blanks, without_front_blanks};
 use std::alloc::{AllocError, Global};
 
 /// Whether bytes may be a value: those that may stand in one of HTTP are the same, so that `httparse` looks at sixteen
@@ -45,9 +43,10 @@ fn halves(bytes: &[u8], mark: u8) -> Option<(&[u8], &[u8])>
 
 /// What stands behind a space at the front, where no other blank stands at either end, as of most values.
 #[inline]
-#[tactic(auto, using(crate::proofs::Spaced::spaced))]
-fn behind_space(bytes: &[u8]) -> Option<&[u8]>
+#[tactic(auto, using(crate::proofs::Spaced::spaced, crate::proofs::Spaced::one_space))]
+pub(crate) fn behind_space(bytes: &[u8]) -> Option<&[u8]>
     ensures value { IfSome result (λ x. x.now ≡ trimmed bytes.now) }
+    ensures space { IfSome result (λ x. bytes.now ≡ 32 ∷ x.now) }
     ensures cut { IfSome result (λ x. IsCutFrom bytes.entry x) }
 {
     let length = bytes.len();
@@ -57,10 +56,10 @@ fn behind_space(bytes: &[u8]) -> Option<&[u8]>
     if bytes[0] != b' ' {
         return None;
     }
-    if is_space_or_tab(bytes[1]) {
+    if bytes[1] <= b' ' {
         return None;
     }
-    if is_space_or_tab(bytes[length - 1]) {
+    if bytes[length - 1] <= b' ' {
         return None;
     }
     Some(slice_from(bytes, 1))

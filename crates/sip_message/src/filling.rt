@@ -7,12 +7,15 @@ ghost use Rattle.sip_message.specs.Filled.{item_of, IsFieldFilled, IsLineFilled,
 ghost use Rattle.sip_message.specs.HeadContent.{IsFault, IsLineRefused, next_length, field_taken};
 ghost use Rattle.sip_message.specs.Reading.{Gives, head_said};
 ghost use Rattle.sip_message_fields.specs.FieldName.{is_length, is_list};
+ghost use Rattle.sip_message_fields.specs.Lines.{line_of};
 ghost use Rattle.sip_text.specs.Lists.{cut};
 ghost use Rattle.sip_text.specs.Span.{IsWithin};
 ghost use Rattle.sip_message.specs.Lines.{is_fold};
 
 use crate::content::{USUAL_FIELDS, length_behind, refusal_of};
-use crate::entries::{any_parts, field_of_line, parts_of_line, trimmed_slice, usual_parts};
+use crate::entries::{
+    any_parts, behind_space, field_of_line, parts_of_line, trimmed_slice, usual_parts,
+};
 use crate::keeping::items_of;
 use crate::line_fault::LineFault;
 use crate::lines::{HeadLine, NamedLine, Slice, head_line, is_fold_line, named_line, whole_line};
@@ -109,10 +112,16 @@ impl<'a> Filling<'a> {
         Ok(())
     }
 
-    /// Takes a field of one item whose value stands in the datagram.
-    #[inline]
-    fn take_field(&mut self, name: ViewName<'a>, value: &'a [u8]) -> Result<(), LineFault>
+    /// Takes a field of one item whose line stands so in the datagram.
+    #[inline(always)]
+    fn take_field(
+        &mut self,
+        name: ViewName<'a>,
+        value: &'a [u8],
+        line: &'a [u8],
+    ) -> Result<(), LineFault>
         requires one { is_list name ≡ true → cut value.now ≡ Some (value.now ∷ []) }
+        requires line { line.now ≡ line_of (record { name = name; value = value.now }) }
         ensures { MatchResult result
             (λ _. IsFieldFilled self.old (record { name = name.entry; value = value.now }) self.new)
             (λ e. IsFault e (field_taken self.old.length (record { name = name.entry; value = value.now }))) }
@@ -120,8 +129,7 @@ impl<'a> Filling<'a> {
         if name.is_content_length() {
             return self.take_length(value);
         }
-        self.fields
-            .push(ViewField::new(name, Value::of_part(value)))?;
+        self.fields.push(ViewField::of_line(name, value, line))?;
         Ok(())
     }
 
@@ -229,24 +237,43 @@ impl<'a> Filling<'a> {
         Ok(next.after)
     }
 
+    /// Takes a line with a name and without folds that isn't written as its field is, or whose field isn't one, and gives
+    /// what follows it.
+    #[inline(never)]
+    fn take_unusual(&mut self, alloc: Global, next: NamedLine<'a>) -> Result<&'a [u8], LineFault>
+        requires no_fold { is_fold next.after.now ≡ false }
+        requires named { IsNamed next.line.now next.name.now next.value.now }
+        requires text { list_all is_text next.value.now ≡ true }
+        ensures { MatchResult result (λ rest. IsLineFilled self.old next.entry.line.now next.entry.after.now self.new rest.now)
+            (λ e. (e ≡ LineFault.NoMemory) ⊎ IsLineRefused self.old.length next.entry.line.now next.entry.after.now) }
+    {
+        self.take_parts(alloc, next.name, trimmed_slice(next.value))?;
+        Ok(next.after)
+    }
+
     /// Takes a line with a name and its folds, and gives what follows them.
     #[inline(always)]
     fn take_named(&mut self, alloc: Global, next: NamedLine<'a>) -> Result<&'a [u8], LineFault>
         requires named { IsNamed next.line.now next.name.now next.value.now }
         requires text { list_all is_text next.value.now ≡ true }
+        requires whole { next.text.now ≡ next.line.now ++ 13 ∷ 10 ∷ [] }
         ensures { MatchResult result (λ rest. IsLineFilled self.old next.entry.line.now next.entry.after.now self.new rest.now)
             (λ e. (e ≡ LineFault.NoMemory) ⊎ IsLineRefused self.old.length next.entry.line.now next.entry.after.now) }
     {
         if is_fold_line(next.after) {
             return self.take_folded(alloc, next.line, next.after);
         }
-        let value = trimmed_slice(next.value);
-        let name = ViewName::of_part(next.name);
-        if !is_one_field(&name, value) {
-            self.take_parts(alloc, next.name, value)?;
-            return Ok(next.after);
+        let Some(value) = behind_space(next.value) else {
+            return self.take_unusual(alloc, next);
+        };
+        let (name, is_full) = ViewName::of_written(next.name);
+        if !is_full {
+            return self.take_unusual(alloc, next);
         }
-        self.take_field(name, value)?;
+        if !is_one_field(&name, value) {
+            return self.take_unusual(alloc, next);
+        }
+        self.take_field(name, value, next.text)?;
         Ok(next.after)
     }
 }

@@ -30,12 +30,13 @@ pub(crate) struct HeadLine<'a> {
 }
 
 /// A line of a head at whose front a `:` follows a name at once, and each byte behind it may stand in a value: the name,
-/// what stands behind the `:`, and what follows the line's CRLF.
+/// what stands behind the `:`, the line with its CRLF, and what follows that.
 #[derive(Clone, Copy)]
 pub(crate) struct NamedLine<'a> {
     pub line: &'a [u8],
     pub name: &'a [u8],
     pub value: &'a [u8],
+    pub text: &'a [u8],
     pub after: &'a [u8],
 }
 
@@ -136,6 +137,7 @@ pub(crate) fn named_line(bytes: &[u8]) -> Option<NamedLine<'_>>
     ensures line { IfSome result (λ x. Some (x.line.now, x.after.now) ≡ line_at bytes.now) }
     ensures named { IfSome result (λ x. IsNamed x.line.now x.name.now x.value.now) }
     ensures text { IfSome result (λ x. list_all is_text x.value.now ≡ true) }
+    ensures whole { IfSome result (λ x. x.text.now ≡ x.line.now ++ 13 ∷ 10 ∷ []) }
 {
     let at = name_end(bytes)?;
     let (value, after) = text_line(slice_from(bytes, at + 1))?;
@@ -143,6 +145,7 @@ pub(crate) fn named_line(bytes: &[u8]) -> Option<NamedLine<'_>>
         line: slice_before(bytes, at + 1 + value.len()),
         name: slice_before(bytes, at),
         value,
+        text: slice_before(bytes, at + 3 + value.len()),
         after,
     })
 }
@@ -183,13 +186,14 @@ pub(crate) fn head_line(bytes: &[u8]) -> Option<HeadLine<'_>>
 
 /// Whether a line goes on with the line before it.
 #[inline]
+#[tactic(auto, using(crate::proofs::Spaced::empty_fold, crate::proofs::Spaced::first_fold))]
 pub(crate) fn is_fold_line(line: &[u8]) -> bool
     ensures { result ≡ is_fold line.now }
 {
-    let Some((first, _)) = line.split_first() else {
+    if line.is_empty() {
         return false;
-    };
-    is_space_or_tab(*first)
+    }
+    is_space_or_tab(line[0])
 }
 
 /// A line with its folds, and what follows them.

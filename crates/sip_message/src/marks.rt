@@ -6,7 +6,6 @@ ghost use Rattle.sip_message.specs.Marks.{is_unmarked};
 
 use crate::text_run::{LANES, first_set};
 use sip_message_fields::slice_from;
-use sip_text::is_space_or_tab;
 use std::simd::prelude::*;
 
 /// How many of the bytes from a place on, of those that are looked at at once, neither cut a list nor begin a quote or a
@@ -76,10 +75,10 @@ pub(crate) fn is_one_value(value: &[u8]) -> bool
     if length == 0 {
         return false;
     }
-    if is_space_or_tab(value[0]) {
+    if value[0] <= b' ' {
         return false;
     }
-    if is_space_or_tab(value[length - 1]) {
+    if value[length - 1] <= b' ' {
         return false;
     }
     if value[0] != b'<' {

@@ -1,5 +1,5 @@
 -- Names that this project knows are the same where they are one.
-use Rattle.std.proofs.Common.{◌≡◌, ℕ, zero, suc, ◌<◌, Bool, true, false, List, [], ◌∷◌, length, get_or, refl, arith, lit<}
+use Rattle.std.proofs.Common.{◌≡◌, ℕ, zero, suc, ◌<◌, Bool, true, false, List, [], ◌∷◌, length, get_or, refl, sym, ap, ◌∙◌, rules, arith, lit<}
 use Rattle.std.specs.Prelude.{not, ◌&&◌}
 use denote.Enum.Bare.{sameb}
 use Rattle.sip_message_fields.specs.contracts.known.KnownName.{the_type}
@@ -7,7 +7,8 @@ use Rattle.sip_message_fields.specs.declared.field_name.FieldName.{FieldName}
 use Rattle.sip_message_fields.specs.declared.field_name.FieldName.TheVariants as Name
 use Rattle.sip_message_fields.specs.declared.known.KnownName.{KnownName}
 use Rattle.sip_message_fields.specs.declared.known.KnownName.TheVariants.{Via, From, To, CallId, CSeq, Contact, MaxForwards, ContentLength, ContentType, ContentEncoding, Subject, Supported, Route, RecordRoute, Expires, Require, ProxyRequire, Unsupported, Authorization, ProxyAuthorization, WwwAuthenticate, ProxyAuthenticate, Warning, MinExpires, Timestamp}
-use Rattle.sip_message_fields.specs.FieldName.{spelling, is_same_name}
+use Rattle.std.specs.Str.{bytes_eq}
+use Rattle.sip_message_fields.specs.FieldName.{spelling, is_same_name, name_of}
 use Rattle.sip_message_fields.specs.KnownName.{field_name_of, known_of, name_seen}
 
 abbrev known : List KnownName
@@ -126,3 +127,40 @@ seen_again Name.Warning = refl
 seen_again Name.MinExpires = refl
 seen_again Name.Timestamp = refl
 seen_again (Name.Other name) = refl
+
+-- a full spelling is read as the name that it is
+named_again : (k : KnownName) → name_of (spelling (field_name_of k)) ≡ field_name_of k
+named_again Via = refl
+named_again From = refl
+named_again To = refl
+named_again CallId = refl
+named_again CSeq = refl
+named_again Contact = refl
+named_again MaxForwards = refl
+named_again ContentLength = refl
+named_again ContentType = refl
+named_again ContentEncoding = refl
+named_again Subject = refl
+named_again Supported = refl
+named_again Route = refl
+named_again RecordRoute = refl
+named_again Expires = refl
+named_again Require = refl
+named_again ProxyRequire = refl
+named_again Unsupported = refl
+named_again Authorization = refl
+named_again ProxyAuthorization = refl
+named_again WwwAuthenticate = refl
+named_again ProxyAuthenticate = refl
+named_again Warning = refl
+named_again MinExpires = refl
+named_again Timestamp = refl
+
+pub full_name : (name : List ℕ) (k : KnownName) → name ≡ spelling (field_name_of k) → field_name_of k ≡ name_of name
+full_name name k is = sym (ap name_of is ∙ named_again k)
+
+same_again : (xs : List ℕ) → bytes_eq xs xs ≡ true
+same_again xs = search rules
+
+pub full_again : (name : List ℕ) (k : KnownName) → name ≡ spelling (field_name_of k) → bytes_eq name (spelling (name_of name)) ≡ true
+full_again name k is = ap (λ (n : FieldName). bytes_eq name (spelling n)) (sym (full_name name k is)) ∙ ap (bytes_eq name) (sym is) ∙ same_again name

@@ -14,6 +14,7 @@
 mod field;
 mod field_name;
 mod fields;
+mod full_spelling;
 mod kept_field;
 mod known;
 mod lines;

@@ -1,4 +1,5 @@
-ghost use Rattle.std.specs.Prelude.{◌≡◌, IfOk};
+ghost use Rattle.std.specs.Prelude.{◌≡◌, IfOk, IfSome};
+ghost use Rattle.sip_message_fields.specs.Lines.{line_of};
 
 use crate::Field;
 use crate::value::Value;
@@ -6,19 +7,39 @@ use crate::view_name::ViewName;
 use std::alloc::{AllocError, Global};
 use std::marker::Model;
 
-/// A field of a view, seen as that field.
-#[derive(Clone, Drop)]
+/// A field of a view, seen as that field. Where its line stands so in what was read, it has that, too: it is copied as a
+/// whole where the field is written.
+#[derive(Drop)]
 pub struct ViewField<'a> {
     name: ViewName<'a>,
     value: Value<'a>,
+    line: Option<&'a [u8]>,
 }
 
 impl<'a> Model for ViewField<'a> {
     ghost use Rattle.sip_message_fields.specs.declared.field.Field.{Field};
+    ghost use Rattle.sip_message_fields.specs.Lines.{IsLineOf};
 
     ghost Value = { Field };
 
     ghost view = { λ f. record { name = f.name; value = f.value } };
+
+    ghost invariant = { λ f. IsLineOf f.line (record { name = f.name; value = f.value }) };
+}
+
+/// Written out, so that a copy is known to be equal.
+impl<'a> Clone for ViewField<'a> {
+    ghost is_clone = { λ field copy. copy ≡ field };
+
+    fn clone(&self) -> Result<ViewField<'a>, AllocError> {
+        let name = self.name.clone()?;
+        let value = self.value.clone()?;
+        Ok(ViewField {
+            name,
+            value,
+            line: self.line,
+        })
+    }
 }
 
 impl<'a> ViewField<'a> {
@@ -27,7 +48,24 @@ impl<'a> ViewField<'a> {
     pub fn new(name: ViewName<'a>, value: Value<'a>) -> Self
         ensures { result ≡ record { name = name.entry; value = value.entry } }
     {
-        ViewField { name, value }
+        ViewField {
+            name,
+            value,
+            line: None,
+        }
+    }
+
+    /// The field of this name with this value, whose line stands so in what was read.
+    #[inline]
+    pub fn of_line(name: ViewName<'a>, value: &'a [u8], line: &'a [u8]) -> Self
+        requires { line.now ≡ line_of (record { name = name; value = value.now }) }
+        ensures { result ≡ record { name = name.entry; value = value.now } }
+    {
+        ViewField {
+            name,
+            value: Value::of_part(value),
+            line: Some(line),
+        }
     }
 
     /// A field that was made, of which no byte is copied.
@@ -44,7 +82,11 @@ impl<'a> ViewField<'a> {
         ensures { IfOk result (λ view. view ≡ self.now) }
     {
         let name = self.name.lent()?;
-        Ok(ViewField::new(name, Value::of_part(self.value.as_slice())))
+        Ok(ViewField {
+            name,
+            value: Value::of_part(self.value.as_slice()),
+            line: self.line,
+        })
     }
 
     /// Its name.
@@ -61,6 +103,14 @@ impl<'a> ViewField<'a> {
         ensures { result.now ≡ self.now.value }
     {
         &self.value
+    }
+
+    /// Its line with its CRLF, if what was read has it so (RFC 3261 7.3.1).
+    #[inline]
+    pub fn line(&self) -> Option<&[u8]>
+        ensures { IfSome result (λ line. line.now ≡ line_of self.now) }
+    {
+        self.line
     }
 
     /// The field, which owns its bytes.

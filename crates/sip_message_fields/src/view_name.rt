@@ -1,10 +1,12 @@
 ghost use Rattle.std.specs.Prelude.{◌≡◌, IfOk};
+ghost use Rattle.std.specs.Str.{bytes_eq};
 ghost use Rattle.sip_message_fields.specs.declared.field_name.FieldName.TheVariants.{Other};
 ghost use Rattle.sip_message_fields.specs.FieldName.{spelling, name_of, is_length, is_list, is_same_name};
 ghost use Rattle.sip_message_fields.specs.KnownName.{field_name_of, name_seen};
 
+use crate::full_spelling::spelled_in_full;
 use crate::{FieldName, KnownName};
-use sip_text::{Bytes, same_no_case};
+use sip_text::{Bytes, same_bytes, same_no_case};
 use std::alloc::{AllocError, Global};
 use std::marker::Model;
 
@@ -23,6 +25,16 @@ impl<'a> Model for ViewName<'a> {
     ghost Value = { FieldName };
 
     ghost view = { λ n. name_seen n.known n.spelling.now };
+}
+
+/// Whether a name is its full spelling, of which it is known whether this project knows it.
+fn is_in_full(known: Option<KnownName>, name: &[u8]) -> bool
+    ensures { result ≡ bytes_eq name.now (spelling (name_seen known name.now)) }
+{
+    match known {
+        Some(known) => same_bytes(name, known.spelling()),
+        None => same_bytes(name, name),
+    }
 }
 
 impl<'a> ViewName<'a> {
@@ -46,6 +58,28 @@ impl<'a> ViewName<'a> {
             known: KnownName::from_bytes(name),
             spelling: name,
         }
+    }
+
+    /// The name that is written so (RFC 3261 7.3.1 and 7.3.3), and whether this is its full spelling, letter by letter.
+    #[inline(always)]
+    #[tactic(auto, using(crate::proofs::KnownNames::full_name, crate::proofs::KnownNames::full_again))]
+    pub fn of_written(name: &'a [u8]) -> (Self, bool)
+        ensures name { result.0 ≡ name_of name.now }
+        ensures full { result.1 ≡ bytes_eq name.now (spelling (name_of name.now)) }
+    {
+        if let Some(known) = spelled_in_full(name) {
+            let written = ViewName {
+                known: Some(known),
+                spelling: name,
+            };
+            return (written, true);
+        }
+        let known = KnownName::from_bytes(name);
+        let written = ViewName {
+            known,
+            spelling: name,
+        };
+        (written, is_in_full(known, name))
     }
 
     /// The name of a field that was made, of which no byte is copied.

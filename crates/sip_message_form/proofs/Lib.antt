@@ -1,3 +1,4 @@
 pub mod Keeping
 pub mod Longer
 pub mod StoredText
+pub mod WrittenLines

@@ -24,10 +24,14 @@ fn start_length(start: &ViewStart<'_>) -> usize
 }
 
 /// The length of a field with its CRLF, or the greatest `usize` where it is longer.
+#[tactic(auto, using(crate::proofs::WrittenLines::line_length))]
 fn field_length(field: &ViewField<'_>) -> usize
     ensures { result ≡ min (length (field_text field.now)) (2 ^ 64 - 1) }
 {
-    line_length(field.name().spelling(), field.value().as_slice())
+    match field.line() {
+        Some(line) => line.len(),
+        None => line_length(field.name().spelling(), field.value().as_slice()),
+    }
 }
 
 /// The length of some fields, each with its CRLF, or the greatest `usize` where it is longer.

@@ -28,7 +28,10 @@ fn put_start(out: &mut Buffer, start: &ViewStart<'_>) -> Result<(), AllocError>
 pub fn put_field(out: &mut Buffer, field: &ViewField<'_>) -> Result<(), AllocError>
     ensures { OnOk result (out.new ≡ out.old ++ field_text field.now) }
 {
-    put_line(out, field.name().spelling(), field.value().as_slice())
+    match field.line() {
+        Some(line) => out.extend(line),
+        None => put_line(out, field.name().spelling(), field.value().as_slice()),
+    }
 }
 
 /// Puts each field with its CRLF. `AllocError` is the only refusal.
