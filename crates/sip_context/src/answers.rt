@@ -74,21 +74,20 @@ pub(crate) fn best_upward(
 
 /// The bytes of an answer that are kept, to be sent again: none of a 2xx to an INVITE (RFC 3261 13.3.1.4, RFC 6026
 /// 7.1).
-fn kept_text(request: &OpenRequest, up: &Upward) -> Result<AnswerText, AllocError>
+fn kept_text(alloc: Global, request: &OpenRequest, up: &Upward) -> Result<AnswerText, AllocError>
     ensures { IfOk result (λ text. text ≡ (Contexts.last_answer request.now up.now.status (text_of up.now.message)).text) }
 {
     if is_invite(request) && is_success(up.status) {
         return Ok(AnswerText::none());
     }
-    let message = up.message.message().clone()?;
-    Ok(AnswerText::of_message(message))
+    AnswerText::copy(alloc, up.message.text())
 }
 
 /// The answer that was sent last.
-fn last_answer(request: &OpenRequest, up: &Upward) -> Result<LastAnswer, AllocError>
+fn last_answer(alloc: Global, request: &OpenRequest, up: &Upward) -> Result<LastAnswer, AllocError>
     ensures { IfOk result (λ answer. answer ≡ Contexts.last_answer request.now up.now.status (text_of up.now.message)) }
 {
-    let text = kept_text(request, up)?;
+    let text = kept_text(alloc, request, up)?;
     Ok(LastAnswer {
         status: up.status,
         text,
@@ -106,7 +105,7 @@ pub fn answered(
     requires { now + 32000 < 2 ^ 64 }
     ensures { OnOk result (request.new ≡ Contexts.answered now up.now request.old) }
 {
-    request.answer = Some(last_answer(request, up)?);
+    request.answer = Some(last_answer(alloc, request, up)?);
     request.side = side_after(now, request.side, up.status);
     request.again = first_resend(now);
     if !is_provisional(up.status) {
