@@ -1,11 +1,7 @@
 -- The text of an answer that was sent.
-use Rattle.std.specs.Prelude.{ℕ, List, []}
-use Rattle.sip_message_form.specs.Text.{text_of}
-use Rattle.sip_state.specs.declared.answer_text.Place.{Place}
-use Rattle.sip_state.specs.declared.answer_text.Place.TheVariants.{Nowhere, InMessage, Alone}
+use Rattle.std.specs.Prelude.{ℕ, List, [], Option, Some, None}
 
--- the text that stands there
-abbrev pub text_at : Place → List ℕ
-text_at Nowhere = []
-text_at (InMessage message) = text_of message
-text_at (Alone bytes) = bytes
+-- the text that is kept, if any is
+abbrev pub text_in : Option (List ℕ) → List ℕ
+text_in None = []
+text_in (Some bytes) = bytes

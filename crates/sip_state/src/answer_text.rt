@@ -1,37 +1,23 @@
 ghost use Rattle.std.specs.Prelude.{◌≡◌, [], IfOk};
-ghost use Rattle.sip_message_form.specs.Text.{text_of};
 
 use sip_base::Shared;
-use sip_message_form::Kept;
 use sip_text::Bytes;
 use std::alloc::{AllocError, Global};
 use std::marker::Model;
 
-/// Where the text of an answer stands.
-#[derive(Clone, Drop)]
-pub(crate) enum Place {
-    /// None is kept.
-    Nowhere,
-    /// With its message.
-    InMessage(Shared<Kept>),
-    /// Alone.
-    Alone(Shared<Bytes>),
-}
-
-/// The text of an answer that was sent, seen as its bytes: that of a message that is kept, bytes alone, or none. A clone
-/// copies no byte.
+/// The text of an answer that was sent, seen as its bytes; of some answers none is kept. A clone copies no byte.
 #[derive(Clone, Drop)]
 pub struct AnswerText {
-    place: Place,
+    bytes: Option<Shared<Bytes>>,
 }
 
 impl Model for AnswerText {
     ghost use Rattle.std.specs.Prelude.{ℕ, List};
-    ghost use Rattle.sip_state.specs.AnswerText.{text_at};
+    ghost use Rattle.sip_state.specs.AnswerText.{text_in};
 
     ghost Value = { List ℕ };
 
-    ghost view = { λ t. text_at t.place };
+    ghost view = { λ t. text_in t.bytes };
 }
 
 impl AnswerText {
@@ -39,18 +25,7 @@ impl AnswerText {
     pub fn none() -> Self
         ensures { result ≡ [] }
     {
-        AnswerText {
-            place: Place::Nowhere,
-        }
-    }
-
-    /// The text of a message that is kept.
-    pub fn of_message(message: Shared<Kept>) -> Self
-        ensures { result ≡ text_of message }
-    {
-        AnswerText {
-            place: Place::InMessage(message),
-        }
+        AnswerText { bytes: None }
     }
 
     /// A copy of a text. `AllocError` is the only refusal.
@@ -58,19 +33,16 @@ impl AnswerText {
         ensures { IfOk result (λ copy. copy ≡ text.now) }
     {
         let bytes = Shared::new(alloc, Bytes::copy(alloc, text)?)?;
-        Ok(AnswerText {
-            place: Place::Alone(bytes),
-        })
+        Ok(AnswerText { bytes: Some(bytes) })
     }
 
     /// The bytes.
     pub fn as_slice(&self) -> &[u8]
         ensures { result.now ≡ self.now }
     {
-        match &self.place {
-            Place::Nowhere => b"",
-            Place::InMessage(message) => message.get().text(),
-            Place::Alone(bytes) => bytes.get().as_slice(),
+        match &self.bytes {
+            None => b"",
+            Some(bytes) => bytes.get().as_slice(),
         }
     }
 }
