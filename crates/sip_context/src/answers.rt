@@ -96,7 +96,7 @@ fn last_answer(alloc: Global, request: &OpenRequest, up: &Upward) -> Result<Last
 
 /// An answer goes to the caller: it is the last one, and the first final one begins to close the request (RFC 3261 17.2).
 /// `AllocError` is the only refusal.
-pub fn answered(
+fn answered(
     alloc: Global,
     now: u64,
     request: &mut OpenRequest,

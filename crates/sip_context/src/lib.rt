@@ -26,7 +26,6 @@ mod sent;
 mod settling;
 mod side;
 
-pub use answers::answered;
 pub use events::take_input;
 pub use input::Input;
 pub use sent::Sent;
@@ -40,9 +39,7 @@ pub mod context_branches {
 
 /// Of `sip_context_packets`.
 pub mod context_packets {
-    pub use sip_context_packets::{
-        answer_packet, answer_to, made_answer, packets_of_branches, written_answer,
-    };
+    pub use sip_context_packets::{answer_packet, answer_to, made_answer, packets_of_branches};
 }
 
 /// Of `sip_state`.

@@ -3,6 +3,7 @@ ghost use Rattle.sip_message_form.specs.Text.{text_of};
 ghost use Rattle.sip_edit_response.specs.Reply.{reply_of};
 ghost use Rattle.sip_edit_response.specs.Tags;
 ghost use Rattle.model_context.specs.Sending as Spec;
+ghost use Rattle.sip_context_packets.specs.TagFor.{IsTagFor};
 
 use model_context::state::{Heard, OpenRequest, Server, Written};
 use sip_edit_response::{reply_view, respond, to_tag};
@@ -57,6 +58,35 @@ pub fn answer_to(
     )
 }
 
+/// The tag that To gets in an answer of a status that is made here to the datagram of a number: a 100 gets none (RFC 3261
+/// 8.2.6.2).
+#[tactic(auto, using(crate::proofs::Untagged::no_tag, crate::proofs::Untagged::own_tag))]
+fn tag_of(alloc: Global, server: &Server, number: u64, status: u16) -> Result<Bytes, AllocError>
+    ensures { IfOk result (λ tag. IsTagFor status (Tags.to_tag server.now.word number) tag) }
+{
+    if status == 100 {
+        return Ok(Bytes::new(alloc));
+    }
+    to_tag(alloc, server.word, number)
+}
+
+/// The text of the answer of a status that is made here, with these further fields, to a request which the datagram of a
+/// number brought.
+#[tactic(auto, using(crate::proofs::Untagged::tagged))]
+fn made_text(
+    alloc: Global,
+    server: &Server,
+    number: u64,
+    received: &View<'_>,
+    status: u16,
+    extras: &Fields,
+) -> Result<Bytes, AllocError>
+    ensures { IfOk result (λ text. text ≡ text_of (reply_of received.now status (Tags.to_tag server.now.word number) extras.now)) }
+{
+    let tag = tag_of(alloc, server, number, status)?;
+    respond(alloc, received, status, tag.as_slice(), extras)
+}
+
 /// The text of an answer that is made here to a request that came from an address in the datagram of a number (RFC 3261
 /// 8.2.6): with this status and these further fields. `AllocError` is the only refusal.
 pub fn made_answer(
@@ -72,8 +102,7 @@ pub fn made_answer(
 {
     let via = request.received_via(alloc, from)?;
     let received = request.with_top_via(alloc, via.as_slice())?;
-    let tag = to_tag(alloc, server.word, number)?;
-    respond(alloc, &received, status, tag.as_slice(), extras)
+    made_text(alloc, server, number, &received, status, extras)
 }
 
 /// A response to a request without further fields, kept with its text.
@@ -90,25 +119,6 @@ fn written_reply(
     Written::of_view(alloc, &answer)
 }
 
-/// The answer of a status that is made here to a request which the datagram of a number brought, kept with its text.
-#[tactic(auto, using(crate::proofs::Untagged::no_tag))]
-fn written_made(
-    alloc: Global,
-    server: &Server,
-    number: u64,
-    received: &View<'_>,
-    status: u16,
-) -> Result<Written, AllocError>
-    ensures { IfOk result (λ written. written ≡ reply_of received.now status (Tags.to_tag server.now.word number) []) }
-{
-    // A 100 gets no tag (RFC 3261 8.2.6.2).
-    if status == 100 {
-        return written_reply(alloc, received, status, b"");
-    }
-    let tag = to_tag(alloc, server.word, number)?;
-    written_reply(alloc, received, status, tag.as_slice())
-}
-
 /// The answer of a status that is made here to an open request, as a message that is kept with its text. `AllocError` is
 /// the only refusal.
 pub fn written_answer(
@@ -123,5 +133,6 @@ pub fn written_answer(
     let request = open_request.request.get();
     let via = request.received_via(alloc, open_request.source)?;
     let received = request.with_top_via(alloc, via.as_slice())?;
-    written_made(alloc, server, open_request.number, &received, status)
+    let tag = to_tag(alloc, server.word, open_request.number)?;
+    written_reply(alloc, &received, status, tag.as_slice())
 }

@@ -5,3 +5,4 @@ pub mod Opened
 pub mod Keys
 pub mod Moved
 pub mod ForkOpened
+pub mod Trying

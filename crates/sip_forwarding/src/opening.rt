@@ -1,18 +1,21 @@
-ghost use Rattle.std.specs.Prelude.{◌≡◌, ◌+◌, ◌<◌, ◌^◌, ◌++◌, [], false, is_some, None, IfOk, OnOk};
+ghost use Rattle.std.specs.Prelude.{◌≡◌, ◌+◌, ◌<◌, ◌^◌, ◌++◌, [], false, is_some, Some, IfOk, OnOk};
 ghost use Rattle.std.specs.List.{flat_map, list_any};
 ghost use Rattle.model_steps.specs.state.declared.branch.Branch.{Branch};
+ghost use Rattle.sip_message_form.specs.Text.{text_of};
+ghost use Rattle.sip_context_branches.specs.state.State as States;
 ghost use Rattle.sip_context_branches.specs.context_model.Opening as Definitions;
 ghost use Rattle.sip_context_branches.specs.context_model.Sending as Sendings;
 ghost use Rattle.sip_context.specs.Sent.{change_of};
 ghost use Rattle.model_steps.specs.Effect as Effects;
 
-use crate::packets::{change_packets, put_packets, upward_packet};
-use model_steps::state::{Branch, OpenRequest, Server, Upward};
-use sip_context::context_packets::{packets_of_branches, written_answer};
-use sip_context::state::is_invite;
-use sip_context::{Sent, answered, settle_alone};
+use crate::packets::{change_packets, put_packets};
+use model_steps::state::{AnswerText, Branch, LastAnswer, OpenRequest, Server, Upward};
+use sip_context::context_packets::{answer_to, made_answer, packets_of_branches};
+use sip_context::state::{first_resend, is_invite};
+use sip_context::{Sent, settle_alone};
 use sip_event::Packet;
-use sip_text::Items;
+use sip_message_fields::Fields;
+use sip_text::{Bytes, Items};
 use std::alloc::{AllocError, Global};
 
 /// Whether one of some branches has an address.
@@ -34,25 +37,34 @@ fn is_tried(request: &OpenRequest) -> bool
     is_invite(request) && goes_anywhere(request.branches.as_slice())
 }
 
-/// The 100 of a request, as it goes to the caller.
-fn trying(alloc: Global, server: &Server, request: &OpenRequest) -> Result<Upward, AllocError>
-    ensures { IfOk result
-        (λ up. up ≡ record {
-          status = 100;
-          message = Sendings.made_answer server.now request.now.number request.now.request
-              request.now.source 100 [];
-          target = None;
-        }) }
+/// The text of the 100 of a request.
+fn trying_text(alloc: Global, server: &Server, request: &OpenRequest) -> Result<Bytes, AllocError>
+    ensures { IfOk result (λ text. text
+        ≡ text_of (Sendings.made_answer server.now request.now.number request.now.request request.now.source 100 [])) }
 {
-    let message = written_answer(alloc, server, request, 100)?;
-    Ok(Upward {
-        status: 100,
-        message,
-        target: None,
-    })
+    let extras = Fields::new(alloc);
+    made_answer(
+        alloc,
+        server,
+        request.number,
+        request.request.get(),
+        request.source,
+        100,
+        &extras,
+    )
+}
+
+/// A 100 of this text went to the caller: the request has no final answer, as before.
+fn was_tried(now: u64, request: &mut OpenRequest, text: AnswerText)
+    requires { now + 32000 < 2 ^ 64 }
+    ensures { request.new ≡ record request.old { answer = Some (record { status = 100; text = text }); again = States.first_resend now } }
+{
+    request.answer = Some(LastAnswer { status: 100, text });
+    request.again = first_resend(now);
 }
 
 /// A request that gets a 100 is answered so.
+#[tactic(auto, using(crate::proofs::Trying::request_after, crate::proofs::Trying::packet_sent))]
 fn try_first(
     alloc: Global,
     out: &mut Items<Packet>,
@@ -67,9 +79,10 @@ fn try_first(
     if !is_tried(open_request) {
         return Ok(());
     }
-    let up = trying(alloc, server, open_request)?;
-    out.push(upward_packet(alloc, open_request, &up)?)?;
-    answered(alloc, now, open_request, &up)?;
+    let text = trying_text(alloc, server, open_request)?;
+    let kept = AnswerText::copy(alloc, text.as_slice())?;
+    out.push(answer_to(alloc, false, open_request, text)?)?;
+    was_tried(now, open_request, kept);
     Ok(())
 }
 
