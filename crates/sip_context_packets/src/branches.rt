@@ -7,7 +7,7 @@ ghost use Rattle.model_context.specs.Sending as Spec;
 ghost use Rattle.sip_context_packets.specs.Base;
 
 use model_context::state::{Branch, OpenRequest, Server, is_invite};
-use sip_edit::{ack_text, cancel_text, own_via_to};
+use sip_edit::{BranchId, ack_text, cancel_text};
 use sip_event::{Packet, Ticket};
 use sip_text::{Bytes, Items};
 use sip_uri::Addr;
@@ -24,11 +24,14 @@ fn begins_dialog(alloc: Global, request: &OpenRequest) -> Result<bool, AllocErro
     Ok(!names)
 }
 
-/// The value of this server's Via on the request to a target.
-fn via_value(alloc: Global, server: &Server, number: u64, target: u32) -> Result<Bytes, AllocError>
-    ensures { IfOk result (λ value. value ≡ Base.via_value server.now number target) }
+/// The branch of this server's Via on the request to a target.
+fn branch_id(request: &OpenRequest, branch: &Branch) -> BranchId
+    ensures { result ≡ record { number = request.now.number; target = branch.now.number } }
 {
-    own_via_to(alloc, &server.config.own, server.word, number, target)
+    BranchId {
+        number: request.number,
+        target: branch.number,
+    }
 }
 
 /// Adds a packet to an address: of the datagram that brought its request, and of a branch of that.
@@ -61,12 +64,13 @@ fn cancel_bytes(
 ) -> Result<Bytes, AllocError>
     ensures { IfOk result (λ text. text ≡ text_of (OwnRequests.cancel_of (Spec.request_of server.now request.now branch.now))) }
 {
-    let via = via_value(alloc, server, request.number, branch.number)?;
+    let own = &server.config.own;
     let heard = request.request.get();
-    let routes = heard.routes_kept(alloc, &server.config.own)?;
+    let routes = heard.routes_kept(alloc, own)?;
     let came = heard.view(alloc)?;
-    let target = branch.uri.get();
-    cancel_text(alloc, target.as_slice(), via.as_slice(), routes, &came)
+    let id = branch_id(request, branch);
+    let uri = branch.uri.get();
+    cancel_text(alloc, own, server.word, id, uri.as_slice(), routes, &came)
 }
 
 /// Adds the CANCEL of the request of a branch of an open request.
@@ -99,13 +103,17 @@ fn request_text(
     requires { begins_dialog ≡ Spec.begins_dialog request.now }
     ensures { IfOk result (λ text. text ≡ text_of (Spec.request_of server.now request.now branch.now)) }
 {
-    let via = via_value(alloc, server, request.number, branch.number)?;
     let heard = request.request.get();
-    let own = &server.config.own;
-    let realm = server.config.realm.as_slice();
-    let target = branch.uri.get();
-    let uri = target.as_slice();
-    heard.text_to(alloc, own, realm, begins_dialog, request.source, uri, via)
+    let id = branch_id(request, branch);
+    let uri = branch.uri.get();
+    heard.text_to(
+        alloc,
+        server,
+        id,
+        begins_dialog,
+        request.source,
+        uri.as_slice(),
+    )
 }
 
 /// Adds the request of a branch of an open request, which is no CANCEL.
@@ -205,12 +213,22 @@ fn ack_bytes(
 ) -> Result<Bytes, AllocError>
     ensures { IfOk result (λ text. text ≡ text_of (OwnRequests.ack_with (option_map (λ value. value.now) to.entry) (Spec.request_of server.now request.now branch.now))) }
 {
-    let via = via_value(alloc, server, request.number, branch.number)?;
+    let own = &server.config.own;
     let heard = request.request.get();
-    let routes = heard.routes_kept(alloc, &server.config.own)?;
+    let routes = heard.routes_kept(alloc, own)?;
     let came = heard.view(alloc)?;
-    let target = branch.uri.get();
-    ack_text(alloc, to, target.as_slice(), via.as_slice(), routes, &came)
+    let id = branch_id(request, branch);
+    let uri = branch.uri.get();
+    ack_text(
+        alloc,
+        own,
+        server.word,
+        id,
+        to,
+        uri.as_slice(),
+        routes,
+        &came,
+    )
 }
 
 /// Adds the ACK of a final answer of an INVITE that is no 2xx, which a branch sends, with this To if that had one (RFC 3261

@@ -46,7 +46,7 @@ apart_by text a b false u is_a is_b differ = refl
 abbrev cased : FieldName → List ℕ
 cased name = without_case (spelling name)
 
-apart : (a b name : FieldName) → is_same_name a b ≡ false → (is_same_name name a && is_same_name name b) ≡ false
+pub apart : (a b name : FieldName) → is_same_name a b ≡ false → (is_same_name name a && is_same_name name b) ≡ false
 apart a b name differ = apart_by (cased name) (cased a) (cased b) (bytes_eq (cased name) (cased a)) (bytes_eq (cased name) (cased b)) refl refl differ
 
 -- ---- of a field and others those of a name
@@ -67,7 +67,7 @@ edited_by n true true value field fields others is never rest = absurd cc
 edited_by n true false value field fields others is never rest = in_front n false (record field { value = value }) fields fields is refl
 edited_by n false u value field fields others is never rest = in_front n u field others fields is rest
 
-edited : (x n : FieldName) (value : List ℕ) (fields : List Field) → is_same_name x n ≡ false → all_named n (with_first x value fields) ≡ all_named n fields
+pub edited : (x n : FieldName) (value : List ℕ) (fields : List Field) → is_same_name x n ≡ false → all_named n (with_first x value fields) ≡ all_named n fields
 edited x n value [] differ = refl
 edited x n value (field ∷ fields) differ =
     edited_by n (is_same_name field.name x) (is_same_name field.name n) value field fields (with_first x value fields) refl (apart x n field.name differ) (edited x n value fields differ)

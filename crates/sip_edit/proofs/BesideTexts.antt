@@ -33,14 +33,20 @@ cseq_is method cseq = four (codes "CSeq: ") (decimal cseq.number) (codes " ") me
 
 -- ---- the front
 
-apart : (out start ends name colon value behind hops : List ℕ) →
-    out ++ start ++ ends ++ name ++ colon ++ value ++ behind ++ hops ≡ out ++ (start ++ ends ++ (name ++ colon ++ value ++ behind) ++ hops)
-apart out start ends name colon value behind hops = simp append_assoc
+first_line : (out method uri ends : List ℕ) → out ++ method ++ codes " " ++ uri ++ (codes " " ++ codes "SIP/2.0" ++ ends) ≡ out ++ (method ++ codes " " ++ uri ++ codes " " ++ codes "SIP/2.0") ++ ends
+first_line out method uri ends = simp append_assoc
+
+pub line_is : (out method uri : List ℕ) →
+    out ++ method ++ codes " " ++ uri ++ codes " SIP/2.0\r\n" ≡ out ++ start_text (Request method uri (codes "SIP/2.0")) ++ codes "\r\n"
+line_is out method uri = first_line out method uri (codes "\r\n")
+
+apart : (out start ends via hops : List ℕ) → out ++ start ++ ends ++ via ++ hops ≡ out ++ (start ++ ends ++ via ++ hops)
+apart out start ends via hops = simp append_assoc
 
 pub front_is : (out method uri via : List ℕ) →
-    out ++ start_text (Request method uri (codes "SIP/2.0")) ++ codes "\r\n" ++ codes "Via" ++ codes ": " ++ via ++ codes "\r\n" ++ codes "Max-Forwards: 70\r\n" ≡ out ++ front_text method uri via
+    out ++ start_text (Request method uri (codes "SIP/2.0")) ++ codes "\r\n" ++ field_text (record { name = Name.Via; value = via }) ++ codes "Max-Forwards: 70\r\n" ≡ out ++ front_text method uri via
 front_is out method uri via =
-    apart out (start_text (Request method uri (codes "SIP/2.0"))) (codes "\r\n") (codes "Via") (codes ": ") via (codes "\r\n") (codes "Max-Forwards: 70\r\n")
+    apart out (start_text (Request method uri (codes "SIP/2.0"))) (codes "\r\n") (field_text (record { name = Name.Via; value = via })) (codes "Max-Forwards: 70\r\n")
 
 -- ---- the Routes that are left
 

@@ -1,9 +1,8 @@
 -- The tail of a request as it is written, field by field, behind its top Via.
-use Rattle.std.proofs.Common.{◌≡◌, ℕ, Bool, true, false, cond, ◌&&◌, ◌==◌, nat_lt, List, [], ◌∷◌, ◌++◌, length, map, filter, refl, sym, ap, ◌∙◌, append_assoc, append-nil, flat_map, Option, Some, None}
+use Rattle.std.proofs.Common.{◌≡◌, ℕ, Bool, true, false, cond, ◌&&◌, ◌==◌, nat_lt, List, [], ◌∷◌, ◌++◌, length, map, filter, refl, sym, ap, ◌∙◌, append_assoc, flat_map, Option, Some, None}
 use Rattle.std.specs.Prelude.{decimal, codes}
 use Rattle.std.specs.Option.{option_map_or}
 use Rattle.std.specs.Str.{bytes_eq}
-use Rattle.std.proofs.lemmas.List.Concat.{flat_map-append}
 use Rattle.std.proofs.lemmas.Slice.Eq.{bytes_eq-Decides}
 use Rattle.sip_text.specs.Words.{without_case}
 use Rattle.sip_message_fields.specs.declared.field.Field.{Field}
@@ -14,16 +13,14 @@ use Rattle.sip_message_fields.specs.Values.{with_first}
 use Rattle.sip_message_form.specs.declared.message.Message.{Message}
 use Rattle.sip_message_form.specs.Text.{field_text}
 use Rattle.sip_header.specs.declared.max_forwards.MaxForwards.{MaxForwards}
-use Rattle.sip_header.specs.declared.max_forwards.MaxForwards.TheVariants.{Absent, Hops, Malformed}
 use Rattle.sip_header.specs.MaxForwards.{hops_in, max_forwards_of}
 use Rattle.sip_header_credentials.specs.Credentials.{credentials_of, is_realm}
 use Rattle.sip_route.specs.declared.routes_kept.RoutesKept.{RoutesKept}
 use Rattle.sip_route.specs.RoutesKept.{stays, behind_route}
 use Rattle.sip_route.specs.RoutesKept as Routes
 use Rattle.sip_edit.specs.Onward.{is_for_realm}
-use Rattle.sip_edit.specs.OwnRequests.{seventy}
 use Rattle.sip_edit.specs.Lowering.{hops_left, default_hops, lowered_field, hops_behind, fields_on, fields_by}
-use Rattle.sip_edit.specs.Tail.{behind, tail_of, default_text}
+use Rattle.sip_edit.specs.Tail.{behind, tail_of, others_behind}
 use Rattle.sip_edit.proofs.GoingOn as Going
 
 -- ---- field by field
@@ -88,13 +85,6 @@ hops_without : (top : Field) (others : List Field) → is_same_name top.name Nam
 hops_without top others differs =
     ap (λ (t : Bool). hops_in (map (λ field. field.value) (cond t (top ∷ filter (λ field. is_same_name field.name Name.MaxForwards) others) (filter (λ field. is_same_name field.name Name.MaxForwards) others)))) differs
 
--- ---- a Max-Forwards that it gets
-
-default_is : (hops : MaxForwards) → default_text hops ≡ flat_map field_text (default_hops hops)
-default_is Absent = sym (append-nil (field_text seventy))
-default_is (Hops n) = refl
-default_is Malformed = refl
-
 -- ---- the whole
 
 abbrev edited : Field → List ℕ → Field
@@ -111,29 +101,15 @@ onward_are routes realm via fields top others is e =
     ∙ ap (λ (h : MaxForwards). fields_on (hops_left h) routes realm (edited top via ∷ others) ++ default_hops h) hops
     ∙ ap (λ (w : List Field). w ++ default_hops (max_forwards_of fields)) (top_goes_on (hops_left (max_forwards_of fields)) routes realm (edited top via) others e)
 
-lines : (first : List ℕ) (fields more : List Field) → first ++ flat_map field_text fields ++ flat_map field_text more ≡ first ++ flat_map field_text (fields ++ more)
-lines first fields more =
-    append_assoc first (flat_map field_text fields) (flat_map field_text more) ∙ ap (λ (w : List ℕ). first ++ w) (sym (flat_map-append field_text fields more))
-
-pub whole_is : (routes : RoutesKept) (realm empty text : List ℕ) (m : Message) → empty ≡ [] →
-    text ≡ empty ++ flat_map field_text (fields_on (hops_left (max_forwards_of m.fields)) routes realm m.fields) ++ default_text (max_forwards_of m.fields)
-    ++ codes "Content-Length: " ++ decimal (length m.body) ++ codes "\r\n\r\n" ++ m.body →
-    text ≡ tail_of routes realm m
-whole_is routes realm empty text m none written =
+-- the line of the top Via with what stands behind it
+pub tail_is : (routes : RoutesKept) (realm via out first : List ℕ) (m : Message) (top : Field) (others : List Field) → m.fields ≡ top ∷ others → is_same_name top.name Name.Via ≡ true →
+    first ≡ out ++ field_text (record top { value = via }) →
+    first ++ others_behind routes realm m others ≡ out ++ tail_of routes realm (record m { fields = with_first Name.Via via m.fields })
+tail_is routes realm via out first m top others is e written =
     let hops : MaxForwards = max_forwards_of m.fields in
-    written
-    ∙ ap (λ (w : List ℕ). empty ++ flat_map field_text (fields_on (hops_left hops) routes realm m.fields) ++ w ++ codes "Content-Length: " ++ decimal (length m.body) ++ codes "\r\n\r\n" ++ m.body) (default_is hops)
-    ∙ ap (λ (w : List ℕ). w ++ flat_map field_text (fields_on (hops_left hops) routes realm m.fields) ++ flat_map field_text (default_hops hops) ++ codes "Content-Length: " ++ decimal (length m.body) ++ codes "\r\n\r\n" ++ m.body) none
-    ∙ ap (λ (w : List ℕ). w ++ codes "Content-Length: " ++ decimal (length m.body) ++ codes "\r\n\r\n" ++ m.body) (lines [] (fields_on (hops_left hops) routes realm m.fields) (default_hops hops))
-
-pub tail_is : (routes : RoutesKept) (realm via empty text : List ℕ) (m : Message) (top : Field) (others : List Field) → m.fields ≡ top ∷ others → is_same_name top.name Name.Via ≡ true → empty ≡ [] →
-    text ≡ empty ++ field_text (record top { value = via }) ++ flat_map field_text (fields_on (hops_left (max_forwards_of m.fields)) routes realm others)
-    ++ default_text (max_forwards_of m.fields) ++ codes "Content-Length: " ++ decimal (length m.body) ++ codes "\r\n\r\n" ++ m.body →
-    text ≡ tail_of routes realm (record m { fields = with_first Name.Via via m.fields })
-tail_is routes realm via empty text m top others is e none written =
-    let hops : MaxForwards = max_forwards_of m.fields in
-    written
-    ∙ ap (λ (w : List ℕ). empty ++ field_text (edited top via) ++ flat_map field_text (fields_on (hops_left hops) routes realm others) ++ w ++ codes "Content-Length: " ++ decimal (length m.body) ++ codes "\r\n\r\n" ++ m.body) (default_is hops)
-    ∙ ap (λ (w : List ℕ). w ++ field_text (edited top via) ++ flat_map field_text (fields_on (hops_left hops) routes realm others) ++ flat_map field_text (default_hops hops) ++ codes "Content-Length: " ++ decimal (length m.body) ++ codes "\r\n\r\n" ++ m.body) none
-    ∙ ap (λ (w : List ℕ). w ++ codes "Content-Length: " ++ decimal (length m.body) ++ codes "\r\n\r\n" ++ m.body) (lines (field_text (edited top via)) (fields_on (hops_left hops) routes realm others) (default_hops hops))
-    ∙ ap (λ (w : List Field). behind w m.body) (sym (onward_are routes realm via m.fields top others is e))
+    ap (λ (w : List ℕ). w ++ others_behind routes realm m others) written
+    ∙ in_front out (field_text (edited top via)) (flat_map field_text (fields_on (hops_left hops) routes realm others ++ default_hops hops)) (codes "Content-Length: ") (decimal (length m.body)) (codes "\r\n\r\n") m.body
+    ∙ ap (λ (w : List Field). out ++ behind w m.body) (sym (onward_are routes realm via m.fields top others is e))
+  where
+    in_front : (out first a b c d e : List ℕ) → out ++ first ++ (a ++ b ++ c ++ d ++ e) ≡ out ++ ((first ++ a) ++ b ++ c ++ d ++ e)
+    in_front out first a b c d e = simp append_assoc

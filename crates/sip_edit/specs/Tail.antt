@@ -11,8 +11,9 @@ use Rattle.sip_route.specs.declared.routes_kept.RoutesKept.{RoutesKept}
 use Rattle.sip_edit.specs.Onward.{with_uri, record_route_field}
 use Rattle.sip_header.specs.declared.max_forwards.MaxForwards.{MaxForwards}
 use Rattle.sip_header.specs.declared.max_forwards.MaxForwards.TheVariants.{Absent, Hops, Malformed}
+use Rattle.sip_header.specs.MaxForwards.{max_forwards_of}
 use Rattle.sip_edit.specs.OwnRequests.{seventy}
-use Rattle.sip_edit.specs.Lowering.{fields_by}
+use Rattle.sip_edit.specs.Lowering.{hops_left, default_hops, fields_on, fields_by}
 
 -- fields, the length of the body, the empty line, the body (RFC 3261 7)
 abbrev pub behind : List Field → List ℕ → List ℕ
@@ -21,6 +22,11 @@ behind fields body = flat_map field_text fields ++ codes "Content-Length: " ++ d
 -- the tail of a request of which these Routes are left, from a server of this realm
 abbrev pub tail_of : RoutesKept → List ℕ → Message → List ℕ
 tail_of routes realm m = behind (fields_by routes realm m.fields) m.body
+
+-- of such a tail what these fields become, which stand behind the others of the request
+abbrev pub others_behind : RoutesKept → List ℕ → Message → List Field → List ℕ
+others_behind routes realm m others =
+    behind (fields_on (hops_left (max_forwards_of m.fields)) routes realm others ++ default_hops (max_forwards_of m.fields)) m.body
 
 -- this server's Record-Route, where it gets one
 abbrev pub recorded : Own → Bool → List ℕ

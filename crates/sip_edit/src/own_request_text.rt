@@ -1,9 +1,10 @@
-ghost use Rattle.std.specs.Prelude.{◌≡◌, ◌++◌, IfOk, OnOk, option_map};
+ghost use Rattle.std.specs.Prelude.{◌≡◌, ◌++◌, codes, IfOk, OnOk, option_map};
 ghost use Rattle.std.specs.Option.{option_and_then, option_to_list};
 ghost use Rattle.std.specs.List.{flat_map};
 ghost use Rattle.sip_message_fields.specs.declared.field_name.FieldName.TheVariants as Name;
 ghost use Rattle.sip_message_fields.specs.Named.{all_named};
-ghost use Rattle.sip_message_form.specs.Text.{field_text, text_of};
+ghost use Rattle.sip_message_form.specs.declared.message.Start.TheVariants.{Request};
+ghost use Rattle.sip_message_form.specs.Text.{start_text, field_text, text_of};
 ghost use Rattle.sip_message_form.specs.ViewStart.{start_seen};
 ghost use Rattle.sip_header.specs.CSeq as CSeqs;
 ghost use Rattle.sip_route.specs.RoutesKept.{fields_kept};
@@ -11,12 +12,15 @@ ghost use Rattle.sip_route.specs.Way.{request_uri};
 ghost use Rattle.sip_edit.specs.Onward as Goes;
 ghost use Rattle.sip_edit.specs.OwnRequests;
 ghost use Rattle.sip_edit.specs.OwnRequestText as Spec;
+ghost use Rattle.sip_edit.specs.OwnVia.{branch_text, own_via};
 
+use crate::branch_id::BranchId;
 use crate::own_requests::to_field;
+use crate::own_via::{put_via, via_room};
 use sip_header::cseq_of;
 use sip_message_fields::{FieldName, ViewField};
-use sip_message_form::{View, ViewStart, put_body, put_field, put_line, put_request_line};
-use sip_route::RoutesKept;
+use sip_message_form::{View, ViewStart, put_body, put_field};
+use sip_route::{Own, RoutesKept};
 use sip_text::{Buffer, Bytes};
 use std::alloc::{AllocError, Global};
 
@@ -34,14 +38,32 @@ fn target_uri<'v>(start: &ViewStart<'_>, uri: &'v [u8]) -> &'v [u8]
     }
 }
 
-/// Adds what stands before all that such a request takes over: its first line, this server's Via of a value, and a
-/// Max-Forwards of 70.
-fn put_front(out: &mut Buffer, method: &[u8], uri: &[u8], via: &[u8]) -> Result<(), AllocError>
-    ensures { OnOk result (out.new ≡ out.old ++ Spec.front_text method.now uri.now via.now) }
+/// Adds the first line of such a request, with its CRLF.
+#[tactic(auto, using(crate::proofs::BesideTexts::line_is))]
+fn put_first_line(out: &mut Buffer, method: &[u8], uri: &[u8]) -> Result<(), AllocError>
+    ensures { OnOk result (out.new ≡ out.old ++ start_text (Request method.now uri.now (codes "SIP/2.0")) ++ codes "\r\n") }
 {
-    put_request_line(out, method, uri, b"SIP/2.0")?;
-    out.extend(b"\r\n")?;
-    put_line(out, b"Via", via)?;
+    out.extend(method)?;
+    out.extend(b" ")?;
+    out.extend(uri)?;
+    out.extend(b" SIP/2.0\r\n")
+}
+
+/// Adds what stands before all that such a request takes over: its first line, this server's Via of a branch, and a
+/// Max-Forwards of 70.
+fn put_front(
+    out: &mut Buffer,
+    own: &Own,
+    boot: u64,
+    branch: BranchId,
+    method: &[u8],
+    uri: &[u8],
+) -> Result<(), AllocError>
+    ensures { OnOk result (out.new ≡ out.old
+        ++ Spec.front_text method.now uri.now (own_via own.now (branch_text boot branch.number branch.target))) }
+{
+    put_first_line(out, method, uri)?;
+    put_via(out, own, boot, branch)?;
     out.extend(b"Max-Forwards: 70\r\n")
 }
 
@@ -129,15 +151,17 @@ fn room_of(field: Option<&ViewField<'_>>) -> usize {
 /// these Routes are left of it.
 fn text_beside(
     alloc: Global,
+    own: &Own,
+    boot: u64,
+    branch: BranchId,
     method: &[u8],
     to: Option<&ViewField<'_>>,
     uri: &[u8],
-    via: &[u8],
     routes: RoutesKept,
     came: &View<'_>,
 ) -> Result<Bytes, AllocError>
-    ensures { IfOk result
-        (λ text. text ≡ text_of (Spec.beside method.now (option_to_list (option_map (λ field. field.now) to.entry)) uri.now via.now routes came.now)) }
+    ensures { IfOk result (λ text. text ≡ text_of (Spec.beside method.now (option_to_list (option_map (λ field. field.now) to.entry)) uri.now
+        (own_via own.now (branch_text boot branch.number branch.target)) routes came.now)) }
 {
     let fields = came.fields();
     let from = fields.first_field(&FieldName::From);
@@ -145,13 +169,13 @@ fn text_beside(
     let uri = target_uri(came.start(), uri);
     let room = uri
         .len()
-        .saturating_add(via.len())
+        .saturating_add(via_room(own))
         .saturating_add(room_of(from))
         .saturating_add(room_of(to))
         .saturating_add(room_of(call_id))
         .saturating_add(REST_OF_REQUEST);
     let mut out = Buffer::with_room(alloc, room)?;
-    put_front(&mut out, method, uri, via)?;
+    put_front(&mut out, own, boot, branch, method, uri)?;
     put_given(&mut out, from)?;
     put_given(&mut out, to)?;
     put_given(&mut out, call_id)?;
@@ -162,34 +186,50 @@ fn text_beside(
 }
 
 /// The text of the ACK of a final answer with this To, if that had one, to an INVITE that went to a target with this
-/// Request-URI and this server's Via of this value (RFC 3261 17.1.1.3). It is written straight from the fields of the INVITE
+/// Request-URI and this server's Via of this branch (RFC 3261 17.1.1.3). It is written straight from the fields of the INVITE
 /// as it came, if these Routes are left of it. `AllocError` is the only refusal.
 pub fn ack_text(
     alloc: Global,
+    own: &Own,
+    boot: u64,
+    branch: BranchId,
     to: Option<&[u8]>,
     uri: &[u8],
-    via: &[u8],
     routes: RoutesKept,
     came: &View<'_>,
 ) -> Result<Bytes, AllocError>
-    ensures { IfOk result (λ text. Spec.IsAckText (option_map (λ value. value.now) to.entry) uri.now via.now routes came.now text) }
+    ensures { IfOk result (λ text. Spec.IsAckText (option_map (λ value. value.now) to.entry) uri.now
+        (own_via own.now (branch_text boot branch.number branch.target)) routes came.now text) }
 {
     let to = to_field(to);
-    text_beside(alloc, b"ACK", to.as_ref(), uri, via, routes, came)
+    text_beside(
+        alloc,
+        own,
+        boot,
+        branch,
+        b"ACK",
+        to.as_ref(),
+        uri,
+        routes,
+        came,
+    )
 }
 
-/// The text of the CANCEL of a request that went to a target with this Request-URI and this server's Via of this value (RFC
+/// The text of the CANCEL of a request that went to a target with this Request-URI and this server's Via of this branch (RFC
 /// 3261 9.1). It is written straight from the fields of the request as it came, if these Routes are left of it. `AllocError`
 /// is the only refusal.
 pub fn cancel_text(
     alloc: Global,
+    own: &Own,
+    boot: u64,
+    branch: BranchId,
     uri: &[u8],
-    via: &[u8],
     routes: RoutesKept,
     came: &View<'_>,
 ) -> Result<Bytes, AllocError>
-    ensures { IfOk result (λ text. Spec.IsCancelText uri.now via.now routes came.now text) }
+    ensures { IfOk result (λ text. Spec.IsCancelText uri.now (own_via own.now (branch_text boot branch.number branch.target)) routes
+        came.now text) }
 {
     let to = came.fields().first_field(&FieldName::To);
-    text_beside(alloc, b"CANCEL", to, uri, via, routes, came)
+    text_beside(alloc, own, boot, branch, b"CANCEL", to, uri, routes, came)
 }

@@ -1,8 +1,10 @@
 ghost use Rattle.std.specs.Prelude.{◌≡◌, ◌++◌, codes, decimal, drop, IfOk, IsTrue, OnOk};
 ghost use Rattle.sip_message_fields.specs.declared.field_name.FieldName.TheVariants as Name;
 ghost use Rattle.sip_message_fields.specs.Values;
+ghost use Rattle.sip_message_form.specs.Text.{field_text};
 ghost use Rattle.sip_edit.specs.OwnVia;
 
+use crate::branch_id::BranchId;
 use sip_message_fields::{FieldName, ViewField, ViewFields};
 use sip_message_form::{Kept, View};
 use sip_route::Own;
@@ -12,8 +14,8 @@ use std::alloc::{AllocError, Global};
 /// The most bytes of a branch: the magic cookie, 16 hexadecimal digits, and two numbers, each behind a `.`.
 const LONGEST_BRANCH: usize = 55;
 
-/// The most bytes of a Via of this server's besides its host and its branch.
-const REST_OF_VIA: usize = 26;
+/// The most bytes of a Via of this server's besides its host and its branch, with its name and its CRLF.
+const REST_OF_VIA: usize = 33;
 
 /// Adds the branch of this server's Via to a target.
 fn put_branch(out: &mut Buffer, boot: u64, number: u64, target: u32) -> Result<(), AllocError>
@@ -59,22 +61,27 @@ pub fn own_via_value(alloc: Global, own: &Own, branch: &[u8]) -> Result<Bytes, A
     Ok(value.into_bytes())
 }
 
-/// The value of this server's Via with that branch, as the two give it, without a text of the branch alone. `AllocError` is
-/// the only refusal.
-pub fn own_via_to(
-    alloc: Global,
+/// How much room this server's Via with a branch takes at most, with its name and its CRLF.
+pub(crate) fn via_room(own: &Own) -> usize {
+    let room = own.host.as_slice().len().saturating_add(LONGEST_BRANCH);
+    room.saturating_add(REST_OF_VIA)
+}
+
+/// Adds this server's Via to a target as a field, as `own_via_value` and `branch_text` give it, straight where it is sent.
+#[tactic(auto, using(crate::proofs::OwnVias::line_is))]
+pub(crate) fn put_via(
+    out: &mut Buffer,
     own: &Own,
     boot: u64,
-    number: u64,
-    target: u32,
-) -> Result<Bytes, AllocError>
-    ensures { IfOk result (λ value. value ≡ OwnVia.own_via own.now (OwnVia.branch_text boot number target)) }
+    branch: BranchId,
+) -> Result<(), AllocError>
+    ensures { OnOk result (out.new ≡ out.old
+        ++ field_text (OwnVia.own_via_field own.now (OwnVia.branch_text boot branch.number branch.target))) }
 {
-    let room = own.host.as_slice().len().saturating_add(LONGEST_BRANCH);
-    let mut value = Buffer::with_room(alloc, room.saturating_add(REST_OF_VIA))?;
-    put_place(&mut value, own)?;
-    put_branch(&mut value, boot, number, target)?;
-    Ok(value.into_bytes())
+    out.extend(b"Via: ")?;
+    put_place(out, own)?;
+    put_branch(out, boot, branch.number, branch.target)?;
+    out.extend(b"\r\n")
 }
 
 /// Views of some fields without the first of a name.

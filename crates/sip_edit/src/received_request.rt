@@ -1,7 +1,8 @@
-ghost use Rattle.std.specs.Prelude.{◌≡◌, IfOk, option_map};
+ghost use Rattle.std.specs.Prelude.{◌≡◌, Some, codes, is_some, IfOk, option_map};
+ghost use Rattle.sip_header.specs.Parameters.{parameter_of};
 ghost use Rattle.sip_message_fields.specs.declared.field_name.FieldName.TheVariants as Name;
 ghost use Rattle.sip_message_fields.specs.Values.{with_first};
-ghost use Rattle.sip_edit.specs.ReceivedRequest.{address_by, response_port};
+ghost use Rattle.sip_edit.specs.ReceivedRequest.{address_by};
 
 use sip_header::{Via, parameter_of};
 use sip_message_fields::FieldName;
@@ -22,14 +23,25 @@ pub fn with_top_via<'v>(
     Ok(request.with_fields(fields))
 }
 
-/// The port to which the responses go of a request with this Via on top.
-fn response_port(via: &Via<'_>, from: Addr) -> u16
-    ensures { result ≡ response_port via.now from }
+/// Whether a Via asks for the port of its request (RFC 3581 3).
+pub(crate) fn asks_for_port(via: &Via<'_>) -> bool
+    ensures { result ≡ is_some (parameter_of (codes "rport") via.now.parameters) }
 {
-    if parameter_of(&via.parameters, b"rport").is_some() {
-        return from.port;
-    }
-    via.port.unwrap_or(5060)
+    parameter_of(&via.parameters, b"rport").is_some()
+}
+
+/// Where the responses go to a request with this Via on top, of which it is known whether it asks for its port.
+pub(crate) fn address_asked(via: &Via<'_>, from: Addr, asks: bool) -> Addr
+    requires { asks ≡ is_some (parameter_of (codes "rport") via.now.parameters) }
+    ensures { result ≡ address_by (Some via.now) from }
+{
+    let ip = from.ip;
+    let port = if asks {
+        from.port
+    } else {
+        via.port.unwrap_or(5060)
+    };
+    Addr { ip, port }
 }
 
 /// Where the responses go to a request that came from an address with this Via on top: to the source's address, at its
@@ -39,11 +51,7 @@ pub fn response_address(via: Option<&Via<'_>>, from: Addr) -> Addr
     ensures { result ≡ address_by (option_map (λ v. v.now) via.entry) from }
 {
     match via {
-        Some(via) => {
-            let ip = from.ip;
-            let port = response_port(via, from);
-            Addr { ip, port }
-        }
+        Some(via) => address_asked(via, from, asks_for_port(via)),
         None => from,
     }
 }

@@ -1,21 +1,25 @@
-ghost use Rattle.std.specs.Prelude.{◌≡◌, ◌++◌, ℕ, List, codes, IfOk, OnOk};
+ghost use Rattle.std.specs.Prelude.{◌≡◌, ◌++◌, ℕ, List, codes, false, IfOk, OnOk};
 ghost use Rattle.sip_message_form.specs.declared.message.Message.{Message};
-ghost use Rattle.sip_message_form.specs.Text.{start_text, text_of};
+ghost use Rattle.sip_message_fields.specs.declared.field_name.FieldName.TheVariants as Name;
+ghost use Rattle.sip_message_fields.specs.Values.{with_first};
+ghost use Rattle.sip_message_form.specs.Text.{start_text, field_text, text_of};
 ghost use Rattle.sip_message_form.specs.ViewStart.{start_seen};
 ghost use Rattle.sip_route.specs.declared.routes_kept.RoutesKept as Routes;
 ghost use Rattle.sip_route.specs.RoutesKept.{fields_kept};
 ghost use Rattle.sip_route.specs.Way.{fields_left, request_uri};
 ghost use Rattle.sip_edit.specs.Onward as Spec;
+ghost use Rattle.sip_edit.specs.OwnVia.{branch_text, own_via};
 ghost use Rattle.sip_edit.specs.Tail as Tails;
 
-use crate::record_route::record_route;
-use crate::tail_text::tail_of;
-use sip_message_form::{View, ViewStart, put_field, put_line, put_request_line, put_status_line};
+use crate::branch_id::BranchId;
+use crate::own_via::{put_via, via_room};
+use crate::tail_text::{put_received_tail, tail_room};
+use sip_message_form::{View, ViewStart, put_request_line, put_status_line};
 use sip_route::{Own, kept_routes};
 use sip_text::{Buffer, Bytes};
 use std::alloc::{AllocError, Global};
 
-/// The most bytes of a head beside its parts: blanks, ends of lines, names of fields, a status.
+/// The most bytes of a head beside its parts: blanks, ends of lines, the name of a Record-Route with its rest, a status.
 const REST_OF_HEAD: usize = 48;
 
 /// Adds a first line with another Request-URI, and its CRLF.
@@ -33,37 +37,43 @@ fn put_start(out: &mut Buffer, start: &ViewStart<'_>, uri: &[u8]) -> Result<(), 
     out.extend(b"\r\n")
 }
 
+/// Adds this server's Record-Route.
+fn put_record_route(out: &mut Buffer, own: &Own) -> Result<(), AllocError>
+    ensures { OnOk result (out.new ≡ out.old ++ field_text (Spec.record_route_field own.now)) }
+{
+    out.extend(b"Record-Route: <sip:")?;
+    out.extend(own.host.as_slice())?;
+    out.extend(b":")?;
+    out.push_decimal(u64::from(own.port))?;
+    out.extend(b";lr>\r\n")
+}
+
 /// Adds this server's Record-Route, where a request gets one.
-fn put_record_route(
-    alloc: Global,
-    out: &mut Buffer,
-    own: &Own,
-    records_route: bool,
-) -> Result<(), AllocError>
+fn put_recorded(out: &mut Buffer, own: &Own, records_route: bool) -> Result<(), AllocError>
     ensures { OnOk result (out.new ≡ out.old ++ Tails.recorded own.now records_route) }
 {
-    if !records_route {
-        return Ok(());
+    if records_route {
+        return put_record_route(out, own);
     }
-    let field = record_route(alloc, own)?;
-    put_field(out, &field)
+    Ok(())
 }
 
 /// Adds the head of a request to a target.
 fn put_head(
-    alloc: Global,
     out: &mut Buffer,
     own: &Own,
+    boot: u64,
+    branch: BranchId,
     records_route: bool,
     start: &ViewStart<'_>,
     uri: &[u8],
-    via: &[u8],
 ) -> Result<(), AllocError>
-    ensures { OnOk result (out.new ≡ out.old ++ Tails.head_of own.now records_route uri.now via.now (start_seen start.now)) }
+    ensures { OnOk result (out.new ≡ out.old ++ Tails.head_of own.now records_route uri.now
+        (own_via own.now (branch_text boot branch.number branch.target)) (start_seen start.now)) }
 {
     put_start(out, start, uri)?;
-    put_line(out, b"Via", via)?;
-    put_record_route(alloc, out, own, records_route)
+    put_via(out, own, boot, branch)?;
+    put_recorded(out, own, records_route)
 }
 
 /// How many bytes a first line has beside its Request-URI and blanks.
@@ -78,51 +88,62 @@ fn start_room(start: &ViewStart<'_>) -> usize {
     }
 }
 
+/// How much room a head takes at most.
+fn head_room(own: &Own, start: &ViewStart<'_>, uri: &[u8]) -> usize {
+    start_room(start)
+        .saturating_add(uri.len())
+        .saturating_add(via_room(own))
+        .saturating_add(own.host.as_slice().len())
+        .saturating_add(REST_OF_HEAD)
+}
+
 /// The text of a request with this first line to one target, by its tail: with the target's Request-URI, this server's Via of
-/// this value on top, and its Record-Route where it gets one (RFC 3261 16.6 steps 2, 4 and 8). What all targets have in
+/// this branch on top, and its Record-Route where it gets one (RFC 3261 16.6 steps 2, 4 and 8). What all targets have in
 /// common is copied, and not written anew. `AllocError` is the only refusal.
 pub fn text_to_target(
     alloc: Global,
     own: &Own,
+    boot: u64,
+    branch: BranchId,
     records_route: bool,
     start: &ViewStart<'_>,
     uri: &[u8],
-    via: &[u8],
     tail: &[u8],
 ) -> Result<Bytes, AllocError>
     ensures { IfOk result (λ text. (m : Message) (realm : List ℕ) (routes : Routes.RoutesKept) → m.start ≡ start_seen start.now → tail.now
         ≡ Tails.tail_of routes realm m
         → fields_kept routes m.fields ≡ fields_left own.now (request_uri m.start) m.fields → text
-        ≡ text_of (Spec.to_target uri.now via.now (Spec.onward_base own.now realm records_route m))) }
+        ≡ text_of (Spec.to_target uri.now (own_via own.now (branch_text boot branch.number branch.target))
+        (Spec.onward_base own.now realm records_route m))) }
 {
-    let room = start_room(start)
-        .saturating_add(uri.len())
-        .saturating_add(via.len())
-        .saturating_add(own.host.as_slice().len())
-        .saturating_add(tail.len())
-        .saturating_add(REST_OF_HEAD);
+    let room = head_room(own, start, uri).saturating_add(tail.len());
     let mut out = Buffer::with_room(alloc, room)?;
-    put_head(alloc, &mut out, own, records_route, start, uri, via)?;
+    put_head(&mut out, own, boot, branch, records_route, start, uri)?;
     out.extend(tail)?;
     Ok(out.into_bytes())
 }
 
-/// The text of a request that goes on to one target: with the target's Request-URI, this server's Via of this value on top, and
-/// its Record-Route where it gets one (RFC 3261 16.4, 16.6). `AllocError` is the only refusal.
+/// The text of a request whose top Via gets this value (RFC 3261 18.2.1), and that goes on to one target without a
+/// Record-Route: with the target's Request-URI, and with this server's Via of this branch on top (16.4, 16.6). It is written
+/// straight from the fields of the request as it came. `AllocError` is the only refusal.
 pub fn text_onward(
     alloc: Global,
     own: &Own,
     realm: &[u8],
-    records_route: bool,
+    boot: u64,
+    branch: BranchId,
     request: &View<'_>,
+    received: &[u8],
     uri: &[u8],
-    via: &[u8],
 ) -> Result<Bytes, AllocError>
-    ensures { IfOk result
-        (λ text. text ≡ text_of (Spec.to_target uri.now via.now (Spec.onward_base own.now realm.now records_route request.now))) }
+    ensures { IfOk result (λ text. text ≡ text_of (Spec.to_target uri.now (own_via own.now (branch_text boot branch.number branch.target))
+        (Spec.onward_base own.now realm.now false (record request.now { fields = with_first Name.Via received.now request.now.fields })))) }
 {
     let routes = kept_routes(alloc, own, request)?;
-    let tail = tail_of(alloc, realm, routes, request)?;
     let start = request.start();
-    text_to_target(alloc, own, records_route, start, uri, via, tail.as_slice())
+    let room = head_room(own, start, uri).saturating_add(tail_room(request, received));
+    let mut out = Buffer::with_room(alloc, room)?;
+    put_head(&mut out, own, boot, branch, false, start, uri)?;
+    put_received_tail(alloc, &mut out, realm, routes, request, received)?;
+    Ok(out.into_bytes())
 }

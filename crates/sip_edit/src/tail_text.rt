@@ -1,9 +1,8 @@
-ghost use Rattle.std.specs.Prelude.{◌≡◌, ◌++◌, decimal, codes, length, IfOk, OnOk};
+ghost use Rattle.std.specs.Prelude.{◌≡◌, ◌++◌, decimal, IfOk, OnOk};
 ghost use Rattle.std.specs.List.{flat_map};
 ghost use Rattle.sip_message_fields.specs.declared.field_name.FieldName.TheVariants as Name;
 ghost use Rattle.sip_message_fields.specs.Values.{with_first};
 ghost use Rattle.sip_message_form.specs.Text.{field_text};
-ghost use Rattle.sip_header.specs.MaxForwards as Hops;
 ghost use Rattle.sip_edit.specs.Lowering as Lowering;
 ghost use Rattle.sip_edit.specs.OwnRequests;
 ghost use Rattle.sip_edit.specs.Tail as Tails;
@@ -11,15 +10,17 @@ ghost use Rattle.sip_edit.specs.Tail as Tails;
 use crate::onward::{hops_left, is_for_realm};
 use crate::received_request::with_top_via;
 use sip_header::{MaxForwards, max_forwards_of};
-use sip_message_fields::{FieldName, KnownName, Value, ViewField, ViewName};
+use sip_message_fields::{FieldName, KnownName, Value, ViewField, ViewFields, ViewName};
 use sip_message_form::{View, put_body, put_field, put_line};
 use sip_route::RoutesKept;
 use sip_text::{Buffer, Bytes};
 use std::alloc::{AllocError, Global};
 
-/// The most bytes of a tail beside its fields and its body: the name of its top Via, and the line that tells the body's length,
-/// with the empty line behind it.
-const REST_OF_TAIL: usize = 47;
+/// The most bytes of a tail beside its fields and its body: the line that tells the body's length, with the empty line behind it.
+const REST_OF_TAIL: usize = 40;
+
+/// As many bytes of the room for a tail may stay unused.
+const MOST_UNUSED: usize = 47;
 
 /// Adds a field with a number as its value.
 fn put_number(out: &mut Buffer, field: &ViewField<'_>, number: u8) -> Result<(), AllocError>
@@ -101,38 +102,61 @@ fn put_default(out: &mut Buffer, hops: MaxForwards) -> Result<(), AllocError>
     }
 }
 
-/// Adds the tail of a request whose top Via is the first of its fields, and gets this value.
-fn put_tail(
+/// Adds a top Via with another value.
+fn put_top(out: &mut Buffer, top: &ViewField<'_>, via: &[u8]) -> Result<(), AllocError>
+    ensures { OnOk result (out.new ≡ out.old ++ field_text (record top.now { value = via.now })) }
+{
+    put_line(out, top.name().spelling(), via)
+}
+
+/// Adds what of a request stands behind some of its first fields: these other fields as they go on, if these Routes are left
+/// of them, a Max-Forwards where it has none, and its body.
+fn put_behind(
     alloc: Global,
     out: &mut Buffer,
     realm: &[u8],
     routes: RoutesKept,
     request: &View<'_>,
-    via: &[u8],
-    top: &ViewField<'_>,
-    others: &[ViewField<'_>],
+    fields: &[ViewField<'_>],
 ) -> Result<(), AllocError>
-    ensures { OnOk result (out.new ≡ out.old ++ field_text (record top.now { value = via.now })
-        ++ flat_map field_text (Lowering.fields_on (Lowering.hops_left (Hops.max_forwards_of request.now.fields)) routes realm.now others.now)
-        ++ Tails.default_text (Hops.max_forwards_of request.now.fields)
-        ++ codes "Content-Length: " ++ decimal (length request.now.body) ++ codes "\r\n\r\n" ++ request.now.body) }
+    ensures { OnOk result (out.new ≡ out.old ++ Tails.others_behind routes realm.now request.now fields.now) }
 {
     let hops = max_forwards_of(request.fields());
-    put_line(out, top.name().spelling(), via)?;
-    put_onward(alloc, out, realm, routes, hops_left(hops), others)?;
+    put_onward(alloc, out, realm, routes, hops_left(hops), fields)?;
     put_default(out, hops)?;
     put_body(out, request.body())
 }
 
-/// How many bytes some fields have with their CRLFs.
+/// How many bytes some fields have with their CRLFs, without credentials for a proxy, which mostly are for this one.
 fn room_of(fields: &[ViewField<'_>]) -> usize {
     let mut room: usize = 0;
     for field in fields {
+        if field.name().is_same(&FieldName::ProxyAuthorization) {
+            continue;
+        }
         let name = field.name().spelling().len().saturating_add(4);
         let value = field.value().as_slice().len();
         room = room.saturating_add(name).saturating_add(value);
     }
     room
+}
+
+/// How many bytes the first Via among some fields has as its value.
+fn top_room(fields: &ViewFields<'_>) -> usize {
+    match fields.first(&FieldName::Via) {
+        Some(value) => value.len(),
+        None => 0,
+    }
+}
+
+/// How much room the tail of a request takes mostly whose top Via gets this value.
+pub(crate) fn tail_room(request: &View<'_>, via: &[u8]) -> usize {
+    let fields = request.fields();
+    room_of(fields.as_slice())
+        .saturating_sub(top_room(fields))
+        .saturating_add(via.len())
+        .saturating_add(request.body().len())
+        .saturating_add(REST_OF_TAIL)
 }
 
 /// A text for which there was so much room, in no more memory than it needs: it is copied where much was taken off, or where
@@ -144,52 +168,73 @@ fn in_its_room(alloc: Global, text: Buffer, room: usize) -> Result<Bytes, AllocE
     if room < length {
         return Bytes::copy(alloc, text.as_slice());
     }
-    if length.saturating_add(REST_OF_TAIL) < room {
+    if length.saturating_add(MOST_UNUSED) < room {
         return Bytes::copy(alloc, text.as_slice());
     }
     Ok(text.into_bytes())
 }
 
-/// The tail of a request that goes on, which is the same for each of its targets: all behind this server's own fields, if
-/// these Routes are left of it, from a server of this realm (RFC 3261 16.4, 16.6). `AllocError` is the only refusal.
-#[tactic(auto, using(crate::proofs::TailTexts::whole_is))]
-pub fn tail_of(
+/// Adds the tail of a request that goes on: all behind this server's own fields, if these Routes are left of it.
+fn put_tail(
     alloc: Global,
+    out: &mut Buffer,
     realm: &[u8],
     routes: RoutesKept,
     request: &View<'_>,
-) -> Result<Bytes, AllocError>
-    ensures { IfOk result (λ tail. tail ≡ Tails.tail_of routes realm.now request.now) }
+) -> Result<(), AllocError>
+    ensures { OnOk result (out.new ≡ out.old ++ Tails.tail_of routes realm.now request.now) }
 {
-    let fields = request.fields().as_slice();
-    let hops = max_forwards_of(request.fields());
-    let room = room_of(fields)
-        .saturating_add(request.body().len())
-        .saturating_add(REST_OF_TAIL);
-    let mut out = Buffer::with_room(alloc, room)?;
-    put_onward(alloc, &mut out, realm, routes, hops_left(hops), fields)?;
-    put_default(&mut out, hops)?;
-    put_body(&mut out, request.body())?;
-    in_its_room(alloc, out, room)
+    put_behind(
+        alloc,
+        out,
+        realm,
+        routes,
+        request,
+        request.fields().as_slice(),
+    )
 }
 
-/// The tail of a request whose top Via gets this value, by an edited view of the request.
-fn viewed_tail(
+/// The same of a request whose top Via gets this value, by an edited view of the request.
+fn put_viewed_tail(
     alloc: Global,
+    out: &mut Buffer,
     realm: &[u8],
     routes: RoutesKept,
     request: &View<'_>,
     via: &[u8],
-) -> Result<Bytes, AllocError>
-    ensures { IfOk result (λ tail. tail ≡ Tails.tail_of routes realm.now
+) -> Result<(), AllocError>
+    ensures { OnOk result (out.new ≡ out.old ++ Tails.tail_of routes realm.now
         (record request.now { fields = with_first Name.Via via.now request.now.fields })) }
 {
     let received = with_top_via(alloc, request, via)?;
-    tail_of(alloc, realm, routes, &received)
+    put_tail(alloc, out, realm, routes, &received)
 }
 
-/// The tail of a request whose top Via gets this value (RFC 3261 18.2.1), as `tail_of` gives it. Where the top Via is the first
-/// field, as it mostly is, it is written straight from the request's fields. `AllocError` is the only refusal.
+/// The same. Where the top Via is the first field, as it mostly is, it is written straight from the request's fields.
+pub(crate) fn put_received_tail(
+    alloc: Global,
+    out: &mut Buffer,
+    realm: &[u8],
+    routes: RoutesKept,
+    request: &View<'_>,
+    via: &[u8],
+) -> Result<(), AllocError>
+    ensures { OnOk result (out.new ≡ out.old ++ Tails.tail_of routes realm.now
+        (record request.now { fields = with_first Name.Via via.now request.now.fields })) }
+{
+    let Some((top, others)) = request.fields().as_slice().split_first() else {
+        return put_viewed_tail(alloc, out, realm, routes, request, via);
+    };
+    if !top.name().is_same(&FieldName::Via) {
+        return put_viewed_tail(alloc, out, realm, routes, request, via);
+    }
+    put_top(out, top, via)?;
+    put_behind(alloc, out, realm, routes, request, others)
+}
+
+/// The tail of a request that goes on, which is the same for each of its targets, and whose top Via gets this value (RFC 3261
+/// 18.2.1): all behind this server's own fields, if these Routes are left of it, from a server of this realm (16.4, 16.6).
+/// `AllocError` is the only refusal.
 pub fn received_tail(
     alloc: Global,
     realm: &[u8],
@@ -200,17 +245,8 @@ pub fn received_tail(
     ensures { IfOk result (λ tail. tail ≡ Tails.tail_of routes realm.now
         (record request.now { fields = with_first Name.Via via.now request.now.fields })) }
 {
-    let Some((top, others)) = request.fields().as_slice().split_first() else {
-        return viewed_tail(alloc, realm, routes, request, via);
-    };
-    if !top.name().is_same(&FieldName::Via) {
-        return viewed_tail(alloc, realm, routes, request, via);
-    }
-    let room = room_of(others)
-        .saturating_add(via.len())
-        .saturating_add(request.body().len())
-        .saturating_add(REST_OF_TAIL);
+    let room = tail_room(request, via);
     let mut out = Buffer::with_room(alloc, room)?;
-    put_tail(alloc, &mut out, realm, routes, request, via, top, others)?;
+    put_received_tail(alloc, &mut out, realm, routes, request, via)?;
     in_its_room(alloc, out, room)
 }

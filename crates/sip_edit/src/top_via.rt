@@ -5,8 +5,10 @@ ghost use Rattle.sip_text.specs.Lists.{trimmed};
 ghost use Rattle.sip_header.specs.Parameters.{parameter_of};
 ghost use Rattle.sip_header.specs.Via.{via_of};
 ghost use Rattle.sip_uri.specs.Addresses.{ip_text};
+ghost use Rattle.sip_edit.specs.ReceivedRequest.{address_by};
 ghost use Rattle.sip_edit.specs.TopVia;
 
+use crate::received_request::{address_asked, asks_for_port};
 use sip_header::{Via, parameter_of};
 use sip_route::is_address;
 use sip_text::{Buffer, Bytes, first_part, same_no_case, without_blanks};
@@ -134,17 +136,39 @@ fn with_address(alloc: Global, value: &[u8], host: &[u8], from: Addr) -> Result<
     Ok(out.into_bytes())
 }
 
-/// Whether a Via has a parameter that doesn't go on as it stands.
-fn is_edited(via: &Via<'_>) -> bool
+/// Whether a Via has a parameter that doesn't go on as it stands, where it is known whether it asks for its port.
+fn is_edited(via: &Via<'_>, asks: bool) -> bool
+    requires { asks ≡ is_some (parameter_of (codes "rport") via.now.parameters) }
     ensures { result ≡ (is_some (parameter_of (codes "rport") via.now.parameters) || is_some (parameter_of (codes "received") via.now.parameters)) }
 {
-    parameter_of(&via.parameters, b"rport").is_some()
-        || parameter_of(&via.parameters, b"received").is_some()
+    asks || parameter_of(&via.parameters, b"received").is_some()
 }
 
-/// The same as `received_via` gives of a value that says this Via. One that has neither an `rport` nor a `received`, as
-/// most have none, isn't cut. `AllocError` is the only refusal.
+/// What the top Via of a request becomes that came from an address, of which it is known whether it asks for its port. One that
+/// has neither an `rport` nor a `received`, as most have none, isn't cut.
 #[tactic(auto, using(crate::proofs::Unedited::stays, crate::proofs::Unedited::read))]
+fn edited_value(
+    alloc: Global,
+    via: &Via<'_>,
+    value: &[u8],
+    from: Addr,
+    asks: bool,
+) -> Result<Bytes, AllocError>
+    requires via { via_of value.now ≡ Some via.now }
+    requires asks { asks ≡ is_some (parameter_of (codes "rport") via.now.parameters) }
+    ensures { IfOk result (λ edited. edited ≡ TopVia.received_via value.now from) }
+{
+    let host = via.host.as_slice();
+    if USUAL_LENGTH < value.len() {
+        return with_source(alloc, value, host, from);
+    }
+    if is_edited(via, asks) {
+        return with_source(alloc, value, host, from);
+    }
+    with_address(alloc, value, host, from)
+}
+
+/// The same as `received_via` gives of a value that says this Via. `AllocError` is the only refusal.
 pub fn received_via_of(
     alloc: Global,
     via: &Via<'_>,
@@ -154,14 +178,24 @@ pub fn received_via_of(
     requires { via_of value.now ≡ Some via.now }
     ensures { IfOk result (λ edited. edited ≡ TopVia.received_via value.now from) }
 {
-    let host = via.host.as_slice();
-    if USUAL_LENGTH < value.len() {
-        return with_source(alloc, value, host, from);
-    }
-    if is_edited(via) {
-        return with_source(alloc, value, host, from);
-    }
-    with_address(alloc, value, host, from)
+    edited_value(alloc, via, value, from, asks_for_port(via))
+}
+
+/// What `received_via_of` gives, and where the responses go, as `response_address` gives it: an `rport` is looked for once.
+/// `AllocError` is the only refusal.
+pub fn received_top(
+    alloc: Global,
+    via: &Via<'_>,
+    value: &[u8],
+    from: Addr,
+) -> Result<(Bytes, Addr), AllocError>
+    requires { via_of value.now ≡ Some via.now }
+    ensures value { IfOk result (λ top. top.0 ≡ TopVia.received_via value.now from) }
+    ensures reply_to { IfOk result (λ top. top.1 ≡ address_by (Some via.now) from) }
+{
+    let asks = asks_for_port(via);
+    let value = edited_value(alloc, via, value, from, asks)?;
+    Ok((value, address_asked(via, from, asks)))
 }
 
 /// The value of the top Via of a request as it came from an address, by what it says: a `received` that came is

@@ -1,37 +1,18 @@
 ghost use Rattle.std.specs.Prelude.{◌≡◌, IfOk};
 ghost use Rattle.sip_message_form.specs.Text.{text_of};
-ghost use Rattle.sip_edit.specs.OwnVia.{branch_text};
-ghost use Rattle.sip_edit.specs.Onward.{onward_of, onward_uri};
+ghost use Rattle.sip_edit.specs.Onward.{onward_uri};
 ghost use Rattle.sip_context_branches.specs.context_model.Sending as Sendings;
 ghost use Rattle.model_steps.specs.Effect as Effects;
 ghost use Rattle.sip_forwarding.specs.Arrivals.{arrival_of};
 
 use crate::arrival::Arrival;
 use model_steps::state::{Server, received_value};
-use sip_edit::{onward_uri, own_via_to, text_onward, with_top_via};
+use sip_edit::{BranchId, onward_uri, text_onward};
 use sip_event::{Packet, Ticket};
 use sip_message_form::View;
 use sip_text::Bytes;
 use sip_uri::Addr;
 use std::alloc::{AllocError, Global};
-
-/// The text of a request that goes on with a Request-URI, with the value that its top Via gets.
-fn sent_on(
-    alloc: Global,
-    server: &Server,
-    number: u64,
-    received: &View<'_>,
-    uri: &[u8],
-) -> Result<Bytes, AllocError>
-    ensures { IfOk result
-        (λ text. text ≡ text_of (onward_of server.now.config.own server.now.config.realm uri.now (branch_text server.now.word number 1)
-        received.now)) }
-{
-    let own = &server.config.own;
-    let via = own_via_to(alloc, own, server.word, number, 1)?;
-    let realm = server.config.realm.as_slice();
-    text_onward(alloc, own, realm, false, received, uri, via.as_slice())
-}
 
 /// The text of a request, as it came, that goes on with a Request-URI.
 fn received_on(
@@ -44,8 +25,20 @@ fn received_on(
     ensures { IfOk result (λ text. text ≡ text_of (Sendings.onward_as server.now arrival.number request.now arrival.from uri.now 1)) }
 {
     let via = received_value(alloc, request, arrival.from)?;
-    let received = with_top_via(alloc, request, via.as_slice())?;
-    sent_on(alloc, server, arrival.number, &received, uri)
+    let branch = BranchId {
+        number: arrival.number,
+        target: 1,
+    };
+    text_onward(
+        alloc,
+        &server.config.own,
+        server.config.realm.as_slice(),
+        server.word,
+        branch,
+        request,
+        via.as_slice(),
+        uri,
+    )
 }
 
 /// The text of a request that goes on to its own Request-URI.

@@ -75,9 +75,8 @@ Joins own records_route uri via tail start text =
     (m : Message) (realm : List ℕ) (routes : RoutesKept) → m.start ≡ start → tail ≡ tail_of routes realm m → are_left own routes (request_uri m.start) m.fields
     → text ≡ text_of (to_target uri via (onward_base own realm records_route m))
 
-pub joined : (own : Own) (records_route : Bool) (uri via value tail realm text : List ℕ) (start : Start) (routes : RoutesKept) (m : Message) (from : Addr) →
-    start ≡ m.start → value ≡ via → tail ≡ tail_of routes realm (received m from) → ((w : List ℕ) → are_left own routes (request_uri m.start) (with_first Name.Via w m.fields)) →
-    Joins own records_route uri value tail start text → text ≡ text_of (to_target uri via (onward_base own realm records_route (received m from)))
-joined own records_route uri via value tail realm text start routes m from is_start is_value is_tail left joins =
+pub joined : (own : Own) (records_route : Bool) (uri via tail realm text : List ℕ) (start : Start) (routes : RoutesKept) (m : Message) (from : Addr) →
+    start ≡ m.start → tail ≡ tail_of routes realm (received m from) → ((w : List ℕ) → are_left own routes (request_uri m.start) (with_first Name.Via w m.fields)) →
+    Joins own records_route uri via tail start text → text ≡ text_of (to_target uri via (onward_base own realm records_route (received m from)))
+joined own records_route uri via tail realm text start routes m from is_start is_tail left joins =
     joins (received m from) realm routes (sym is_start) is_tail (left_received own routes (request_uri m.start) from m.fields left)
-    ∙ ap (λ (w : List ℕ). text_of (to_target uri w (onward_base own realm records_route (received m from)))) is_value

@@ -7,7 +7,6 @@ ghost use Rattle.sip_message_fields.specs.declared.field_name.FieldName.TheVaria
 ghost use Rattle.sip_message_fields.specs.Values.{with_first};
 ghost use Rattle.sip_dialog.specs.Addresses.{addresses_in};
 ghost use Rattle.sip_dialog.specs.DialogId.{id_of};
-ghost use Rattle.sip_edit.specs.Onward as Goes;
 ghost use Rattle.sip_edit.specs.ReceivedRequest.{received, received_fields, response_address, top_via};
 ghost use Rattle.sip_message_form.specs.Text.{text_of};
 ghost use Rattle.sip_message_form.specs.ViewStart.{start_seen};
@@ -16,17 +15,19 @@ ghost use Rattle.sip_route.specs.Way.{request_uri, fields_left};
 ghost use Rattle.sip_route.specs.RoutesKept.{fields_kept};
 ghost use Rattle.sip_context_places.specs.RouteFacts.{facts_in, kept_by};
 ghost use Rattle.sip_edit.specs.Tail.{tail_of};
+ghost use Rattle.sip_state.specs.Heard.{goes_to};
 ghost use Rattle.sip_state.specs.Names as Spec;
 ghost use Rattle.sip_context_places.specs.Given.{address_there};
 
 use crate::names::{Names, dialog_by, dialog_to, names_dialog, names_in};
 use crate::onward::Onward;
+use crate::server::Server;
 use crate::top_via::{TopVia, received_value, reply_address};
 use sip_base::Shared;
 use sip_context_places::laws::kept_routes_are_left;
 use sip_context_places::{Place, RouteFacts, places_in};
 use sip_dialog::DialogId;
-use sip_edit::{onward_base_by, text_to_target, to_target};
+use sip_edit::{BranchId, branch_text, onward_base_by, own_via_value, text_to_target, to_target};
 use sip_header::Via;
 use sip_hops::Hops;
 use sip_message_fields::{FieldName, Value};
@@ -267,49 +268,59 @@ impl Heard {
     fn unread_text(
         &self,
         alloc: Global,
-        own: &Own,
-        realm: &[u8],
+        server: &Server,
+        branch: BranchId,
         records_route: bool,
         routes: RoutesKept,
         from: Addr,
         uri: &[u8],
-        via: Bytes,
     ) -> Result<Bytes, AllocError>
         requires { fields_kept routes (received_fields from self.now.fields)
-            ≡ fields_left own.now (request_uri self.now.start) (received_fields from self.now.fields) }
-        ensures { IfOk result
-            (λ text. text ≡ text_of (Goes.to_target uri.now via (Goes.onward_base own.now realm.now records_route (received self.now from)))) }
+            ≡ fields_left server.now.config.own (request_uri self.now.start) (received_fields from self.now.fields) }
+        ensures { IfOk result (λ text. text ≡ text_of (goes_to server.now branch records_route uri.now (received self.now from))) }
     {
+        let own = &server.config.own;
+        let realm = server.config.realm.as_slice();
         let value = self.received_via(alloc, from)?;
         let received = self.with_top_via(alloc, value.as_slice())?;
         let base = onward_base_by(alloc, own, realm, records_route, routes, &received)?;
+        let branch = branch_text(alloc, server.word, branch.number, branch.target)?;
+        let via = own_via_value(alloc, own, branch.as_slice())?;
         let request = to_target(alloc, &base, uri, via)?;
         write_view(alloc, &request)
     }
 
-    /// The text of the request as it goes to a target with this Request-URI, if it came from an address: without the
-    /// server's own part of the way, without the credentials for its realm, with one hop less, the server's Via of this value
-    /// on top, and its Record-Route where it gets one (RFC 3261 16.4, 16.6). Where it came from the address that it was kept
-    /// with, what all targets have in common is copied, and not written anew. `AllocError` is the only refusal.
+    /// The text of the request as it goes from a server to a target with this Request-URI, if it came from an address: without
+    /// the server's own part of the way, without the credentials for its realm, with one hop less, the server's Via of this
+    /// branch on top, and its Record-Route where it gets one (RFC 3261 16.4, 16.6). Where it came from the address that it was
+    /// kept with, what all targets have in common is copied, and not written anew. `AllocError` is the only refusal.
     pub fn text_to(
         &self,
         alloc: Global,
-        own: &Own,
-        realm: &[u8],
+        server: &Server,
+        branch: BranchId,
         records_route: bool,
         from: Addr,
         uri: &[u8],
-        via: Bytes,
     ) -> Result<Bytes, AllocError>
-        ensures { IfOk result
-            (λ text. text ≡ text_of (Goes.to_target uri.now via (Goes.onward_base own.now realm.now records_route (received self.now from)))) }
+        ensures { IfOk result (λ text. text ≡ text_of (goes_to server.now branch records_route uri.now (received self.now from))) }
     {
+        let own = &server.config.own;
         let routes = self.routes_kept(alloc, own)?;
-        if let Some(tail) = self.tail_for(realm, routes, from) {
+        if let Some(tail) = self.tail_for(server.config.realm.as_slice(), routes, from) {
             let start = self.start();
-            return text_to_target(alloc, own, records_route, &start, uri, via.as_slice(), tail);
+            return text_to_target(
+                alloc,
+                own,
+                server.word,
+                branch,
+                records_route,
+                &start,
+                uri,
+                tail,
+            );
         }
-        self.unread_text(alloc, own, realm, records_route, routes, from, uri, via)
+        self.unread_text(alloc, server, branch, records_route, routes, from, uri)
     }
 
     /// Whether the request names a dialog (RFC 3261 12.2.2). `AllocError` is the only refusal.

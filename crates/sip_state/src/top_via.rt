@@ -4,7 +4,7 @@ ghost use Rattle.sip_message_fields.specs.Values.{with_first};
 ghost use Rattle.sip_edit.specs.ReceivedRequest.{received_fields, response_address, top_via};
 ghost use Rattle.sip_state.specs.TopVia.{IsTopVia};
 
-use sip_edit::{received_via, received_via_of, response_address};
+use sip_edit::{received_top, received_via, response_address};
 use sip_header::{Via, via_of};
 use sip_message_fields::FieldName;
 use sip_message_form::View;
@@ -74,10 +74,10 @@ impl TopVia {
         let Some(value) = request.fields().first(&FieldName::Via) else {
             unreachable!();
         };
-        let reply_to = response_address(Some(via), from);
+        let (value, reply_to) = received_top(alloc, via, value, from)?;
         Ok(TopVia {
             source: from,
-            value: received_via_of(alloc, via, value, from)?,
+            value,
             reply_to,
         })
     }

@@ -12,6 +12,7 @@ use Rattle.sip_route.specs.RoutesKept.{fields_kept}
 use Rattle.sip_route.specs.Way.{request_uri}
 use Rattle.sip_edit.specs.Onward.{with_uri}
 use Rattle.sip_edit.specs.OwnRequests.{cseq_with}
+use Rattle.sip_edit.specs.OwnVia.{branch_text, own_via}
 use Rattle.sip_edit.specs.OwnRequestText.{front_text}
 use Rattle.sip_edit.proofs.BesideTexts.{whole_is}
 use Rattle.sip_edit.proofs.own_request_text.text_beside.Goals as goal
@@ -19,7 +20,8 @@ use Rattle.sip_edit.proofs.own_request_text.text_beside.Goals as goal
 pub returns : goal.returns
 returns c =
     let method : List ℕ = c.args.method.now in
-    let front : List ℕ = front_text method c.target_uri-uri.result.now c.args.via.now in
+    let via : List ℕ = own_via c.args.own.now (branch_text c.args.boot c.args.branch.number c.args.branch.target) in
+    let front : List ℕ = front_text method c.target_uri-uri.result.now via in
     let from : List ℕ = flat_map field_text (option_to_list (option_map (λ f. f.now) c.first_field-from.result)) in
     let to : List ℕ = flat_map field_text (option_to_list (option_map (λ f. f.now) c.args.to)) in
     let call_id : List ℕ = flat_map field_text (option_to_list (option_map (λ f. f.now) c.first_field-call_id.result)) in
@@ -36,7 +38,7 @@ returns c =
     )))))
     ∙ ap (λ (w : List Field). front ++ from ++ to ++ call_id ++ cseq ++ flat_map field_text (all_named Name.Route (fields_kept c.args.routes w))) (c.as_slice.ensures ∙ c.fields-fields.ensures)
     )
-    ∙ whole_is method c.args.uri.now c.target_uri-uri.result.now c.args.via.now (option_to_list (option_map (λ f. f.now) c.args.to)) (option_map (λ f. f.now) c.first_field-from.result) (option_map (λ f. f.now) c.first_field-call_id.result) (option_map (λ v. v.now) c.first.result) c.args.routes c.args.came.now
+    ∙ whole_is method c.args.uri.now c.target_uri-uri.result.now via (option_to_list (option_map (λ f. f.now) c.args.to)) (option_map (λ f. f.now) c.first_field-from.result) (option_map (λ f. f.now) c.first_field-call_id.result) (option_map (λ v. v.now) c.first.result) c.args.routes c.args.came.now
     (c.first_field-from.ensures ∙ ap (first_named Name.From) c.fields-fields.ensures)
     (c.first_field-call_id.ensures ∙ ap (first_named Name.CallId) c.fields-fields.ensures)
     (c.first.ensures ∙ ap (first_value Name.CSeq) c.fields-fields.ensures)
