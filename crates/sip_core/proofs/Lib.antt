@@ -5,3 +5,4 @@ pub mod Checking
 pub mod Deciding
 pub mod OneCSeq
 pub mod DecidingKeys
+pub mod Refreshing

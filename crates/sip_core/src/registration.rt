@@ -1,4 +1,7 @@
-ghost use Rattle.std.specs.Prelude.{◌≡◌, ◌≢◌, ◌<◌, ◌^◌, ◌&&◌, [], ◌∷◌, IfOk, OnOk, List, ℕ};
+ghost use Rattle.std.specs.Prelude.{◌≡◌, ◌≢◌, ◌≤◌, ◌<◌, ◌^◌, ◌&&◌, [], ◌∷◌, IfOk, IfSome, OnOk, List, ℕ};
+ghost use Rattle.sip_message_fields.specs.Values.{values_of};
+ghost use Rattle.sip_message_fields.specs.declared.field_name.FieldName.TheVariants as Name;
+ghost use Rattle.sip_location.specs.Locations.{IsPlan};
 ghost use Rattle.std.specs.Option.{option_copied};
 ghost use Rattle.sip_location.specs.Registering as Naming;
 ghost use Rattle.sip_location.specs.Registration.{registered};
@@ -17,7 +20,7 @@ use crate::validated::Validated;
 use model_verdict::state::Server;
 use sip_edit_response::min_expires;
 use sip_header::{CoreFields, expires_of};
-use sip_location::{Contacts, LocationError, Locations, Registration};
+use sip_location::{Contacts, LocationError, Locations, Plan, Refresh, Registration};
 use sip_message_fields::{Field, FieldName, Fields, ViewFields};
 use sip_policy::{Rules, is_own_domain, is_users_address};
 use sip_text::Text;
@@ -89,6 +92,64 @@ fn planned(
     }
 }
 
+/// The value of the only Contact. Takes no memory.
+#[tactic(auto, using(crate::proofs::Refreshing::only_value))]
+fn only_contact<'v>(fields: &'v ViewFields<'_>) -> Option<&'v [u8]>
+    ensures { IfSome result (λ contact. contact.now ∷ [] ≡ values_of Name.Contact fields.now) }
+{
+    let contact = fields.first(&FieldName::Contact)?;
+    if fields.count(&FieldName::Contact) == 1 {
+        Some(contact)
+    } else {
+        None
+    }
+}
+
+/// What the registrar plans for a REGISTER with one Contact that asks for the only binding again. None says nothing.
+fn planned_refresh(
+    locations: &mut Locations,
+    request: &Validated<'_, '_>,
+    contact: &[u8],
+    aor: &Aor,
+) -> Result<Option<Plan>, AllocError>
+    requires moment { request.now.moment < 2 ^ 62 }
+    requires named { aor.now ≡ Naming.to_aor request.now.core.now }
+    requires contact { contact.now ∷ [] ≡ values_of Name.Contact request.now.message.now.fields }
+    ensures plan { IfOk result (λ made. IfSome made (IsPlan locations.old.rows
+        (Naming.registration_of request.now.core.now request.now.message.now.fields) request.now.moment)) }
+    ensures unchanged { locations.new.rows ≡ locations.old.rows }
+    ensures room { IfOk result (λ made. IfSome made (λ plan. 1 ≤ locations.new.room)) }
+{
+    let core = request.core;
+    let refresh = Refresh {
+        aor,
+        contact,
+        expires: expires_of(request.message.fields()),
+        call_id: core.call_id.as_slice(),
+        cseq: core.cseq.number,
+    };
+    locations.plan_refresh(&refresh, request.moment)
+}
+
+/// The same for a REGISTER with any number of Contacts.
+fn planned_if_refresh(
+    locations: &mut Locations,
+    request: &Validated<'_, '_>,
+    aor: &Aor,
+) -> Result<Option<Plan>, AllocError>
+    requires moment { request.now.moment < 2 ^ 62 }
+    requires named { aor.now ≡ Naming.to_aor request.now.core.now }
+    ensures plan { IfOk result (λ made. IfSome made (IsPlan locations.old.rows
+        (Naming.registration_of request.now.core.now request.now.message.now.fields) request.now.moment)) }
+    ensures unchanged { locations.new.rows ≡ locations.old.rows }
+    ensures room { IfOk result (λ made. IfSome made (λ plan. 1 ≤ locations.new.room)) }
+{
+    match only_contact(request.message.fields()) {
+        Some(contact) => planned_refresh(locations, request, contact, aor),
+        None => Ok(None),
+    }
+}
+
 /// What the registrar plans for a REGISTER that passed the checks, or how it refuses it.
 fn planned_for(
     alloc: Global,
@@ -104,6 +165,9 @@ fn planned_for(
     ensures unchanged { locations.new.rows ≡ locations.old.rows }
     ensures room { IfOk result (HasRoom locations.new.room) }
 {
+    if let Some(plan) = planned_if_refresh(locations, request, aor)? {
+        return Ok(Registering::Planned(plan));
+    }
     let registration = registration_of(alloc, request.core, request.message.fields(), aor)?;
     planned(alloc, locations, request.moment, registration)
 }

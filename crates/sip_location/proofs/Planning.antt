@@ -34,7 +34,7 @@ live_in_own aor now rows = filter-wider (λ b. is_of aor b && is_live now b) (is
   both false lives e = e
 
 -- the outcome of a REGISTER by its tests
-abbrev outcome : Bool → Bool → Bool → Bool → Bool → List Binding → List Binding → Result (List Binding) LocationError
+abbrev pub outcome : Bool → Bool → Bool → Bool → Bool → List Binding → List Binding → Result (List Binding) LocationError
 outcome none star brief old many rows after = cond none (Ok rows) (cond star (Err BadStar) (cond brief (Err TooBrief) (cond old (Err OldCSeq) (cond many (Err TooMany) (Ok after)))))
 
 still_ok : (none star brief old many : Bool) (rows after others then : List Binding) → IsOk (outcome none star brief old many rows after) → IsOk (outcome none star brief old many others then)

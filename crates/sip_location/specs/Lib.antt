@@ -12,3 +12,4 @@ pub mod Locations
 pub mod Code
 pub mod Filed
 pub mod FiledAor
+pub mod Refreshing

@@ -12,7 +12,7 @@ const HOUR: u64 = 3600;
 const DAY: u64 = 86_400;
 
 /// The fewest seconds that are granted.
-const MINUTE: u64 = 60;
+pub(crate) const MINUTE: u64 = 60;
 
 /// A contact's own `expires`, else the request's.
 fn own_or(own: Expires, expires: Expires) -> Expires
@@ -26,7 +26,7 @@ fn own_or(own: Expires, expires: Expires) -> Expires
 }
 
 /// The seconds that are granted: an hour where none are said, and at most a day.
-fn granted(expires: Expires) -> u64
+pub(crate) fn granted(expires: Expires) -> u64
     ensures value { result ≡ Definitions.granted expires }
     ensures small { result ≤ 86400 }
 {

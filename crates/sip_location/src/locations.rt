@@ -1,4 +1,4 @@
-ghost use Rattle.std.specs.Prelude.{◌≡◌, ◌≤◌, ◌<◌, ◌^◌, ℕ, List, [], false, nat_lt, length, filter, Ok, IsOk, IfOk, IfErr, OnOk, OnErr};
+ghost use Rattle.std.specs.Prelude.{◌≡◌, ◌≤◌, ◌<◌, ◌^◌, ℕ, List, [], false, nat_lt, length, filter, Ok, IsOk, IfOk, IfErr, IfSome, OnOk, OnErr};
 ghost use Rattle.sip_uri.specs.declared.aor.Aor.{Aor};
 ghost use Rattle.sip_uri.specs.Aor.{is_same_aor};
 ghost use Rattle.sip_location.specs.declared.binding.Binding.{Binding};
@@ -8,6 +8,7 @@ ghost use Rattle.sip_location.specs.Binding.{is_live, live};
 ghost use Rattle.sip_location.specs.Filed.{bindings_of};
 ghost use Rattle.sip_location.specs.Locations.{of_aor, IsPlan, IsRefusal};
 ghost use Rattle.sip_location.specs.Registration.{edited, registered};
+ghost use Rattle.sip_location.specs.Refreshing.{asked_by};
 ghost use Rattle.sip_location.specs.Sameness.{SameOutcome};
 
 use crate::aor_ref::AorRef;
@@ -19,13 +20,15 @@ use crate::filed_aor::FiledAor;
 use crate::filing::Filing;
 use crate::live::{Bindings, LiveBindings};
 use crate::plan::Plan;
+use crate::refresh::Refresh;
+use crate::refreshing::refreshed;
 use crate::refusals::{has_bad_star, has_old_cseq, is_too_brief};
 use crate::registration::Registration;
 use crate::row::Row;
 use crate::rows::Rows;
 use crate::standing::{Standing, is_live_row, standing_of};
 use sip_uri::Aor;
-use std::alloc::Global;
+use std::alloc::{AllocError, Global};
 use std::marker::Model;
 
 /// The most bindings that an address of record has.
@@ -92,6 +95,31 @@ impl Locations {
         Ok(Plan {
             filed: Filed { aor, rows },
         })
+    }
+
+    /// What such a REGISTER is to make of them that has one Contact, the only binding's: the same plan, for which neither is
+    /// read. None says nothing. It changes no binding, and makes the room that [`Locations::apply`] uses. `AllocError` is the
+    /// only refusal. Moments are below 2^62.
+    pub fn plan_refresh(
+        &mut self,
+        request: &Refresh<'_>,
+        now: u64,
+    ) -> Result<Option<Plan>, AllocError>
+        requires { now < 2 ^ 62 }
+        ensures plan { IfOk result (λ made. IfSome made (IsPlan self.old.rows (asked_by request.now) now)) }
+        ensures unchanged { self.new.rows ≡ self.old.rows }
+        ensures room { IfOk result (λ made. IfSome made (λ plan. 1 ≤ self.new.room)) }
+    {
+        let alloc = self.filing.alloc();
+        let kept = self.filing.rows_of(request.aor);
+        let Some(rows) = refreshed(alloc, kept, request, now)? else {
+            return Ok(None);
+        };
+        let aor = FiledAor::of(alloc, request.aor)?;
+        self.filing.reserve_one()?;
+        Ok(Some(Plan {
+            filed: Filed { aor, rows },
+        }))
     }
 
     /// Gives the address of record of a plan its bindings, in place of all that it has. Takes no memory: `plan` made the

@@ -1,4 +1,4 @@
-ghost use Rattle.std.specs.Prelude.{◌≡◌, map, length, filter, IfOk};
+ghost use Rattle.std.specs.Prelude.{◌≡◌, ◌∷◌, [], map, length, filter, IfOk};
 ghost use Rattle.sip_location.specs.KeptBinding.{kept_of};
 
 use crate::candidate::Candidate;
@@ -30,6 +30,17 @@ impl Rows {
     {
         let list = rows_of(alloc, bindings)?.into_boxed_slice();
         Ok(Rows { list })
+    }
+
+    /// One row alone.
+    pub(crate) fn one(alloc: Global, row: Row) -> Result<Rows, AllocError>
+        ensures { IfOk result (λ rows. rows ≡ row ∷ []) }
+    {
+        let mut list = Vec::with_capacity(alloc, 1)?;
+        list.push(row)?;
+        Ok(Rows {
+            list: list.into_boxed_slice(),
+        })
     }
 
     pub(crate) fn as_slice(&self) -> &[Row]
