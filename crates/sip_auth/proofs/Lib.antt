@@ -1,2 +1,3 @@
 pub mod Algorithms
 pub mod RightAnswers
+pub mod PlainUris

@@ -1,10 +1,10 @@
-ghost use Rattle.std.specs.Prelude.{◌≡◌, IfOk};
+ghost use Rattle.std.specs.Prelude.{◌≡◌, true, IfOk};
 ghost use Rattle.std.specs.Result.{result_ok};
 ghost use Rattle.sip_uri.specs.Reading.{reading_of};
 ghost use Rattle.sip_uri_equality.specs.Equality.{same};
 ghost use Rattle.sip_auth.specs.Proof.{is_equal_uri};
 
-use sip_uri::{Uri, UriError, parse_uri};
+use sip_uri::{Uri, UriError, parse_uri, plain_uri_at};
 use sip_uri_equality::laws::equality_is_reflexive;
 use sip_uri_equality::same;
 use std::alloc::{AllocError, Global};
@@ -28,10 +28,24 @@ fn equals_itself(uri: &Uri) -> bool
     uri.parameters.as_slice().is_empty() || same(uri, uri)
 }
 
+/// Whether a text is a SIP URI without parameters and headers, as most are, which is equal to itself. `false` says nothing.
+#[tactic(auto, using(crate::proofs::PlainUris::equals_itself))]
+fn is_plain_uri(text: &[u8]) -> bool
+    ensures { result ≡ true → is_equal_uri text.now text.now ≡ true }
+{
+    match plain_uri_at(text) {
+        Some((_, _, behind)) => behind.is_empty(),
+        None => false,
+    }
+}
+
 /// Whether a text is a SIP URI that is equal to itself.
 fn is_equal_to_itself(alloc: Global, text: &[u8]) -> Result<bool, AllocError>
     ensures { IfOk result (λ equal. equal ≡ is_equal_uri text.now text.now) }
 {
+    if is_plain_uri(text) {
+        return Ok(true);
+    }
     match uri_in(alloc, text)? {
         Some(uri) => Ok(equals_itself(&uri)),
         None => Ok(false),
