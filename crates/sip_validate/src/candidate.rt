@@ -6,7 +6,7 @@ ghost use Rattle.sip_uri.specs.Reading.{reading_of};
 ghost use Rattle.sip_header.specs.Via.{via_of};
 ghost use Rattle.sip_validate.specs.Candidate.{candidate_with};
 
-use sip_header::{CoreFields, Via};
+use sip_header::{CoreFields, MaxForwards, Via, max_forwards_of};
 use sip_message_fields::ViewFields;
 use sip_message_form::{View, ViewStart};
 use sip_route::{Own, Way};
@@ -26,6 +26,8 @@ pub(crate) struct Candidate<'a, 'v> {
     pub(crate) via: &'a Via<'a>,
     pub(crate) short: bool,
     pub(crate) core: &'a CoreFields<'v>,
+    /// What its Max-Forwards says, for which two rows of the table ask.
+    pub(crate) max_forwards: MaxForwards,
     /// Whether the Request-URI, as it came, is a SIP or SIPS URI, where that was read.
     pub(crate) is_uri: Option<bool>,
 }
@@ -36,6 +38,7 @@ impl<'a, 'v> Model for Candidate<'a, 'v> {
     ghost use Rattle.sip_message_fields.specs.declared.field_name.FieldName.TheVariants as Name;
     ghost use Rattle.sip_message_fields.specs.Values.{first_value};
     ghost use Rattle.sip_uri.specs.Reading.{reading_of};
+    ghost use Rattle.sip_header.specs.MaxForwards.{max_forwards_of};
     ghost use Rattle.sip_header.specs.Via.{via_of};
     ghost use Rattle.sip_route.specs.Way.{way_from};
     ghost use Rattle.sip_validate.specs.Candidate.{Candidate};
@@ -54,6 +57,7 @@ impl<'a, 'v> Model for Candidate<'a, 'v> {
     } };
 
     ghost invariant = { λ r. (option_and_then via_of (first_value Name.Via r.fields.now) ≡ Some r.via.now)
+        × (r.max_forwards ≡ max_forwards_of r.fields.now)
         × IfSome r.is_uri (λ is_uri. is_uri ≡ is_ok (reading_of r.uri.now)) };
 }
 
@@ -88,6 +92,7 @@ impl<'a, 'v> Candidate<'a, 'v> {
             via,
             short,
             core,
+            max_forwards: max_forwards_of(message.fields()),
             is_uri: None,
         })
     }

@@ -13,8 +13,8 @@ ghost use Rattle.sip_validate.specs.Refusal.{has_own_via};
 
 use crate::candidate::Candidate;
 use sip_header::{
-    AnyUri, ContactItem, MaxForwards, Via, WrittenAddress, bracketed_place, contact_of,
-    max_forwards_of, route_of, via_of,
+    AnyUri, ContactItem, MaxForwards, Via, WrittenAddress, bracketed_place, contact_of, route_of,
+    via_of,
 };
 use sip_message_fields::{FieldName, ViewField};
 use sip_route::Own;
@@ -275,7 +275,7 @@ impl<'a, 'v> Candidate<'a, 'v> {
     fn has_bad_max_forwards(&self) -> bool
         ensures { result ≡ Definition.has_bad_max_forwards self.now }
     {
-        match max_forwards_of(self.fields) {
+        match self.max_forwards {
             MaxForwards::Malformed => true,
             MaxForwards::Absent | MaxForwards::Hops(_) => false,
         }

@@ -11,7 +11,7 @@ ghost use Rattle.sip_validate.specs.Refused.{refused_with};
 use crate::candidate::Candidate;
 use crate::faults::has_sip_scheme;
 use crate::refused::Refused;
-use sip_header::{MaxForwards, max_forwards_of, tag_of};
+use sip_header::{MaxForwards, tag_of};
 use sip_message_fields::FieldName;
 use sip_route::Way;
 use sip_text::{Bytes, same_bytes};
@@ -62,7 +62,7 @@ impl<'a, 'v> Candidate<'a, 'v> {
     fn has_no_hops(&self) -> bool
         ensures { result ≡ Definition.has_no_hops self.now }
     {
-        !self.is_register() && is_zero(max_forwards_of(self.fields))
+        !self.is_register() && is_zero(self.max_forwards)
     }
 
     /// The field that says which extensions it needs (RFC 3261 16.3 step 5, 8.2.2.3).
