@@ -3,7 +3,7 @@ ghost use Rattle.sip_edit_response.specs.Challenges;
 
 use sip_digest::Algorithm;
 use sip_message_fields::{Field, FieldName, Fields};
-use sip_text::Bytes;
+use sip_text::{Buffer, Bytes};
 use std::alloc::{AllocError, Global};
 
 /// The most bytes of a challenge besides its realm and its nonce.
@@ -39,14 +39,14 @@ pub fn challenge(
     ensures { IfOk result (λ value. value ≡ Challenges.challenge algorithm realm.now nonce.now stale) }
 {
     let room = realm.len().saturating_add(nonce.len());
-    let mut value = Bytes::with_room(alloc, room.saturating_add(REST_OF_CHALLENGE))?;
+    let mut value = Buffer::with_room(alloc, room.saturating_add(REST_OF_CHALLENGE))?;
     value.extend(b"Digest realm=\"")?;
     value.extend(realm)?;
     value.extend(b"\", nonce=\"")?;
     value.extend(nonce)?;
     value.extend(algorithm_part(algorithm))?;
     value.extend(stale_part(stale))?;
-    Ok(value)
+    Ok(value.into_bytes())
 }
 
 /// Adds the field of a name that challenges by an algorithm.

@@ -1,7 +1,7 @@
 ghost use Rattle.std.specs.Prelude.{◌≡◌, IfOk};
 ghost use Rattle.sip_edit_response.specs.Contacts;
 
-use sip_text::Bytes;
+use sip_text::{Buffer, Bytes};
 use std::alloc::{AllocError, Global};
 
 /// The most bytes of a Contact that lists a binding besides its URI.
@@ -12,10 +12,10 @@ const REST_OF_CONTACT: usize = 31;
 pub fn contact_value(alloc: Global, uri: &[u8], seconds: u64) -> Result<Bytes, AllocError>
     ensures { IfOk result (λ value. value ≡ Contacts.contact_value uri.now seconds) }
 {
-    let mut value = Bytes::with_room(alloc, uri.len().saturating_add(REST_OF_CONTACT))?;
+    let mut value = Buffer::with_room(alloc, uri.len().saturating_add(REST_OF_CONTACT))?;
     value.extend(b"<")?;
     value.extend(uri)?;
     value.extend(b">;expires=")?;
     value.push_decimal(seconds)?;
-    Ok(value)
+    Ok(value.into_bytes())
 }

@@ -3,7 +3,7 @@ ghost use Rattle.sip_edit_response.specs.Extras as Definitions;
 
 use sip_message_fields::{Field, FieldName};
 use sip_route::Own;
-use sip_text::Bytes;
+use sip_text::Buffer;
 use std::alloc::{AllocError, Global};
 
 /// The most bytes of that Warning besides this server's host.
@@ -15,7 +15,7 @@ pub fn denial_warning(alloc: Global, own: &Own, rule: u32) -> Result<Field, Allo
     ensures { IfOk result (λ field. field ≡ Definitions.denial_warning own.now rule) }
 {
     let host = own.host.as_slice();
-    let mut value = Bytes::with_room(alloc, host.len().saturating_add(REST_OF_WARNING))?;
+    let mut value = Buffer::with_room(alloc, host.len().saturating_add(REST_OF_WARNING))?;
     value.extend(b"399 ")?;
     value.extend(host)?;
     value.extend(b" \"policy rule ")?;
@@ -23,7 +23,7 @@ pub fn denial_warning(alloc: Global, own: &Own, rule: u32) -> Result<Field, Allo
     value.extend(b"\"")?;
     Ok(Field {
         name: FieldName::Warning,
-        value,
+        value: value.into_bytes(),
     })
 }
 

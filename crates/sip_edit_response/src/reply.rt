@@ -16,8 +16,9 @@ use std::alloc::{AllocError, Global};
 /// The most fields of a response that stand once: From, To, Call-ID, CSeq and Timestamp.
 const SINGLE_FIELDS: usize = 5;
 
-/// The most bytes of a response beside its reason, its fields and its tag: its version, its status and `;tag=`.
-const REST_OF_REPLY: usize = 20;
+/// The room for a response beside its further fields, which few fill: a longer one grows. What it copies of the request isn't
+/// counted first, since that would pass over all fields once more.
+const USUAL_REPLY: usize = 768;
 
 /// Whether the value of a To is an address in brackets and nothing else, which has no tag, as most are. `false` says
 /// nothing.
@@ -150,13 +151,7 @@ pub fn respond(
     ensures { IfOk result (λ text. text ≡ text_of (Reply.reply_of request.now status to_tag.now extras.now)) }
 {
     let reason = reason_of(status);
-    let room = request
-        .written_length()
-        .saturating_sub(request.body().len())
-        .saturating_add(room_of(extras.as_slice()))
-        .saturating_add(to_tag.len())
-        .saturating_add(reason.len())
-        .saturating_add(REST_OF_REPLY);
+    let room = USUAL_REPLY.saturating_add(room_of(extras.as_slice()));
     let mut out = Buffer::with_room(alloc, room)?;
     put_status_line(&mut out, status, reason)?;
     out.extend(b"\r\n")?;

@@ -1,7 +1,7 @@
 ghost use Rattle.std.specs.Prelude.{◌≡◌, IfOk};
 ghost use Rattle.sip_edit_response.specs.Tags;
 
-use sip_text::{Bytes, hex_text};
+use sip_text::{Buffer, Bytes, hex_text};
 use std::alloc::{AllocError, Global};
 
 /// The most bytes of a To tag of this server's: 16 hexadecimal digits, and a number behind a `.`.
@@ -12,9 +12,9 @@ const LONGEST_TAG: usize = 37;
 pub fn to_tag(alloc: Global, boot: u64, number: u64) -> Result<Bytes, AllocError>
     ensures { IfOk result (λ tag. tag ≡ Tags.to_tag boot number) }
 {
-    let mut tag = Bytes::with_room(alloc, LONGEST_TAG)?;
+    let mut tag = Buffer::with_room(alloc, LONGEST_TAG)?;
     tag.extend(hex_text(boot).as_slice())?;
     tag.extend(b".")?;
     tag.push_decimal(number)?;
-    Ok(tag)
+    Ok(tag.into_bytes())
 }
