@@ -41,7 +41,7 @@ pub fn send_ack<T: Timers>(
     ensures timers { OnErr result (proxy.new.timers ≡ proxy.old.timers) }
 {
     let ack = forward_ack(alloc, server, hops, arrival, request, address, id)?;
-    let mut packets = Items::new(alloc);
+    let mut packets = Items::with_room(alloc, 1)?;
     packets.push(ack.packet)?;
     take_lessons(proxy, arrival, ack.lessons)?;
     Ok(StepOut {

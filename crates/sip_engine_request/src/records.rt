@@ -46,7 +46,7 @@ fn recorded(
         judged.minute,
         outcome,
     )?;
-    let mut records = Items::new(alloc);
+    let mut records = Items::with_room(alloc, 1)?;
     records.push(record)?;
     Ok(records)
 }

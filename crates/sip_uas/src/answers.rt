@@ -43,7 +43,7 @@ fn drafted(
         }) }
 {
     let Replied { packet, request } = replied;
-    let mut packets = Items::new(alloc);
+    let mut packets = Items::with_room(alloc, 1)?;
     packets.push(packet)?;
     Ok(Draft {
         packets,

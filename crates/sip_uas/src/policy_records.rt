@@ -33,7 +33,7 @@ pub(crate) fn records_of(
         judged.minute,
         outcome,
     )?;
-    let mut records = Items::new(alloc);
+    let mut records = Items::with_room(alloc, 1)?;
     records.push(record)?;
     Ok(records)
 }
