@@ -132,10 +132,6 @@ held_front ts left front back e h =
     let whole : IsHeld ts (front ++ back) = subst (λ us. IsHeld ts us) e h in
     record { stand = λ p. omega (arith, whole.stand p, count-append p front back); keys_differ = whole.keys_differ }
 
--- nothing does
-pub held_none : (ts none : List Timer) → none ≡ [] → KeysDiffer ts → IsHeld ts none
-held_none ts none e differ = subst (λ us. IsHeld ts us) (sym e) (record { stand = λ p. omega arith; keys_differ = differ })
-
 -- the front is moved, and the back stays as it is
 pub Moves-matched : (ts us left front back part named : List Timer) → left ≡ front ++ back → part ≡ named → Moves ts front us part → Moves ts left us (named ++ back)
 Moves-matched ts us left front back part named e f m =
@@ -143,12 +139,6 @@ Moves-matched ts us left front back part named e f m =
       same = λ p. omega (arith, m.same p, count-append p front back, count-append p part back);
       keys_differ = m.keys_differ;
     }))
-
--- something is set beside what stays as it is
-pub Moves-beside : (ts us left none part named : List Timer) → none ≡ [] → part ≡ named → Moves ts none us part → Moves ts left us (named ++ left)
-Moves-beside ts us left none part named e f m =
-    let k : Moves ts [] us part = subst (λ xs. Moves ts xs us part) e m in
-    subst (λ xs. Moves ts left us (xs ++ left)) f (record { same = λ p. omega (arith, k.same p, count-append p part left); keys_differ = k.keys_differ })
 
 -- one branch further
 pub Moves-further : (ts us vs all done left part rest more : List Timer) → more ≡ done ++ part → Moves ts all us (done ++ left) → Moves us left vs (part ++ rest) → Moves ts all vs (more ++ rest)
