@@ -1,4 +1,4 @@
-ghost use Rattle.std.specs.Prelude.{◌≡◌, not, filter, IfOk};
+ghost use Rattle.std.specs.Prelude.{◌≡◌, not, filter, IfOk, OnOk};
 ghost use Rattle.sip_targets.specs.Target as Definitions;
 ghost use Rattle.sip_targets.specs.Target.{target_for};
 
@@ -43,15 +43,14 @@ fn without_method(alloc: Global, parameters: &[Parameter]) -> Result<Items<Param
     Ok(kept)
 }
 
-/// The Request-URI for a contact, made of its URI: without `method` and without URI headers, which no Request-URI has
-/// (RFC 3261 19.1.1, table 1).
-fn target_uri(alloc: Global, contact: Uri) -> Result<Uri, AllocError>
-    ensures { IfOk result (λ uri. uri ≡ Definitions.target_uri contact) }
+/// Makes the Request-URI for a contact of its URI, which stays where it is: without `method` and without URI headers, which
+/// no Request-URI has (RFC 3261 19.1.1, table 1).
+fn make_target(alloc: Global, uri: &mut Uri) -> Result<(), AllocError>
+    ensures { OnOk result (uri.new ≡ Definitions.target_uri uri.old) }
 {
-    let mut uri = contact;
     uri.parameters = without_method(alloc, uri.parameters.as_slice())?;
     uri.headers = Items::new(alloc);
-    Ok(uri)
+    Ok(())
 }
 
 impl Target {
@@ -59,7 +58,8 @@ impl Target {
     pub(crate) fn for_contact(alloc: Global, contact: Uri, hops: &Hops) -> Result<Self, AllocError>
         ensures { IfOk result (λ target. target ≡ target_for hops.now.addresses contact) }
     {
-        let uri = target_uri(alloc, contact)?;
+        let mut uri = contact;
+        make_target(alloc, &mut uri)?;
         let address = hops.address_of(&uri);
         Ok(Target { uri, address })
     }

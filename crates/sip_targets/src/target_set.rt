@@ -6,11 +6,22 @@ use crate::target::Target;
 use crate::targets::Targets;
 use sip_base::Shared;
 use sip_hops::Hops;
-use sip_location::LiveBindings;
+use sip_location::{BindingRef, LiveBindings};
 use sip_policy::Decision;
 use sip_text::Items;
 use sip_uri::{Addr, Uri};
 use std::alloc::{AllocError, Global};
+
+/// The target for a binding.
+fn target_at(alloc: Global, binding: &BindingRef<'_>, hops: &Hops) -> Result<Target, AllocError>
+    ensures { IfOk result (λ target. target ≡ target_for hops.now.addresses binding.now.uri) }
+{
+    // Matched, not `?`: a URI is large, and is moved less so.
+    match binding.uri(alloc) {
+        Ok(uri) => Target::for_contact(alloc, uri, hops),
+        Err(refusal) => Err(refusal),
+    }
+}
 
 /// One target for each binding, in their order.
 fn list_targets(
@@ -23,7 +34,8 @@ fn list_targets(
     let mut left = bindings;
     let mut targets = Items::new(alloc);
     while let Some(binding) = left.next() {
-        targets.push(Target::for_contact(alloc, binding.uri(alloc)?, hops)?)?;
+        let target = target_at(alloc, &binding, hops)?;
+        targets.push(target)?;
     }
     Ok(targets)
 }
