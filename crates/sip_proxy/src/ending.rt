@@ -4,7 +4,7 @@ ghost use Rattle.sip_dialog_lessons.specs.state.declared.open_request.OpenReques
 ghost use Rattle.sip_fork.specs.Ending.{IsDeadlineOf, ended, left_invite};
 ghost use Rattle.sip_fork.specs.Keeping.{IsKeptAs, IsOf};
 ghost use Rattle.sip_fork.specs.context.Inputs.{changing, outcome_of};
-ghost use Rattle.sip_fork.specs.Quiet.{alone};
+ghost use Rattle.sip_fork.specs.Quiet.{alone, ends_alone};
 ghost use Rattle.sip_fork.specs.context.declared.input.Input.{Input};
 ghost use Rattle.sip_fork.specs.steps_model.Effect.{replaced};
 ghost use Rattle.sip_fork.specs.steps_model.Step.{NoneBefore, NoneAgainBefore};
@@ -45,6 +45,7 @@ impl<T: Timers> Proxy<T> {
     /// nothing else of the request changes. Takes no memory.
     pub fn ends_quietly(&self, place: usize, transaction: Transaction) -> bool
         requires { place < length self.now.state.requests }
+        ensures exact { (r : OpenRequest) → slice_get self.now.state.requests place ≡ Some r → result ≡ ends_alone transaction r }
         ensures outcome { result ≡ true → (r : OpenRequest) → slice_get self.now.state.requests place ≡ Some r → (server : Server) (now : ℕ) (input : Input)
             → IsDeadlineOf r transaction input → outcome_of server now r input ≡ changing (alone (ended transaction r)) [] }
         ensures kept { result ≡ true → (r : OpenRequest) → slice_get self.now.state.requests place ≡ Some r → (server : Server) (now : ℕ) (input : Input)
