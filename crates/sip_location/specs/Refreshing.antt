@@ -5,7 +5,7 @@ use Rattle.sip_header.specs.declared.name_addr.AnyUri.TheVariants.{Sip}
 use Rattle.sip_header.specs.declared.contact_item.ContactItem.TheVariants.{Address}
 use Rattle.sip_header.specs.ContactItem.{contact_of}
 use Rattle.sip_location.specs.declared.binding.Binding.{Binding}
-use Rattle.sip_location.specs.declared.refresh.Refresh.{Refresh}
+use Rattle.sip_location.specs.declared.registration.Refresh.{Refresh}
 use Rattle.sip_location.specs.declared.registration.Registration.{Registration}
 use Rattle.sip_location.specs.Interval.{granted}
 use Rattle.sip_location.specs.Newer.{is_of_call}

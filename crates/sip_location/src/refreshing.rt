@@ -7,7 +7,7 @@ ghost use Rattle.sip_location.specs.Newer as Newer;
 ghost use Rattle.sip_location.specs.Refreshing.{asked_by, IsContactOf, IsAskedAgain, IsMade};
 
 use crate::interval::{MINUTE, granted};
-use crate::refresh::Refresh;
+use crate::registration::Refresh;
 use crate::row::Row;
 use crate::rows::Rows;
 use crate::standing::is_live_row;
@@ -34,10 +34,7 @@ fn is_contact_of(value: &[u8], text: &[u8]) -> bool
         return false;
     }
     let (uri, end) = rest.split_at(text.len());
-    if !same_bytes(uri, text) {
-        return false;
-    }
-    if !same_bytes(end, b">") {
+    if !same_bytes(uri, text) || !same_bytes(end, b">") {
         return false;
     }
     match plain_uri_at(text) {
@@ -58,16 +55,10 @@ fn asks_again(request: &Refresh<'_>, row: &Row, now: u64) -> bool
     ensures { result ≡ true → IsAskedAgain (asked_by request.now) request.now.contact.now (text_of row.now.uri)
         (binding_of request.now.aor.now row.now) now }
 {
-    if !is_live_row(row, now) {
-        return false;
-    }
-    if granted(request.expires) < MINUTE {
-        return false;
-    }
-    if is_of_call(row, request) {
-        return false;
-    }
-    is_contact_of(request.contact, row.uri_text())
+    is_live_row(row, now)
+        && MINUTE <= granted(request.expires)
+        && !is_of_call(row, request)
+        && is_contact_of(request.contact, row.uri_text())
 }
 
 /// What is to be kept of an address of record whose only binding is asked for again. None says nothing.
@@ -87,12 +78,7 @@ pub(crate) fn refreshed(
         return Ok(None);
     }
     let expires_at = now + 1000 * granted(request.expires);
-    let row = Row::new(
-        alloc,
-        row.uri_text(),
-        request.call_id,
-        request.cseq,
-        expires_at,
-    )?;
+    let text = row.uri_text();
+    let row = Row::new(alloc, text, request.call_id, request.cseq, expires_at)?;
     Ok(Some(Rows::one(alloc, row)?))
 }

@@ -29,18 +29,12 @@ fn has_star(contacts: &[ContactItem<'_>]) -> bool
     contacts.iter().any(|contact| is_star(contact))
 }
 
-fn is_alone(contacts: &[ContactItem<'_>]) -> bool
-    ensures { result ≡ Definitions.is_alone contacts.now }
-{
-    contacts.len() == 1
-}
-
 /// A `*` beside another Contact, or without an Expires of 0.
 pub(crate) fn has_bad_star(request: &Registration<'_>) -> bool
     ensures { result ≡ Definitions.has_bad_star request.now }
 {
     let contacts = request.contacts.as_slice();
-    has_star(contacts) && !(is_alone(contacts) && is_zero(request.expires))
+    has_star(contacts) && !(contacts.len() == 1 && is_zero(request.expires))
 }
 
 fn is_sip(uri: &AnyUri<'_>) -> bool

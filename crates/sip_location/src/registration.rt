@@ -15,3 +15,16 @@ pub struct Registration<'a> {
     pub call_id: Text<'a>,
     pub cseq: u32,
 }
+
+/// What a registrar reads of a REGISTER with one Contact, all of it lent.
+#[derive(Drop)]
+pub struct Refresh<'a> {
+    /// The address of record that To names.
+    pub aor: &'a Aor,
+    /// The value of Contact.
+    pub contact: &'a [u8],
+    /// What its Expires says.
+    pub expires: Expires,
+    pub call_id: &'a [u8],
+    pub cseq: u32,
+}

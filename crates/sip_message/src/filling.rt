@@ -129,7 +129,7 @@ impl<'a> Filling<'a> {
         if name.is_content_length() {
             return self.take_length(value);
         }
-        self.fields.push(ViewField::of_line(name, value, line))?;
+        self.fields.push_line(name, value, line)?;
         Ok(())
     }
 
@@ -170,6 +170,21 @@ impl<'a> Filling<'a> {
             (λ e. IsFault e (field_taken self.old.length (seen_field name.now value.now))) }
     {
         self.take_any(alloc, ViewName::of_part(name), Value::of_part(value))
+    }
+
+    /// The same in place, where it is one field.
+    #[inline(always)]
+    fn take_seen(&mut self, alloc: Global, name: &'a [u8], value: &'a [u8]) -> Result<(), LineFault>
+        ensures { MatchResult result
+            (λ _. IsFieldFilled self.old (seen_field name.now value.now) self.new)
+            (λ e. IsFault e (field_taken self.old.length (seen_field name.now value.now))) }
+    {
+        let seen = ViewName::of_part(name);
+        if seen.is_content_length() || !is_one_field(&seen, value) {
+            return self.take_parts(alloc, name, value);
+        }
+        self.fields.push_part(seen, value)?;
+        Ok(())
     }
 
     /// Takes a line with its folds, and gives what follows them.
@@ -237,9 +252,8 @@ impl<'a> Filling<'a> {
         Ok(next.after)
     }
 
-    /// Takes a line with a name and without folds that isn't written as its field is, or whose field isn't one, and gives
-    /// what follows it.
-    #[inline(never)]
+    /// Takes a line with a name and without folds that isn't written as its field is, and gives what follows it.
+    #[inline(always)]
     fn take_unusual(&mut self, alloc: Global, next: NamedLine<'a>) -> Result<&'a [u8], LineFault>
         requires no_fold { is_fold next.after.now ≡ false }
         requires named { IsNamed next.line.now next.name.now next.value.now }
@@ -247,7 +261,7 @@ impl<'a> Filling<'a> {
         ensures { MatchResult result (λ rest. IsLineFilled self.old next.entry.line.now next.entry.after.now self.new rest.now)
             (λ e. (e ≡ LineFault.NoMemory) ⊎ IsLineRefused self.old.length next.entry.line.now next.entry.after.now) }
     {
-        self.take_parts(alloc, next.name, trimmed_slice(next.value))?;
+        self.take_seen(alloc, next.name, trimmed_slice(next.value))?;
         Ok(next.after)
     }
 
@@ -271,7 +285,8 @@ impl<'a> Filling<'a> {
             return self.take_unusual(alloc, next);
         }
         if !is_one_field(&name, value) {
-            return self.take_unusual(alloc, next);
+            self.take_parts(alloc, next.name, value)?;
+            return Ok(next.after);
         }
         self.take_field(name, value, next.text)?;
         Ok(next.after)

@@ -164,3 +164,6 @@ same_again xs = search rules
 
 pub full_again : (name : List ℕ) (k : KnownName) → name ≡ spelling (field_name_of k) → bytes_eq name (spelling (name_of name)) ≡ true
 full_again name k is = ap (λ (n : FieldName). bytes_eq name (spelling n)) (sym (full_name name k is)) ∙ ap (bytes_eq name) (sym is) ∙ same_again name
+
+pub itself : (xs : List ℕ) → true ≡ bytes_eq xs xs
+itself xs = sym (same_again xs)

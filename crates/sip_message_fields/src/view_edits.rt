@@ -29,7 +29,7 @@ pub(crate) fn put_named<'a>(
     let known = KnownName::of(name);
     for field in fields {
         if field.name().is_named(known, name) {
-            out.append(field.lent()?)?;
+            out.push(field.lent()?)?;
         }
     }
     Ok(())

@@ -57,7 +57,7 @@ impl<'a> ViewField<'a> {
 
     /// The field of this name with this value, whose line stands so in what was read.
     #[inline]
-    pub fn of_line(name: ViewName<'a>, value: &'a [u8], line: &'a [u8]) -> Self
+    pub(crate) fn of_line(name: ViewName<'a>, value: &'a [u8], line: &'a [u8]) -> Self
         requires { line.now ≡ line_of (record { name = name; value = value.now }) }
         ensures { result ≡ record { name = name.entry; value = value.now } }
     {

@@ -1,7 +1,10 @@
 ghost use Rattle.std.specs.Prelude.{◌≡◌, [], ◌∷◌, ◌++◌, IfOk, OnOk, OnErr, length, map, option_map};
+ghost use Rattle.sip_message_fields.specs.Lines.{line_of};
 
+use crate::value::Value;
 use crate::view_edits::{put_all, put_named, with_first};
 use crate::view_field::ViewField;
+use crate::view_name::ViewName;
 use crate::view_named::{count_of, fields_of, first_of, values_in, views_of};
 use crate::{FieldName, Fields};
 use std::alloc::{AllocError, Global};
@@ -27,15 +30,6 @@ impl<'a> ViewFields<'a> {
     ghost use Rattle.sip_message_fields.specs.Values;
     ghost use Rattle.sip_message_fields.specs.Values.{values_of, first_value};
 
-    /// No fields. Takes no memory.
-    pub fn new(alloc: Global) -> Self
-        ensures { result ≡ [] }
-    {
-        ViewFields {
-            list: Vec::new(alloc),
-        }
-    }
-
     /// No fields, and room for so many.
     pub fn with_room(alloc: Global, room: usize) -> Result<Self, AllocError>
         ensures { IfOk result (λ views. views ≡ []) }
@@ -58,11 +52,47 @@ impl<'a> ViewFields<'a> {
         ensures ok { OnOk result (self.new ≡ self.old ++ field.entry ∷ []) }
         ensures err { OnErr result (self.new ≡ self.old) }
     {
-        if self.list.len() < self.list.capacity() {
-            self.list.push_reserved(field);
-            return Ok(());
+        if self.list.len() == self.list.capacity() {
+            self.list.reserve(1)?;
         }
-        self.append(field)
+        self.list.push_reserved(field);
+        Ok(())
+    }
+
+    /// Adds the field of this name with this value, whose line stands so in what was read, at the end. At an error the fields
+    /// are as before. It is made where it is kept, once there is room.
+    #[inline(always)]
+    pub fn push_line(
+        &mut self,
+        name: ViewName<'a>,
+        value: &'a [u8],
+        line: &'a [u8],
+    ) -> Result<(), AllocError>
+        requires { line.now ≡ line_of (record { name = name; value = value.now }) }
+        ensures ok { OnOk result (self.new ≡ self.old ++ record { name = name.entry; value = value.now } ∷ []) }
+        ensures err { OnErr result (self.new ≡ self.old) }
+    {
+        if self.list.len() == self.list.capacity() {
+            self.list.reserve(1)?;
+        }
+        self.list
+            .push_reserved(ViewField::of_line(name, value, line));
+        Ok(())
+    }
+
+    /// Adds the field of this name with this value, a part of what was read, at the end. At an error the fields are as before.
+    /// It is made where it is kept, once there is room.
+    #[inline(always)]
+    pub fn push_part(&mut self, name: ViewName<'a>, value: &'a [u8]) -> Result<(), AllocError>
+        ensures ok { OnOk result (self.new ≡ self.old ++ record { name = name.entry; value = value.now } ∷ []) }
+        ensures err { OnErr result (self.new ≡ self.old) }
+    {
+        if self.list.len() == self.list.capacity() {
+            self.list.reserve(1)?;
+        }
+        self.list
+            .push_reserved(ViewField::new(name, Value::of_part(value)));
+        Ok(())
     }
 
     /// Adds the first of some fields that has a name, if there is one, at the end. No byte is copied.
@@ -77,16 +107,6 @@ impl<'a> ViewFields<'a> {
             return Ok(());
         };
         self.push(field.lent()?)
-    }
-
-    /// Adds a field at the end, for which room may have to be made. It stands apart, so that where there is room a field
-    /// is written in place.
-    pub(crate) fn append(&mut self, field: ViewField<'a>) -> Result<(), AllocError>
-        ensures ok { OnOk result (self.new ≡ self.old ++ field.entry ∷ []) }
-        ensures err { OnErr result (self.new ≡ self.old) }
-    {
-        self.list.push(field)?;
-        Ok(())
     }
 
     /// Adds fields that were made, of which no byte is copied.

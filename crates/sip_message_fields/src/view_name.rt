@@ -27,13 +27,14 @@ impl<'a> Model for ViewName<'a> {
     ghost view = { λ n. name_seen n.known n.spelling.now };
 }
 
-/// Whether a name is its full spelling, of which it is known whether this project knows it.
+/// Whether a name is its full spelling, of which it is known whether this project knows it: another name always is.
+#[tactic(auto, using(crate::proofs::KnownNames::itself))]
 fn is_in_full(known: Option<KnownName>, name: &[u8]) -> bool
     ensures { result ≡ bytes_eq name.now (spelling (name_seen known name.now)) }
 {
     match known {
         Some(known) => same_bytes(name, known.spelling()),
-        None => same_bytes(name, name),
+        None => true,
     }
 }
 

@@ -1,4 +1,4 @@
-use Rattle.std.proofs.Common.{sym, ◌∙◌}
+use Rattle.std.proofs.Common.{sym, ◌∙◌, refl}
 use Rattle.std.proofs.lemmas.Result.{err_from_is_err_and}
 use Rattle.sip_message.proofs.LineSteps.{fault_here}
 use Rattle.sip_message.proofs.FieldLaws.{named_field}
@@ -18,7 +18,19 @@ returns c =
 
 pub returns-in_err-take_field : goal.returns-in_err-take_field
 returns-in_err-take_field c =
-    let p = err_from_is_err_and c.from_residual.result c.from_residual.ensures.1 in
+    let p = err_from_is_err_and c.from_residual-in_err-take_field.result c.from_residual-in_err-take_field.ensures.1 in
     rw (p.1, p.2)
     (fault_here c.args.self.now.length c.args.next.line c.args.next.after _ c.in_err-take_field.field-0.0 (sym c.is_fold_line.ensures ∙ c.if-is_fold_line.false)
     (named_field c.args.next.line.now c.args.next.name.now c.args.next.value.now c.requires.named c.requires.text ∙ field_same _ _ _ _ (sym c.of_written-name.ensures.name) (sym c.in-Some.ensures.value)) c.in_err-take_field.ensures)
+
+pub returns-then-not-is_one_field : goal.returns-then-not-is_one_field
+returns-then-not-is_one_field c =
+    line_taken c.args.self.now c.take_parts.new.self c.args.next.line c.args.next.after _ (sym c.is_fold_line.ensures ∙ c.if-is_fold_line.false)
+    (named_field c.args.next.line.now c.args.next.name.now c.args.next.value.now c.requires.named c.requires.text ∙ field_same _ _ _ _ refl (sym c.in-Some.ensures.value)) c.in_ok-take_parts.ensures
+
+pub returns-in_err-take_parts : goal.returns-in_err-take_parts
+returns-in_err-take_parts c =
+    let p = err_from_is_err_and c.from_residual.result c.from_residual.ensures.1 in
+    rw (p.1, p.2)
+    (fault_here c.args.self.now.length c.args.next.line c.args.next.after _ c.in_err-take_parts.field-0.0 (sym c.is_fold_line.ensures ∙ c.if-is_fold_line.false)
+    (named_field c.args.next.line.now c.args.next.name.now c.args.next.value.now c.requires.named c.requires.text ∙ field_same _ _ _ _ refl (sym c.in-Some.ensures.value)) c.in_err-take_parts.ensures)
