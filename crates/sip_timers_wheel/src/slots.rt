@@ -15,6 +15,10 @@ use slab::Slab;
 use std::alloc::{AllocError, Global};
 use std::marker::Model;
 
+/// How many timers there is room for from the start, half as many again as requests may be open, so that those that stand
+/// aren't moved while fewer do.
+const ROOM: usize = 1536;
+
 /// Lists of timers, each in a slot of its own, by a number from 0 on. Each timer has a key, which no other
 /// one that stands has, in whichever slot; a key may serve again once its timer doesn't stand any more.
 #[derive(Drop)]
@@ -42,7 +46,7 @@ impl Slots {
         ensures { IfOk result (λ s. s.lists ≡ replicate count []) }
     {
         Ok(Slots {
-            rows: Slab::new(alloc),
+            rows: Slab::with_capacity(alloc, ROOM)?,
             heads: vec![in alloc; Head::EMPTY; count]?,
         })
     }
