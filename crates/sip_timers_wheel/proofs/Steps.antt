@@ -1,6 +1,7 @@
 -- What each call of a wheel leaves.
-use Rattle.std.proofs.Common.{◌≡◌, ◌≢◌, ℕ, ◌+◌, ◌/◌, ◌%◌, ◌≤◌, ◌<◌, List, [], ◌∷◌, ◌++◌, length, eqb, leb, cond, true, false, refl, ap, sym, ◌∙◌, arith, subst, set, drop, ltb, Option, Some, None}
+use Rattle.std.proofs.Common.{◌≡◌, ◌≢◌, ℕ, ◌+◌, ◌*◌, ◌/◌, ◌%◌, ◌≤◌, ◌<◌, List, [], ◌∷◌, ◌++◌, length, eqb, leb, cond, true, false, refl, ap, sym, ◌∙◌, arith, subst, set, drop, ltb, Option, Some, None, ◌⊎◌, inl, inr}
 use Rattle.std.specs.Prelude.{not, ◌&&◌, count_by, IfNone, IfSome, MatchOption}
+use Rattle.std.proofs.lemmas.Bool.{cases_lt}
 use Rattle.std.proofs.lemmas.Bool.Decides.{nat_tests}
 use Rattle.std.proofs.lemmas.List.{length-set, length-append, get_or_past}
 use Rattle.std.proofs.lemmas.List.Elements.{filter-append}
@@ -11,12 +12,13 @@ use Rattle.sip_timers_wheel.specs.Threads.{sooner}
 use Rattle.sip_timers_wheel.specs.Places.{slot_of, start_of, level_of, width}
 use Rattle.sip_timers_wheel.specs.Order.{due_at}
 use Rattle.sip_timers_wheel.specs.Wheel.{IsWheel, pending_in, IsFirstSlot, IsEmptyLevel, AreMoved, AreUnreached, GoesElsewhere}
-use Rattle.sip_timers_wheel.proofs.Order.{StaysOrdered, StandsThen, due_at-same, count-in_order}
-use Rattle.sip_timers_wheel.proofs.Moments.{slot_known, slot-late, slot-none, slot-in, level_below}
+use Rattle.sip_timers_wheel.proofs.Order.{AreOrdered-in_order, StaysOrdered, StandsThen, due_at-same, count-in_order}
+use Rattle.sip_timers_wheel.proofs.Moments.{before_end, behind_level, behind_slot, slot_known, slot-late, slot-none, slot-in, same_start, start_le, level_below}
 use Rattle.sip_timers_wheel.proofs.Lists.{count-cons, without-none}
 use Rattle.sip_timers_wheel.proofs.Changes.{by_same, seen, pushed-in_place, pushed-pending, key-here, gone-in_place, gone-pending}
 use Rattle.sip_timers_wheel.proofs.Moves.{by_moment, near_by_slot, moved-more, new-slot}
-use Rattle.sip_timers_wheel.proofs.First.{none-least, head-late, head-first, none-pending, some-is}
+use Rattle.sip_timers_wheel.proofs.First.{least-before, none-least, head-late, head-first, none-pending, some-is}
+use Rattle.sip_timers_wheel.proofs.Dues.{least_rising}
 
 -- a moment whose slot has a list is near
 pub near-by : (b d : ℕ) → slot_of b d < 321 → d < b + 1073741824
@@ -227,3 +229,58 @@ pub later-reached : (b now : ℕ) (lists : List (List Timer)) (slot start end : 
 later-reached b now lists slot start end first later d low some = by_same (now < start_of b d) (slot_of b d) slot
     (λ e. omega (arith, later, first.start_is d e))
     (λ n. omega (arith, later, first.spans, first.others d n low some))
+
+by_order : (P : Type 0) (x y : ℕ) → (x < y → P) → (x ≡ y → P) → (y < x → P) → P
+by_order P x y less same more = by_two (cases_lt x y) where
+  by_two : (x < y) ⊎ (y ≤ x) → P
+  by_two (inl lt) = less lt
+  by_two (inr ge) = by_same P x y same (λ n. more (omega (arith, ge, n)))
+
+-- the slot of what is due earlier begins no later
+start_rises : (b d e : ℕ) → b < d → d ≤ e → start_of b d ≤ start_of b e
+start_rises b d e lt le = by_order (start_of b d ≤ start_of b e) (level_of b d) (level_of b e)
+    (λ below. omega (arith, behind_level b d e lt (omega (arith, lt, le)) below))
+    (λ same. by_order (start_of b d ≤ start_of b e) (d / width (level_of b e)) (e / width (level_of b e))
+    (λ less. omega (arith, behind_slot b d e (level_of b e) same refl less))
+    (λ at. omega (arith, ap (λ l. d / width l * width l) same ∙ ap (λ q. q * width (level_of b e)) at))
+    (λ more. absurd (omega (arith, behind_slot b e d (level_of b e) refl same more, start_le b d, before_end b e, le))))
+    (λ above. absurd (omega (arith, behind_level b e d (omega (arith, lt, le)) lt above, start_le b d, before_end b e, le)))
+
+by_front : (P : Type 0) (ts : List Timer) → 1 ≤ length ts → ((t : Timer) (rest : List Timer) → ts ≡ t ∷ rest → P) → P
+by_front P [] some f = absurd (omega (arith, some))
+by_front P (t ∷ ts) some f = f t ts refl
+
+no-first : (ts : List Timer) → None ≡ first_of ts → ts ≡ []
+no-first [] e = refl
+no-first (t ∷ ts) e = absurd (grind (arith, e))
+
+-- where the slot of the timer that fires first begins after a moment, each slot does
+module _ (stays : StaysOrdered) (b : ℕ) (lists : List (List Timer)) (wheel : IsWheel b lists) (now : ℕ) where
+  -- none that stands is due before the first
+  no_earlier : (t : Timer) (ts : List Timer) → Some t ≡ first_of ts → AreOrdered ts → (d : ℕ) → 1 ≤ length (due_at d ts) → t.due ≤ d
+  no_earlier t [] first ordered d some = absurd (grind (arith, first))
+  no_earlier t (u ∷ us) first ordered d some =
+      let same : u ≡ t = some-is u t (sym first) in
+      by_order (t.due ≤ d) d u.due
+      (λ lt. absurd (omega (arith, some, ap (λ l. length l) (least-before (u ∷ us) u (least_rising u us ordered) d lt))))
+      (λ e. omega (arith, e, ap (λ x. x.due) same))
+      (λ gt. omega (arith, gt, ap (λ x. x.due) same))
+
+  ahead-of : (t : Timer) → Some t ≡ first_of (pending_in lists) → (b < t.due) × (now < start_of b t.due) → AreUnreached b now lists
+  ahead-of t first far d low some = by_front (now < start_of b d) (list_at lists (slot_of b d)) some (λ u us is.
+      let its-slot : slot_of b u.due ≡ slot_of b d = by_same (slot_of b u.due ≡ slot_of b d) (slot_of b d) (slot_of b u.due)
+      (λ e. sym e)
+      (λ n. absurd (omega (arith, ap (λ l. length l) (sym (ap (λ l. due_at u.due l) is ∙ due_at-same u us) ∙ wheel.in_place u.due (slot_of b d) n)))) in
+      let near : (b < d) × (d < b + 1073741824) = near_by_slot b d low in
+      let its-near : (b < u.due) × (u.due < b + 1073741824) = near_by_slot b u.due (omega (arith, its-slot, low)) in
+      let stands : 1 ≤ length (due_at u.due (pending_in lists)) = omega (arith, ap (λ l. length l) (seen stays b lists wheel.in_place u.due ∙ (ap (λ i. due_at u.due (list_at lists i)) its-slot ∙ (ap (λ l. due_at u.due l) is ∙ due_at-same u us)))) in
+      let later : t.due ≤ u.due = no_earlier t (pending_in lists) first (AreOrdered-in_order stays (concat lists)) u.due stands in
+      omega (arith, far.1, start_rises b t.due u.due far.0 later, same_start b u.due d its-near.0 its-near.1 near.0 near.1 its-slot))
+
+  pub first-ahead : (first : Option Timer) → first ≡ first_of (pending_in lists) → ((t : Timer) → first ≡ Some t → (b < t.due) × (now < start_of b t.due)) → AreUnreached b now lists
+  first-ahead None first far d low some = by_front (now < start_of b d) (list_at lists (slot_of b d)) some (λ u us is.
+      let its-slot : slot_of b u.due ≡ slot_of b d = by_same (slot_of b u.due ≡ slot_of b d) (slot_of b d) (slot_of b u.due)
+      (λ e. sym e)
+      (λ n. absurd (omega (arith, ap (λ l. length l) (sym (ap (λ l. due_at u.due l) is ∙ due_at-same u us) ∙ wheel.in_place u.due (slot_of b d) n)))) in
+      absurd (omega (arith, ap (λ l. length l) (sym (seen stays b lists wheel.in_place u.due ∙ (ap (λ i. due_at u.due (list_at lists i)) its-slot ∙ (ap (λ l. due_at u.due l) is ∙ due_at-same u us))) ∙ ap (λ ts. due_at u.due ts) (no-first (pending_in lists) first)))))
+  first-ahead (Some t) first far d low some = ahead-of t first (far t refl) d low some

@@ -13,6 +13,9 @@ pub(crate) fn least_of(rows: &Slab<Row>, head: &Head) -> Option<Timer>
     requires { IsHeld rows.now head.now (list_of rows.now head.now) }
     ensures { result ≡ least (list_of rows.now head.now) }
 {
+    if head.first.is_none() {
+        return None;
+    }
     match head.known_least() {
         Some(number) => Some(timer_at(rows, number)),
         None => find_least(rows, head),

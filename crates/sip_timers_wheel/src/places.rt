@@ -1,4 +1,4 @@
-ghost use Rattle.std.specs.Prelude.{◌≡◌, ◌<◌, ◌+◌, ◌^◌};
+ghost use Rattle.std.specs.Prelude.{◌≡◌, ◌<◌, ◌+◌, ◌^◌, true};
 ghost use Rattle.sip_timers_wheel.specs.Places as Definitions;
 
 /// The slots of a level.
@@ -52,6 +52,14 @@ fn level_of(reached: u64, due: u64) -> usize
     } else {
         4
     }
+}
+
+/// Whether a moment comes before the slot begins that has what is due at another one.
+pub fn is_ahead(reached: u64, due: u64, now: u64) -> bool
+    ensures { result ≡ true → now < Definitions.start_of reached due }
+{
+    let level = level_of(reached, due);
+    now < position(level, due) * width(level)
 }
 
 /// The slot of what is due at a moment, less than 2^30 ms past the one that was reached.

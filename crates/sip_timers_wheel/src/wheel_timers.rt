@@ -1,13 +1,13 @@
-ghost use Rattle.std.specs.Prelude.{◌≡◌, ◌≤◌, ◌<◌, ℕ, List, [], Some, IfSome, MatchOption, length, max};
+ghost use Rattle.std.specs.Prelude.{◌≡◌, ◌≢◌, ◌≤◌, ◌<◌, ℕ, List, [], Some, true, false, IfSome, MatchOption, length, max, if◌then◌else◌};
 ghost use Rattle.sip_timers.specs.declared.timer.Timer.{Timer};
 ghost use Rattle.sip_timers.specs.Timers.{keys_with, without};
 ghost use Rattle.sip_timers_wheel.specs.Lists.{first_of, list_at};
-ghost use Rattle.sip_timers_wheel.specs.Places.{slot_of};
+ghost use Rattle.sip_timers_wheel.specs.Places.{slot_of, start_of};
+ghost use Rattle.sip_timers_wheel.specs.Threads.{sooner};
 ghost use Rattle.sip_timers_wheel.specs.Wheel.{IsWheel, IsFirstSlot, IsEmptyLevel, AreMoved, GoesElsewhere, pending_in};
 
-use crate::least::sooner;
 use crate::levels::Levels;
-use crate::places::{LATE, LEVELS, SLOTS, position, slot_of, width};
+use crate::places::{LATE, LEVELS, SLOTS, is_ahead, position, slot_of, width};
 use sip_timers::laws::{earlier_fires_first, timer_stands};
 use sip_timers::{Name, Timer, TimerError, Timers};
 use std::alloc::Global;
@@ -66,12 +66,12 @@ impl Timers for WheelTimers {
         }
         let slot = slot_of(self.reached, due);
         let key = self.levels.push(slot, due, name)?;
-        self.first = sooner(self.first, Timer { key, due, name });
+        keep_sooner(&mut self.first, Timer { key, due, name });
         Ok(key)
     }
 
     fn cancel(&mut self, key: usize) {
-        self.first = take_out(&mut self.levels, self.reached, self.first, key);
+        take_out(&mut self.levels, self.reached, &mut self.first, key);
     }
 
     fn next(&self) -> Option<(u64, Name)> {
@@ -85,7 +85,7 @@ impl Timers for WheelTimers {
         if first.due > now {
             return None;
         }
-        self.first = take_out(&mut self.levels, self.reached, self.first, first.key);
+        take_out(&mut self.levels, self.reached, &mut self.first, first.key);
         Some(first)
     }
 }
@@ -98,7 +98,7 @@ impl WheelTimers {
         ensures left { self.old.room ≤ self.new.room }
     {
         if self.reached < now {
-            reach(&mut self.levels, self.reached, now);
+            reach(&mut self.levels, self.reached, &self.first, now);
             self.reached = now;
         }
     }
@@ -163,27 +163,66 @@ fn remove(levels: &mut Levels, reached: u64, key: usize)
     levels.remove(slot, key);
 }
 
-/// Takes the timer of a key out, where this one fires first. Gives the one that fires first then.
-fn take_out(levels: &mut Levels, reached: u64, first: Option<Timer>, key: usize) -> Option<Timer>
+/// Whether a timer that is set for a moment fires before this one, if there is one.
+fn is_sooner(due: u64, first: &Option<Timer>) -> bool
+    ensures { (t : Timer) → t.due ≡ due → sooner first.now (Some t) ≡ (if result then Some t else first.now) }
+{
+    match first {
+        Some(first) => due < first.due,
+        None => true,
+    }
+}
+
+/// Keeps a timer as the one that fires first, if it does.
+fn keep_sooner(first: &mut Option<Timer>, timer: Timer)
+    ensures { first.new ≡ sooner first.old (Some timer) }
+{
+    if is_sooner(timer.due, first) {
+        *first = Some(timer);
+    }
+}
+
+/// Whether a timer of another key fires first.
+fn stays_first(first: &Option<Timer>, key: usize) -> bool
+    ensures { MatchOption first.now (result ≡ false) (λ t. result ≡ true → t.key ≢ key) }
+{
+    match first {
+        Some(first) => first.key != key,
+        None => false,
+    }
+}
+
+/// Takes the timer of a key out, where this one fires first, and keeps the one that fires first then.
+fn take_out(levels: &mut Levels, reached: u64, first: &mut Option<Timer>, key: usize)
     requires wheel { IsWheel reached levels.old.lists }
-    requires first { first ≡ first_of (pending_in levels.old.lists) }
+    requires first { first.old ≡ first_of (pending_in levels.old.lists) }
     requires present { 1 ≤ keys_with key (pending_in levels.old.lists) }
     ensures wheel { IsWheel reached levels.new.lists }
-    ensures first { result ≡ first_of (pending_in levels.new.lists) }
+    ensures first { first.new ≡ first_of (pending_in levels.new.lists) }
     ensures gone { pending_in levels.new.lists ≡ without key (pending_in levels.old.lists) }
     ensures once { keys_with key (pending_in levels.old.lists) ≤ 1 }
     ensures left { levels.old.room ≤ levels.new.room }
 {
     remove(levels, reached, key);
-    match first {
-        Some(first) if first.key != key => Some(first),
-        _ => find_first(levels, reached),
+    if !stays_first(first, key) {
+        *first = find_first(levels, reached);
     }
 }
 
-/// Moves the timers of each slot down that is reached by a moment.
-fn reach(levels: &mut Levels, reached: u64, now: u64)
+/// Whether each timer stands in a slot that begins after a moment, as the one tells that fires first.
+fn are_ahead(reached: u64, first: &Option<Timer>, now: u64) -> bool
+    ensures { result ≡ true → (t : Timer) → first.now ≡ Some t → (reached < t.due) × (now < start_of reached t.due) }
+{
+    match first {
+        Some(first) => first.due > reached && is_ahead(reached, first.due, now),
+        None => true,
+    }
+}
+
+/// Moves the timers of each slot down that is reached by a moment, where this timer fires first.
+fn reach(levels: &mut Levels, reached: u64, first: &Option<Timer>, now: u64)
     requires wheel { IsWheel reached levels.old.lists }
+    requires first { first.now ≡ first_of (pending_in levels.old.lists) }
     requires later { reached ≤ now }
     ensures wheel { IsWheel now levels.new.lists }
     ensures same { pending_in levels.new.lists ≡ pending_in levels.old.lists }
@@ -191,14 +230,16 @@ fn reach(levels: &mut Levels, reached: u64, now: u64)
 {
     let mut so_far = reached;
     while so_far < now {
-        so_far = move_down(levels, so_far, now);
+        so_far = move_down(levels, so_far, first, now);
     }
 }
 
 /// Moves the timers of the first slot down, where it begins by a moment, and gives the moment that is reached with this: that
-/// one, unless the timer in front of the slot is due before it.
-fn move_down(levels: &mut Levels, reached: u64, now: u64) -> u64
+/// one, unless the timer in front of the slot is due before it. Where the timer that fires first tells that no slot begins by
+/// then, none is looked for.
+fn move_down(levels: &mut Levels, reached: u64, first: &Option<Timer>, now: u64) -> u64
     requires wheel { IsWheel reached levels.old.lists }
+    requires first { first.now ≡ first_of (pending_in levels.old.lists) }
     requires later { reached < now }
     ensures wheel { IsWheel result levels.new.lists }
     ensures further { reached < result }
@@ -207,14 +248,17 @@ fn move_down(levels: &mut Levels, reached: u64, now: u64) -> u64
     ensures left { levels.old.room ≤ levels.new.room }
 {
     earlier_fires_first();
-    let Some(first) = first_slot(levels, reached) else {
-        return now;
-    };
-    if first.start > now {
+    if are_ahead(reached, first, now) {
         return now;
     }
-    let so_far = now.min(first.due);
-    empty_slot(levels, first.slot, so_far);
+    let Some(slot) = first_slot(levels, reached) else {
+        return now;
+    };
+    if slot.start > now {
+        return now;
+    }
+    let so_far = now.min(slot.due);
+    empty_slot(levels, slot.slot, so_far);
     so_far
 }
 

@@ -13,7 +13,7 @@ invariant_of-self-2 c =
     let timer : Timer = record { key = c.in_ok-key.key; due = c.args.due; name = c.args.name } in
     record {
       wheel = added-wheel c.self.inside.reached c.self.inside.levels.lists c.push.new.self.lists timer c.slot_of-slot.result c.self.invariant.wheel near c.slot_of-slot.ensures c.in_ok-key.ensures.pushed;
-      first = c.sooner-self-inside.ensures
+      first = c.keep_sooner.ensures
           ∙ (ap (λ first. sooner first (Some timer)) c.self.invariant.first
           ∙ (first-placed timer (pending_in c.self.inside.levels.lists)
           ∙ ap (λ ts. first_of ts) (sym (added-pending c.self.inside.reached c.self.inside.levels.lists c.push.new.self.lists timer c.slot_of-slot.result c.self.invariant.wheel near c.slot_of-slot.ensures c.in_ok-key.ensures.pushed c.earlier_fires_first.ensures.set))));
