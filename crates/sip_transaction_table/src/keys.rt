@@ -5,9 +5,10 @@ ghost use Rattle.sip_transaction_table.specs.Keys.{count_in};
 
 use crate::Key;
 use crate::digest::digest_of;
+use crate::front::take_out;
 use sip_base::Keyed;
 use std::alloc::{AllocError, Global};
-use std::collections::HashMap;
+use std::collections::{HashMap, VecDeque};
 use std::marker::Model;
 
 /// What is known of the keys of one digest.
@@ -28,20 +29,20 @@ pub(crate) struct Keys {
     secret: Keyed,
     hints: HashMap<u64, Hint>,
     /// The digests of the keys in the order of their rows, so that a key isn't hashed again when its row closes.
-    digests: Vec<u64>,
+    digests: VecDeque<u64>,
 }
 
 impl Model for Keys {
     ghost use Rattle.std.specs.Prelude.{◌≤◌};
     ghost use Rattle.std.specs.HashMap.{spare};
-    ghost use Rattle.std.specs.Vec.{vec_capacity};
+    ghost use Rattle.std.specs.VecDeque.{deque_capacity};
     ghost use Rattle.sip_transaction_table.specs.Keys.{Filed};
 
     ghost Value = { Filed };
 
     ghost view = { λ k. record { secret = k.secret; entries = k.hints.entries; digests = k.digests.items; room = spare k.hints } };
 
-    ghost invariant = { λ k. 1024 ≤ vec_capacity k.digests };
+    ghost invariant = { λ k. 1024 ≤ deque_capacity k.digests };
 }
 
 impl Keys {
@@ -50,7 +51,7 @@ impl Keys {
         ensures entries { IfOk result (λ keys. keys.entries ≡ []) }
         ensures digests { IfOk result (λ keys. keys.digests ≡ []) }
     {
-        let digests = Vec::with_capacity(alloc, ROOM)?;
+        let digests = VecDeque::with_capacity(alloc, ROOM)?;
         Ok(Keys {
             secret: Keyed::new(keys),
             hints: HashMap::new(alloc),
@@ -97,7 +98,7 @@ impl Keys {
         };
         let inserted: Result<_, _> = self.hints.insert(digest, Hint { number, others });
         let _before = inserted.unwrap();
-        let _pushed = self.digests.push(digest).unwrap();
+        self.digests.push_back_reserved(digest);
     }
 
     /// The digest of the key of the row at a place, which is taken out.
@@ -109,7 +110,7 @@ impl Keys {
         ensures entries { self.new.entries ≡ self.old.entries }
         ensures room { self.new.room ≡ self.old.room }
     {
-        self.digests.remove(place)
+        take_out(&mut self.digests, place)
     }
 
     /// Takes a key of a digest out, whose row's digest was taken. Takes no memory.

@@ -1,7 +1,7 @@
 //! By what a server transaction is found (RFC 3261 17.2.3): the key of a request, that is branch, sent-by and method of its
 //! top Via; and the table of open requests, at most 1,024 rows in rising order of the numbers of the datagrams that opened
 //! them, found by number by bisection, and by their key through a hash under a secret, whichever keys peers choose. A row
-//! that closes moves the addresses of those behind it, and no row.
+//! that closes moves the addresses of the fewer of those before and behind it, and no row: the oldest one moves none.
 //!
 //! - Used: `sip_fork` keeps the open requests in it, `sip_core` reads the key.
 //! - Not here: what an open request is (`sip_state`).
@@ -14,6 +14,7 @@
 
 mod digest;
 pub mod examples;
+mod front;
 mod held;
 mod key;
 mod keys;

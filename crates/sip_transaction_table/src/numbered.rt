@@ -2,29 +2,31 @@ ghost use Rattle.std.specs.Prelude.{◌≡◌, ◌<◌, ◌≤◌, ◌++◌, ◌
 ghost use Rattle.std.specs.List.{All, AllPairs};
 ghost use Rattle.sip_transaction_table.specs.Key.{same_key};
 
+use crate::front::take_out;
 use crate::held::Held;
 use crate::keys::ROOM;
 use crate::row::Row;
 use crate::{Key, Transaction, same_key};
 use std::alloc::{AllocError, Global};
+use std::collections::VecDeque;
 use std::marker::Model;
 
 /// At most 1,024 rows, whose numbers rise, seen as the list of them.
 #[derive(Drop)]
 pub(crate) struct Numbered<R: Row> {
-    rows: Vec<Held<R>>,
+    rows: VecDeque<Held<R>>,
 }
 
 impl<R: Row> Model for Numbered<R> {
     ghost use Rattle.std.specs.Prelude.{List};
-    ghost use Rattle.std.specs.Vec.{vec_capacity};
+    ghost use Rattle.std.specs.VecDeque.{deque_capacity};
     ghost use Rattle.sip_transaction_table.specs.Numbered.{IsNumbered};
 
     ghost Value = { List R };
 
     ghost view = { λ n. n.rows.items };
 
-    ghost invariant = { λ n. IsNumbered R.number n.rows.items (vec_capacity n.rows) };
+    ghost invariant = { λ n. IsNumbered R.number n.rows.items (deque_capacity n.rows) };
 }
 
 impl<R: Row> Numbered<R> {
@@ -32,7 +34,7 @@ impl<R: Row> Numbered<R> {
     pub(crate) fn new(alloc: Global) -> Result<Self, AllocError>
         ensures { IfOk result (λ rows. rows ≡ []) }
     {
-        let rows = Vec::with_capacity(alloc, ROOM)?;
+        let rows = VecDeque::with_capacity(alloc, ROOM)?;
         Ok(Numbered { rows })
     }
 
@@ -59,7 +61,6 @@ impl<R: Row> Numbered<R> {
         ensures { result ≡ position (λ r. R.number r == number) self.now }
     {
         self.rows
-            .as_slice()
             .binary_search_by_key(&number, |row| row.get().number())
             .ok()
     }
@@ -69,7 +70,6 @@ impl<R: Row> Numbered<R> {
         ensures { result ≡ position (λ r. same_key (R.key r) key.now) self.now }
     {
         self.rows
-            .as_slice()
             .iter()
             .position(|row| same_key(row.get().key(), key))
     }
@@ -79,7 +79,6 @@ impl<R: Row> Numbered<R> {
         ensures { result ≡ position (R.is_cancelled_by key.now) self.now }
     {
         self.rows
-            .as_slice()
             .iter()
             .position(|row| row.get().is_cancelled_by(key))
     }
@@ -90,7 +89,7 @@ impl<R: Row> Numbered<R> {
         requires last { All (λ r. R.number r < R.number row) self.old }
         ensures { self.new ≡ self.old ++ row ∷ [] }
     {
-        let _pushed = self.rows.push(row).unwrap();
+        self.rows.push_back_reserved(row);
     }
 
     /// Puts a row in the place of one with its number. Takes no memory.
@@ -117,6 +116,6 @@ impl<R: Row> Numbered<R> {
         ensures new { self.new ≡ remove self.old place }
         ensures old { slice_get self.old place ≡ Some result }
     {
-        self.rows.remove(place).into_value()
+        take_out(&mut self.rows, place).into_value()
     }
 }

@@ -1,4 +1,5 @@
-use Rattle.std.proofs.Common.{rules, ◌∙◌}
+use Rattle.std.proofs.Common.{rules, ℕ, ◌∙◌, subst}
+use Rattle.std.specs.List.Sorted.{IsSearchInRange}
 use Rattle.std.proofs.lemmas.List.Sorted.{answers_always}
 use Rattle.sip_transaction_table.proofs.Numbers.{searched}
 use Rattle.sip_transaction_table.proofs.numbered.Numbered.find.Goals as goal
@@ -7,4 +8,5 @@ pub returns : goal.returns
 returns g c =
     let facts = c.binary_search_by_key.ensures in
     let by_number = facts.position g.R.Row.number (answers_always _ _ _ (λ f a r h called. search rules)) in
-    rw (← c.self.view_is, ← c.as_slice.ensures.value) (c.ok.ensures.value ∙ searched g.R.Row.number _ c.args.number _ (rw c.as_slice.ensures.value c.self.invariant.rise) facts.bound by_number)
+    let in_range = subst (λ (n : ℕ). IsSearchInRange c.binary_search_by_key.result n) c.self.inside.rows.ok.0 facts.bound in
+    rw (← c.self.view_is) (c.ok.ensures.value ∙ searched g.R.Row.number _ c.args.number _ c.self.invariant.rise in_range by_number)
