@@ -1,9 +1,9 @@
-ghost use Rattle.std.specs.Prelude.{◌≡◌, ◌<◌, IfOk, IfSome};
+ghost use Rattle.std.specs.Prelude.{◌≡◌, ◌<◌, ◌/◌, ◌%◌, IfOk, IfSome, slice_index};
+ghost use Rattle.hex.specs.Hex.{lower_digits};
 ghost use Rattle.sip_text.specs.Numbers;
 
 use crate::bytes::Bytes;
 use crate::words::decimal;
-use hex::encode_to_slice;
 use std::alloc::{AllocError, Global};
 
 /// Whether digits begin with a 0 that another one follows. Takes no memory.
@@ -59,12 +59,55 @@ pub fn hex_bytes(alloc: Global, digits: &[u8]) -> Result<Option<Bytes>, AllocErr
     }
 }
 
+/// The hexadecimal digit of each byte's high four bits: a look-up for each digit costs less than a computed one.
+static HIGH_DIGITS: [u8; 256] = *b"\
+    0000000000000000111111111111111122222222222222223333333333333333\
+    4444444444444444555555555555555566666666666666667777777777777777\
+    88888888888888889999999999999999aaaaaaaaaaaaaaaabbbbbbbbbbbbbbbb\
+    ccccccccccccccccddddddddddddddddeeeeeeeeeeeeeeeeffffffffffffffff";
+
+/// That of its low four bits.
+static LOW_DIGITS: [u8; 256] = *b"\
+    0123456789abcdef0123456789abcdef0123456789abcdef0123456789abcdef\
+    0123456789abcdef0123456789abcdef0123456789abcdef0123456789abcdef\
+    0123456789abcdef0123456789abcdef0123456789abcdef0123456789abcdef\
+    0123456789abcdef0123456789abcdef0123456789abcdef0123456789abcdef";
+
+#[inline]
+fn high_digit(byte: u8) -> u8
+    ensures { result ≡ slice_index lower_digits (byte / 16) }
+{
+    HIGH_DIGITS[byte as usize]
+}
+
+#[inline]
+fn low_digit(byte: u8) -> u8
+    ensures { result ≡ slice_index lower_digits (byte % 16) }
+{
+    LOW_DIGITS[byte as usize]
+}
+
 /// A number in 16 hexadecimal digits in lower case. Takes no memory.
 pub fn hex_text(number: u64) -> [u8; 16]
     ensures { result ≡ Numbers.hex_text number }
 {
-    let mut text = [0u8; 16];
-    let done = encode_to_slice(number.to_be_bytes().as_slice(), &mut text);
-    prove!(done.is_ok());
-    text
+    let bytes = number.to_be_bytes();
+    [
+        high_digit(bytes[0]),
+        low_digit(bytes[0]),
+        high_digit(bytes[1]),
+        low_digit(bytes[1]),
+        high_digit(bytes[2]),
+        low_digit(bytes[2]),
+        high_digit(bytes[3]),
+        low_digit(bytes[3]),
+        high_digit(bytes[4]),
+        low_digit(bytes[4]),
+        high_digit(bytes[5]),
+        low_digit(bytes[5]),
+        high_digit(bytes[6]),
+        low_digit(bytes[6]),
+        high_digit(bytes[7]),
+        low_digit(bytes[7]),
+    ]
 }
