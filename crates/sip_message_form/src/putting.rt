@@ -46,6 +46,9 @@ pub fn put_line(out: &mut Buffer, name: &[u8], value: &[u8]) -> Result<(), Alloc
 pub fn put_body(out: &mut Buffer, body: &[u8]) -> Result<(), AllocError>
     ensures { OnOk result (out.new ≡ out.old ++ codes "Content-Length: " ++ decimal (length body.now) ++ codes "\r\n\r\n" ++ body.now) }
 {
+    if body.is_empty() {
+        return out.extend(b"Content-Length: 0\r\n\r\n");
+    }
     out.extend(b"Content-Length: ")?;
     out.push_decimal(body.len() as u64)?;
     out.extend(b"\r\n\r\n")?;
