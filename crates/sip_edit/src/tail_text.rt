@@ -16,8 +16,9 @@ use sip_route::RoutesKept;
 use sip_text::{Buffer, Bytes};
 use std::alloc::{AllocError, Global};
 
-/// The most bytes of a tail beside its fields and its body: the line that tells the body's length, with the empty line behind it.
-const REST_OF_TAIL: usize = 40;
+/// The most bytes of a tail beside its fields and its body: the line that tells the body's length, in at most five digits, with
+/// the empty line behind it.
+const REST_OF_TAIL: usize = 25;
 
 /// As many bytes of the room for a tail may stay unused.
 const MOST_UNUSED: usize = 47;
