@@ -48,7 +48,7 @@ name_by text name (Some value) h =
     let front : before_equals text ≡ is.left = ap before_equals is.whole ∙ while_is not_equals is.left (61 ∷ is.right) (passing is.left (ap is_token_text is.is_name ∙ h.1)) refl in
     ap trimmed front ∙ is.is_name
 
-named : (sought text : List ℕ) (p : Parameter) → IsParameter text p → is_parameter sought text ≡ is_same_text p.name sought
+pub named : (sought text : List ℕ) (p : Parameter) → IsParameter text p → is_parameter sought text ≡ is_same_text p.name sought
 named sought text p is = ap (λ (n : List ℕ). is_same_text n sought) (name_by text p.name p.value is)
 
 -- ---- none of a name
@@ -71,7 +71,7 @@ none_asks (text ∷ texts) [] are none = absurd are
 none_asks (text ∷ texts) (p ∷ ps) are none =
     rw (other_name (codes "rport") text p ps are.0 none) (none_asks texts ps are.1 (none_later (codes "rport") p ps none))
 
-abbrev as_written : List (List ℕ) → List ℕ
+abbrev pub as_written : List (List ℕ) → List ℕ
 as_written texts = flat_map (λ text. 59 ∷ text) texts
 
 none_edited : (port : ℕ) (texts : List (List ℕ)) (ps : List Parameter) → AllZip IsParameter texts ps → is_some (parameter_of (codes "rport") ps) ≡ false → is_some (parameter_of (codes "received") ps) ≡ false
@@ -84,7 +84,7 @@ none_edited port (text ∷ texts) (p ∷ ps) are asks received =
 
 -- ---- the parts make up the value
 
-joined : (first : List ℕ) (texts : List (List ℕ)) → join_with_byte 59 (first ∷ texts) ≡ first ++ as_written texts
+pub joined : (first : List ℕ) (texts : List (List ℕ)) → join_with_byte 59 (first ∷ texts) ≡ first ++ as_written texts
 joined first [] = sym (append-nil first)
 joined first (text ∷ texts) = ap (λ (w : List ℕ). first ++ 59 ∷ w) (joined text texts)
 

@@ -1,5 +1,5 @@
 -- The Via of a request that was received.
-use Rattle.std.specs.Prelude.{ℕ, Bool, ◌==◌, ◌||◌, not, if◌then◌else◌, List, [], ◌∷◌, ◌++◌, decimal, codes, Option, Some, None}
+use Rattle.std.specs.Prelude.{◌≡◌, ℕ, Bool, ◌==◌, ◌||◌, not, if◌then◌else◌, List, [], ◌∷◌, ◌++◌, decimal, codes, Option, Some, None}
 use Rattle.std.specs.List.{take_while, flat_map, list_any}
 use Rattle.std.specs.Str.{byte, bytes_eq}
 use Rattle.sip_text.specs.Words.{is_same_text}
@@ -46,3 +46,7 @@ received_as (Some via) value from = with_source via.host from (parts_at (byte ";
 -- the value of the top Via of a request that came from an address; one that can't be read stays (RFC 3261 18.2.1, RFC 3581 4)
 abbrev pub received_via : List ℕ → Addr → List ℕ
 received_via value from = received_as (via_of value) value from
+
+-- a front of a Via's value stands before the `rport` that ends it, and goes on as it stands
+pub record IsBeforePort (value front : List ℕ) : Type 0 where
+  pub edited : (from : Addr) → received_via value from ≡ front ++ codes ";rport=" ++ decimal from.port ++ (codes ";received=" ++ ip_text from.ip)

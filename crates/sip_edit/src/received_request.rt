@@ -4,7 +4,7 @@ ghost use Rattle.sip_message_fields.specs.declared.field_name.FieldName.TheVaria
 ghost use Rattle.sip_message_fields.specs.Values.{with_first};
 ghost use Rattle.sip_edit.specs.ReceivedRequest.{address_by};
 
-use sip_header::{Via, parameter_of};
+use sip_header::{Via, one_before_rport, parameter_of};
 use sip_message_fields::FieldName;
 use sip_message_form::View;
 use sip_uri::Addr;
@@ -23,10 +23,14 @@ pub fn with_top_via<'v>(
     Ok(request.with_fields(fields))
 }
 
-/// Whether a Via asks for the port of its request (RFC 3581 3).
+/// Whether a Via asks for the port of its request (RFC 3581 3): mostly by its second parameter, which is seen at once.
+#[tactic(auto, using(crate::proofs::AskedLast::asks))]
 pub(crate) fn asks_for_port(via: &Via<'_>) -> bool
     ensures { result ≡ is_some (parameter_of (codes "rport") via.now.parameters) }
 {
+    if let Some(_first) = one_before_rport(&via.parameters) {
+        return true;
+    }
     parameter_of(&via.parameters, b"rport").is_some()
 }
 

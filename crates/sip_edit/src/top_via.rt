@@ -1,4 +1,4 @@
-ghost use Rattle.std.specs.Prelude.{◌≡◌, ◌++◌, ◌||◌, not, false, length, decimal, codes, is_some, option_map, IfOk, OnOk, Some};
+ghost use Rattle.std.specs.Prelude.{◌≡◌, ◌++◌, ◌||◌, not, false, length, decimal, codes, is_some, option_map, IfOk, IfSome, OnOk, Some};
 ghost use Rattle.std.specs.Str.{bytes_eq};
 ghost use Rattle.sip_text.specs.Cuts.{parts_at};
 ghost use Rattle.sip_text.specs.Lists.{trimmed};
@@ -9,9 +9,9 @@ ghost use Rattle.sip_edit.specs.ReceivedRequest.{address_by};
 ghost use Rattle.sip_edit.specs.TopVia;
 
 use crate::received_request::{address_asked, asks_for_port};
-use sip_header::{Via, parameter_of};
+use sip_header::{Via, one_before_rport, parameter_of};
 use sip_route::is_address;
-use sip_text::{Buffer, Bytes, first_part, same_no_case, without_blanks};
+use sip_text::{Buffer, Bytes, first_part, same_bytes, same_no_case, without_blanks};
 use sip_uri::Addr;
 use std::alloc::{AllocError, Global};
 
@@ -144,6 +144,63 @@ fn is_edited(via: &Via<'_>, asks: bool) -> bool
     asks || parameter_of(&via.parameters, b"received").is_some()
 }
 
+/// What stands before `;rport` at the end of a value.
+fn before_rport(value: &[u8]) -> Option<&[u8]>
+    ensures { IfSome result (λ front. value.now ≡ front.now ++ codes ";rport") }
+{
+    let at = value.len().checked_sub(b";rport".len())?;
+    let (front, end) = value.split_at(at);
+    if same_bytes(end, b";rport") {
+        Some(front)
+    } else {
+        None
+    }
+}
+
+/// What stands before `;rport` in a Via's value, where that ends with it, and where one parameter stands before it that goes on
+/// as it is. None says nothing.
+#[tactic(auto, using(crate::proofs::AskedLast::asked_last))]
+fn before_last<'v>(via: &Via<'_>, value: &'v [u8]) -> Option<&'v [u8]>
+    requires { via_of value.now ≡ Some via.now }
+    ensures { IfSome result (λ front. TopVia.IsBeforePort value.now front.now) }
+{
+    let first = one_before_rport(&via.parameters)?;
+    let before = first.name.as_slice();
+    if same_no_case(before, b"rport") {
+        return None;
+    }
+    if same_no_case(before, b"received") {
+        return None;
+    }
+    let front = before_rport(value)?;
+    Some(front)
+}
+
+/// A Via's value that ends with an `rport`, of which this stands before it, with its source's port and address.
+fn with_port(alloc: Global, front: &[u8], from: Addr) -> Result<Bytes, AllocError>
+    ensures { IfOk result (λ edited. edited ≡ front.now ++ codes ";rport=" ++ decimal from.port ++ (codes ";received=" ++ ip_text from.ip)) }
+{
+    let room = front.len().saturating_add(b";rport".len());
+    let mut out = Buffer::with_room(alloc, room.saturating_add(SOURCE_BYTES))?;
+    out.extend(front)?;
+    out.extend(b";rport=")?;
+    out.push_decimal(u64::from(from.port))?;
+    put_received(&mut out, from.ip)?;
+    Ok(out.into_bytes())
+}
+
+/// The value of a Via that asks for its port, with its source: as most write it, `rport` stands last, and isn't looked for.
+#[tactic(auto, using(crate::proofs::AskedLast::with_port, crate::proofs::Unedited::read))]
+fn with_asked(alloc: Global, via: &Via<'_>, value: &[u8], from: Addr) -> Result<Bytes, AllocError>
+    requires via { via_of value.now ≡ Some via.now }
+    ensures { IfOk result (λ edited. edited ≡ TopVia.received_via value.now from) }
+{
+    match before_last(via, value) {
+        Some(front) => with_port(alloc, front, from),
+        None => with_source(alloc, value, via.host.as_slice(), from),
+    }
+}
+
 /// What the top Via of a request becomes that came from an address, of which it is known whether it asks for its port. One that
 /// has neither an `rport` nor a `received`, as most have none, isn't cut.
 #[tactic(auto, using(crate::proofs::Unedited::stays, crate::proofs::Unedited::read))]
@@ -158,6 +215,9 @@ fn edited_value(
     requires asks { asks ≡ is_some (parameter_of (codes "rport") via.now.parameters) }
     ensures { IfOk result (λ edited. edited ≡ TopVia.received_via value.now from) }
 {
+    if asks {
+        return with_asked(alloc, via, value, from);
+    }
     let host = via.host.as_slice();
     if USUAL_LENGTH < value.len() {
         return with_source(alloc, value, host, from);

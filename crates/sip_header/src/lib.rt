@@ -34,7 +34,9 @@ pub use error::HeaderError;
 pub use expires::{Expires, contact_expires, expires_of};
 pub use max_forwards::{MaxForwards, max_forwards_of};
 pub use name_addr::{AnyUri, NameAddr, name_addr_of};
-pub use parameters::{Parameter, Parameters, branch_of, parameter_of, tag_of, value_of};
+pub use parameters::{
+    Parameter, Parameters, branch_of, one_before_rport, parameter_of, tag_of, value_of,
+};
 pub use plain_address::bracketed_place;
 pub use route::route_of;
 pub use via::{Via, via_of};

@@ -1,4 +1,4 @@
-ghost use Rattle.std.specs.Prelude.{◌≡◌, ◌++◌, ◌∷◌, true, false, option_map, is_some, Some, IfSome, MatchOption};
+ghost use Rattle.std.specs.Prelude.{◌≡◌, ◌++◌, ◌∷◌, true, false, option_map, is_some, Some, None, codes, [], IfSome, MatchOption};
 ghost use Rattle.std.specs.Str.{byte};
 ghost use Rattle.sip_text.specs.Words.{is_token_text};
 ghost use Rattle.sip_text.specs.Cuts.{parts_at, parts_behind};
@@ -7,7 +7,8 @@ ghost use Rattle.sip_header.specs.Parameters.{is_value, needs_value, bare_parame
 ghost use Rattle.sip_header.specs.Parameters.{said_in, closing, Begins, GoesOn, parameter_of, value_of, tag_of, branch_of};
 
 use sip_text::{
-    Text, first_part, is_quoted, is_token, same_no_case, split_outside, split_token, without_blanks,
+    Text, first_part, is_quoted, is_token, same_bytes, same_no_case, split_outside, split_token,
+    without_blanks,
 };
 use sip_uri::is_host;
 use std::marker::Model;
@@ -200,6 +201,22 @@ pub fn branch_of<'v>(parameters: &Parameters<'v>) -> Option<&'v [u8]>
     ensures { option_map (λ x. x.now) result ≡ branch_of parameters.now }
 {
     value_of(parameters, b"branch")
+}
+
+/// The first of two parameters, of which the second is an `rport` with nothing round it, as clients ask for their port (RFC 3581
+/// 3). None says nothing. Takes no memory.
+pub fn one_before_rport<'v>(parameters: &Parameters<'v>) -> Option<Parameter<'v>>
+    ensures { IfSome result (λ first. parameters.now ≡ first ∷ record { name = codes "rport"; value = None } ∷ []) }
+{
+    let first = parameters.first.as_ref()?;
+    let others = parameters.others?;
+    if !same_bytes(others, b"rport") {
+        return None;
+    }
+    Some(Parameter {
+        name: Text::new(first.name),
+        value: Some(Text::new(first.value)),
+    })
 }
 
 /// Whether bytes may be the value of a parameter.

@@ -11,7 +11,7 @@ use Rattle.sip_header.specs.Via.{via_of}
 use Rattle.sip_message_form.specs.declared.message.Message.{Message}
 use Rattle.sip_uri.specs.declared.addr.Addr.{Addr}
 use Rattle.sip_edit.specs.ReceivedRequest.{received_fields, address_by, response_address, top_via}
-use Rattle.sip_edit.specs.TopVia.{received_via}
+use Rattle.sip_edit.specs.TopVia.{received_as, received_via}
 
 none_by : (t : Bool) (value : List ℕ) (field : Field) (fields : List Field) → cond t (Some field) (first_named Name.Via fields) ≡ None → (first_named Name.Via fields ≡ None → with_first Name.Via value fields ≡ fields)
     → cond t (record field { value = value } ∷ fields) (field ∷ with_first Name.Via value fields) ≡ field ∷ fields
@@ -40,6 +40,10 @@ pub edited : (fields : List Field) (value text : List ℕ) (from : Addr) → fir
 edited fields value text from is gets =
     ap (λ (t : List ℕ). with_first Name.Via t fields) gets
     ∙ sym (ap (λ (o : Option (List ℕ)). option_map_or (λ (v : List ℕ). with_first Name.Via (received_via v from) fields) o fields) is)
+
+-- one that can't be read stays
+pub unread : (value : List ℕ) (from : Addr) → via_of value ≡ None → received_via value from ≡ value
+unread value from is = ap (λ (o : Option Via). received_as o value from) is
 
 -- and the answers go where it says
 pub answered : (m : Message) (via : Via) (from address : Addr) → top_via m ≡ Some via → address ≡ address_by (Some via) from → address ≡ response_address m from

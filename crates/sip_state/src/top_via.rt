@@ -2,9 +2,10 @@ ghost use Rattle.std.specs.Prelude.{◌≡◌, IfOk, Some, true};
 ghost use Rattle.sip_message_fields.specs.declared.field_name.FieldName.TheVariants as Name;
 ghost use Rattle.sip_message_fields.specs.Values.{with_first};
 ghost use Rattle.sip_edit.specs.ReceivedRequest.{received_fields, response_address, top_via};
+ghost use Rattle.sip_edit.specs.TopVia.{received_via};
 ghost use Rattle.sip_state.specs.TopVia.{IsTopVia};
 
-use sip_edit::{received_top, received_via, response_address};
+use sip_edit::{received_top, received_via_of, response_address};
 use sip_header::{Via, via_of};
 use sip_message_fields::FieldName;
 use sip_message_form::View;
@@ -30,17 +31,27 @@ fn is_same(left: Addr, right: Addr) -> bool
     left.ip.as_slice() == right.ip.as_slice() && left.port == right.port
 }
 
+/// The value that a Via of a request gets which came from an address: a value that can't be read stays.
+#[tactic(auto, using(crate::proofs::Received::unread))]
+fn received_text(alloc: Global, value: &[u8], from: Addr) -> Result<Bytes, AllocError>
+    ensures { IfOk result (λ edited. edited ≡ received_via value.now from) }
+{
+    match via_of(alloc, value)? {
+        Some(via) => received_via_of(alloc, &via, value, from),
+        None => Bytes::copy(alloc, value),
+    }
+}
+
 /// The value that the top Via of a request gets, which came from an address (RFC 3261 18.2.1); empty where there is no
 /// Via. `AllocError` is the only refusal.
-#[tactic(auto, using(crate::proofs::Received::none_edited))]
+#[tactic(auto, using(crate::proofs::Received::none_edited, crate::proofs::Received::edited))]
 pub fn received_value(alloc: Global, request: &View<'_>, from: Addr) -> Result<Bytes, AllocError>
     ensures { IfOk result (λ value. with_first Name.Via value request.now.fields ≡ received_fields from request.now.fields) }
 {
     let Some(value) = request.fields().first(&FieldName::Via) else {
         return Ok(Bytes::new(alloc));
     };
-    let via = via_of(alloc, value)?;
-    received_via(alloc, via.as_ref(), value, from)
+    received_text(alloc, value, from)
 }
 
 /// Where the answers to a request go that came from an address (RFC 3261 18.2.2). `AllocError` is the only refusal.
