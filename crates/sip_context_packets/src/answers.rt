@@ -1,12 +1,10 @@
 ghost use Rattle.std.specs.Prelude.{◌≡◌, [], IfOk};
 ghost use Rattle.sip_message_form.specs.Text.{text_of};
 ghost use Rattle.sip_edit_response.specs.Reply.{reply_of};
-ghost use Rattle.sip_edit_response.specs.Tags;
 ghost use Rattle.model_context.specs.Sending as Spec;
-ghost use Rattle.sip_context_packets.specs.TagFor.{IsTagFor};
 
 use model_context::state::{Heard, OpenRequest, Server, Written};
-use sip_edit_response::{reply_view, respond, to_tag};
+use sip_edit_response::{ToTag, reply_view, respond, to_tag};
 use sip_event::{Packet, Ticket};
 use sip_message_fields::Fields;
 use sip_message_form::View;
@@ -58,35 +56,6 @@ pub fn answer_to(
     )
 }
 
-/// The tag that To gets in an answer of a status that is made here to the datagram of a number: a 100 gets none (RFC 3261
-/// 8.2.6.2).
-#[tactic(auto, using(crate::proofs::Untagged::no_tag, crate::proofs::Untagged::own_tag))]
-fn tag_of(alloc: Global, server: &Server, number: u64, status: u16) -> Result<Bytes, AllocError>
-    ensures { IfOk result (λ tag. IsTagFor status (Tags.to_tag server.now.word number) tag) }
-{
-    if status == 100 {
-        return Ok(Bytes::new(alloc));
-    }
-    to_tag(alloc, server.word, number)
-}
-
-/// The text of the answer of a status that is made here, with these further fields, to a request which the datagram of a
-/// number brought.
-#[tactic(auto, using(crate::proofs::Untagged::tagged))]
-fn made_text(
-    alloc: Global,
-    server: &Server,
-    number: u64,
-    received: &View<'_>,
-    status: u16,
-    extras: &Fields,
-) -> Result<Bytes, AllocError>
-    ensures { IfOk result (λ text. text ≡ text_of (reply_of received.now status (Tags.to_tag server.now.word number) extras.now)) }
-{
-    let tag = tag_of(alloc, server, number, status)?;
-    respond(alloc, received, status, tag.as_slice(), extras)
-}
-
 /// The text of an answer that is made here to a request that came from an address in the datagram of a number (RFC 3261
 /// 8.2.6): with this status and these further fields. `AllocError` is the only refusal.
 pub fn made_answer(
@@ -101,8 +70,18 @@ pub fn made_answer(
     ensures { IfOk result (λ text. text ≡ text_of (Spec.made_answer server.now number request.now from status extras.now)) }
 {
     let via = request.received_via(alloc, from)?;
-    let received = request.with_top_via(alloc, via.as_slice())?;
-    made_text(alloc, server, number, &received, status, extras)
+    let tag = ToTag {
+        boot: server.word,
+        number,
+    };
+    respond(
+        alloc,
+        request.message(),
+        via.as_slice(),
+        status,
+        tag,
+        extras,
+    )
 }
 
 /// A response to a request without further fields, kept with its text.

@@ -67,10 +67,17 @@ fn cancel_bytes(
     let own = &server.config.own;
     let heard = request.request.get();
     let routes = heard.routes_kept(alloc, own)?;
-    let came = heard.view(alloc)?;
     let id = branch_id(request, branch);
     let uri = branch.uri.get();
-    cancel_text(alloc, own, server.word, id, uri.as_slice(), routes, &came)
+    cancel_text(
+        alloc,
+        own,
+        server.word,
+        id,
+        uri.as_slice(),
+        routes,
+        heard.message(),
+    )
 }
 
 /// Adds the CANCEL of the request of a branch of an open request.
@@ -216,7 +223,6 @@ fn ack_bytes(
     let own = &server.config.own;
     let heard = request.request.get();
     let routes = heard.routes_kept(alloc, own)?;
-    let came = heard.view(alloc)?;
     let id = branch_id(request, branch);
     let uri = branch.uri.get();
     ack_text(
@@ -227,7 +233,7 @@ fn ack_bytes(
         to,
         uri.as_slice(),
         routes,
-        &came,
+        heard.message(),
     )
 }
 

@@ -16,17 +16,17 @@ ghost use Rattle.sip_edit.specs.OwnVia.{branch_text, own_via};
 
 use crate::branch_id::BranchId;
 use crate::own_requests::to_field;
-use crate::own_via::{put_via, via_room};
+use crate::own_via::put_via;
 use sip_header::cseq_of;
 use sip_message_fields::{FieldName, ViewField};
-use sip_message_form::{View, ViewStart, put_body, put_field};
+use sip_message_form::{KeptParts, ViewStart, put_body, put_field};
 use sip_route::{Own, RoutesKept};
 use sip_text::{Buffer, Bytes};
 use std::alloc::{AllocError, Global};
 
-/// The most bytes of such a request beside what it takes over: its method twice, the names of its fields, the number of its
-/// CSeq, its Max-Forwards, and the length of its body.
-const REST_OF_REQUEST: usize = 160;
+/// The room for such a request beside its Request-URI, which few fill: a longer one grows. What it takes over isn't counted
+/// first, since that would look up each field once more.
+const USUAL_REQUEST: usize = 512;
 
 /// The Request-URI of a request with this first line that goes to a target.
 fn target_uri<'v>(start: &ViewStart<'_>, uri: &'v [u8]) -> &'v [u8]
@@ -124,27 +124,21 @@ fn put_routes(
     Ok(())
 }
 
-/// Adds the Routes that are left, of which there are mostly none.
+/// Adds the Routes that are left of a request as it came, of which there are mostly none.
 #[tactic(auto, using(crate::proofs::BesideTexts::none_kept))]
 fn put_routes_left(
+    alloc: Global,
     out: &mut Buffer,
     routes: RoutesKept,
-    fields: &[ViewField<'_>],
+    came: &KeptParts,
 ) -> Result<(), AllocError>
-    ensures { OnOk result (out.new ≡ out.old ++ flat_map field_text (all_named Name.Route (fields_kept routes fields.now))) }
+    ensures { OnOk result (out.new ≡ out.old ++ flat_map field_text (all_named Name.Route (fields_kept routes came.now.fields))) }
 {
     if routes.kept == 0 {
         return Ok(());
     }
-    put_routes(out, routes, fields)
-}
-
-/// How many bytes a field has beside its name.
-fn room_of(field: Option<&ViewField<'_>>) -> usize {
-    match field {
-        Some(field) => field.value().as_slice().len(),
-        None => 0,
-    }
+    let fields = came.fields(alloc)?;
+    put_routes(out, routes, fields.as_slice())
 }
 
 /// The text of the request of a method that belongs to one which went to a target, with a To: of the request as it came, if
@@ -158,36 +152,26 @@ fn text_beside(
     to: Option<&ViewField<'_>>,
     uri: &[u8],
     routes: RoutesKept,
-    came: &View<'_>,
+    came: &KeptParts,
 ) -> Result<Bytes, AllocError>
     ensures { IfOk result (λ text. text ≡ text_of (Spec.beside method.now (option_to_list (option_map (λ field. field.now) to.entry)) uri.now
         (own_via own.now (branch_text boot branch.number branch.target)) routes came.now)) }
 {
-    let fields = came.fields();
-    let from = fields.first_field(&FieldName::From);
-    let call_id = fields.first_field(&FieldName::CallId);
-    let uri = target_uri(came.start(), uri);
-    let room = uri
-        .len()
-        .saturating_add(via_room(own))
-        .saturating_add(room_of(from))
-        .saturating_add(room_of(to))
-        .saturating_add(room_of(call_id))
-        .saturating_add(REST_OF_REQUEST);
-    let mut out = Buffer::with_room(alloc, room)?;
+    let uri = target_uri(&came.start(), uri);
+    let mut out = Buffer::with_room(alloc, USUAL_REQUEST.saturating_add(uri.len()))?;
     put_front(&mut out, own, boot, branch, method, uri)?;
-    put_given(&mut out, from)?;
+    came.put_first(&mut out, &FieldName::From)?;
     put_given(&mut out, to)?;
-    put_given(&mut out, call_id)?;
-    put_cseq(&mut out, method, fields.first(&FieldName::CSeq))?;
-    put_routes_left(&mut out, routes, fields.as_slice())?;
+    came.put_first(&mut out, &FieldName::CallId)?;
+    put_cseq(&mut out, method, came.first(&FieldName::CSeq))?;
+    put_routes_left(alloc, &mut out, routes, came)?;
     put_body(&mut out, b"")?;
     Ok(out.into_bytes())
 }
 
 /// The text of the ACK of a final answer with this To, if that had one, to an INVITE that went to a target with this
 /// Request-URI and this server's Via of this branch (RFC 3261 17.1.1.3). It is written straight from the fields of the INVITE
-/// as it came, if these Routes are left of it. `AllocError` is the only refusal.
+/// as it is kept, if these Routes are left of it. `AllocError` is the only refusal.
 pub fn ack_text(
     alloc: Global,
     own: &Own,
@@ -196,7 +180,7 @@ pub fn ack_text(
     to: Option<&[u8]>,
     uri: &[u8],
     routes: RoutesKept,
-    came: &View<'_>,
+    came: &KeptParts,
 ) -> Result<Bytes, AllocError>
     ensures { IfOk result (λ text. Spec.IsAckText (option_map (λ value. value.now) to.entry) uri.now
         (own_via own.now (branch_text boot branch.number branch.target)) routes came.now text) }
@@ -225,11 +209,21 @@ pub fn cancel_text(
     branch: BranchId,
     uri: &[u8],
     routes: RoutesKept,
-    came: &View<'_>,
+    came: &KeptParts,
 ) -> Result<Bytes, AllocError>
     ensures { IfOk result (λ text. Spec.IsCancelText uri.now (own_via own.now (branch_text boot branch.number branch.target)) routes
         came.now text) }
 {
-    let to = came.fields().first_field(&FieldName::To);
-    text_beside(alloc, own, boot, branch, b"CANCEL", to, uri, routes, came)
+    let kept_to = came.first_field(&FieldName::To);
+    text_beside(
+        alloc,
+        own,
+        boot,
+        branch,
+        b"CANCEL",
+        kept_to.as_ref(),
+        uri,
+        routes,
+        came,
+    )
 }

@@ -159,7 +159,6 @@ fn before_rport(value: &[u8]) -> Option<&[u8]>
 
 /// What stands before `;rport` in a Via's value, where that ends with it, and where one parameter stands before it that goes on
 /// as it is. None says nothing.
-#[tactic(auto, using(crate::proofs::AskedLast::asked_last))]
 fn before_last<'v>(via: &Via<'_>, value: &'v [u8]) -> Option<&'v [u8]>
     requires { via_of value.now ≡ Some via.now }
     ensures { IfSome result (λ front. TopVia.IsBeforePort value.now front.now) }

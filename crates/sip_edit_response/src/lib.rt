@@ -26,4 +26,4 @@ pub use contacts::contact_value;
 pub use extras::{denial_warning, min_expires, unsupported_field};
 pub use reasons::reason_of;
 pub use reply::{reply_view, respond};
-pub use tags::to_tag;
+pub use tags::{ToTag, to_tag};

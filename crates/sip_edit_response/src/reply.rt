@@ -1,15 +1,18 @@
 ghost use Rattle.std.specs.Prelude.{◌≡◌, ◌++◌, true, map, option_map, IfOk, OnOk};
 ghost use Rattle.std.specs.Option.{option_to_list};
 ghost use Rattle.sip_message_fields.specs.Named.{first_named, first_of};
+ghost use Rattle.sip_message_fields.specs.Values.{with_first};
 ghost use Rattle.sip_message_form.specs.Text.{text_of};
 ghost use Rattle.sip_edit_response.specs.Reply;
+ghost use Rattle.sip_edit_response.specs.Tags;
 ghost use Rattle.sip_header.specs.NameAddr.{name_addr_of};
 
 use crate::reasons::reason_of;
 use crate::reply_text::{put_reply_fields, room_of};
+use crate::tags::ToTag;
 use sip_header::{bracketed_place, name_addr_of, tag_of};
 use sip_message_fields::{FieldName, Fields, Value, ViewField, ViewFields};
-use sip_message_form::{View, ViewStart, put_body, put_status_line};
+use sip_message_form::{KeptParts, View, ViewStart, put_body, put_status_line};
 use sip_text::{Buffer, Bytes};
 use std::alloc::{AllocError, Global};
 
@@ -140,22 +143,26 @@ pub fn reply_view<'v>(
     Ok(View::new(start, fields, b""))
 }
 
-/// The text of that response, written straight from the fields of the request. `AllocError` is the only refusal.
+/// The text of the response to a request, whose top Via gets this value: with this status, this To tag where the request has
+/// none, and further fields behind those that it copies (RFC 3261 8.2.6). It is written straight from the fields of the
+/// request as it is kept. `AllocError` is the only refusal.
 pub fn respond(
     alloc: Global,
-    request: &View<'_>,
+    request: &KeptParts,
+    via: &[u8],
     status: u16,
-    to_tag: &[u8],
+    tag: ToTag,
     extras: &Fields,
 ) -> Result<Bytes, AllocError>
-    ensures { IfOk result (λ text. text ≡ text_of (Reply.reply_of request.now status to_tag.now extras.now)) }
+    ensures { IfOk result (λ text. text ≡ text_of (Reply.reply_of
+        (record request.now { fields = with_first FieldName.Via via.now request.now.fields }) status
+        (Tags.to_tag tag.boot tag.number) extras.now)) }
 {
-    let reason = reason_of(status);
     let room = USUAL_REPLY.saturating_add(room_of(extras.as_slice()));
     let mut out = Buffer::with_room(alloc, room)?;
-    put_status_line(&mut out, status, reason)?;
+    put_status_line(&mut out, status, reason_of(status))?;
     out.extend(b"\r\n")?;
-    put_reply_fields(alloc, &mut out, status, to_tag, request.fields(), extras)?;
+    put_reply_fields(alloc, &mut out, request, via, status, tag, extras)?;
     put_body(&mut out, b"")?;
     Ok(out.into_bytes())
 }

@@ -1,48 +1,27 @@
 ghost use Rattle.std.specs.Prelude.{◌≡◌, ◌++◌, map, OnOk};
 ghost use Rattle.std.specs.List.{flat_map};
-ghost use Rattle.sip_message_fields.specs.Named.{all_named, first_of};
+ghost use Rattle.sip_message_fields.specs.Named.{first_of};
+ghost use Rattle.sip_message_fields.specs.Values.{with_first};
 ghost use Rattle.sip_message_form.specs.Text.{field_text};
 ghost use Rattle.sip_edit_response.specs.Reply;
+ghost use Rattle.sip_edit_response.specs.Tags;
 
 use crate::reply::lacks_tag;
-use sip_message_fields::{Field, FieldName, Fields, ViewField, ViewFields};
-use sip_message_form::{put_field, put_line};
+use crate::tags::{ToTag, put_tag};
+use sip_message_fields::{Field, FieldName, Fields, ViewField};
+use sip_message_form::{KeptParts, put_line};
 use sip_text::Buffer;
 use std::alloc::{AllocError, Global};
-
-/// Adds those of some fields that have a name, each with its CRLF.
-#[tactic(auto, using(crate::proofs::ReplyTexts::named_next, crate::proofs::ReplyTexts::other_next))]
-fn put_named(out: &mut Buffer, name: &FieldName, fields: &[ViewField<'_>]) -> Result<(), AllocError>
-    ensures { OnOk result (out.new ≡ out.old ++ flat_map field_text (all_named name.now fields.now)) }
-{
-    for field in fields {
-        if field.name().is_same(name) {
-            put_field(out, field)?;
-        }
-    }
-    Ok(())
-}
-
-/// Adds the first of some fields that has a name, if there is one.
-#[tactic(auto, using(crate::proofs::ReplyTexts::one_line))]
-fn put_first(out: &mut Buffer, name: &FieldName, fields: &ViewFields<'_>) -> Result<(), AllocError>
-    ensures { OnOk result (out.new ≡ out.old ++ flat_map field_text (first_of name.now fields.now)) }
-{
-    match fields.first_field(name) {
-        Some(field) => put_field(out, field),
-        None => Ok(()),
-    }
-}
 
 /// Adds the value of To as it stands in a response.
 fn put_answered_value(
     alloc: Global,
     out: &mut Buffer,
     status: u16,
-    tag: &[u8],
+    tag: ToTag,
     to: &[u8],
 ) -> Result<(), AllocError>
-    ensures { OnOk result (out.new ≡ out.old ++ Reply.answered_to status tag.now to.now) }
+    ensures { OnOk result (out.new ≡ out.old ++ Reply.answered_to status (Tags.to_tag tag.boot tag.number) to.now) }
 {
     out.extend(to)?;
     if status == 100 {
@@ -52,7 +31,7 @@ fn put_answered_value(
         return Ok(());
     }
     out.extend(b";tag=")?;
-    out.extend(tag)
+    put_tag(out, tag)
 }
 
 /// Adds a To as it stands in a response.
@@ -60,10 +39,10 @@ fn put_answered(
     alloc: Global,
     out: &mut Buffer,
     status: u16,
-    tag: &[u8],
+    tag: ToTag,
     to: &ViewField<'_>,
 ) -> Result<(), AllocError>
-    ensures { OnOk result (out.new ≡ out.old ++ field_text (Reply.answered_field status tag.now to.now)) }
+    ensures { OnOk result (out.new ≡ out.old ++ field_text (Reply.answered_field status (Tags.to_tag tag.boot tag.number) to.now)) }
 {
     out.extend(to.name().spelling())?;
     out.extend(b": ")?;
@@ -77,26 +56,26 @@ fn put_to(
     alloc: Global,
     out: &mut Buffer,
     status: u16,
-    tag: &[u8],
-    fields: &ViewFields<'_>,
+    tag: ToTag,
+    request: &KeptParts,
 ) -> Result<(), AllocError>
-    ensures { OnOk result
-        (out.new ≡ out.old ++ flat_map field_text (map (Reply.answered_field status tag.now) (first_of FieldName.To fields.now))) }
+    ensures { OnOk result (out.new ≡ out.old
+        ++ flat_map field_text (map (Reply.answered_field status (Tags.to_tag tag.boot tag.number)) (first_of FieldName.To request.now.fields))) }
 {
-    match fields.first_field(&FieldName::To) {
-        Some(to) => put_answered(alloc, out, status, tag, to),
+    match request.first_field(&FieldName::To) {
+        Some(to) => put_answered(alloc, out, status, tag, &to),
         None => Ok(()),
     }
 }
 
 /// Adds the Timestamp of a 100.
-fn put_timestamp(out: &mut Buffer, status: u16, fields: &ViewFields<'_>) -> Result<(), AllocError>
-    ensures { OnOk result (out.new ≡ out.old ++ flat_map field_text (Reply.timestamp_for status fields.now)) }
+fn put_timestamp(out: &mut Buffer, status: u16, request: &KeptParts) -> Result<(), AllocError>
+    ensures { OnOk result (out.new ≡ out.old ++ flat_map field_text (Reply.timestamp_for status request.now.fields)) }
 {
     if status != 100 {
         return Ok(());
     }
-    put_first(out, &FieldName::Timestamp, fields)
+    request.put_first(out, &FieldName::Timestamp)
 }
 
 /// Adds further fields.
@@ -109,24 +88,27 @@ fn put_extras(out: &mut Buffer, extras: &[Field]) -> Result<(), AllocError>
     Ok(())
 }
 
-/// Adds the fields of a response, each with its CRLF. `AllocError` is the only refusal.
+/// Adds the fields of a response to a kept request whose top Via has another value, each with its CRLF. `AllocError` is the
+/// only refusal.
 #[tactic(auto, using(crate::proofs::ReplyTexts::fields_are))]
 pub(crate) fn put_reply_fields(
     alloc: Global,
     out: &mut Buffer,
+    request: &KeptParts,
+    via: &[u8],
     status: u16,
-    tag: &[u8],
-    copied: &ViewFields<'_>,
+    tag: ToTag,
     extras: &Fields,
 ) -> Result<(), AllocError>
-    ensures { OnOk result (out.new ≡ out.old ++ flat_map field_text (Reply.reply_fields status tag.now copied.now extras.now)) }
+    ensures { OnOk result (out.new ≡ out.old ++ flat_map field_text
+        (Reply.reply_fields status (Tags.to_tag tag.boot tag.number) (with_first FieldName.Via via.now request.now.fields) extras.now)) }
 {
-    put_named(out, &FieldName::Via, copied.as_slice())?;
-    put_first(out, &FieldName::From, copied)?;
-    put_to(alloc, out, status, tag, copied)?;
-    put_first(out, &FieldName::CallId, copied)?;
-    put_first(out, &FieldName::CSeq, copied)?;
-    put_timestamp(out, status, copied)?;
+    request.put_named_with_first(out, &FieldName::Via, via)?;
+    request.put_first(out, &FieldName::From)?;
+    put_to(alloc, out, status, tag, request)?;
+    request.put_first(out, &FieldName::CallId)?;
+    request.put_first(out, &FieldName::CSeq)?;
+    put_timestamp(out, status, request)?;
     put_extras(out, extras.as_slice())
 }
 

@@ -1,4 +1,5 @@
 pub mod Keeping
+pub mod KeptFields
 pub mod Longer
 pub mod StoredText
 pub mod WrittenLines

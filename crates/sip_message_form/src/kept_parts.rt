@@ -1,12 +1,16 @@
-ghost use Rattle.std.specs.Prelude.{◌≡◌, IfOk};
+ghost use Rattle.std.specs.Prelude.{◌≡◌, ◌++◌, IfOk, OnOk, option_map};
+ghost use Rattle.std.specs.List.{flat_map};
+ghost use Rattle.sip_message_fields.specs.Named.{all_named, first_named, first_of};
 ghost use Rattle.sip_message_fields.specs.Values;
+ghost use Rattle.sip_message_form.specs.Text.{field_text};
 ghost use Rattle.sip_message_form.specs.ViewStart.{start_seen};
 
+use crate::kept_fields::{field_in, first_in, put_kept, put_with_first};
 use crate::kept_start::{KeptStart, put_start, start_in};
 use crate::message_view::View;
 use crate::view_start::ViewStart;
 use sip_message_fields::{
-    FieldName, KeptField, ViewFields, fields_in, fields_in_with_first, put, put_fields,
+    FieldName, KeptField, ViewField, ViewFields, fields_in, fields_in_with_first, put, put_fields,
 };
 use sip_text::{Buffer, Span};
 use std::alloc::{AllocError, Global};
@@ -63,6 +67,58 @@ impl KeptParts {
         ensures { IfOk result (λ fields. fields ≡ self.now.fields) }
     {
         fields_in(alloc, self.store.as_slice(), self.list.as_slice())
+    }
+
+    /// The first field of a name, of which no byte is copied. Takes no memory.
+    pub fn first_field(&self, name: &FieldName) -> Option<ViewField<'_>>
+        ensures { result ≡ first_named name.now self.now.fields }
+    {
+        let store = self.store.as_slice();
+        match first_in(store, self.list.as_slice(), name) {
+            Some(kept) => Some(field_in(store, kept)),
+            None => None,
+        }
+    }
+
+    /// The value of the first field of a name, of which no byte is copied. Takes no memory.
+    pub fn first(&self, name: &FieldName) -> Option<&[u8]>
+        ensures { option_map (λ value. value.now) result ≡ Values.first_value name.now self.now.fields }
+    {
+        let store = self.store.as_slice();
+        match first_in(store, self.list.as_slice(), name) {
+            Some(kept) => Some(kept.value.of(store)),
+            None => None,
+        }
+    }
+
+    /// Puts the first field of a name with its CRLF, if there is one. `AllocError` is the only refusal.
+    pub fn put_first(&self, out: &mut Buffer, name: &FieldName) -> Result<(), AllocError>
+        ensures { OnOk result (out.new ≡ out.old ++ flat_map field_text (first_of name.now self.now.fields)) }
+    {
+        let store = self.store.as_slice();
+        match first_in(store, self.list.as_slice(), name) {
+            Some(kept) => put_kept(out, store, kept),
+            None => Ok(()),
+        }
+    }
+
+    /// Puts each field of a name with its CRLF, the first of them with another value. `AllocError` is the only refusal.
+    pub fn put_named_with_first(
+        &self,
+        out: &mut Buffer,
+        name: &FieldName,
+        value: &[u8],
+    ) -> Result<(), AllocError>
+        ensures { OnOk result (out.new ≡ out.old
+            ++ flat_map field_text (all_named name.now (Values.with_first name.now value.now self.now.fields))) }
+    {
+        put_with_first(
+            out,
+            self.store.as_slice(),
+            self.list.as_slice(),
+            name,
+            value,
+        )
     }
 
     /// A view of the message, of which no byte is copied. `AllocError` is the only refusal.

@@ -12,6 +12,7 @@
 
 mod error;
 mod kept;
+mod kept_fields;
 mod kept_parts;
 mod kept_start;
 mod kept_text;

@@ -194,6 +194,13 @@ impl Heard {
         self.message.start()
     }
 
+    /// The message as it is kept. Takes no memory.
+    pub fn message(&self) -> &KeptParts
+        ensures { result.now ≡ self.now }
+    {
+        &self.message
+    }
+
     /// A view of the message, of which no byte is copied. `AllocError` is the only refusal.
     pub fn view<'k>(&'k self, alloc: Global) -> Result<View<'k>, AllocError>
         ensures { IfOk result (λ view. view ≡ self.now) }

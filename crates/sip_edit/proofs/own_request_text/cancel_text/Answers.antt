@@ -3,8 +3,6 @@ use Rattle.std.specs.Prelude.{codes}
 use Rattle.std.specs.Option.{option_to_list}
 use Rattle.std.proofs.lemmas.Result.{IfOk-weaker}
 use Rattle.sip_message_fields.specs.declared.field.Field.{Field}
-use Rattle.sip_message_fields.specs.declared.field_name.FieldName.TheVariants as Name
-use Rattle.sip_message_fields.specs.Named.{first_named}
 use Rattle.sip_message_form.specs.Text.{text_of}
 use Rattle.sip_edit.specs.OwnVia.{branch_text, own_via}
 use Rattle.sip_edit.specs.OwnRequestText.{beside, IsCancelText}
@@ -15,8 +13,8 @@ pub returns : goal.returns
 returns c =
     let via : List ℕ = own_via c.args.own.now (branch_text c.args.boot c.args.branch.number c.args.branch.target) in
     IfOk-weaker c.text_beside.result
-    (λ (text : List ℕ). text ≡ text_of (beside (codes "CANCEL") (option_to_list (option_map (λ f. f.now) c.first_field-to.result)) c.args.uri.now via c.args.routes c.args.came.now))
+    (λ (text : List ℕ). text ≡ text_of (beside (codes "CANCEL") (option_to_list (option_map (λ f. f.now) c.as_ref.result)) c.args.uri.now via c.args.routes c.args.came.now))
     (λ (text : List ℕ). IsCancelText c.args.uri.now via c.args.routes c.args.came.now text)
     (λ text is. cancel_is text c.args.uri.now via c.args.routes c.args.came.now
-    (is ∙ ap (λ (o : Option Field). text_of (beside (codes "CANCEL") (option_to_list o) c.args.uri.now via c.args.routes c.args.came.now)) (c.first_field-to.ensures ∙ ap (first_named Name.To) c.fields.ensures)))
+    (is ∙ ap (λ (o : Option Field). text_of (beside (codes "CANCEL") (option_to_list o) c.args.uri.now via c.args.routes c.args.came.now)) (c.as_ref.ensures.value ∙ c.first_field-kept_to.ensures)))
     c.text_beside.ensures
