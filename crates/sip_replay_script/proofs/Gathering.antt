@@ -1,10 +1,14 @@
 -- Lines that are copied where they are looked for.
-use Rattle.std.proofs.Common.{◌≡◌, ℕ, ◌+◌, ◌-◌, ◌*◌, ◌<◌, ◌≤◌, Bool, true, false, List, [], ◌∷◌, ◌++◌, length, take, drop, get_or, refl, sym, ap, subst, ◌∙◌, arith, inl, inr, append-nil, take-add, length-drop, length-append}
-use Rattle.std.specs.Prelude.{◌==◌, not, count_by, slice_index, slice_set}
-use Rattle.std.proofs.lemmas.Bool.{cases_lt, eqb-true}
-use Rattle.std.proofs.lemmas.List.{get_or-drop, take-take, take_more_set, length-set, length-take-le, append_assoc}
+use Rattle.std.proofs.Common.{◌≡◌, ℕ, zero, suc, ◌+◌, ◌-◌, ◌%◌, ◌^◌, ◌<◌, ◌≤◌, Bool, true, false, List, map, w16, [], ◌∷◌, ◌++◌, length, take, drop, get_or, refl, sym, ap, subst, ◌∙◌, arith, inl, inr, append-nil, take-add, length-drop, length-append}
+use Rattle.std.specs.Prelude.{◌==◌, ◌≢◌, not, count_by, slice_index, slice_set}
+use Rattle.std.proofs.lemmas.Bool.{cases_lt, eqb-true, ne_eqb}
+use Rattle.std.proofs.lemmas.Simd.{mask_l-lt, mask_l-mod, trailing_mask_l}
+use Rattle.std.proofs.lemmas.Nat.Bits.{bit_at-trailing_zeros}
+use Rattle.std.proofs.lemmas.List.{get_or-drop, take-take, take_more_set, length-set, length-take-le, length-map, append_assoc, drop-drop}
+use lib.Lanes.{mask_l, top}
+use lib.Count.{count_trailing_zeros}
 use Rattle.std.proofs.Math.Seq.{take-append-add}
-use Rattle.httparse.specs.Pieces.{AllPassBetween, IsRunIn}
+use Rattle.httparse.specs.Pieces.{AllPassBetween, IsRunIn, first_set}
 use Rattle.sip_replay_script.specs.Lines.{is_end, EndsAt, IsLine}
 use Rattle.sip_replay_script.specs.Events.{ended, said, SaysBytes}
 use Rattle.sip_replay_script.specs.Gathered.{is_inside, AddsLines, CopiesLine, CopiesLines}
@@ -30,14 +34,51 @@ an_end b e = eqb-true b 10 (by_test (is_end b) e) where
   by_test true h = refl
   by_test false h = absurd cc
 
--- a run further
-pub passed_more : (text : List ℕ) (done run : ℕ) → AllPassBetween is_inside text 0 done → IsRunIn is_inside text done 16 run → AllPassBetween is_inside text 0 (done + run)
-passed_more text done run so_far more k from to = elim (cases_lt k done) [ inl early ↦ so_far k from early | inr late ↦ more.0.1 k late to ]
+-- the lowest bit of the mask of sixteen lanes
+few_lanes : (lanes : List ℕ) → length lanes ≡ 16 → 0 < mask_l (map (top 7) lanes) → count_trailing_zeros 64 (mask_l (map (top 7) lanes)) < 16
+few_lanes lanes long some =
+    let sixteen : length (map (top 7) lanes) ≡ 16 = length-map lanes (top 7) ∙ long in
+    let few : mask_l (map (top 7) lanes) < 2 ^ 16 = rw sixteen at (mask_l-lt (map (top 7) lanes)) in
+    let lowest : count_trailing_zeros 16 (mask_l (map (top 7) lanes)) < 16 = (bit_at-trailing_zeros w16 (mask_l (map (top 7) lanes)) some few).0 in
+    let wide = trailing_mask_l (top 7) 64 lanes (omega (arith, long)) some in
+    let narrow = trailing_mask_l (top 7) 16 lanes (omega (arith, long)) some in
+    omega (arith, wide, narrow, lowest)
 
--- the first LF
-pub line_ends : (text : List ℕ) (done run : ℕ) → AllPassBetween is_inside text 0 done → IsRunIn is_inside text done 16 run → run < 16 → done + 16 ≤ length text → EndsAt text (done + run)
-line_ends text done run so_far more lt fits =
-    ends_at text (done + run) (omega arith) (λ k below. no_end (get_or text k 0) (passed_more text done run so_far more k (omega arith) below)) (an_end (get_or text (done + run) 0) (more.1 lt))
+-- what one load tells of LF: that none of sixteen bytes is one
+pub no_end_in : (text : List ℕ) (at mask : ℕ) → IsRunIn is_inside text at 16 (first_set mask 16) → mask ≡ 0 → AllPassBetween is_inside text at (at + 16)
+no_end_in text at mask run none = (subst (λ (m : ℕ). IsRunIn is_inside text at 16 (first_set m 16)) none run).0.1
+
+-- or the place of the first
+pub end_in : (text : List ℕ) (at : ℕ) (lanes : List ℕ) → length lanes ≡ 16 → IsRunIn is_inside text at 16 (first_set (mask_l (map (top 7) lanes) % 2 ^ 64) 16) → mask_l (map (top 7) lanes) % 2 ^ 64 ≢ 0
+    → IsRunIn is_inside text at 16 (count_trailing_zeros 64 (mask_l (map (top 7) lanes) % 2 ^ 64)) × (count_trailing_zeros 64 (mask_l (map (top 7) lanes) % 2 ^ 64) < 16)
+end_in text at lanes long run some =
+    let mask : ℕ = mask_l (map (top 7) lanes) in
+    let sixteen : length (map (top 7) lanes) ≡ 16 = length-map lanes (top 7) ∙ long in
+    let whole : mask % 2 ^ 64 ≡ mask = mask_l-mod (map (top 7) lanes) 64 (omega (arith, sixteen)) in
+    let first : first_set (mask % 2 ^ 64) 16 ≡ count_trailing_zeros 64 (mask % 2 ^ 64) = rw (ne_eqb (mask % 2 ^ 64) 0 some) refl in (
+      subst (λ (r : ℕ). IsRunIn is_inside text at 16 r) first run,
+      subst (λ (m : ℕ). count_trailing_zeros 64 m < 16) (sym whole) (few_lanes lanes long (positive mask (λ e. some (whole ∙ e)))),
+    )
+  where
+    positive : (n : ℕ) → n ≢ 0 → 0 < n
+    positive zero e = absurd (e refl)
+    positive (suc n) e = omega arith
+
+-- a run further
+pub passed_more : (text : List ℕ) (from at run : ℕ) → AllPassBetween is_inside text from at → IsRunIn is_inside text at 16 run → AllPassBetween is_inside text from (at + run)
+passed_more text from at run so_far more k low high = elim (cases_lt k at) [ inl early ↦ so_far k low early | inr late ↦ more.0.1 k late high ]
+
+-- the first LF of what follows a place
+pub line_ends : (text : List ℕ) (from done run : ℕ) → AllPassBetween is_inside text from (from + done) → IsRunIn is_inside text (from + done) 16 run → run < 16 → from + done + 16 ≤ length text
+    → EndsAt (drop from text) (done + run)
+line_ends text from done run so_far more lt fits =
+    let long : length (drop from text) ≡ length text - from = length-drop from text in
+    let sum : from + (done + run) ≡ from + done + run = omega arith in
+    ends_at (drop from text) (done + run) (omega (arith, long))
+    (λ k below.
+    let inside : is_inside (get_or text (from + k) 0) ≡ true = passed_more text from (from + done) run so_far more (from + k) (omega arith) (omega (arith, below)) in
+    no_end (get_or (drop from text) k 0) (ap is_inside (get_or-drop from text k 0) ∙ inside))
+    (an_end (get_or (drop from text) (done + run) 0) (ap is_inside (get_or-drop from text (done + run) 0 ∙ ap (λ n. get_or text n 0) sum) ∙ more.1 lt))
 
 -- sixteen bytes further
 pub copied_more : (text old mid new : List ℕ) (at done : ℕ) → take (at + done) mid ≡ take at old ++ take done text → take (at + done + 16) new ≡ take (at + done) mid ++ take 16 (drop done text)
@@ -47,10 +88,14 @@ copied_more text old mid new at done so_far more =
     ap (λ n. take n new) same ∙ more ∙ ap (λ l. l ++ take 16 (drop done text)) so_far ∙ append_assoc (take at old) (take done text) (take 16 (drop done text))
     ∙ ap (λ l. take at old ++ l) (sym (take-add done 16 text))
 
-pub all_passed : (text : List ℕ) (done run : ℕ) → AllPassBetween is_inside text 0 done → IsRunIn is_inside text done 16 run → 16 ≤ run → AllPassBetween is_inside text 0 (done + 16)
-all_passed text done run so_far more full =
-    let whole : done + run ≡ done + 16 = omega (arith, more.0.0, full) in
-    subst (λ (n : ℕ). AllPassBetween is_inside text 0 n) whole (passed_more text done run so_far more)
+-- the same of what follows a place
+pub copied_behind : (text old mid new : List ℕ) (from at done : ℕ) → take (at + done) mid ≡ take at old ++ take done (drop from text) → take (at + done + 16) new ≡ take (at + done) mid ++ take 16 (drop (from + done) text)
+    → take (at + (done + 16)) new ≡ take at old ++ take (done + 16) (drop from text)
+copied_behind text old mid new from at done so_far more =
+    copied_more (drop from text) old mid new at done so_far (more ∙ ap (λ l. take (at + done) mid ++ take 16 l) (sym (drop-drop done from text)))
+
+pub all_passed : (text : List ℕ) (from at : ℕ) → AllPassBetween is_inside text from at → AllPassBetween is_inside text at (at + 16) → AllPassBetween is_inside text from (at + 16)
+all_passed text from at so_far more k low high = elim (cases_lt k at) [ inl early ↦ so_far k low early | inr late ↦ more k late high ]
 
 -- what stood before the place stays
 pub nothing_before : (new old text : List ℕ) (at done : ℕ) → at ≤ length old → take (at + done) new ≡ take at old ++ take done text → take at new ≡ take at old
@@ -142,20 +187,17 @@ copies_more text old mid copied new at count lines size c one put undotted few =
     }
 
 -- the same of bytes at whose end they stand
-pub adds_lines : (text old new : List ℕ) (at front count lines : ℕ) → CopiesLines (take front text) old new at count lines → front ≤ length text → at + 2 * front ≤ length old → length new ≡ length old → length old ≤ 65508
+pub adds_lines : (text old new : List ℕ) (at count lines : ℕ) → CopiesLines text old new at count lines → length new ≡ length old → length old ≤ 65508 → at + count + lines ≤ length old
     → AddsLines text (take at old) (take (at + (count + lines)) new) count lines
-adds_lines text old new at front count lines c le fits same most =
-    let within : count ≤ length (take front text) = c.within in
-    let long : length (take front text) ≡ front = length-take-le front text le in
-    let shorter : take count (take front text) ≡ take count text = take-take count front text (omega (arith, within, long)) in
+adds_lines text old new at count lines c same most fits =
     let fewer : lines ≤ count = c.fewer in
-    let size : length (take (at + (count + lines)) new) ≡ at + (count + lines) = length-take-le (at + (count + lines)) new (omega (arith, fits, same, fewer, within, long)) in
+    let size : length (take (at + (count + lines)) new) ≡ at + (count + lines) = length-take-le (at + (count + lines)) new (omega (arith, fits, same)) in
     record {
       whole = c.whole;
-      within = omega (arith, within, long, le);
-      says = subst (λ l. SaysBytes l c.whole) shorter c.says;
-      counted = ap (count_by is_end) (sym shorter) ∙ c.counted;
+      within = c.within;
+      says = c.says;
+      counted = c.counted;
       fewer = fewer;
       added = c.copied;
-      short = omega (arith, size, fits, same, fewer, within, long, most);
+      short = omega (arith, size, fits, same, most);
     }

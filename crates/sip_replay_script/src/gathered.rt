@@ -1,5 +1,5 @@
-ghost use Rattle.std.specs.Prelude.{◌≡◌, ◌≤◌, ◌+◌, ◌*◌, ◌++◌, ◌∷◌, [], ℕ, length, take, drop, vec_len, OnOk, MatchOption};
-ghost use Rattle.httparse.specs.Pieces.{IsRunIn, first_set};
+ghost use Rattle.std.specs.Prelude.{◌≡◌, ◌≤◌, ◌<◌, ◌+◌, ◌++◌, ◌∷◌, [], ℕ, length, take, drop, vec_len, OnOk, IfSome, MatchOption};
+ghost use Rattle.httparse.specs.Pieces.{AllPassBetween, IsRunIn};
 ghost use Rattle.sip_replay_script.specs.Gathered.{is_inside, AddsLines, CopiesLine, CopiesLines};
 
 use std::alloc::{AllocError, Global};
@@ -34,26 +34,19 @@ impl Model for Gathered {
     ghost invariant = { λ g. (g.count ≤ vec_len g.room) × (vec_len g.room ≤ 65508) };
 }
 
-/// The place of the lowest bit that is set, or the number of lanes where none is.
+/// The first LF among the bytes from a place on that are looked at at once.
 #[inline(always)]
-fn first_set(mask: u64) -> usize
-    ensures { result ≡ first_set mask 16 }
-{
-    if mask == 0 {
-        LANES
-    } else {
-        mask.trailing_zeros() as usize
-    }
-}
-
-/// How many bytes from a place on stand before an LF, of those that are looked at at once.
-#[inline(always)]
-fn run_in_lanes(text: &[u8], at: usize) -> usize
+fn end_in_lanes(text: &[u8], at: usize) -> Option<usize>
     requires { at + 16 ≤ length text.now }
-    ensures { IsRunIn is_inside text.now at 16 result }
+    ensures { MatchOption result (AllPassBetween is_inside text.now at (at + 16)) (λ run. IsRunIn is_inside text.now at 16 run × (run < 16)) }
 {
     let lanes = u8x16::from_slice(&text[at..]);
-    first_set(lanes.simd_eq(u8x16::splat(b'\n')).to_bitmask())
+    let ends = lanes.simd_eq(u8x16::splat(b'\n')).to_bitmask();
+    if ends == 0 {
+        None
+    } else {
+        Some(ends.trailing_zeros() as usize)
+    }
 }
 
 /// Copies so many bytes from a place on to a place of the room. Behind them the room stays.
@@ -67,19 +60,20 @@ fn copy_lanes(text: &[u8], from: usize, room: &mut [u8], to: usize)
     u8x16::from_slice(&text[from..]).copy_to_slice(&mut room[to..]);
 }
 
-/// Copies the line at the front of a text to a place of the room, if LF is found to end it; how many bytes it has. The room
-/// behind it may change.
+/// Copies the line at a place of a text to a place of the room, if LF is found to end it by a limit; how many bytes it has. The
+/// room behind it may change.
 #[inline(always)]
-fn copy_line(text: &[u8], room: &mut [u8], at: usize) -> Option<usize>
-    requires { at + 2 * length text.now ≤ length room.old }
-    ensures copied { MatchOption result (take at room.new ≡ take at room.old) (CopiesLine text.now room.old room.new at) }
+fn copy_line(text: &[u8], from: usize, room: &mut [u8], to: usize, limit: usize) -> Option<usize>
+    requires text { (from ≤ limit) × (limit + 16 ≤ length text.now) }
+    requires room { to + limit + 18 ≤ length room.old + from }
+    ensures copied { MatchOption result (take to room.new ≡ take to room.old) (CopiesLine (drop from text.now) room.old room.new to) }
     ensures len { length room.new ≡ length room.old }
+    ensures within { IfSome result (λ count. from + count + 1 ≤ length text.now) }
 {
     let mut done = 0;
-    while text.len() - done >= LANES {
-        let run = run_in_lanes(text, done);
-        copy_lanes(text, done, room, at + done);
-        if run < LANES {
+    while from + done <= limit {
+        copy_lanes(text, from + done, room, to + done);
+        if let Some(run) = end_in_lanes(text, from + done) {
             return Some(done + run);
         }
         done += LANES;
@@ -116,20 +110,25 @@ pub(crate) struct Passed {
     pub lines: usize,
 }
 
-/// Copies lines at the front of a text to a place of the room, each with CRLF behind it, up to one that begins with a dot or
-/// isn't found to end. The room behind them may change.
+/// Copies lines at the front of a text to a place of the room, each with CRLF behind it, up to one that begins with a dot, isn't
+/// found to end, or may not find room. The room behind them may change.
 #[inline(never)]
 fn copy_lines(text: &[u8], room: &mut [u8], at: usize) -> Passed
-    requires room { at + 2 * length text.now ≤ length room.old }
+    requires at { at ≤ length room.old }
     requires few { length text.now ≤ 8192 }
     ensures copied { CopiesLines text.now room.old room.new at result.count result.lines }
+    ensures fits { at + result.count + result.lines ≤ length room.old }
     ensures len { length room.new ≡ length room.old }
 {
     let mut count: usize = 0;
     let mut lines: usize = 0;
-    while count < text.len() && text[count] != b'.' {
+    if text.len() < LANES || room.len() - at < LANES + 2 {
+        return Passed { count, lines };
+    }
+    let limit = (text.len() - LANES).min((room.len() - at - LANES - 2) / 2);
+    while count <= limit && text[count] != b'.' {
         let to = at + count + lines;
-        let Some(length) = copy_line(&text[count..], room, to) else {
+        let Some(length) = copy_line(text, count, room, to, limit) else {
             break;
         };
         put_end(room, to + length);
@@ -214,9 +213,7 @@ impl Gathered {
         requires { length text.now ≤ 8192 }
         ensures { AddsLines text.now self.old self.new result.count result.lines }
     {
-        let fits = (self.room.len() - self.count) / 2;
-        let front = &text[..text.len().min(fits)];
-        let passed = copy_lines(front, self.room.as_mut_slice(), self.count);
+        let passed = copy_lines(text, self.room.as_mut_slice(), self.count);
         self.count += passed.count + passed.lines;
         passed
     }

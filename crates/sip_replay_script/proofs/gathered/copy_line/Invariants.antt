@@ -1,4 +1,4 @@
-use Rattle.std.proofs.Common.{◌≡◌, ◌+◌, ◌-◌, ◌≤◌, ◌++◌, length, take}
+use Rattle.std.proofs.Common.{◌≡◌, ◌+◌, ◌-◌, ◌≤◌, ◌++◌, length, take, drop}
 use Rattle.httparse.specs.Pieces.{AllPassBetween}
 use Rattle.sip_replay_script.specs.Gathered.{is_inside}
 use Rattle.sip_replay_script.proofs.gathered.copy_line.Given as goal
@@ -6,8 +6,8 @@ use Rattle.sip_replay_script.proofs.gathered.copy_line.Given as goal
 -- the bytes so far are copied, and none of them is LF
 abbrev pub invariant-loop-done : goal.invariant-loop-done
 invariant-loop-done l =
-    (l.done ≤ length l.text) × (take (l.at + l.done) l.room ≡ take l.at l.initial.room ++ take l.done l.text)
-    × (length l.room ≡ length l.initial.room) × AllPassBetween is_inside l.text 0 l.done
+    (l.from + l.done ≤ length l.text) × (take (l.to + l.done) l.room ≡ take l.to l.initial.room ++ take l.done (drop l.from l.text))
+    × (length l.room ≡ length l.initial.room) × AllPassBetween is_inside l.text l.from (l.from + l.done)
 
 abbrev pub decreases-loop-done : goal.decreases-loop-done
 decreases-loop-done l = length l.text - l.done
