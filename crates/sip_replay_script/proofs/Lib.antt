@@ -4,6 +4,7 @@ pub mod DatagramWord
 pub mod Datagrams
 pub mod Fronts
 pub mod Gathering
+pub mod HeadAtOnce
 pub mod HeadLines
 pub mod Keeping
 pub mod LineEnds

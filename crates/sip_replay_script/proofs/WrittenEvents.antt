@@ -56,11 +56,11 @@ word_others mark default digits word = encoded_others mark default digits _
 -- ---- where a datagram comes from
 
 -- an address that a datagram may come from: four numbers up to 255, and a port that isn't 0
-record IsSource (a : Addr) : Type 0 where
-  four : length a.ip ≡ 4
-  octets : list_all (λ n. nat_le n 255) a.ip ≡ true
-  some : 0 < a.port
-  small : a.port < 65536
+pub record IsSource (a : Addr) : Type 0 where
+  pub four : length a.ip ≡ 4
+  pub octets : list_all (λ n. nat_le n 255) a.ip ≡ true
+  pub some : 0 < a.port
+  pub small : a.port < 65536
 
 all_octets : (ip : List ℕ) → IsBytes ip → list_all (λ n. nat_le n 255) ip ≡ true
 all_octets [] are = refl
@@ -219,7 +219,7 @@ module _ (moment word : ℕ) (source : Addr) (lt : moment < 2 ^ 62) (fits : word
         bytes_again b bytes are,
       ) refl
 
-  head_says : line_of (codes "datagram " ++ head_before moment word source []) ≡ Some (Head (record { at = moment; word = word; from = source }))
+  pub head_says : line_of (codes "datagram " ++ head_before moment word source []) ≡ Some (Head (record { at = moment; word = word; from = source }))
   head_says =
       ap (λ (l : List ℕ). line_of (codes "datagram " ++ (decimal moment ++ 32 ∷ (addr_text source ++ 32 ∷ l)))) (append-nil (nonce_text word))
       ∙ rw (

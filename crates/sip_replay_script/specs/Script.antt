@@ -1,5 +1,6 @@
 -- What the lines of a script say.
-use Rattle.std.specs.Prelude.{ℕ, ◌^◌, ◌==◌, ◌&&◌, nat_lt, Option, Some, None, List, length, slice_index, drop, codes, if◌then◌else◌}
+use Rattle.std.specs.Prelude.{◌≡◌, ◌<◌, ◌≤◌, ℕ, ◌^◌, ◌==◌, ◌&&◌, true, nat_lt, nat_le, Option, Some, None, List, ◌∷◌, ◌++◌, length, slice_index, drop, decimal, codes, if◌then◌else◌}
+use Rattle.std.specs.List.{list_all}
 use Rattle.std.specs.Str.{bytes_eq}
 use Rattle.sip_event.specs.declared.packet.Ticket.{Ticket}
 use Rattle.sip_event.specs.declared.event.Event.{Event}
@@ -7,7 +8,8 @@ use Rattle.sip_event.specs.declared.event.Event.TheVariants.{Datagram, Time, Fau
 use Rattle.sip_replay_script.specs.declared.script.DatagramHead.{DatagramHead}
 use Rattle.sip_replay_script.specs.declared.script.Line.{Line}
 use Rattle.sip_replay_script.specs.declared.script.Line.TheVariants.{Head, Whole}
-use Rattle.sip_uri.specs.Addresses.{addr_of}
+use Rattle.sip_uri.specs.declared.addr.Addr.{Addr}
+use Rattle.sip_uri.specs.Addresses.{addr_of, addr_text}
 use Rattle.sip_text.specs.Numbers.{plain_decimal_of, plain_decimal_below, hex_bytes_of}
 use Rattle.sip_digest.specs.NonceText.{word_of}
 use Rattle.sip_text.specs.Splits.{split_at_byte}
@@ -98,3 +100,25 @@ line_of text = do
 -- a line of a datagram: one `.` is dropped from one that begins with it
 abbrev pub unstuffed : List ℕ → List ℕ
 unstuffed line = if nat_lt 0 (length line) && slice_index line 0 == 46 then drop 1 line else line
+
+-- ---- what is read at places of a line
+
+-- a number in decimal stands from a place on, up to another
+pub record IsNumberAt (text : List ℕ) (from number end : ℕ) : Type 0 where
+  pub digits : drop from text ≡ decimal number ++ drop end text
+  pub small : number < 2 ^ 64
+  pub within : end ≤ length text
+
+-- and a byte behind it
+pub record IsNumberBefore (text : List ℕ) (from mark number next : ℕ) : Type 0 where
+  pub digits : drop from text ≡ decimal number ++ mark ∷ drop next text
+  pub within : next ≤ length text
+
+-- an address that a datagram may come from, and a space behind it
+pub record IsSourceBefore (text : List ℕ) (from : ℕ) (source : Addr) (next : ℕ) : Type 0 where
+  pub digits : drop from text ≡ addr_text source ++ 32 ∷ drop next text
+  pub within : next ≤ length text
+  pub four : length source.ip ≡ 4
+  pub octets : list_all (λ n. nat_le n 255) source.ip ≡ true
+  pub some : 0 < source.port
+  pub small : source.port < 65536

@@ -1,16 +1,17 @@
-ghost use Rattle.std.specs.Prelude.{◌≡◌, ◌≤◌, ◌++◌, [], true, false, length, take, OnOk, IfOk, IfErr, IfSome, IfNone};
+ghost use Rattle.std.specs.Prelude.{◌≡◌, ◌≤◌, ◌++◌, [], ℕ, List, Option, Some, true, false, length, take, OnOk, IfOk, IfErr, IfSome, IfNone, MatchOption};
 ghost use Rattle.sip_replay_script.specs.Devices.{later};
 ghost use Rattle.sip_replay_script.specs.Events;
-ghost use Rattle.sip_replay_script.specs.Events.{GivesEvent, GivesDatagram, GivesFirst, GoesOnBy, KeepsAll, KeepsLines, EventStops};
+ghost use Rattle.sip_replay_script.specs.Events.{GivesEvent, GivesDatagram, GivesFirst, GivesSaid, GoesOnBy, KeepsAll, KeepsLines, EventStops};
 ghost use Rattle.sip_replay_script.specs.Events.{DatagramStops};
 ghost use Rattle.sip_replay_script.specs.Lines.{left, pending, IsOver, IsSpent, LineStops};
 ghost use Rattle.sip_replay_script.specs.Script;
+ghost use Rattle.sip_replay_script.specs.declared.script.Line.TheVariants.{Head};
 ghost use Rattle.sip_replay_script.specs.declared.stop.Stop.TheVariants.{NoMemory};
 
 use crate::device::TellingReader;
 use crate::gathered::{Gathered, KEPT};
 use crate::lines::Lines;
-use crate::script::{Line, line_of, unstuffed};
+use crate::script::{DatagramHead, Line, head_at_once, line_of, unstuffed};
 use crate::stop::Stop;
 use sip_event::Event;
 use sip_text::Bytes;
@@ -57,8 +58,46 @@ fn event_at(alloc: Global, line: Line, bytes: &[u8]) -> Result<Event, AllocError
 }
 
 /// The line that begins the next event of a script; `None` at its end. Behind the head of a datagram its bytes are gathered, so
-/// that they are used from there.
+/// that they are used from there. Most lines are such a head, and are read at once.
 pub fn next_line<R: TellingReader>(
+    alloc: Global,
+    lines: &mut Lines,
+    reader: &mut R,
+    bytes: &mut Gathered,
+) -> Result<Option<Line>, Stop>
+    ensures given { IfOk result (λ found. IfSome found
+        (λ line. GivesEvent lines.old lines.new (R.remaining reader.old) (R.remaining reader.new) (Script.event_of line bytes.new))) }
+    ensures over { IfOk result (λ found. IfNone found (IsOver lines.old lines.new (R.remaining reader.old) (R.remaining reader.new))) }
+    ensures stopped { IfErr result (EventStops (IsSpent (R.has_failed reader.new) lines.new.asks) (pending lines.old (R.remaining reader.old))) }
+    ensures asked { later lines.new.asks (R.asked reader.new) ≡ later lines.old.asks (R.asked reader.old) }
+    ensures less { lines.new.asks ≤ lines.old.asks }
+{
+    if let Some(head) = front_head(lines) {
+        bytes.clear();
+        gather(alloc, lines, reader, bytes)?;
+        return Ok(Some(Line::Head(head)));
+    }
+    any_line(alloc, lines, reader, bytes)
+}
+
+/// The head of a datagram that the next line says, which is passed, if it stands whole among the bytes that were read and is
+/// read at once. None says nothing, and passes nothing.
+#[inline(always)]
+fn front_head(lines: &mut Lines) -> Option<DatagramHead>
+    ensures head { MatchOption result (lines.new ≡ lines.old)
+        (λ head. (rest : Option (List ℕ)) → GivesSaid lines.old lines.new rest rest (Some (Head head))) }
+    ensures asks { lines.new.asks ≡ lines.old.asks }
+{
+    let line = lines.front()?;
+    let head = head_at_once(line)?;
+    let count = line.len();
+    lines.pass(count);
+    Some(head)
+}
+
+/// The same of any line.
+#[inline(never)]
+fn any_line<R: TellingReader>(
     alloc: Global,
     lines: &mut Lines,
     reader: &mut R,
@@ -132,6 +171,7 @@ fn parted_line<R: TellingReader>(
 }
 
 /// Gathers the bytes that the lines up to a line `.` say.
+#[inline(always)]
 fn gather<R: TellingReader>(
     alloc: Global,
     lines: &mut Lines,

@@ -1,9 +1,10 @@
-ghost use Rattle.std.specs.Prelude.{◌≡◌, IfOk, Some, None, MatchOption, codes, true, false, take, drop, option_map};
+ghost use Rattle.std.specs.Prelude.{◌≡◌, ◌≤◌, ◌+◌, length, IfOk, IfSome, Some, None, MatchOption, codes, true, false, take, drop, option_map};
 ghost use Rattle.std.specs.Str.{bytes_eq};
 ghost use Rattle.memchr.specs.Find.{IsFirstByte, is_byte};
 ghost use Rattle.sip_text.specs.Numbers;
 ghost use Rattle.sip_text.specs.Splits.{split_at_byte};
 ghost use Rattle.sip_replay_script.specs.Script;
+ghost use Rattle.sip_replay_script.specs.Script.{IsNumberAt, IsNumberBefore, IsSourceBefore};
 ghost use Rattle.sip_replay_script.specs.declared.script.Line.TheVariants.{Head};
 
 use memchr::memchr_iter;
@@ -172,6 +173,93 @@ fn line_of_kind(alloc: Global, kind: &[u8], rest: &[u8]) -> Result<Option<Line>,
         return Ok(fault_line(rest));
     }
     Ok(None)
+}
+
+/// The number that decimal digits without leading zeros write from a place on, and the place behind them. None says nothing.
+#[inline(always)]
+#[tactic(auto, using(crate::proofs::HeadAtOnce::no_digits, crate::proofs::HeadAtOnce::one_more, crate::proofs::HeadAtOnce::fits, crate::proofs::HeadAtOnce::number_is))]
+fn number_at(text: &[u8], from: usize, most: usize) -> Option<(u64, usize)>
+    requires { (from + most ≤ length text.now) × (most ≤ 19) }
+    ensures { IfSome result (λ found. IsNumberAt text.now from found.0 found.1) }
+{
+    let mut number: u64 = 0;
+    let mut count: usize = 0;
+    while count < most && text[from + count].is_ascii_digit() {
+        number = number * 10 + u64::from(text[from + count] - b'0');
+        count += 1;
+    }
+    if count == 0 || count > 1 && text[from] == b'0' {
+        return None;
+    }
+    Some((number, from + count))
+}
+
+/// Such a number of at most so many digits in front of a byte, and the place behind that. At least so many bytes follow.
+#[inline(always)]
+#[tactic(auto, using(crate::proofs::HeadAtOnce::number_before))]
+fn number_before(text: &[u8], from: usize, most: usize, mark: u8) -> Option<(u64, usize)>
+    requires { (from ≤ length text.now) × (most ≤ 19) }
+    ensures { IfSome result (λ found. IsNumberBefore text.now from mark found.0 found.1) }
+{
+    if text.len() - from < most {
+        return None;
+    }
+    let (number, end) = number_at(text, from, most)?;
+    if end < text.len() && text[end] == mark {
+        Some((number, end + 1))
+    } else {
+        None
+    }
+}
+
+/// The same of a number of an address.
+#[inline(always)]
+fn octet_before(text: &[u8], from: usize, mark: u8) -> Option<(u8, usize)>
+    requires { from ≤ length text.now }
+    ensures { IfSome result (λ found. IsNumberBefore text.now from mark found.0 found.1) }
+{
+    let (number, next) = number_before(text, from, 3, mark)?;
+    if number < 256 {
+        Some((number as u8, next))
+    } else {
+        None
+    }
+}
+
+/// The address in front of a space, and the place behind that.
+#[inline(always)]
+#[tactic(auto, using(crate::proofs::HeadAtOnce::source_before))]
+fn source_before_space(text: &[u8], from: usize) -> Option<(Addr, usize)>
+    requires { from ≤ length text.now }
+    ensures { IfSome result (λ found. IsSourceBefore text.now from found.0 found.1) }
+{
+    let (first, at) = octet_before(text, from, b'.')?;
+    let (second, at) = octet_before(text, at, b'.')?;
+    let (third, at) = octet_before(text, at, b'.')?;
+    let (fourth, at) = octet_before(text, at, b':')?;
+    let (port, next) = number_before(text, at, 5, b' ')?;
+    if port == 0 || port >= 65536 {
+        return None;
+    }
+    let ip = [first, second, third, fourth];
+    let port = port as u16;
+    Some((Addr { ip, port }, next))
+}
+
+/// The head that a line `datagram AT IP:PORT WORD` says, read from one end to the other: most lines are one. None says nothing.
+pub(crate) fn head_at_once(line: &[u8]) -> Option<DatagramHead>
+    ensures { IfSome result (λ head. Script.line_of line.now ≡ Some (Head head)) }
+{
+    if line.len() < 9 || !same_bytes(&line[..9], b"datagram ") {
+        return None;
+    }
+    let (at, next) = number_before(line, 9, 19, b' ')?;
+    if at >= TOO_LARGE {
+        return None;
+    }
+    let (from, next) = source_before_space(line, next)?;
+    let word = word_of(&line[next..])?;
+    Some(DatagramHead { at, word, from })
 }
 
 /// What an event's first line says: `datagram AT IP:PORT WORD`, `hex AT IP:PORT WORD DIGITS`, `time AT`
