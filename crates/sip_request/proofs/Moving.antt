@@ -25,22 +25,22 @@ Moves-replaced ts us vs before after a b = record {
 
 -- ---- a part: three slots
 
-held_first : (ts a b c : List Timer) → IsHeld ts (a ++ (b ++ c)) → IsHeld ts a
-held_first ts a b c h = record { stand = λ p. omega (arith, h.stand p, count-append p a (b ++ c)); keys_differ = h.keys_differ }
+held_last : (ts a b c : List Timer) → IsHeld ts (a ++ (b ++ c)) → IsHeld ts c
+held_last ts a b c h = record { stand = λ p. omega (arith, h.stand p, count-append p a (b ++ c), count-append p b c); keys_differ = h.keys_differ }
 
-pub held_again : (ts : List Timer) (keys : TimerKeys) (part : Part) → IsHeld ts (part_standing keys part) → IsHeld ts (slot_timers part.request part.owner keys.again part.timers.again)
-held_again ts keys part h =
+pub held_call : (ts : List Timer) (keys : TimerKeys) (part : Part) → IsHeld ts (part_standing keys part) → IsHeld ts (slot_timers part.request part.owner keys.call part.timers.call)
+held_call ts keys part h =
     let of_slot : ℕ → Option (Letter × ℕ) → List Timer = slot_timers part.request part.owner in
-    held_first ts (of_slot keys.again part.timers.again) (of_slot keys.last part.timers.last) (of_slot keys.call part.timers.call) h
+    held_last ts (of_slot keys.again part.timers.again) (of_slot keys.last part.timers.last) (of_slot keys.call part.timers.call) h
 
-pub held_second : (ts us a b c first : List Timer) → IsHeld ts (a ++ (b ++ c)) → Moves ts a us first → IsHeld us b
-held_second ts us a b c first h m = record {
+pub held_second : (ts us a b c third : List Timer) → IsHeld ts (a ++ (b ++ c)) → Moves ts c us third → IsHeld us b
+held_second ts us a b c third h m = record {
   stand = λ p. omega (arith, h.stand p, m.same p, count-append p a (b ++ c), count-append p b c);
   keys_differ = m.keys_differ h.keys_differ;
 }
 
-pub held_third : (ts us vs a b c first second : List Timer) → IsHeld ts (a ++ (b ++ c)) → Moves ts a us first → Moves us b vs second → IsHeld vs c
-held_third ts us vs a b c first second h m n = record {
+pub held_first : (ts us vs a b c third second : List Timer) → IsHeld ts (a ++ (b ++ c)) → Moves ts c us third → Moves us b vs second → IsHeld vs a
+held_first ts us vs a b c third second h m n = record {
   stand = λ p. omega (arith, h.stand p, m.same p, n.same p, count-append p a (b ++ c), count-append p b c);
   keys_differ = n.keys_differ (m.keys_differ h.keys_differ);
 }
@@ -51,7 +51,14 @@ Moves-three ts us vs ws a b c first second third k m n = record {
   keys_differ = λ differ. n.keys_differ (m.keys_differ (k.keys_differ differ));
 }
 
-pub Moves-three_stopped : (ts us vs ws a b c : List Timer) → Moves ts a us [] → Moves us b vs [] → Moves vs c ws [] → Moves ts (a ++ (b ++ c)) ws []
+-- the third one first
+pub Moves-three_back : (ts us vs ws a b c first second third : List Timer) → Moves ts c us third → Moves us b vs second → Moves vs a ws first → Moves ts (a ++ (b ++ c)) ws (first ++ (second ++ third))
+Moves-three_back ts us vs ws a b c first second third k m n = record {
+  same = λ p. omega (arith, k.same p, m.same p, n.same p, count-append p a (b ++ c), count-append p b c, count-append p first (second ++ third), count-append p second third);
+  keys_differ = λ differ. n.keys_differ (m.keys_differ (k.keys_differ differ));
+}
+
+pub Moves-three_stopped : (ts us vs ws a b c : List Timer) → Moves ts c us [] → Moves us b vs [] → Moves vs a ws [] → Moves ts (a ++ (b ++ c)) ws []
 Moves-three_stopped ts us vs ws a b c k m n = record {
   same = λ p. omega (arith, k.same p, m.same p, n.same p, count-append p a (b ++ c), count-append p b c);
   keys_differ = λ differ. n.keys_differ (m.keys_differ (k.keys_differ differ));

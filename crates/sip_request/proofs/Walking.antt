@@ -21,7 +21,7 @@ use Rattle.sip_request.specs.declared.part.PartTimers.{PartTimers}
 use Rattle.sip_request.specs.Near.{AreBefore, IsNear}
 use Rattle.sip_request.specs.Slots.{IsBefore, IsPartNear, listed}
 use Rattle.sip_request.specs.Walk.{left_timers}
-use Rattle.sip_request.proofs.Moving.{count-append}
+use Rattle.sip_request.proofs.Moving.{count-append, Moves-stays}
 
 -- ---- moments
 
@@ -153,6 +153,10 @@ Moves-over ts us vs all done left after e m n = subst (λ xs. Moves ts all vs xs
   same = λ p. omega (arith, m.same p, n.same p, count-append p done left);
   keys_differ = λ differ. n.keys_differ (m.keys_differ differ);
 })
+
+-- nothing is left
+pub Moves-all : (ts us all done left after : List Timer) → done ≡ after → left ≡ [] → Moves ts all us (done ++ left) → Moves ts all us after
+Moves-all ts us all done left after e f m = Moves-over ts us us all done left after e m (subst (λ xs. Moves us xs us []) (sym f) (Moves-stays us []))
 
 -- the front is stopped, of what is left to be stopped
 pub Moves-less : (ts us vs all left front back : List Timer) → left ≡ front ++ back → Moves ts all us left → Moves us front vs [] → Moves ts all vs back

@@ -7,7 +7,7 @@ ghost use Rattle.sip_request.specs.Slots.{part_standing};
 ghost use Rattle.sip_request.specs.Walk.{left_timers};
 
 use crate::likeness::are_as_far;
-use crate::naming::branch_part;
+use crate::naming::{branch_part, branch_part_here};
 use crate::part::{Part, set_part, stop_part, sync_part};
 use model_transactions::TimerKeys;
 use model_transactions::state::{Branch, OpenRequest};
@@ -87,13 +87,13 @@ fn change_branch<T: Timers>(
     ensures left { T.room timers.old ≤ T.room timers.new + 3 }
     ensures still { T.reached timers.new ≡ T.reached timers.old }
 {
-    let part = branch_part(next, branch);
+    let part = branch_part_here(next, branch);
     if !stands_at(was, was_keys, place, branch) {
         let keys = set_part(timers, &part);
         return Synced { keys, place };
     }
     let branches = was.branches.as_slice();
-    let stood = branch_part(was, &branches[place]);
+    let stood = branch_part_here(was, &branches[place]);
     let stood_keys = was_keys[place];
     let keys = sync_part(timers, &stood, stood_keys, &part);
     Synced {
@@ -176,7 +176,7 @@ pub(crate) fn stop_left<T: Timers>(
 {
     let mut at = place;
     while let Some(stood) = stood_at(was, keys, at) {
-        stop_part(timers, stood.part, stood.keys);
+        stop_part(timers, &stood.part, stood.keys);
         at = stood.behind;
     }
 }
@@ -195,7 +195,7 @@ pub(crate) fn stop_at<T: Timers>(
     ensures still { T.reached timers.new ≡ T.reached timers.old }
 {
     if let Some(stood) = stood_at(was, keys, place) {
-        stop_part(timers, stood.part, stood.keys);
+        stop_part(timers, &stood.part, stood.keys);
     }
 }
 
@@ -228,5 +228,7 @@ pub(crate) fn sync_branches<T: Timers>(
         keys[i] = synced.keys;
         place = synced.place;
     }
-    stop_left(timers, was, was_keys, place);
+    if place < was_keys.len() {
+        stop_left(timers, was, was_keys, place);
+    }
 }

@@ -168,6 +168,7 @@ fn owner_of(branch: &Branch) -> Owner
 }
 
 /// The timers of a branch.
+#[inline(always)]
 fn timers_of_branch(call: &OpenRequest, branch: &Branch) -> PartTimers
     requires { AreBefore (2 ^ 64) (branch_timers call.now branch.now) }
     ensures timers { listed result ≡ branch_timers call.now branch.now }
@@ -194,8 +195,9 @@ fn timers_of_side(call: &OpenRequest) -> PartTimers
     }
 }
 
-/// A branch of an open request, with the timers that it has by its phase.
-pub fn branch_part(call: &OpenRequest, branch: &Branch) -> Part
+/// A branch of an open request, with the timers that it has by its phase, worked out where it is asked for.
+#[inline(always)]
+pub(crate) fn branch_part_here(call: &OpenRequest, branch: &Branch) -> Part
     requires { AreBefore (2 ^ 64) (branch_timers call.now branch.now) }
     ensures timers { listed result.timers ≡ branch_timers call.now branch.now }
     ensures names { (keys : TimerKeys) → part_standing keys result
@@ -206,6 +208,16 @@ pub fn branch_part(call: &OpenRequest, branch: &Branch) -> Part
         owner: owner_of(branch),
         timers: timers_of_branch(call, branch),
     }
+}
+
+/// A branch of an open request, with the timers that it has by its phase.
+pub fn branch_part(call: &OpenRequest, branch: &Branch) -> Part
+    requires { AreBefore (2 ^ 64) (branch_timers call.now branch.now) }
+    ensures timers { listed result.timers ≡ branch_timers call.now branch.now }
+    ensures names { (keys : TimerKeys) → part_standing keys result
+        ≡ part_timers call.now.number (owner_of branch.now) keys (branch_timers call.now branch.now) }
+{
+    branch_part_here(call, branch)
 }
 
 /// The answering side of an open request, with the timers that it has by its phase.

@@ -36,9 +36,9 @@ pub(crate) const NO_KEYS: TimerKeys = TimerKeys {
     call: 0,
 };
 
-/// Lets the timer of a slot of a part stand, and no other one in place of the timer of a slot of a part before, where one of
-/// the two has a timer. Gives the key.
-#[inline(never)]
+/// Lets the timer of a slot of a part stand, and no other one in place of the timer of a slot of a part before. Gives the
+/// key.
+#[inline(always)]
 fn move_slot<T: Timers>(
     timers: &mut T,
     was: &Part,
@@ -59,8 +59,8 @@ fn move_slot<T: Timers>(
     sync(timers, timer, next.request, next.owner, slot)
 }
 
-/// Lets the timer of a slot of a part stand, and no other one in place of the timer of a slot of a part before. Gives the
-/// key.
+/// Lets the timer of a slot of a part stand, and no other one in place of the timer of a slot of a part before: two timers
+/// are compared only where both slots have one. Gives the key.
 #[inline(always)]
 fn sync_slot<T: Timers>(
     timers: &mut T,
@@ -80,12 +80,19 @@ fn sync_slot<T: Timers>(
 {
     match (stood, slot) {
         (None, None) => 0,
-        _ => move_slot(timers, was, key, stood, next, slot),
+        (Some(_), None) => {
+            stop_slot(timers, was, key, stood);
+            0
+        }
+        (None, Some(_)) => set_slot(timers, next, slot),
+        (Some(_), Some(_)) => move_slot(timers, was, key, stood, next, slot),
     }
 }
 
 /// Lets the timers of a part stand, for which there is room, and no others: of those that stood before, one that is the
-/// same stays as it is, and another one is stopped. Gives the keys.
+/// same stays as it is, and another one is stopped. What is due last comes first, so that of those that are stopped at most
+/// one is the first of all that stand, in whose place the next one has to be looked up. Gives the keys.
+#[inline(always)]
 pub(crate) fn sync_part<T: Timers>(
     timers: &mut T,
     was: &Part,
@@ -99,13 +106,13 @@ pub(crate) fn sync_part<T: Timers>(
     ensures left { T.room timers.old ≤ T.room timers.new + 3 }
     ensures still { T.reached timers.new ≡ T.reached timers.old }
 {
-    let again = sync_slot(
+    let call = sync_slot(
         timers,
         was,
-        keys.again,
-        was.timers.again,
+        keys.call,
+        was.timers.call,
         next,
-        next.timers.again,
+        next.timers.call,
     );
     let last = sync_slot(
         timers,
@@ -115,18 +122,19 @@ pub(crate) fn sync_part<T: Timers>(
         next,
         next.timers.last,
     );
-    let call = sync_slot(
+    let again = sync_slot(
         timers,
         was,
-        keys.call,
-        was.timers.call,
+        keys.again,
+        was.timers.again,
         next,
-        next.timers.call,
+        next.timers.again,
     );
     TimerKeys { again, last, call }
 }
 
 /// Sets the timer of a slot of a part, for which there is room. Gives the key.
+#[inline(always)]
 fn set_slot<T: Timers>(timers: &mut T, part: &Part, slot: Option<(Letter, u64)>) -> usize
     requires room { 1 ≤ T.room timers.old }
     requires near { IsBefore (T.reached timers.old + 2 ^ 30) slot }
@@ -148,6 +156,7 @@ fn set_slot<T: Timers>(timers: &mut T, part: &Part, slot: Option<(Letter, u64)>)
 }
 
 /// Sets the timers of a part, for which there is room. Gives the keys.
+#[inline(always)]
 pub(crate) fn set_part<T: Timers>(timers: &mut T, part: &Part) -> TimerKeys
     requires room { 3 ≤ T.room timers.old }
     requires near { IsPartNear (T.reached timers.old + 2 ^ 30) part.now.timers }
@@ -162,9 +171,9 @@ pub(crate) fn set_part<T: Timers>(timers: &mut T, part: &Part) -> TimerKeys
 }
 
 /// Stops the timer of a slot of a part.
-fn stop_slot<T: Timers>(timers: &mut T, was: Part, key: usize, stood: Option<(Letter, u64)>)
-    requires { IsHeld (T.pending timers.old) (slot_timers was.request was.owner key stood) }
-    ensures moves { Moves (T.pending timers.old) (slot_timers was.request was.owner key stood) (T.pending timers.new) [] }
+fn stop_slot<T: Timers>(timers: &mut T, was: &Part, key: usize, stood: Option<(Letter, u64)>)
+    requires { IsHeld (T.pending timers.old) (slot_timers was.now.request was.now.owner key stood) }
+    ensures moves { Moves (T.pending timers.old) (slot_timers was.now.request was.now.owner key stood) (T.pending timers.new) [] }
     ensures left { T.room timers.old ≤ T.room timers.new }
     ensures still { T.reached timers.new ≡ T.reached timers.old }
 {
@@ -172,14 +181,14 @@ fn stop_slot<T: Timers>(timers: &mut T, was: Part, key: usize, stood: Option<(Le
     clear(timers, timer);
 }
 
-/// Stops the timers of a part.
-pub(crate) fn stop_part<T: Timers>(timers: &mut T, was: Part, keys: TimerKeys)
-    requires { IsHeld (T.pending timers.old) (part_standing keys was) }
-    ensures moves { Moves (T.pending timers.old) (part_standing keys was) (T.pending timers.new) [] }
+/// Stops the timers of a part, what is due last first.
+pub(crate) fn stop_part<T: Timers>(timers: &mut T, was: &Part, keys: TimerKeys)
+    requires { IsHeld (T.pending timers.old) (part_standing keys was.now) }
+    ensures moves { Moves (T.pending timers.old) (part_standing keys was.now) (T.pending timers.new) [] }
     ensures left { T.room timers.old ≤ T.room timers.new }
     ensures still { T.reached timers.new ≡ T.reached timers.old }
 {
-    stop_slot(timers, was, keys.again, was.timers.again);
-    stop_slot(timers, was, keys.last, was.timers.last);
     stop_slot(timers, was, keys.call, was.timers.call);
+    stop_slot(timers, was, keys.last, was.timers.last);
+    stop_slot(timers, was, keys.again, was.timers.again);
 }

@@ -143,7 +143,7 @@ impl Request {
         ensures left { T.room timers.old ≤ T.room timers.new }
         ensures still { T.reached timers.new ≡ T.reached timers.old }
     {
-        stop_part(timers, side_part(&self.open_request), self.side);
+        stop_part(timers, &side_part(&self.open_request), self.side);
     }
 
     /// The timers of the branch at a place, which is to end, are stopped.

@@ -96,6 +96,6 @@ pub(crate) fn end<T: Timers>(timers: &mut T, was: &OpenRequest, side: TimerKeys,
     ensures left { T.room timers.old ≤ T.room timers.new }
     ensures still { T.reached timers.new ≡ T.reached timers.old }
 {
-    stop_part(timers, side_part(was), side);
+    stop_part(timers, &side_part(was), side);
     stop_left(timers, was, keys, 0);
 }

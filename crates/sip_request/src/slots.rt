@@ -99,6 +99,7 @@ pub(crate) fn standing(
 
 /// Lets the timer of a slot stand, for which there is room, and no other one: one that stood stays as it is, with its key
 /// and its place in the order of firing, if it is the same, and is stopped otherwise. Gives the key.
+#[inline(never)]
 pub(crate) fn sync<T: Timers>(
     timers: &mut T,
     was: Option<Timer>,

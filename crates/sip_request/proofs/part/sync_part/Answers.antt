@@ -1,14 +1,14 @@
-use Rattle.sip_request.proofs.Moving.{held_again, held_second, held_third, Moves-three}
+use Rattle.sip_request.proofs.Moving.{held_call, held_second, held_first, Moves-three_back}
 use Rattle.sip_request.proofs.part.sync_part.Goals as goal
 
-pub sync_slot-again-requires-clause-held : goal.sync_slot-again-requires-clause-held
-sync_slot-again-requires-clause-held g c = held_again _ c.args.keys c.args.was.now c.requires.held
+pub sync_slot-call-requires-clause-held : goal.sync_slot-call-requires-clause-held
+sync_slot-call-requires-clause-held g c = held_call _ c.args.keys c.args.was.now c.requires.held
 
 pub sync_slot-last-requires-clause-held : goal.sync_slot-last-requires-clause-held
-sync_slot-last-requires-clause-held g c = held_second _ _ _ _ _ _ c.requires.held c.sync_slot-again.ensures.moves
+sync_slot-last-requires-clause-held g c = held_second _ _ _ _ _ _ c.requires.held c.sync_slot-call.ensures.moves
 
-pub sync_slot-call-requires-clause-held : goal.sync_slot-call-requires-clause-held
-sync_slot-call-requires-clause-held g c = held_third _ _ _ _ _ _ _ _ c.requires.held c.sync_slot-again.ensures.moves c.sync_slot-last.ensures.moves
+pub sync_slot-again-requires-clause-held : goal.sync_slot-again-requires-clause-held
+sync_slot-again-requires-clause-held g c = held_first _ _ _ _ _ _ _ _ c.requires.held c.sync_slot-call.ensures.moves c.sync_slot-last.ensures.moves
 
 pub returns-clause-moves : goal.returns-clause-moves
-returns-clause-moves g c = Moves-three _ _ _ _ _ _ _ _ _ _ c.sync_slot-again.ensures.moves c.sync_slot-last.ensures.moves c.sync_slot-call.ensures.moves
+returns-clause-moves g c = Moves-three_back _ _ _ _ _ _ _ _ _ _ c.sync_slot-call.ensures.moves c.sync_slot-last.ensures.moves c.sync_slot-again.ensures.moves
