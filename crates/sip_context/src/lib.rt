@@ -30,11 +30,11 @@ pub use events::take_input;
 pub use input::Input;
 pub use sent::Sent;
 pub use settling::settle_alone;
-pub use side::is_accepted;
+pub use side::{is_accepted, is_answering};
 
 /// Of `sip_context_branches`.
 pub mod context_branches {
-    pub use sip_context_branches::{answer_due, branch_due};
+    pub use sip_context_branches::{answer_due, branch_due, is_cancellable, is_same_branch};
 }
 
 /// Of `sip_context_packets`.

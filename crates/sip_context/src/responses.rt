@@ -17,7 +17,7 @@ use sip_context_branches::state::{
     Branch, OpenRequest, Phase, Server, Upward, is_decline, is_failure, is_invite, is_provisional,
     is_success,
 };
-use sip_context_branches::{invite_heard, is_final, mark, other_heard, set_phase};
+use sip_context_branches::{invite_heard, is_final, mark, other_heard, set_final, set_phase};
 use sip_context_packets::ack_packets;
 use sip_event::Packet;
 use sip_message_fields::FieldName;
@@ -78,21 +78,6 @@ fn acked_to(
     }
 }
 
-/// A branch that was told by its final answer what its ACK is made with.
-fn told_to(
-    alloc: Global,
-    request: &OpenRequest,
-    branch: &Branch,
-    status: u16,
-    response: &View<'_>,
-) -> Result<Branch, AllocError>
-    ensures { IfOk result (λ told. told ≡ Contexts.told_to request.now branch.now status response.now) }
-{
-    let mut told = branch.clone()?;
-    told.final_to = acked_to(alloc, request, status, response)?;
-    Ok(told)
-}
-
 /// The ACK of a final answer, if this server acknowledges it.
 fn acks_of(
     alloc: Global,
@@ -127,8 +112,13 @@ fn finish_branch(
         (Done (now + Contexts.linger request.old) status) request.old) }
 {
     let until = now + linger(request);
-    let told = told_to(alloc, request, branch, status, response)?;
-    set_phase(&mut request.branches, &told, Phase::Done { until, status })?;
+    let to = acked_to(alloc, request, status, response)?;
+    set_final(
+        &mut request.branches,
+        branch,
+        &to,
+        Phase::Done { until, status },
+    )?;
     Ok(())
 }
 

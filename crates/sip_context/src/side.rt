@@ -9,7 +9,7 @@ use sip_context_branches::state::{
 use sip_timers::T1;
 
 /// Whether a request has no final answer yet.
-pub(crate) fn is_answering(side: Side) -> bool
+pub fn is_answering(side: Side) -> bool
     ensures { result ≡ States.is_answering side }
 {
     matches!(side, Side::Answering)

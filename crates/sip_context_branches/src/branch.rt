@@ -4,32 +4,44 @@ ghost use Rattle.model_context.specs.Branches as Contexts;
 
 use crate::phase::{is_final, is_ready};
 use model_context::state::{Branch, Phase, Resend, first_resend};
+use sip_base::Shared;
+use sip_text::Bytes;
 use sip_timers::T1;
 use std::alloc::AllocError;
 
 /// Whether two branches are one: their numbers and whether they are CANCELs agree.
-pub(crate) fn is_same_branch(left: &Branch, right: &Branch) -> bool
+pub fn is_same_branch(left: &Branch, right: &Branch) -> bool
     ensures { result ≡ Contexts.is_same_branch left.now right.now }
 {
     left.number == right.number && left.is_cancel == right.is_cancel
 }
 
-/// Gives a branch a phase, and what another one says of its ACK and of when it goes again.
-fn turn(place: &mut Branch, branch: &Branch, phase: Phase) -> Result<(), AllocError>
-    ensures { OnOk result (place.new ≡ Contexts.turned branch.now phase place.old) }
+/// Gives a branch a phase, To of its final answer, and what another one says of when it goes again.
+fn turn(
+    place: &mut Branch,
+    branch: &Branch,
+    final_to: &Option<Shared<Bytes>>,
+    phase: Phase,
+) -> Result<(), AllocError>
+    ensures { OnOk result (place.new ≡ Contexts.turned (record branch.now { final_to = final_to.now }) phase place.old) }
 {
-    place.final_to = branch.final_to.clone()?;
+    place.final_to = final_to.clone()?;
     place.phase = phase;
     place.again = branch.again;
     Ok(())
 }
 
 /// Does so if both are one branch.
-pub(crate) fn turn_same(place: &mut Branch, branch: &Branch, phase: Phase) -> Result<(), AllocError>
-    ensures { OnOk result (place.new ≡ Contexts.phased branch.now phase place.old) }
+pub(crate) fn turn_same(
+    place: &mut Branch,
+    branch: &Branch,
+    final_to: &Option<Shared<Bytes>>,
+    phase: Phase,
+) -> Result<(), AllocError>
+    ensures { OnOk result (place.new ≡ Contexts.phased (record branch.now { final_to = final_to.now }) phase place.old) }
 {
     if is_same_branch(place, branch) {
-        turn(place, branch, phase)
+        turn(place, branch, final_to, phase)
     } else {
         Ok(())
     }
@@ -54,7 +66,7 @@ pub(crate) fn mark_branch(branch: &mut Branch)
 }
 
 /// Whether a branch to a target is sent its CANCEL now (RFC 3261 9.1).
-pub(crate) fn is_cancellable(branch: &Branch) -> bool
+pub fn is_cancellable(branch: &Branch) -> bool
     ensures { result ≡ Contexts.is_cancellable branch.now }
 {
     !branch.is_cancel && branch.wants_cancel && is_ready(branch.phase)

@@ -7,15 +7,21 @@ ghost use Rattle.model_context.specs.Branches as Contexts;
 use crate::branch::{mark_branch, turn_same, want_same};
 use crate::phase::is_final;
 use model_context::state::{Branch, Phase};
-use sip_text::Items;
+use sip_base::Shared;
+use sip_text::{Bytes, Items};
 use std::alloc::AllocError;
 
-/// Gives one of some branches another phase.
-fn turn_among(branches: &mut [Branch], branch: &Branch, phase: Phase) -> Result<(), AllocError>
-    ensures { OnOk result (branches.new ≡ map (Contexts.phased branch.now phase) branches.old) }
+/// Gives one of some branches another phase, and To of its final answer.
+fn turn_among(
+    branches: &mut [Branch],
+    branch: &Branch,
+    final_to: &Option<Shared<Bytes>>,
+    phase: Phase,
+) -> Result<(), AllocError>
+    ensures { OnOk result (branches.new ≡ map (Contexts.phased (record branch.now { final_to = final_to.now }) phase) branches.old) }
 {
     for place in branches.iter_mut() {
-        turn_same(place, branch, phase)?;
+        turn_same(place, branch, final_to, phase)?;
     }
     Ok(())
 }
@@ -29,7 +35,20 @@ pub fn set_phase(
 ) -> Result<(), AllocError>
     ensures { OnOk result (branches.new ≡ map (Contexts.phased branch.now phase) branches.old) }
 {
-    turn_among(branches.as_mut_slice(), branch, phase)
+    turn_among(branches.as_mut_slice(), branch, &branch.final_to, phase)
+}
+
+/// Gives a branch another phase, To of its final answer, with which its ACK is made, and what it says here of when it goes
+/// again. `AllocError` is the only refusal; the branches are some of them then.
+pub fn set_final(
+    branches: &mut Items<Branch>,
+    branch: &Branch,
+    final_to: &Option<Shared<Bytes>>,
+    phase: Phase,
+) -> Result<(), AllocError>
+    ensures { OnOk result (branches.new ≡ map (Contexts.phased (record branch.now { final_to = final_to.now }) phase) branches.old) }
+{
+    turn_among(branches.as_mut_slice(), branch, final_to, phase)
 }
 
 /// One of some branches is to be cancelled.

@@ -30,7 +30,11 @@ pub fn new_cancels(
     requires { now + 32000 < 2 ^ 64 }
     ensures { IfOk result (λ cancels. cancels ≡ map (Contexts.cancel_branch now) (filter Contexts.is_cancellable branches.now)) }
 {
-    let mut cancels = Items::with_room(alloc, cancellable_count(branches))?;
+    let count = cancellable_count(branches);
+    if count == 0 {
+        return Ok(Items::new(alloc));
+    }
+    let mut cancels = Items::with_room(alloc, count)?;
     for branch in branches {
         if is_cancellable(branch) {
             cancels.push(cancel_branch(now, branch)?)?;

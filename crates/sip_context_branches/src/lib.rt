@@ -19,7 +19,8 @@ mod retransmission;
 mod wait;
 
 pub use answer::{answer_again, answer_due};
-pub use branches::{all_final, mark, set_phase, want_cancel};
+pub use branch::{is_cancellable, is_same_branch};
+pub use branches::{all_final, mark, set_final, set_phase, want_cancel};
 pub use cancels::{add_cancels, new_cancels};
 pub use hearing::{invite_heard, other_heard};
 pub use phase::is_final;

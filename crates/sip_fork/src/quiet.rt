@@ -1,6 +1,5 @@
 ghost use Rattle.std.specs.Prelude.{◌≡◌, ◌==◌, ◌&&◌, true, ℕ, count_by, not};
 ghost use Rattle.std.specs.List.{list_any};
-ghost use Rattle.sip_dialog_lessons.specs.state.State as States;
 ghost use Rattle.sip_dialog_lessons.specs.state.declared.branch.Branch.{Branch};
 ghost use Rattle.sip_dialog_lessons.specs.state.declared.branch.Phase.TheVariants.{Ended};
 ghost use Rattle.sip_dialog_lessons.specs.state.declared.open_request.OpenRequest.{OpenRequest};
@@ -9,34 +8,15 @@ ghost use Rattle.sip_dialog_lessons.specs.state.declared.server.Server.{Server};
 ghost use Rattle.model_steps.specs.context_model.Branches as Contexts;
 ghost use Rattle.sip_fork.specs.Quiet.{IsThrough, alone, branch_ends_alone, is_through, lingers};
 
-use sip_dialog_lessons::state::{Branch, OpenRequest, Phase, Side};
-
-/// Whether a request has no final answer yet.
-fn is_answering(side: Side) -> bool
-    ensures { result ≡ States.is_answering side }
-{
-    matches!(side, Side::Answering)
-}
-
-/// Whether a branch is sent its CANCEL now (RFC 3261 9.1).
-fn is_cancellable(branch: &Branch) -> bool
-    ensures { result ≡ Contexts.is_cancellable branch.now }
-{
-    !branch.is_cancel && branch.wants_cancel && matches!(branch.phase, Phase::Heard { .. })
-}
+use sip_context::context_branches::{is_cancellable, is_same_branch};
+use sip_context::is_answering;
+use sip_dialog_lessons::state::{Branch, OpenRequest, Phase};
 
 /// Whether a branch is sent a CANCEL now.
 fn is_cancel_due(branches: &[Branch]) -> bool
     ensures { result ≡ list_any Contexts.is_cancellable branches.now }
 {
     branches.iter().any(|branch| is_cancellable(branch))
-}
-
-/// Whether two branches are one: their numbers and whether they are CANCELs agree.
-fn is_same_branch(left: &Branch, right: &Branch) -> bool
-    ensures { result ≡ Contexts.is_same_branch left.now right.now }
-{
-    left.number == right.number && left.is_cancel == right.is_cancel
 }
 
 /// Whether no other one of some branches is the same as one of them.
