@@ -6,7 +6,6 @@ use Rattle.sip_context.specs.declared.input.Input.{Input}
 use Rattle.sip_context.specs.declared.sent.Sent.{Sent}
 use Rattle.sip_context.specs.Inputs.{outcome, outcome_of}
 
-pub planned : (server : Server) (now : ℕ) (input : Input) (sent : Sent) (was copy after next : OpenRequest)
-    → copy ≡ was → outcome after sent ≡ outcome_of server now copy input → next ≡ after → outcome next sent ≡ outcome_of server now was input
-planned server now input sent was copy after next same taken is =
-    ap (λ (r : OpenRequest). outcome r sent) is ∙ taken ∙ ap (λ (r : OpenRequest). outcome_of server now r input) same
+pub planned : (server : Server) (now : ℕ) (input : Input) (sent : Sent) (was copy after : OpenRequest)
+    → copy ≡ was → outcome after sent ≡ outcome_of server now copy input → outcome after sent ≡ outcome_of server now was input
+planned server now input sent was copy after same taken = taken ∙ ap (λ (r : OpenRequest). outcome_of server now r input) same

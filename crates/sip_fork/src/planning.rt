@@ -29,7 +29,10 @@ pub(crate) fn prepared(
 {
     let mut next = copied(request)?;
     let sent = take_input(alloc, server, now, &mut next, input)?;
-    let plan = Plan::of(alloc, next)?;
-    let change = Change::of_plan(plan);
+    let keys = Plan::room_for(alloc, &next)?;
+    let change = Change::of_plan(Plan {
+        request: next,
+        keys,
+    });
     Ok(Prepared { change, sent })
 }

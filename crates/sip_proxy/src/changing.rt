@@ -141,11 +141,11 @@ impl<T: Timers> Proxy<T> {
         ensures timers { OnErr result (self.new.timers ≡ self.old.timers) }
         ensures room { self.new.room ≡ self.old.room }
     {
+        reserve_timers(&mut self.contexts, draft.change.request())?;
+        reserve_dialog(&mut self.dialogs, &draft.drafted.lessons)?;
         let Draft { change, drafted } = draft;
-        let Drafted { packets, lessons } = drafted;
-        reserve_timers(&mut self.contexts, change.request())?;
-        reserve_dialog(&mut self.dialogs, &lessons)?;
         change_at(&mut self.contexts, now, place, change);
+        let Drafted { packets, lessons } = drafted;
         lessons.take(&mut self.dialogs, now);
         Ok(packets)
     }

@@ -38,8 +38,15 @@ impl Plan {
         ensures request { IfOk result (λ plan. plan.request ≡ request) }
         ensures keys { IfOk result (λ plan. HasKeys plan.request plan.keys) }
     {
-        let keys = blank_keys(alloc, request.branches.as_slice().len())?;
+        let keys = Plan::room_for(alloc, &request)?;
         Ok(Plan { request, keys })
+    }
+
+    /// Room for the keys of the branches of an open request. `AllocError` is the only refusal.
+    pub fn room_for(alloc: Global, request: &OpenRequest) -> Result<Items<TimerKeys>, AllocError>
+        ensures { IfOk result (λ keys. HasKeys request.now keys) }
+    {
+        blank_keys(alloc, request.branches.as_slice().len())
     }
 }
 
