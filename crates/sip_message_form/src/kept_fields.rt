@@ -23,8 +23,18 @@ fn spelling_in<'k>(store: &'k [u8], kept: &KeptField) -> &'k [u8]
     }
 }
 
+/// Whether a field that is kept so in a store is spelled as a name is. It stands apart, so that where a field is looked for
+/// known names are compared in place.
+#[inline(never)]
+fn is_spelled(store: &[u8], kept: &KeptField, name: &FieldName) -> bool
+    requires { IsStored store.now kept.now }
+    ensures { result ≡ is_same_name (field_kept store.now kept.now).name name.now }
+{
+    same_no_case(spelling_in(store, kept), name.spelling())
+}
+
 /// Whether a field that is kept so in a store has a name, of which it is known whether this project knows it.
-#[inline]
+#[inline(always)]
 fn is_named(store: &[u8], kept: &KeptField, known: Option<KnownName>, name: &FieldName) -> bool
     requires stored { IsStored store.now kept.now }
     requires known { name_seen known (spelling name.now) ≡ name.now }
@@ -32,7 +42,7 @@ fn is_named(store: &[u8], kept: &KeptField, known: Option<KnownName>, name: &Fie
 {
     match (kept.known, known) {
         (Some(left), Some(right)) => left.is_same(right),
-        _ => same_no_case(spelling_in(store, kept), name.spelling()),
+        _ => is_spelled(store, kept, name),
     }
 }
 
