@@ -1,5 +1,6 @@
 pub mod Collecting
 pub mod OneValue
+pub mod FoundValues
 pub mod Single
 pub mod Words
 pub mod NumberLaws

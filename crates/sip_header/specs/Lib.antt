@@ -4,6 +4,7 @@ pub mod Via
 pub mod CSeq
 pub mod NameAddr
 pub mod CoreFields
+pub mod Found
 pub mod Examples
 pub mod ContactItem
 pub mod MaxForwards

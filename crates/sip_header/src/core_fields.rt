@@ -1,6 +1,8 @@
 ghost use Rattle.std.specs.Prelude.{◌≡◌};
-ghost use Rattle.sip_header.specs.CoreFields.{Gives, only_value, name_addr_in, call_id_in, cseq_in, core_in, core_of};
+ghost use Rattle.sip_header.specs.CoreFields.{Gives, core_in, core_of};
+ghost use Rattle.sip_header.specs.Found.{value_in, address_in, call_id_found, cseq_found};
 
+use crate::core_values::{Found, core_values};
 use crate::cseq::{CSeq, cseq_of};
 use crate::error::HeaderError;
 use crate::written_address::{WrittenAddress, written_address_of};
@@ -31,45 +33,39 @@ impl<'a> Drop for CoreFields<'a> {
 }
 
 /// The one value of a field.
-#[tactic(auto, using(crate::proofs::OneValue::none_there, crate::proofs::OneValue::several, crate::proofs::OneValue::one))]
-fn only_value<'v>(fields: &'v ViewFields<'_>, name: FieldName) -> Result<&'v [u8], HeaderError>
-    ensures { Gives (λ x. x.now) result (only_value name fields.now) }
+fn the_one<'v>(found: &Found<'v>, name: FieldName) -> Result<&'v [u8], HeaderError>
+    ensures { Gives (λ x. x.now) result (value_in name found.now) }
 {
-    let Some(value) = fields.first(&name) else {
-        return Err(HeaderError::Missing(name));
-    };
-    if 1 < fields.count(&name) {
-        return Err(HeaderError::Malformed(name));
+    match found {
+        Found::Nowhere => Err(HeaderError::Missing(name)),
+        Found::Once(value) => Ok(value.as_slice()),
+        Found::Again => Err(HeaderError::Malformed(name)),
     }
-    Ok(value)
 }
 
 /// What the one From or To says.
-#[tactic(auto, using(crate::proofs::OneValue::addr_missing, crate::proofs::OneValue::addr_several, crate::proofs::OneValue::addr_good, crate::proofs::OneValue::addr_bad))]
 fn name_addr_in<'v>(
     alloc: Global,
-    fields: &'v ViewFields<'_>,
+    found: &Found<'v>,
     name: FieldName,
 ) -> Result<WrittenAddress<'v>, HeaderError>
-    ensures { Gives (λ found. found) result (name_addr_in name fields.now) }
+    ensures { Gives (λ address. address) result (address_in name found.now) }
 {
-    let Some(value) = fields.first(&name) else {
-        return Err(HeaderError::Missing(name));
-    };
-    if 1 < fields.count(&name) {
-        return Err(HeaderError::Malformed(name));
-    }
-    match written_address_of(alloc, value)? {
-        Some(address) => Ok(address),
-        None => Err(HeaderError::Malformed(name)),
+    match found {
+        Found::Nowhere => Err(HeaderError::Missing(name)),
+        Found::Again => Err(HeaderError::Malformed(name)),
+        Found::Once(value) => match written_address_of(alloc, value.as_slice())? {
+            Some(address) => Ok(address),
+            None => Err(HeaderError::Malformed(name)),
+        },
     }
 }
 
 /// The one Call-ID.
-fn call_id_in<'v>(fields: &'v ViewFields<'_>) -> Result<Text<'v>, HeaderError>
-    ensures { Gives (λ call_id. call_id) result (call_id_in fields.now) }
+fn call_id_in<'v>(found: &Found<'v>) -> Result<Text<'v>, HeaderError>
+    ensures { Gives (λ call_id. call_id) result (call_id_found found.now) }
 {
-    let value = only_value(fields, FieldName::CallId)?;
+    let value = the_one(found, FieldName::CallId)?;
     if value.is_empty() {
         return Err(HeaderError::Malformed(FieldName::CallId));
     }
@@ -77,21 +73,22 @@ fn call_id_in<'v>(fields: &'v ViewFields<'_>) -> Result<Text<'v>, HeaderError>
 }
 
 /// What the one CSeq says.
-fn cseq_in<'v>(fields: &'v ViewFields<'_>) -> Result<CSeq<'v>, HeaderError>
-    ensures { Gives (λ cseq. cseq) result (cseq_in fields.now) }
+fn cseq_in<'v>(found: &Found<'v>) -> Result<CSeq<'v>, HeaderError>
+    ensures { Gives (λ cseq. cseq) result (cseq_found found.now) }
 {
-    let value = only_value(fields, FieldName::CSeq)?;
+    let value = the_one(found, FieldName::CSeq)?;
     cseq_of(value).ok_or(HeaderError::Malformed(FieldName::CSeq))
 }
 
-#[tactic(auto, unfolding(crate::specs::CoreFields::core_in))]
+#[tactic(auto, using(crate::proofs::FoundValues::value_is), unfolding(crate::specs::CoreFields::core_in))]
 fn read_core<'v>(alloc: Global, fields: &'v ViewFields<'_>) -> Result<CoreFields<'v>, HeaderError>
     ensures { Gives (λ core. core) result (core_in fields.now) }
 {
-    let from = name_addr_in(alloc, fields, FieldName::From)?;
-    let to = name_addr_in(alloc, fields, FieldName::To)?;
-    let call_id = call_id_in(fields)?;
-    let cseq = cseq_in(fields)?;
+    let found = core_values(fields.as_slice());
+    let from = name_addr_in(alloc, &found.from, FieldName::From)?;
+    let to = name_addr_in(alloc, &found.to, FieldName::To)?;
+    let call_id = call_id_in(&found.call_id)?;
+    let cseq = cseq_in(&found.cseq)?;
     Ok(CoreFields {
         from,
         to,

@@ -13,6 +13,7 @@
 
 mod contact_item;
 mod core_fields;
+mod core_values;
 mod cseq;
 mod error;
 pub mod examples;
