@@ -47,6 +47,17 @@ fn gives_place(field: &ViewField<'_>) -> bool
     name.is_same(&FieldName::Contact) || name.is_same(&FieldName::RecordRoute)
 }
 
+/// The same, of which a URI is made. It stands apart, so that no room is made for a URI where none is read.
+#[inline(never)]
+fn parsed_place(alloc: Global, field: &ViewField<'_>) -> Result<Option<Place>, AllocError>
+    ensures { IfOk result (λ place. place ≡ Spec.place_in field.now) }
+{
+    match item_in(alloc, field)? {
+        Some(item) => place_by(alloc, &item.uri),
+        None => Ok(None),
+    }
+}
+
 /// Where a Contact or a Record-Route leads, if it is one whose URI may have an address.
 #[tactic(auto, using(crate::proofs::PlainPlaces::place_is, crate::proofs::PlainPlaces::no_place))]
 fn place_in(alloc: Global, field: &ViewField<'_>) -> Result<Option<Place>, AllocError>
@@ -61,10 +72,7 @@ fn place_in(alloc: Global, field: &ViewField<'_>) -> Result<Option<Place>, Alloc
             port: port.unwrap_or(5060),
         }));
     }
-    match item_in(alloc, field)? {
-        Some(item) => place_by(alloc, &item.uri),
-        None => Ok(None),
-    }
+    parsed_place(alloc, field)
 }
 
 /// Where Contact and Record-Route of some fields lead, in their order, each whose URI may have an address (RFC 3261 12.1.1).

@@ -146,6 +146,18 @@ fn plain_address(value: &[u8]) -> Option<WrittenAddress<'_>>
     Some(written(uri, parameters))
 }
 
+/// What the value of a field says that holds an address of any form. It stands apart, so that no room is made for a URI where
+/// none is read.
+#[inline(never)]
+fn any_address(alloc: Global, value: &[u8]) -> Result<Option<WrittenAddress<'_>>, AllocError>
+    ensures { IfOk result (λ found. found ≡ name_addr_of value.now) }
+{
+    match name_addr_of(alloc, value)? {
+        Some(address) => Ok(Some(made(alloc, address)?)),
+        None => Ok(None),
+    }
+}
+
 /// What the value of a field says that holds an address, as `name_addr_of` does. None where it is malformed. `AllocError`
 /// is the only refusal.
 #[inline(always)]
@@ -158,8 +170,5 @@ pub fn written_address_of(
     if let Some(address) = plain_address(value) {
         return Ok(Some(address));
     }
-    match name_addr_of(alloc, value)? {
-        Some(address) => Ok(Some(made(alloc, address)?)),
-        None => Ok(None),
-    }
+    any_address(alloc, value)
 }

@@ -17,6 +17,18 @@ fn names_own_place(own: &Own, uri: &AnyUri<'_>) -> bool
     }
 }
 
+/// Whether the URI of an item of Route names this server. It stands apart, so that no room is made for a URI where none is
+/// read.
+#[inline(never)]
+fn is_own_parsed(alloc: Global, own: &Own, value: &[u8]) -> Result<bool, AllocError>
+    ensures { IfOk result (λ is_own. is_own ≡ Ways.begins_with_own own.now (value.now ∷ [])) }
+{
+    match route_of(alloc, value)? {
+        Some(route) => Ok(names_own_place(own, &route.uri)),
+        None => Ok(false),
+    }
+}
+
 /// Whether an item of Route names this server: no URI is made of one as this server writes them.
 #[tactic(auto, using(crate::proofs::PlainRoutes::own_at))]
 pub(crate) fn is_own_route(alloc: Global, own: &Own, value: &[u8]) -> Result<bool, AllocError>
@@ -25,10 +37,7 @@ pub(crate) fn is_own_route(alloc: Global, own: &Own, value: &[u8]) -> Result<boo
     if let Some((host, port)) = bracketed_place(value) {
         return Ok(own.is_own_at(host, port));
     }
-    match route_of(alloc, value)? {
-        Some(route) => Ok(names_own_place(own, &route.uri)),
-        None => Ok(false),
-    }
+    is_own_parsed(alloc, own, value)
 }
 
 /// What the last of some Routes says.
