@@ -3,6 +3,7 @@ ghost use Rattle.sip_message_fields.specs.declared.field_name.FieldName.TheVaria
 ghost use Rattle.sip_message_fields.specs.Values;
 ghost use Rattle.sip_message_form.specs.Text.{field_text};
 ghost use Rattle.sip_edit.specs.OwnVia;
+ghost use Rattle.sip_text.specs.Numbers.{hex_text};
 
 use crate::branch_id::BranchId;
 use sip_message_fields::{FieldName, ViewField, ViewFields};
@@ -17,11 +18,10 @@ const LONGEST_BRANCH: usize = 55;
 /// The most bytes of a Via of this server's besides its host and its branch, with its name and its CRLF.
 const REST_OF_VIA: usize = 33;
 
-/// Adds the branch of this server's Via to a target.
-fn put_branch(out: &mut Buffer, boot: u64, number: u64, target: u32) -> Result<(), AllocError>
-    ensures { OnOk result (out.new ≡ out.old ++ OwnVia.branch_text boot number target) }
+/// Adds what stands behind the magic cookie in the branch of this server's Via to a target.
+fn put_numbers(out: &mut Buffer, boot: u64, number: u64, target: u32) -> Result<(), AllocError>
+    ensures { OnOk result (out.new ≡ out.old ++ (hex_text boot ++ codes "." ++ decimal number ++ codes "." ++ decimal target)) }
 {
-    out.extend(b"z9hG4bK")?;
     out.extend(hex_text(boot).as_slice())?;
     out.extend(b".")?;
     out.push_decimal(number)?;
@@ -46,7 +46,8 @@ pub fn branch_text(alloc: Global, boot: u64, number: u64, target: u32) -> Result
     ensures { IfOk result (λ branch. branch ≡ OwnVia.branch_text boot number target) }
 {
     let mut branch = Buffer::with_room(alloc, LONGEST_BRANCH)?;
-    put_branch(&mut branch, boot, number, target)?;
+    branch.extend(b"z9hG4bK")?;
+    put_numbers(&mut branch, boot, number, target)?;
     Ok(branch.into_bytes())
 }
 
@@ -67,6 +68,29 @@ pub(crate) fn via_room(own: &Own) -> usize {
     room.saturating_add(REST_OF_VIA)
 }
 
+/// Adds the name of a Via of this server's, and what stands before its parameters.
+fn put_named_place(out: &mut Buffer, own: &Own) -> Result<(), AllocError>
+    ensures { OnOk result (out.new ≡ out.old ++ codes "Via: " ++ codes "SIP/2.0/UDP " ++ own.now.host ++ codes ":" ++ decimal own.now.port) }
+{
+    out.extend(b"Via: SIP/2.0/UDP ")?;
+    out.extend(own.host.as_slice())?;
+    out.extend(b":")?;
+    out.push_decimal(u64::from(own.port))
+}
+
+/// Adds the parameter of a Via that says its branch.
+fn put_branch_parameter(
+    out: &mut Buffer,
+    boot: u64,
+    number: u64,
+    target: u32,
+) -> Result<(), AllocError>
+    ensures { OnOk result (out.new ≡ out.old ++ codes ";branch=" ++ OwnVia.branch_text boot number target) }
+{
+    out.extend(b";branch=z9hG4bK")?;
+    put_numbers(out, boot, number, target)
+}
+
 /// Adds this server's Via to a target as a field, as `own_via_value` and `branch_text` give it, straight where it is sent.
 #[tactic(auto, using(crate::proofs::OwnVias::line_is))]
 pub(crate) fn put_via(
@@ -78,9 +102,8 @@ pub(crate) fn put_via(
     ensures { OnOk result (out.new ≡ out.old
         ++ field_text (OwnVia.own_via_field own.now (OwnVia.branch_text boot branch.number branch.target))) }
 {
-    out.extend(b"Via: ")?;
-    put_place(out, own)?;
-    put_branch(out, boot, branch.number, branch.target)?;
+    put_named_place(out, own)?;
+    put_branch_parameter(out, boot, branch.number, branch.target)?;
     out.extend(b"\r\n")
 }
 
