@@ -1,1 +1,2 @@
 pub mod ReplyTexts
+pub mod StatusLines

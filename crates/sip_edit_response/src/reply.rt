@@ -8,11 +8,11 @@ ghost use Rattle.sip_edit_response.specs.Tags;
 ghost use Rattle.sip_header.specs.NameAddr.{name_addr_of};
 
 use crate::reasons::reason_of;
-use crate::reply_text::{put_reply_fields, room_of};
+use crate::reply_text::{put_first_line, put_reply_fields, room_of};
 use crate::tags::ToTag;
 use sip_header::{bracketed_place, name_addr_of, tag_of};
 use sip_message_fields::{FieldName, Fields, Value, ViewField, ViewFields};
-use sip_message_form::{KeptParts, View, ViewStart, put_body, put_status_line};
+use sip_message_form::{KeptParts, View, ViewStart, put_body};
 use sip_text::{Buffer, Bytes};
 use std::alloc::{AllocError, Global};
 
@@ -31,6 +31,18 @@ fn is_plain_to(to: &[u8]) -> bool
     bracketed_place(to).is_some()
 }
 
+/// Whether the value of a To of any form takes a tag. It stands apart, so that no room is made for an address where none is
+/// read.
+#[inline(never)]
+fn any_lacks_tag(alloc: Global, to: &[u8]) -> Result<bool, AllocError>
+    ensures { IfOk result (λ lacks. lacks ≡ Reply.lacks_tag (name_addr_of to.now)) }
+{
+    match name_addr_of(alloc, to)? {
+        Some(to) => Ok(tag_of(&to.parameters).is_none()),
+        None => Ok(false),
+    }
+}
+
 /// Whether the value of a To takes a tag.
 pub(crate) fn lacks_tag(alloc: Global, to: &[u8]) -> Result<bool, AllocError>
     ensures { IfOk result (λ lacks. lacks ≡ Reply.lacks_tag (name_addr_of to.now)) }
@@ -38,10 +50,7 @@ pub(crate) fn lacks_tag(alloc: Global, to: &[u8]) -> Result<bool, AllocError>
     if is_plain_to(to) {
         return Ok(true);
     }
-    match name_addr_of(alloc, to)? {
-        Some(to) => Ok(tag_of(&to.parameters).is_none()),
-        None => Ok(false),
-    }
+    any_lacks_tag(alloc, to)
 }
 
 /// The value of To in a response, of its own where a tag is added.
@@ -160,8 +169,7 @@ pub fn respond(
 {
     let room = USUAL_REPLY.saturating_add(room_of(extras.as_slice()));
     let mut out = Buffer::with_room(alloc, room)?;
-    put_status_line(&mut out, status, reason_of(status))?;
-    out.extend(b"\r\n")?;
+    put_first_line(&mut out, status)?;
     put_reply_fields(alloc, &mut out, request, via, status, tag, extras)?;
     put_body(&mut out, b"")?;
     Ok(out.into_bytes())

@@ -1,17 +1,45 @@
-ghost use Rattle.std.specs.Prelude.{◌≡◌, ◌++◌, map, OnOk};
+ghost use Rattle.std.specs.Prelude.{◌≡◌, ◌++◌, codes, map, IfSome, OnOk};
 ghost use Rattle.std.specs.List.{flat_map};
 ghost use Rattle.sip_message_fields.specs.Named.{first_of};
 ghost use Rattle.sip_message_fields.specs.Values.{with_first};
-ghost use Rattle.sip_message_form.specs.Text.{field_text};
+ghost use Rattle.sip_message_form.specs.declared.message.Start.TheVariants.{Status};
+ghost use Rattle.sip_message_form.specs.Text.{start_text, field_text};
+ghost use Rattle.sip_edit_response.specs.Reasons;
 ghost use Rattle.sip_edit_response.specs.Reply;
 ghost use Rattle.sip_edit_response.specs.Tags;
 
+use crate::reasons::reason_of;
 use crate::reply::lacks_tag;
 use crate::tags::{ToTag, put_tag};
 use sip_message_fields::{Field, FieldName, Fields, ViewField};
-use sip_message_form::{KeptParts, put_line};
+use sip_message_form::{KeptParts, put_line, put_status_line};
 use sip_text::Buffer;
 use std::alloc::{AllocError, Global};
+
+/// The status line of a response that is made here often, with its CRLF.
+#[tactic(auto, using(crate::proofs::StatusLines::trying, crate::proofs::StatusLines::ok, crate::proofs::StatusLines::unauthorized, crate::proofs::StatusLines::forbidden))]
+fn usual_line(status: u16) -> Option<&'static [u8]>
+    ensures { IfSome result (λ line. line.now ≡ start_text (Status status (Reasons.reason_of status)) ++ codes "\r\n") }
+{
+    match status {
+        100 => Some(b"SIP/2.0 100 Trying\r\n"),
+        200 => Some(b"SIP/2.0 200 OK\r\n"),
+        401 => Some(b"SIP/2.0 401 Unauthorized\r\n"),
+        403 => Some(b"SIP/2.0 403 Forbidden\r\n"),
+        _ => None,
+    }
+}
+
+/// Adds the status line of a response, with its CRLF.
+pub(crate) fn put_first_line(out: &mut Buffer, status: u16) -> Result<(), AllocError>
+    ensures { OnOk result (out.new ≡ out.old ++ start_text (Status status (Reasons.reason_of status)) ++ codes "\r\n") }
+{
+    if let Some(line) = usual_line(status) {
+        return out.extend(line);
+    }
+    put_status_line(out, status, reason_of(status))?;
+    out.extend(b"\r\n")
+}
 
 /// Adds the value of To as it stands in a response.
 fn put_answered_value(
