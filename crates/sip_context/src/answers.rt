@@ -1,4 +1,5 @@
-ghost use Rattle.std.specs.Prelude.{◌≡◌, ◌<◌, ◌+◌, ◌^◌, ◌++◌, ◌&&◌, IfOk, OnOk};
+ghost use Rattle.std.specs.Prelude.{◌≡◌, ◌<◌, ◌+◌, ◌^◌, ◌++◌, ◌∷◌, [], ◌&&◌, option_map, IfOk, OnOk};
+ghost use Rattle.sip_best.specs.Best.{best_of};
 ghost use Rattle.sip_message_form.specs.Text.{text_of};
 ghost use Rattle.sip_context_branches.specs.state.State as States;
 ghost use Rattle.sip_context_branches.specs.context_model.Branches as Contexts;
@@ -55,6 +56,21 @@ fn is_time(request: &OpenRequest) -> bool
     is_answering(request.side) && all_final(request.branches.as_slice())
 }
 
+/// The best of the answers that are kept, as it goes to the caller, if there is one.
+#[inline(never)]
+fn best_kept(
+    alloc: Global,
+    server: &Server,
+    request: &OpenRequest,
+) -> Result<Option<Upward>, AllocError>
+    ensures { IfOk result (λ up. up ≡ option_map (Contexts.upward_of server.now request.now) (best_of request.now.finals)) }
+{
+    match best(alloc, request.finals.as_slice())? {
+        None => Ok(None),
+        Some(answer) => Ok(Some(upward_of(alloc, server, request, answer)?)),
+    }
+}
+
 /// The best answer, if it goes to the caller now.
 pub(crate) fn best_upward(
     alloc: Global,
@@ -66,10 +82,7 @@ pub(crate) fn best_upward(
     if !is_time(request) {
         return Ok(None);
     }
-    match best(alloc, request.finals.as_slice())? {
-        None => Ok(None),
-        Some(answer) => Ok(Some(upward_of(alloc, server, request, answer)?)),
-    }
+    best_kept(alloc, server, request)
 }
 
 /// The bytes of an answer that are kept, to be sent again: none of a 2xx to an INVITE (RFC 3261 13.3.1.4, RFC 6026
@@ -114,7 +127,25 @@ fn answered(
     Ok(())
 }
 
+/// What goes to the caller.
+#[inline(never)]
+fn tell_one(
+    alloc: Global,
+    now: u64,
+    open_request: &mut OpenRequest,
+    told: &mut Items<Upward>,
+    up: Upward,
+) -> Result<(), AllocError>
+    requires { now + 32000 < 2 ^ 64 }
+    ensures request { OnOk result (open_request.new ≡ Contexts.answered now up open_request.old) }
+    ensures told { OnOk result (told.new ≡ told.old ++ up ∷ []) }
+{
+    answered(alloc, now, open_request, &up)?;
+    told.push(up)
+}
+
 /// What goes to the caller, if anything does.
+#[inline(always)]
 pub(crate) fn tell(
     alloc: Global,
     now: u64,
@@ -128,9 +159,6 @@ pub(crate) fn tell(
 {
     match up {
         None => Ok(()),
-        Some(up) => {
-            answered(alloc, now, open_request, &up)?;
-            told.push(up)
-        }
+        Some(up) => tell_one(alloc, now, open_request, told, up),
     }
 }

@@ -27,6 +27,26 @@ fn cancel_packets(
     Ok(packets)
 }
 
+/// These are the CANCELs of the branches that are ready for one, which are sent.
+#[inline(never)]
+fn sent_cancels(
+    alloc: Global,
+    server: &Server,
+    now: u64,
+    open_request: &mut OpenRequest,
+    cancels: Items<Branch>,
+) -> Result<Items<Packet>, AllocError>
+    requires now { now + 32000 < 2 ^ 64 }
+    requires cancels { cancels ≡ Contexts.new_cancels now open_request.old }
+    ensures request { OnOk result (open_request.new ≡ Contexts.with_cancels now open_request.old) }
+    ensures packets { IfOk result (λ packets. packets ≡ flat_map (Sendings.branch_packets server.now false open_request.old)
+        (Contexts.new_cancels now open_request.old)) }
+{
+    let packets = cancel_packets(alloc, server, open_request, cancels.as_slice())?;
+    add_cancels(alloc, now, &mut open_request.branches)?;
+    Ok(packets)
+}
+
 /// The branches that are ready for it are sent their CANCELs. Where none is, they stay as they are.
 #[tactic(auto, using(crate::proofs::Settled::kept_as_they_are, crate::proofs::Settled::nothing_sent))]
 fn send_cancels(
@@ -44,9 +64,7 @@ fn send_cancels(
     if cancels.as_slice().is_empty() {
         return Ok(Items::new(alloc));
     }
-    let packets = cancel_packets(alloc, server, open_request, cancels.as_slice())?;
-    add_cancels(alloc, now, &mut open_request.branches)?;
-    Ok(packets)
+    sent_cancels(alloc, server, now, open_request, cancels)
 }
 
 /// What follows every event: what goes to the caller at once, then the best answer if it is time for it, then the

@@ -20,6 +20,26 @@ fn cancellable_count(branches: &[Branch]) -> usize
     count
 }
 
+/// The CANCELs of the branches that are sent one now, in a list of so much room.
+#[inline(never)]
+fn made_cancels(
+    alloc: Global,
+    now: u64,
+    branches: &[Branch],
+    room: usize,
+) -> Result<Items<Branch>, AllocError>
+    requires { now + 32000 < 2 ^ 64 }
+    ensures { IfOk result (λ cancels. cancels ≡ map (Contexts.cancel_branch now) (filter Contexts.is_cancellable branches.now)) }
+{
+    let mut cancels = Items::with_room(alloc, room)?;
+    for branch in branches {
+        if is_cancellable(branch) {
+            cancels.push(cancel_branch(now, branch)?)?;
+        }
+    }
+    Ok(cancels)
+}
+
 /// The CANCELs of the branches that are sent one now. `AllocError` is the only refusal; where there is none, no memory
 /// is asked for.
 pub fn new_cancels(
@@ -34,13 +54,7 @@ pub fn new_cancels(
     if count == 0 {
         return Ok(Items::new(alloc));
     }
-    let mut cancels = Items::with_room(alloc, count)?;
-    for branch in branches {
-        if is_cancellable(branch) {
-            cancels.push(cancel_branch(now, branch)?)?;
-        }
-    }
-    Ok(cancels)
+    made_cancels(alloc, now, branches, count)
 }
 
 /// Adds a branch, and right behind it the CANCEL that it is sent now, if it is.

@@ -42,6 +42,23 @@ fn move_packets(
 }
 
 /// Adds packets in their order, which are taken out of their list: as they stand where they are the first ones.
+#[inline(never)]
+fn put_all(
+    alloc: Global,
+    out: &mut Items<Packet>,
+    packets: &mut Items<Packet>,
+) -> Result<(), AllocError>
+    ensures { OnOk result (out.new ≡ out.old ++ packets.old) }
+{
+    if out.as_slice().is_empty() {
+        *out = replace(packets, Items::new(alloc));
+        return Ok(());
+    }
+    move_packets(alloc, out, packets.as_mut_slice())
+}
+
+/// Adds packets in their order, which are taken out of their list, if there are some.
+#[inline(always)]
 pub(crate) fn put_packets(
     alloc: Global,
     out: &mut Items<Packet>,
@@ -52,11 +69,7 @@ pub(crate) fn put_packets(
     if packets.as_slice().is_empty() {
         return Ok(());
     }
-    if out.as_slice().is_empty() {
-        *out = replace(packets, Items::new(alloc));
-        return Ok(());
-    }
-    move_packets(alloc, out, packets.as_mut_slice())
+    put_all(alloc, out, packets)
 }
 
 /// The packet of an answer that goes to the caller.
