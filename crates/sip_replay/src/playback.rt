@@ -8,7 +8,7 @@ ghost use Rattle.sip_replay_script.specs.Devices.{later, GaveUp};
 ghost use Rattle.sip_replay_script.specs.Lines.{pending, IsOver, IsSpent};
 ghost use Rattle.sip_replay_script.specs.Script.{event_of};
 ghost use Rattle.sip_replay.specs.Errors.{IsAsked, IsFaulted};
-ghost use Rattle.sip_replay.specs.Refusals.{IsRefused, Refuses, StepStops, TakingStops};
+ghost use Rattle.sip_replay.specs.Refusals.{IsRefused, Refuses, TakingStops};
 ghost use Rattle.sip_replay.specs.Replays.{server_with, IsLawfulReplay, IsReplay, Plays, PlaysNext};
 
 use crate::due::fire_due;
@@ -117,28 +117,32 @@ fn take_next<T: Timers, R: Rules, I: TellingReader, W: TellingWriter>(
         Ok(None) => return Ok(false),
         Err(stop) => return Err(ReplayError::at_line(stop, first)),
     };
-    match take_line(alloc, engine, line, bytes, writer) {
-        Ok(()) => Ok(true),
-        Err(stop) => Err(ReplayError::at_line(stop, first)),
+    match take_line(alloc, engine, &line, bytes, writer) {
+        Ok(()) => {}
+        Err(stop) => return Err(ReplayError::at_line(stop, first)),
     }
+    Ok(true)
 }
 
 /// Fires what is due, takes the event that a line begins, and prints all these steps. The bytes are those of a datagram.
 fn take_line<T: Timers, R: Rules, W: TellingWriter>(
     alloc: Global,
     engine: &mut Engine<T, R>,
-    line: Line,
+    line: &Line,
     bytes: &Gathered,
     writer: &mut W,
 ) -> Result<(), Stop>
     ensures server { engine.new.server ≡ engine.old.server }
-    ensures taken { OnOk result (Plays engine.old.server engine.old.state engine.new.state (event_of line bytes.now ∷ []) None
+    ensures taken { OnOk result (Plays engine.old.server engine.old.state engine.new.state (event_of line.now bytes.now ∷ []) None
         (W.contents writer.old) (W.contents writer.new)) }
-    ensures stopped { IfErr result (TakingStops engine.old.server engine.old.state (event_of line bytes.now) (W.contents writer.old)
+    ensures stopped { IfErr result (TakingStops engine.old.server engine.old.state (event_of line.now bytes.now) (W.contents writer.old)
         (W.contents writer.new) (GaveUp (W.has_failed writer.new) (W.called writer.new))) }
 {
-    fire_due(alloc, engine, line_moment(&line), writer)?;
-    let out = own_step(engine, &line, bytes)?;
+    fire_due(alloc, engine, line_moment(line), writer)?;
+    let out = match own_step(engine, line, bytes) {
+        Ok(out) => out,
+        Err(e) => return Err(stop_of(e)),
+    };
     print_step(alloc, writer, &out)?;
     Ok(())
 }
@@ -154,28 +158,11 @@ fn line_moment(line: &Line) -> u64
 }
 
 /// The event's own step.
-#[tactic(auto, using(crate::proofs::Stopping::step_stops))]
+#[inline(always)]
 fn own_step<T: Timers, R: Rules>(
     engine: &mut Engine<T, R>,
     line: &Line,
     bytes: &Gathered,
-) -> Result<StepOut, Stop>
-    requires { NothingDueBy (moment_of engine.old.state (event_moment (event_of line.now bytes.now))) engine.old.state }
-    ensures server { engine.new.server ≡ engine.old.server }
-    ensures step { IfOk result (λ out. IsStep engine.old.server engine.old.state (Given (event_of line.now bytes.now)) out engine.new.state) }
-    ensures stopped { IfErr result (StepStops (refusal_of_event engine.old.state (event_of line.now bytes.now))) }
-{
-    match taken(engine, line, bytes.as_slice()) {
-        Ok(out) => Ok(out),
-        Err(e) => Err(stop_of(e)),
-    }
-}
-
-/// The same, with the refusal that the engine gives.
-fn taken<T: Timers, R: Rules>(
-    engine: &mut Engine<T, R>,
-    line: &Line,
-    bytes: &[u8],
 ) -> Result<StepOut, StepError>
     requires { NothingDueBy (moment_of engine.old.state (event_moment (event_of line.now bytes.now))) engine.old.state }
     ensures server { engine.new.server ≡ engine.old.server }
@@ -183,7 +170,9 @@ fn taken<T: Timers, R: Rules>(
     ensures refused { IfErr result (RefusesStep (refusal_of_event engine.old.state (event_of line.now bytes.now))) }
 {
     match line {
-        Line::Head(head) => take_datagram(engine, head.at, head.word, head.from, bytes),
+        Line::Head(head) => {
+            take_datagram(engine, head.at, head.word, head.from, bytes.as_slice())
+        }
         Line::Whole(event) => take_event(engine, event),
     }
 }
