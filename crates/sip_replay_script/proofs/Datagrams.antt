@@ -1,6 +1,7 @@
 -- The lines of a datagram, one after the other.
 use Rattle.std.proofs.Common.{◌≡◌, ℕ, zero, suc, ◌+◌, ◌≤◌, ◌<◌, List, [], ◌∷◌, ◌++◌, length, take, drop, Bool, true, false, Option, Some, None, inl, inr, refl, sym, subst, ◌∙◌, ap, ap₂, arith, append_assoc, append-nil, length-append, take-append-drop}
 use Rattle.std.specs.List.{flat_map, list_any}
+use Rattle.std.specs.Str.{bytes_eq}
 use Rattle.std.specs.Prelude.{◌||◌, ◌&&◌, ◌==◌, nat_lt, slice_index, count_by, IfSome, if◌then◌else◌}
 use Rattle.std.specs.Io.KnownBytes.{Consumes, Keeps, IsAtEnd}
 use Rattle.std.proofs.KnownBytes.{Consumes-nil, Consumes-trans}
@@ -12,7 +13,7 @@ use Rattle.sip_event.specs.declared.event.Event.{Event}
 use Rattle.sip_replay_script.specs.declared.script.DatagramHead.{DatagramHead}
 use Rattle.sip_replay_script.specs.declared.script.Line.{Line}
 use Rattle.sip_replay_script.specs.declared.script.Line.TheVariants.{Head, Whole}
-use Rattle.sip_replay_script.specs.Script.{line_of, datagram_at, event_of, unstuffed}
+use Rattle.sip_replay_script.specs.Script.{line_of, datagram_at, event_of, unstuffed, BeginsWithHead}
 use Rattle.sip_replay_script.specs.Lines.{Reading, BeginsWith, PassesLine, IsLine, IsUnended, is_end, pending, left, GivesLine, IsOver, LineStops}
 use Rattle.sip_replay_script.specs.declared.stop.Stop.{Stop}
 use Rattle.sip_replay_script.specs.declared.stop.Stop.TheVariants as stops
@@ -20,7 +21,7 @@ use Rattle.sip_replay_script.specs.Gathered.{AddsLines}
 use Rattle.std.proofs.lemmas.List.{take_all, drop_all, drop-append-le}
 use Rattle.sip_replay_script.proofs.Keeping.{front_of_both}
 use Rattle.sip_replay_script.proofs.LineEnds.{ends_add, one_end}
-use Rattle.sip_replay_script.specs.Events.{ended, is_dot, said, SaysBytes, KeepsAll, KeepsLine, KeepsLines, GivesDatagram, GivesEvent, GivesSaid, IsNoDatagram, IsNoEvent, DatagramStops, EventStops}
+use Rattle.sip_replay_script.specs.Events.{BeginsOther, ended, is_dot, said, SaysBytes, KeepsAll, KeepsLine, KeepsLines, GivesDatagram, GivesEvent, GivesSaid, IsNoDatagram, IsNoEvent, DatagramStops, EventStops}
 
 -- the lines so far, and the bytes that are kept of what they say
 pub record Gathers (old new : Reading) (before after : Option (List ℕ)) (bytes : List ℕ) : Type 0 where
@@ -304,6 +305,19 @@ line_stops F script stops.Write h = h
 pub said_passed : (old new : Reading) (rest : Option (List ℕ)) (line : List ℕ) (said : Option Line) → PassesLine old new line → line_of line ≡ said → GivesSaid old new rest rest said
 said_passed old new rest line said passes says = record { line = line; given = given_passed old new rest line passes; says = says }
 
+-- the head that they begin with
+
+pub head_fits : (unread seen : List ℕ) (head : DatagramHead) (count : ℕ) → BeginsWithHead seen head count → seen ≡ unread → count < length unread
+head_fits unread seen head count found same =
+    let size : length found.line ≡ count = found.size in
+    omega (arith, ap length (sym same ∙ found.begins.cut), length-append found.line (10 ∷ found.begins.rest), size)
+
+pub head_passed : (old new : Reading) (rest : Option (List ℕ)) (seen : List ℕ) (head : DatagramHead) (count : ℕ) → BeginsWithHead seen head count → seen ≡ old.unread → new.unread ≡ drop (count + 1) old.unread
+    → new.number ≡ old.number + 1 → new.asks ≡ old.asks → GivesSaid old new rest rest (Some (Head head))
+head_passed old new rest seen head count found same unread number asks =
+    said_passed old new rest found.line (Some (Head head))
+    (passes_line old new found.line (subst (λ l. BeginsWith l found.line) same found.begins) (unread ∙ ap (λ n. drop (n + 1) old.unread) (sym found.size)) number asks) found.says
+
 pub said_other : (old new : Reading) (before after : Option (List ℕ)) → GivesSaid old new before after None → IfSome (pending old before) IsNoEvent
 said_other old new before after s = other_line old new before after s.line s.given s.says
 
@@ -335,6 +349,26 @@ not_stuffed [] (suc n) e = refl
 not_stuffed (x ∷ xs) (suc n) e =
     let line = x ∷ take n xs in
     ap (λ t. if nat_lt 0 (length line) && t then take n xs else line) e ∙ ap (λ t. if t then take n xs else line) (and_false (nat_lt 0 (length line)))
+
+-- ---- the dot, and a line that isn't it
+
+pub passes_dot : (old new : Reading) → take 2 old.unread ≡ 46 ∷ 10 ∷ [] → new.unread ≡ drop 2 old.unread → new.number ≡ old.number + 1 → new.asks ≡ old.asks → PassesLine old new (46 ∷ [])
+passes_dot old new front unread number asks = record {
+  is_line = record { short = omega arith; single = refl };
+  unread = sym (take-append-drop 2 old.unread) ∙ ap (λ l. l ++ drop 2 old.unread) front ∙ ap (λ l. 46 ∷ 10 ∷ l) (sym unread);
+  number = number;
+  asks = asks;
+}
+
+pub begins_other : (unread : List ℕ) → bytes_eq (take 2 unread) (46 ∷ 10 ∷ []) ≡ false → BeginsOther unread
+begins_other unread other [] begins = refl
+begins_other unread other (x ∷ []) begins = sym (ap (λ l. bytes_eq (take 2 l) (46 ∷ 10 ∷ [])) begins.cut) ∙ other
+begins_other unread other (x ∷ y ∷ more) begins = and_false (x == 46)
+
+pub too_short : (unread : List ℕ) → length unread < 2 → bytes_eq (take 2 unread) (46 ∷ 10 ∷ []) ≡ false
+too_short [] lt = refl
+too_short (x ∷ []) lt = and_false (x == 46)
+too_short (x ∷ y ∷ more) lt = absurd (omega (arith, lt))
 
 -- ---- lines that were copied where they were found
 

@@ -1,5 +1,5 @@
 -- The head of a datagram, read from one end of its line to the other.
-use Rattle.std.proofs.Common.{◌≡◌, ℕ, ◌+◌, ◌*◌, ◌-◌, ◌^◌, ◌<◌, ◌≤◌, true, List, [], ◌∷◌, ◌++◌, length, take, drop, get_or, decimal, refl, sym, ap, ◌∙◌, arith, suc, add-one, Some, pow-add, take-append-drop, append-nil, append_assoc, length-drop}
+use Rattle.std.proofs.Common.{◌≡◌, ℕ, ◌+◌, ◌*◌, ◌-◌, ◌^◌, ◌<◌, ◌≤◌, true, List, [], ◌∷◌, ◌++◌, length, take, drop, get_or, decimal, refl, sym, ap, ◌∙◌, arith, suc, add-one, Some, pow-add, take-append-drop, append_assoc, length-append, length-drop}
 use Rattle.std.specs.Prelude.{slice_index, codes}
 use Rattle.std.specs.Char.{is_ascii_digit, digit_value}
 use Rattle.std.specs.Str.{all_ascii_digits}
@@ -16,9 +16,9 @@ use Rattle.sip_uri.specs.declared.addr.Addr.{Addr}
 use Rattle.sip_uri.specs.Addresses.{addr_text}
 use Rattle.sip_digest.specs.NonceText.{nonce_text, word_of}
 use Rattle.sip_digest.proofs.NonceTexts.{names_word}
-use Rattle.sip_replay_script.specs.declared.script.Line.TheVariants.{Head}
-use Rattle.sip_replay_script.specs.Script.{line_of, IsNumberAt, IsNumberBefore, IsSourceBefore}
-use Rattle.sip_replay_script.proofs.WrittenEvents.{head_says}
+use Rattle.sip_replay_script.specs.Script.{IsNumberAt, IsNumberBefore, IsSourceBefore, IsWordBefore, BeginsWithHead}
+use Rattle.sip_replay_script.specs.EventText.{head_before}
+use Rattle.sip_replay_script.proofs.WrittenEvents.{IsSource, head_says, head_single, head_short, head_more, no_end, word_long}
 
 -- the digits of a text from a place on write a number
 pub record AreDigits (text : List ℕ) (from count number : ℕ) : Type 0 where
@@ -120,13 +120,40 @@ source_before text from a b c d port i j k l next one two three four last la lb 
         between (a ++ codes "." ++ b ++ codes "." ++ c ++ codes "." ++ d) e 58 rest ∙ between (a ++ codes "." ++ b ++ codes "." ++ c) d 46 (58 ∷ (e ++ rest))
         ∙ between (a ++ codes "." ++ b) c 46 (46 ∷ (d ++ 58 ∷ (e ++ rest))) ∙ between a b 46 (46 ∷ (c ++ 46 ∷ (d ++ 58 ∷ (e ++ rest))))
 
--- a line that says a head so
-pub head_is : (line : List ℕ) (moment next behind word : ℕ) (source : Addr) → take 9 line ≡ codes "datagram " → IsNumberBefore line 9 32 moment next → IsSourceBefore line next source behind → word_of (drop behind line) ≡ Some word
-    → moment < 2 ^ 62 → line_of line ≡ Some (Head (record { at = moment; word = word; from = source }))
-head_is line moment next behind word source front at from seed small =
-    let named = (names_word (drop behind line) word).0 seed in
-    let tail : drop behind line ≡ nonce_text word ++ [] = named.1 ∙ sym (append-nil (nonce_text word)) in
-    let whole : line ≡ codes "datagram " ++ (decimal moment ++ 32 ∷ (addr_text source ++ 32 ∷ (nonce_text word ++ []))) =
-    sym (take-append-drop 9 line) ∙ ap (λ l. l ++ drop 9 line) front
+-- a word, and LF
+pub word_before : (text : List ℕ) (from word : ℕ) → word_of (take (from + 32 - from) (drop from text)) ≡ Some word → from + 32 < length text → slice_index text (from + 32) ≡ 10 → IsWordBefore text from word (from + 32)
+word_before text from word says lt at = record {
+  says = let size : from + 32 - from ≡ 32 = omega arith in ap (λ n. word_of (take n (drop from text))) (sym size) ∙ says;
+  rest = drop (suc (from + 32)) text;
+  digits =
+      sym (take-append-drop 32 (drop from text))
+      ∙ ap (λ l. take 32 (drop from text) ++ l) (drop-drop 32 from text ∙ drop-cons text (from + 32) 0 lt ∙ ap (λ b. b ∷ drop (suc (from + 32)) text) at);
+  place = refl;
+}
+
+-- a text that begins with a line that says a head so
+pub head_is : (text : List ℕ) (moment next behind word count : ℕ) (source : Addr) → take 9 text ≡ codes "datagram " → IsNumberBefore text 9 32 moment next → IsSourceBefore text next source behind → IsWordBefore text behind word count
+    → moment < 2 ^ 62 → BeginsWithHead text (record { at = moment; word = word; from = source }) count
+head_is text moment next behind word count source front at from seed small =
+    let named = (names_word (take 32 (drop behind text)) word).0 seed.says in
+    let is_source : IsSource source = record { four = from.four; octets = from.octets; some = from.some; small = from.small } in
+    let line : List ℕ = codes "datagram " ++ head_before moment word source [] in
+    let tail : drop behind text ≡ nonce_text word ++ 10 ∷ seed.rest = seed.digits ∙ ap (λ l. l ++ 10 ∷ seed.rest) named.1 in
+    let whole : text ≡ codes "datagram " ++ head_before moment word source (10 ∷ seed.rest) =
+    sym (take-append-drop 9 text) ∙ ap (λ l. l ++ drop 9 text) front
     ∙ ap (λ l. codes "datagram " ++ l) (at.digits ∙ ap (λ l. decimal moment ++ 32 ∷ l) (from.digits ∙ ap (λ l. addr_text source ++ 32 ∷ l) tail)) in
-    ap line_of whole ∙ head_says moment word source small named.0 (record { four = from.four; octets = from.octets; some = from.some; small = from.small })
+    let cut : text ≡ line ++ 10 ∷ seed.rest = whole ∙ ap (λ l. codes "datagram " ++ l) (sym (head_more moment word source [] (10 ∷ seed.rest))) in
+    let short : length (head_before moment word source []) ≤ 158 + 0 = head_short moment word source small named.0 is_source [] in
+    let long : length (nonce_text word) ≡ 32 = word_long word named.0 in
+    let within : behind ≤ length text = from.within in
+    let place : count ≡ behind + 32 = seed.place in
+    record {
+      line = line;
+      begins = record {
+        rest = seed.rest;
+        is_line = record { short = omega (arith, short); single = no_end line (head_single moment word source small named.0 is_source [] refl) };
+        cut = cut;
+      };
+      says = head_says moment word source small named.0 is_source;
+      size = omega (arith, ap length cut, length-append line (10 ∷ seed.rest), ap length tail, length-append (nonce_text word) (10 ∷ seed.rest), length-drop behind text, long, within, place);
+    }

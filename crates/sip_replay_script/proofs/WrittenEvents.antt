@@ -137,7 +137,7 @@ bytes_again b bytes are =
 word_again : (word : ℕ) → word < 2 ^ 128 → word_of (nonce_text word) ≡ Some word
 word_again word lt = (names_word (nonce_text word) word).1 (lt, refl)
 
-word_long : (word : ℕ) → word < 2 ^ 128 → length (nonce_text word) ≡ 32
+pub word_long : (word : ℕ) → word < 2 ^ 128 → length (nonce_text word) ≡ 32
 word_long word lt = (names (nonce_text word) word (word_again word lt)).sized
 
 pub number_short : (n : ℕ) → n < 2 ^ 64 → length (decimal n) ≤ 20
@@ -257,13 +257,13 @@ module _ (moment word : ℕ) (source : Addr) (lt : moment < 2 ^ 62) (fits : word
       )
 
   -- what stands behind the word of a line, with a rest behind it
-  head_single : (rest : List ℕ) → list_all (is_not 10) rest ≡ true → list_all (is_not 10) (head_before moment word source rest) ≡ true
+  pub head_single : (rest : List ℕ) → list_all (is_not 10) rest ≡ true → list_all (is_not 10) (head_before moment word source rest) ≡ true
   head_single rest e =
       all_join (is_not 10) (decimal moment) (32 ∷ (addr_text source ++ 32 ∷ (nonce_text word ++ rest))) (number_others 10 refl moment (omega (arith, lt)))
       (all_join (is_not 10) (addr_text source) (32 ∷ (nonce_text word ++ rest)) (source_others 10 refl refl refl source from)
       (all_join (is_not 10) (nonce_text word) rest (word_others 10 refl refl word) e))
 
-  head_short : (rest : List ℕ) → length (head_before moment word source rest) ≤ 158 + length rest
+  pub head_short : (rest : List ℕ) → length (head_before moment word source rest) ≤ 158 + length rest
   head_short rest =
       let at : length (decimal moment) ≤ 20 = number_short moment (omega (arith, lt)) in
       let address : length (addr_text source) ≤ 104 = source_short in

@@ -11,7 +11,7 @@ use Rattle.sip_replay_script.specs.declared.event.First.{First}
 use Rattle.sip_replay_script.specs.declared.event.First.TheVariants.{Over, Says}
 use Rattle.sip_replay_script.specs.declared.event.Next.{Next}
 use Rattle.sip_replay_script.specs.declared.event.Next.TheVariants.{Kept, Dot, Unended}
-use Rattle.sip_replay_script.specs.Lines.{Reading, IsLine, IsUnended, HasNoLine, GivesLine, IsOver, PassesLine, is_end, pending, left}
+use Rattle.sip_replay_script.specs.Lines.{Reading, BeginsWith, IsLine, IsUnended, HasNoLine, GivesLine, IsOver, PassesLine, is_end, pending, left}
 use Rattle.sip_replay_script.specs.declared.stop.Stop.{Stop}
 use Rattle.sip_replay_script.specs.declared.stop.Stop.TheVariants as stops
 use Rattle.sip_replay_script.specs.Script.{line_of, unstuffed, datagram_at}
@@ -146,6 +146,10 @@ pub record KeepsLines (old new : Reading) (before after : List ℕ) : Type 0 whe
   pub unread : old.unread ≡ text ++ new.unread
   pub number : new.number ≡ old.number + count_by is_end text
   pub kept : after ≡ take 65508 (before ++ whole)
+
+-- a line that they begin with isn't the dot
+abbrev pub BeginsOther : List ℕ → Type 0
+BeginsOther unread = (line : List ℕ) → BeginsWith unread line → is_dot line ≡ false
 
 -- what became of the next line of a datagram: it was passed, and is kept or is the dot, or it isn't whole
 abbrev pub GoesOnBy : Next → Reading → Reading → List ℕ → List ℕ → Type 0

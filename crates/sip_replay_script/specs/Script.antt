@@ -1,5 +1,5 @@
 -- What the lines of a script say.
-use Rattle.std.specs.Prelude.{◌≡◌, ◌<◌, ◌≤◌, ℕ, ◌^◌, ◌==◌, ◌&&◌, true, nat_lt, nat_le, Option, Some, None, List, ◌∷◌, ◌++◌, length, slice_index, drop, decimal, codes, if◌then◌else◌}
+use Rattle.std.specs.Prelude.{◌≡◌, ◌<◌, ◌≤◌, ◌+◌, ℕ, ◌^◌, ◌==◌, ◌&&◌, true, nat_lt, nat_le, Option, Some, None, List, ◌∷◌, ◌++◌, length, slice_index, take, drop, decimal, codes, if◌then◌else◌}
 use Rattle.std.specs.List.{list_all}
 use Rattle.std.specs.Str.{bytes_eq}
 use Rattle.sip_event.specs.declared.packet.Ticket.{Ticket}
@@ -13,6 +13,7 @@ use Rattle.sip_uri.specs.Addresses.{addr_of, addr_text}
 use Rattle.sip_text.specs.Numbers.{plain_decimal_of, plain_decimal_below, hex_bytes_of}
 use Rattle.sip_digest.specs.NonceText.{word_of}
 use Rattle.sip_text.specs.Splits.{split_at_byte}
+use Rattle.sip_replay_script.specs.Lines.{BeginsWith}
 
 -- the second step, if the first gave a value
 infixl 10 ◌>>=◌
@@ -122,3 +123,17 @@ pub record IsSourceBefore (text : List ℕ) (from : ℕ) (source : Addr) (next :
   pub octets : list_all (λ n. nat_le n 255) source.ip ≡ true
   pub some : 0 < source.port
   pub small : source.port < 65536
+
+-- a word, and LF behind it at that place
+pub record IsWordBefore (text : List ℕ) (from word count : ℕ) : Type 0 where
+  pub says : word_of (take 32 (drop from text)) ≡ Some word
+  pub rest : List ℕ
+  pub digits : drop from text ≡ take 32 (drop from text) ++ 10 ∷ rest
+  pub place : count ≡ from + 32
+
+-- a text begins with a line of so many bytes that says a head
+pub record BeginsWithHead (text : List ℕ) (head : DatagramHead) (count : ℕ) : Type 0 where
+  pub line : List ℕ
+  pub begins : BeginsWith text line
+  pub says : line_of line ≡ Some (Head head)
+  pub size : length line ≡ count

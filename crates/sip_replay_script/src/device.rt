@@ -71,6 +71,7 @@ pub trait TellingWriter {
 impl<W: Write> TellingWriter for W {
     ghost contents = { λ w. W.contents w };
 
+    #[inline(always)]
     fn give(&mut self, text: &[u8]) -> io::Result<usize> {
         self.write(text)
     }

@@ -1,9 +1,9 @@
-ghost use Rattle.std.specs.Prelude.{◌≡◌, ◌≤◌, ◌++◌, [], ℕ, List, Option, Some, true, false, length, take, OnOk, IfOk, IfErr, IfSome, IfNone, MatchOption};
+ghost use Rattle.std.specs.Prelude.{◌≡◌, ◌≤◌, ◌++◌, ◌∷◌, [], ℕ, List, Option, Some, true, false, length, take, OnOk, IfOk, IfErr, IfSome, IfNone, MatchOption};
 ghost use Rattle.sip_replay_script.specs.Devices.{later};
 ghost use Rattle.sip_replay_script.specs.Events;
-ghost use Rattle.sip_replay_script.specs.Events.{GivesEvent, GivesDatagram, GivesFirst, GivesSaid, GoesOnBy, KeepsAll, KeepsLines, EventStops};
+ghost use Rattle.sip_replay_script.specs.Events.{BeginsOther, GivesEvent, GivesDatagram, GivesFirst, GivesSaid, GoesOnBy, KeepsAll, KeepsLines, EventStops};
 ghost use Rattle.sip_replay_script.specs.Events.{DatagramStops};
-ghost use Rattle.sip_replay_script.specs.Lines.{left, pending, IsOver, IsSpent, LineStops};
+ghost use Rattle.sip_replay_script.specs.Lines.{left, pending, IsOver, IsSpent, LineStops, PassesLine};
 ghost use Rattle.sip_replay_script.specs.Script;
 ghost use Rattle.sip_replay_script.specs.declared.script.Line.TheVariants.{Head};
 ghost use Rattle.sip_replay_script.specs.declared.stop.Stop.TheVariants.{NoMemory};
@@ -14,7 +14,7 @@ use crate::lines::Lines;
 use crate::script::{DatagramHead, Line, head_at_once, line_of, unstuffed};
 use crate::stop::Stop;
 use sip_event::Event;
-use sip_text::Bytes;
+use sip_text::{Bytes, same_bytes};
 use std::alloc::{AllocError, Global};
 use std::mem;
 
@@ -83,14 +83,13 @@ pub fn next_line<R: TellingReader>(
 /// The head of a datagram that the next line says, which is passed, if it stands whole among the bytes that were read and is
 /// read at once. None says nothing, and passes nothing.
 #[inline(always)]
+#[tactic(auto, using(crate::proofs::Datagrams::head_fits))]
 fn front_head(lines: &mut Lines) -> Option<DatagramHead>
     ensures head { MatchOption result (lines.new ≡ lines.old)
         (λ head. (rest : Option (List ℕ)) → GivesSaid lines.old lines.new rest rest (Some (Head head))) }
     ensures asks { lines.new.asks ≡ lines.old.asks }
 {
-    let line = lines.front()?;
-    let head = head_at_once(line)?;
-    let count = line.len();
+    let (head, count) = head_at_once(lines.unread())?;
     lines.pass(count);
     Some(head)
 }
@@ -212,6 +211,7 @@ enum Next {
 
 /// Adds what the lines say that stand whole among the bytes that were read, and passes them, up to a dot, which is passed,
 /// too; whether there was a dot. Most lines do: only one that reaches past those bytes is gathered first.
+#[inline(always)]
 #[tactic(auto, using(crate::proofs::Datagrams::keeps_less))]
 fn keep_lines(lines: &mut Lines, bytes: &mut Gathered) -> Result<bool, Stop>
     requires { length bytes.old ≤ KEPT }
@@ -247,9 +247,41 @@ fn keep_plain(lines: &mut Lines, bytes: &mut Gathered)
 }
 
 /// Passes the next line, if it stands whole among the bytes that were read, and adds what it says, unless it is the dot.
-#[inline(never)]
+#[inline(always)]
 fn keep_any(lines: &mut Lines, bytes: &mut Gathered) -> Result<Next, Stop>
     requires { length bytes.old ≤ KEPT }
+    ensures next { IfOk result (λ next. GoesOnBy next lines.old lines.new bytes.old bytes.new) }
+    ensures most { OnOk result (length bytes.new ≤ KEPT) }
+    ensures asks { lines.new.asks ≡ lines.old.asks }
+    ensures stopped { IfErr result (λ stop. stop ≡ NoMemory) }
+{
+    if pass_dot(lines) {
+        return Ok(Next::Dot);
+    }
+    keep_other(lines, bytes)
+}
+
+/// Passes the dot, if it is the next line and stands whole among the bytes that were read; whether it was.
+#[inline(always)]
+#[tactic(auto, using(crate::proofs::Datagrams::passes_dot, crate::proofs::Datagrams::begins_other, crate::proofs::Datagrams::too_short))]
+fn pass_dot(lines: &mut Lines) -> bool
+    ensures passed { result ≡ true → PassesLine lines.old lines.new (46 ∷ []) }
+    ensures same { result ≡ false → lines.new ≡ lines.old }
+    ensures other { result ≡ false → BeginsOther lines.old.unread }
+{
+    let unread = lines.unread();
+    if unread.len() >= 2 && same_bytes(&unread[..2], b".\n") {
+        lines.pass(1);
+        return true;
+    }
+    false
+}
+
+/// The same of a next line that isn't the dot.
+#[inline(never)]
+fn keep_other(lines: &mut Lines, bytes: &mut Gathered) -> Result<Next, Stop>
+    requires most { length bytes.old ≤ KEPT }
+    requires other { BeginsOther lines.old.unread }
     ensures next { IfOk result (λ next. GoesOnBy next lines.old lines.new bytes.old bytes.new) }
     ensures most { OnOk result (length bytes.new ≤ KEPT) }
     ensures asks { lines.new.asks ≡ lines.old.asks }
@@ -259,10 +291,6 @@ fn keep_any(lines: &mut Lines, bytes: &mut Gathered) -> Result<Next, Stop>
         return Ok(Next::Unended);
     };
     let count = line.len();
-    if is_dot(line) {
-        lines.pass(count);
-        return Ok(Next::Dot);
-    }
     keep_line(bytes, line)?;
     lines.pass(count);
     Ok(Next::Kept)

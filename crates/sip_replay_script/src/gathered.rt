@@ -72,8 +72,9 @@ fn copy_line(text: &[u8], from: usize, room: &mut [u8], to: usize, limit: usize)
 {
     let mut done = 0;
     while from + done <= limit {
+        let end = end_in_lanes(text, from + done);
         copy_lanes(text, from + done, room, to + done);
-        if let Some(run) = end_in_lanes(text, from + done) {
+        if let Some(run) = end {
             return Some(done + run);
         }
         done += LANES;

@@ -23,6 +23,7 @@ fn mark_of(again: bool) -> &'static [u8]
 }
 
 /// Puts an address as `IP:PORT` in front.
+#[inline(always)]
 pub(crate) fn put_addr(text: &mut HeadLine, addr: Addr)
     requires { length text.old + 104 ≤ 208 }
     ensures text { text.new ≡ addr_text addr ++ text.old }

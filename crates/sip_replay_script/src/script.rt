@@ -1,10 +1,10 @@
-ghost use Rattle.std.specs.Prelude.{◌≡◌, ◌≤◌, ◌+◌, length, IfOk, IfSome, Some, None, MatchOption, codes, true, false, take, drop, option_map};
+ghost use Rattle.std.specs.Prelude.{◌≡◌, ◌≤◌, ◌<◌, ◌+◌, length, IfOk, IfSome, Some, None, MatchOption, codes, true, false, take, drop, option_map};
 ghost use Rattle.std.specs.Str.{bytes_eq};
 ghost use Rattle.memchr.specs.Find.{IsFirstByte, is_byte};
 ghost use Rattle.sip_text.specs.Numbers;
 ghost use Rattle.sip_text.specs.Splits.{split_at_byte};
 ghost use Rattle.sip_replay_script.specs.Script;
-ghost use Rattle.sip_replay_script.specs.Script.{IsNumberAt, IsNumberBefore, IsSourceBefore};
+ghost use Rattle.sip_replay_script.specs.Script.{BeginsWithHead, IsNumberAt, IsNumberBefore, IsSourceBefore, IsWordBefore};
 ghost use Rattle.sip_replay_script.specs.declared.script.Line.TheVariants.{Head};
 
 use memchr::memchr_iter;
@@ -16,6 +16,9 @@ use std::alloc::{AllocError, Global};
 
 /// The first moment that is too large, in milliseconds.
 const TOO_LARGE: u64 = 0x4000_0000_0000_0000;
+
+/// The most bytes that an address in front of a space has, with the space.
+const LONGEST_SOURCE: usize = 22;
 
 /// A datagram without its bytes: the moment in milliseconds, the word of a nonce, and the source.
 #[derive(Clone, Copy)]
@@ -175,12 +178,14 @@ fn line_of_kind(alloc: Global, kind: &[u8], rest: &[u8]) -> Result<Option<Line>,
     Ok(None)
 }
 
-/// The number that decimal digits without leading zeros write from a place on, and the place behind them. None says nothing.
+/// The number that at most so many decimal digits without leading zeros write from a place on, and the place behind them. None says
+/// nothing.
 #[inline(always)]
 #[tactic(auto, using(crate::proofs::HeadAtOnce::no_digits, crate::proofs::HeadAtOnce::one_more, crate::proofs::HeadAtOnce::fits, crate::proofs::HeadAtOnce::number_is))]
 fn number_at(text: &[u8], from: usize, most: usize) -> Option<(u64, usize)>
     requires { (from + most ≤ length text.now) × (most ≤ 19) }
-    ensures { IfSome result (λ found. IsNumberAt text.now from found.0 found.1) }
+    ensures number { IfSome result (λ found. IsNumberAt text.now from found.0 found.1) }
+    ensures most { IfSome result (λ found. found.1 ≤ from + most) }
 {
     let mut number: u64 = 0;
     let mut count: usize = 0;
@@ -194,72 +199,76 @@ fn number_at(text: &[u8], from: usize, most: usize) -> Option<(u64, usize)>
     Some((number, from + count))
 }
 
-/// Such a number of at most so many digits in front of a byte, and the place behind that. At least so many bytes follow.
+/// Such a number in front of a byte, and the place behind that.
 #[inline(always)]
 #[tactic(auto, using(crate::proofs::HeadAtOnce::number_before))]
 fn number_before(text: &[u8], from: usize, most: usize, mark: u8) -> Option<(u64, usize)>
-    requires { (from ≤ length text.now) × (most ≤ 19) }
-    ensures { IfSome result (λ found. IsNumberBefore text.now from mark found.0 found.1) }
+    requires { (from + most < length text.now) × (most ≤ 19) }
+    ensures number { IfSome result (λ found. IsNumberBefore text.now from mark found.0 found.1) }
+    ensures most { IfSome result (λ found. found.1 ≤ from + most + 1) }
 {
-    if text.len() - from < most {
-        return None;
-    }
     let (number, end) = number_at(text, from, most)?;
-    if end < text.len() && text[end] == mark {
+    if text[end] == mark {
         Some((number, end + 1))
     } else {
         None
     }
 }
 
-/// The same of a number of an address.
-#[inline(always)]
-fn octet_before(text: &[u8], from: usize, mark: u8) -> Option<(u8, usize)>
-    requires { from ≤ length text.now }
-    ensures { IfSome result (λ found. IsNumberBefore text.now from mark found.0 found.1) }
-{
-    let (number, next) = number_before(text, from, 3, mark)?;
-    if number < 256 {
-        Some((number as u8, next))
-    } else {
-        None
-    }
-}
-
-/// The address in front of a space, and the place behind that.
+/// The address in front of a space, and the place behind that. At least as many bytes follow as such an address has.
 #[inline(always)]
 #[tactic(auto, using(crate::proofs::HeadAtOnce::source_before))]
 fn source_before_space(text: &[u8], from: usize) -> Option<(Addr, usize)>
     requires { from ≤ length text.now }
     ensures { IfSome result (λ found. IsSourceBefore text.now from found.0 found.1) }
 {
-    let (first, at) = octet_before(text, from, b'.')?;
-    let (second, at) = octet_before(text, at, b'.')?;
-    let (third, at) = octet_before(text, at, b'.')?;
-    let (fourth, at) = octet_before(text, at, b':')?;
-    let (port, next) = number_before(text, at, 5, b' ')?;
-    if port == 0 || port >= 65536 {
+    if text.len() - from < LONGEST_SOURCE {
         return None;
     }
-    let ip = [first, second, third, fourth];
+    let (first, at) = number_before(text, from, 3, b'.')?;
+    let (second, at) = number_before(text, at, 3, b'.')?;
+    let (third, at) = number_before(text, at, 3, b'.')?;
+    let (fourth, at) = number_before(text, at, 3, b':')?;
+    let (port, next) = number_before(text, at, 5, b' ')?;
+    if first > 255 || second > 255 || third > 255 || fourth > 255 {
+        return None;
+    }
+    if port == 0 || port > 65535 {
+        return None;
+    }
+    let ip = [first as u8, second as u8, third as u8, fourth as u8];
     let port = port as u16;
     Some((Addr { ip, port }, next))
 }
 
-/// The head that a line `datagram AT IP:PORT WORD` says, read from one end to the other: most lines are one. None says nothing.
-pub(crate) fn head_at_once(line: &[u8]) -> Option<DatagramHead>
-    ensures { IfSome result (λ head. Script.line_of line.now ≡ Some (Head head)) }
+/// The word in front of LF, and the place of that.
+#[inline(always)]
+fn word_before_end(text: &[u8], from: usize) -> Option<(u128, usize)>
+    requires { from ≤ length text.now }
+    ensures { IfSome result (λ found. IsWordBefore text.now from found.0 found.1) }
 {
-    if line.len() < 9 || !same_bytes(&line[..9], b"datagram ") {
+    if text.len() - from <= 32 || text[from + 32] != b'\n' {
         return None;
     }
-    let (at, next) = number_before(line, 9, 19, b' ')?;
+    let word = word_of(&text[from..from + 32])?;
+    Some((word, from + 32))
+}
+
+/// The head that a line `datagram AT IP:PORT WORD` at the front of a text says, and how many bytes that line has, which LF ends. It is read
+/// from one end to the other, its end found on the way: most lines are one. None says nothing.
+pub(crate) fn head_at_once(text: &[u8]) -> Option<(DatagramHead, usize)>
+    ensures { IfSome result (λ found. BeginsWithHead text.now found.0 found.1) }
+{
+    if text.len() < 29 || !same_bytes(&text[..9], b"datagram ") {
+        return None;
+    }
+    let (at, next) = number_before(text, 9, 19, b' ')?;
     if at >= TOO_LARGE {
         return None;
     }
-    let (from, next) = source_before_space(line, next)?;
-    let word = word_of(&line[next..])?;
-    Some(DatagramHead { at, word, from })
+    let (from, next) = source_before_space(text, next)?;
+    let (word, count) = word_before_end(text, next)?;
+    Some((DatagramHead { at, word, from }, count))
 }
 
 /// What an event's first line says: `datagram AT IP:PORT WORD`, `hex AT IP:PORT WORD DIGITS`, `time AT`

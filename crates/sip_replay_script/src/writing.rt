@@ -8,6 +8,7 @@ use crate::stop::Stop;
 use std::io::ErrorKind;
 
 /// One write: how many bytes it took, 0 where it was interrupted.
+#[inline(always)]
 #[tactic(auto, using(crate::proofs::Fronts::appends_none, crate::proofs::Written::appends_nothing))]
 fn put_some<W: TellingWriter>(writer: &mut W, rest: &[u8]) -> Result<usize, Stop>
     requires { 0 < length rest.now }
@@ -28,6 +29,7 @@ fn put_some<W: TellingWriter>(writer: &mut W, rest: &[u8]) -> Result<usize, Stop
 }
 
 /// Writes a text whole, whatever parts the writer takes at a time. Mostly it takes the whole.
+#[inline(always)]
 #[tactic(auto, using(crate::proofs::Fronts::appends_all, crate::proofs::Fronts::nothing_of, crate::proofs::Fronts::appends_rest, crate::proofs::Fronts::front_rest, crate::proofs::Fronts::front_nothing))]
 pub fn put<W: TellingWriter>(writer: &mut W, text: &[u8]) -> Result<(), Stop>
     ensures ok { OnOk result (Appends (W.contents writer.old) (W.contents writer.new) text.now) }
@@ -63,6 +65,7 @@ fn put_parts<W: TellingWriter>(writer: &mut W, text: &[u8]) -> Result<(), Stop>
 }
 
 /// Writes three texts, one after the other.
+#[inline(always)]
 #[tactic(auto, using(crate::proofs::Written::appends_both, crate::proofs::Fronts::front_first, crate::proofs::Fronts::front_second))]
 pub fn put_three<W: TellingWriter>(
     writer: &mut W,
