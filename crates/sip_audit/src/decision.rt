@@ -8,6 +8,7 @@ use sip_text::{Buffer, plain_decimal_below, split_once};
 use std::alloc::AllocError;
 
 /// Adds the number of a rule and, behind `@`, the minute at which it decided, if it has a window.
+#[inline(always)]
 fn push_rule(line: &mut Buffer, rule: u32, minute: Option<u16>) -> Result<(), AllocError>
     ensures { OnOk result (line.new ≡ line.old ++ rule_text rule minute) }
 {
@@ -20,6 +21,7 @@ fn push_rule(line: &mut Buffer, rule: u32, minute: Option<u16>) -> Result<(), Al
 }
 
 /// Adds a word and a number.
+#[inline(always)]
 fn push_count(line: &mut Buffer, word: &[u8], number: u64) -> Result<(), AllocError>
     ensures { OnOk result (line.new ≡ line.old ++ (word.now ++ decimal number)) }
 {
@@ -28,6 +30,7 @@ fn push_count(line: &mut Buffer, word: &[u8], number: u64) -> Result<(), AllocEr
 }
 
 /// Adds the rule that decided, and what became of the request.
+#[inline(always)]
 pub(crate) fn push_outcome(
     line: &mut Buffer,
     minute: Option<u16>,

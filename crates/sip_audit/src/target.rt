@@ -35,6 +35,7 @@ fn push_user_byte(line: &mut Buffer, byte: u8) -> Result<(), AllocError>
 }
 
 /// Adds a user. Most are names, which are written as they are.
+#[inline(always)]
 #[tactic(auto, using(crate::proofs::Users::name_as_it_is))]
 fn push_user(line: &mut Buffer, user: &[u8]) -> Result<(), AllocError>
     ensures { OnOk result (line.new ≡ line.old ++ flat_map user_byte_text user.now) }
@@ -50,6 +51,7 @@ fn push_user(line: &mut Buffer, user: &[u8]) -> Result<(), AllocError>
 }
 
 /// Adds an address of record: its user, `@` and its host.
+#[inline(always)]
 pub(crate) fn push_target(line: &mut Buffer, target: &Aor) -> Result<(), AllocError>
     ensures { OnOk result (line.new ≡ line.old ++ target_text target.now) }
 {

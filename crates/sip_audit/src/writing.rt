@@ -14,6 +14,7 @@ use std::alloc::{AllocError, Global};
 const LINE_ROOM: usize = 160;
 
 /// Adds a word and the space behind it.
+#[inline(always)]
 fn push_word(line: &mut Buffer, word: &[u8]) -> Result<(), AllocError>
     ensures { OnOk result (line.new ≡ line.old ++ word.now ++ codes " ") }
 {
@@ -21,6 +22,7 @@ fn push_word(line: &mut Buffer, word: &[u8]) -> Result<(), AllocError>
     line.extend(b" ")
 }
 
+#[inline(always)]
 fn push_number(line: &mut Buffer, number: u64) -> Result<(), AllocError>
     ensures { OnOk result (line.new ≡ line.old ++ decimal number ++ codes " ") }
 {
