@@ -1,7 +1,7 @@
 ghost use Rattle.std.specs.Prelude.{◌≡◌, ◌≤◌, ◌<◌, ◌+◌, ◌*◌, ◌^◌, ◌++◌, [], true, length, IfNone, IfSome, MatchOption};
 ghost use Rattle.sip_timers.specs.Moves.{IsHeld, Moves};
 ghost use Rattle.model_transactions.specs.Ties.{branch_timers, branches_timers, owner_of, part_timers};
-ghost use Rattle.sip_request.specs.Likeness.{AreAlike};
+ghost use Rattle.sip_request.specs.Likeness.{AreAlike, AreKinds};
 ghost use Rattle.sip_request.specs.Near.{AreBefore, IsNear};
 ghost use Rattle.sip_request.specs.Slots.{part_standing};
 ghost use Rattle.sip_request.specs.Walk.{left_timers};
@@ -12,6 +12,14 @@ use crate::part::{Part, set_part, stop_part, sync_part};
 use model_transactions::TimerKeys;
 use model_transactions::state::{Branch, OpenRequest};
 use sip_timers::Timers;
+
+/// Whether an open request as it was, and as it is to be, is an INVITE, and whether both give their parts timers alike.
+#[derive(Clone, Copy)]
+pub(crate) struct Kinds {
+    pub(crate) was_invite: bool,
+    pub(crate) next_invite: bool,
+    pub(crate) alike: bool,
+}
 
 /// A branch whose timers stand, with their keys, and the place behind it.
 #[derive(Clone, Copy)]
@@ -75,7 +83,9 @@ fn change_branch<T: Timers>(
     place: usize,
     next: &OpenRequest,
     branch: &Branch,
+    kinds: Kinds,
 ) -> Synced
+    requires kinds { AreKinds was.now next.now kinds }
     requires held { IsHeld (T.pending timers.old) (left_timers was.now was_keys.now place) }
     requires room { 3 ≤ T.room timers.old }
     requires timed { IsNear (2 ^ 64) was.now }
@@ -87,13 +97,13 @@ fn change_branch<T: Timers>(
     ensures left { T.room timers.old ≤ T.room timers.new + 3 }
     ensures still { T.reached timers.new ≡ T.reached timers.old }
 {
-    let part = branch_part_here(next, branch);
+    let part = branch_part_here(next, kinds.next_invite, branch);
     if !stands_at(was, was_keys, place, branch) {
         let keys = set_part(timers, &part);
         return Synced { keys, place };
     }
     let branches = was.branches.as_slice();
-    let stood = branch_part_here(was, &branches[place]);
+    let stood = branch_part_here(was, kinds.was_invite, &branches[place]);
     let stood_keys = was_keys[place];
     let keys = sync_part(timers, &stood, stood_keys, &part);
     Synced {
@@ -139,9 +149,9 @@ fn sync_branch<T: Timers>(
     place: usize,
     next: &OpenRequest,
     branch: &Branch,
-    alike: bool,
+    kinds: Kinds,
 ) -> Synced
-    requires alike { alike ≡ true → AreAlike was.now next.now }
+    requires kinds { AreKinds was.now next.now kinds }
     requires held { IsHeld (T.pending timers.old) (left_timers was.now was_keys.now place) }
     requires room { 3 ≤ T.room timers.old }
     requires timed { IsNear (2 ^ 64) was.now }
@@ -153,12 +163,12 @@ fn sync_branch<T: Timers>(
     ensures left { T.room timers.old ≤ T.room timers.new + 3 }
     ensures still { T.reached timers.new ≡ T.reached timers.old }
 {
-    if alike {
+    if kinds.alike {
         if let Some(kept) = kept_at(was, was_keys, place, next, branch) {
             return kept;
         }
     }
-    change_branch(timers, was, was_keys, place, next, branch)
+    change_branch(timers, was, was_keys, place, next, branch, kinds)
 }
 
 /// Stops the timers of the branches from a place on.
@@ -207,9 +217,9 @@ pub(crate) fn sync_branches<T: Timers>(
     was_keys: &[TimerKeys],
     next: &OpenRequest,
     keys: &mut [TimerKeys],
-    alike: bool,
+    kinds: Kinds,
 )
-    requires alike { alike ≡ true → AreAlike was.now next.now }
+    requires kinds { AreKinds was.now next.now kinds }
     requires held { IsHeld (T.pending timers.old) (branches_timers was.now was.now.branches was_keys.now) }
     requires keys { length keys.old ≡ length next.now.branches }
     requires room { 3 * length next.now.branches ≤ T.room timers.old }
@@ -224,7 +234,7 @@ pub(crate) fn sync_branches<T: Timers>(
     let mut place = 0;
     let branches = next.branches.as_slice();
     for (i, branch) in branches.iter().enumerate() {
-        let synced = sync_branch(timers, was, was_keys, place, next, branch, alike);
+        let synced = sync_branch(timers, was, was_keys, place, next, branch, kinds);
         keys[i] = synced.keys;
         place = synced.place;
     }

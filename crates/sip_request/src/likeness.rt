@@ -1,14 +1,34 @@
 ghost use Rattle.std.specs.Prelude.{◌≡◌, true};
-ghost use Rattle.sip_request.specs.Likeness.{AreAlike, AreAsFar, AreSidesAsFar};
+ghost use Rattle.sip_request.specs.Likeness.{AreAsFar, AreKinds, AreSidesAsFar};
 
+use crate::branches::Kinds;
 use crate::naming::was_refused;
 use model_transactions::state::{Branch, OpenRequest, Phase, Resend, Side, is_invite};
 
-/// Whether two open requests give their parts timers alike: they have one number, and both are INVITEs or neither is.
-pub(crate) fn are_alike(was: &OpenRequest, next: &OpenRequest) -> bool
-    ensures { result ≡ true → AreAlike was.now next.now }
+/// Whether two open requests are INVITEs, and whether they give their parts timers alike: they have one number, and both are
+/// INVITEs or neither is.
+pub(crate) fn kinds_of(was: &OpenRequest, next: &OpenRequest) -> Kinds
+    ensures { AreKinds was.now next.now result }
 {
-    was.number == next.number && is_invite(was) == is_invite(next)
+    let was_invite = is_invite(was);
+    let next_invite = is_invite(next);
+    Kinds {
+        was_invite,
+        next_invite,
+        alike: was.number == next.number && was_invite == next_invite,
+    }
+}
+
+/// Whether an open request is an INVITE, of which nothing stood before.
+pub(crate) fn new_kinds(next: &OpenRequest) -> Kinds
+    ensures { AreKinds next.now next.now result }
+{
+    let invite = is_invite(next);
+    Kinds {
+        was_invite: invite,
+        next_invite: invite,
+        alike: false,
+    }
 }
 
 /// Whether two phases are the same, with their deadlines.

@@ -167,15 +167,16 @@ fn owner_of(branch: &Branch) -> Owner
     }
 }
 
-/// The timers of a branch.
+/// The timers of a branch, by whether its request is an INVITE.
 #[inline(always)]
-fn timers_of_branch(call: &OpenRequest, branch: &Branch) -> PartTimers
-    requires { AreBefore (2 ^ 64) (branch_timers call.now branch.now) }
+fn timers_of_branch(call: &OpenRequest, invite: bool, branch: &Branch) -> PartTimers
+    requires invite { invite ≡ States.is_invite call.now }
+    requires early { AreBefore (2 ^ 64) (branch_timers call.now branch.now) }
     ensures timers { listed result ≡ branch_timers call.now branch.now }
     ensures names { (number : ℕ) (owner : Owner) (keys : TimerKeys) → slots_standing number owner keys result
         ≡ part_timers number owner keys (branch_timers call.now branch.now) }
 {
-    if is_invite(call) && !branch.is_cancel {
+    if invite && !branch.is_cancel {
         invite_part(branch.phase, branch.again)
     } else {
         other_part(branch.phase, branch.again)
@@ -195,10 +196,12 @@ fn timers_of_side(call: &OpenRequest) -> PartTimers
     }
 }
 
-/// A branch of an open request, with the timers that it has by its phase, worked out where it is asked for.
+/// A branch of an open request, with the timers that it has by its phase and by whether the request is an INVITE, worked out
+/// where it is asked for.
 #[inline(always)]
-pub(crate) fn branch_part_here(call: &OpenRequest, branch: &Branch) -> Part
-    requires { AreBefore (2 ^ 64) (branch_timers call.now branch.now) }
+pub(crate) fn branch_part_here(call: &OpenRequest, invite: bool, branch: &Branch) -> Part
+    requires invite { invite ≡ States.is_invite call.now }
+    requires early { AreBefore (2 ^ 64) (branch_timers call.now branch.now) }
     ensures timers { listed result.timers ≡ branch_timers call.now branch.now }
     ensures names { (keys : TimerKeys) → part_standing keys result
         ≡ part_timers call.now.number (owner_of branch.now) keys (branch_timers call.now branch.now) }
@@ -206,7 +209,7 @@ pub(crate) fn branch_part_here(call: &OpenRequest, branch: &Branch) -> Part
     Part {
         request: call.number,
         owner: owner_of(branch),
-        timers: timers_of_branch(call, branch),
+        timers: timers_of_branch(call, invite, branch),
     }
 }
 
@@ -217,7 +220,7 @@ pub fn branch_part(call: &OpenRequest, branch: &Branch) -> Part
     ensures names { (keys : TimerKeys) → part_standing keys result
         ≡ part_timers call.now.number (owner_of branch.now) keys (branch_timers call.now branch.now) }
 {
-    branch_part_here(call, branch)
+    branch_part_here(call, is_invite(call), branch)
 }
 
 /// The answering side of an open request, with the timers that it has by its phase.

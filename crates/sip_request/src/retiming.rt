@@ -7,7 +7,7 @@ ghost use Rattle.sip_request.specs.Likeness.{AreAlike};
 ghost use Rattle.sip_request.specs.Near.{AreBefore, IsNear, most_timers};
 
 use crate::branches::{stop_left, sync_branches};
-use crate::likeness::{are_alike, are_sides_as_far};
+use crate::likeness::{are_sides_as_far, kinds_of, new_kinds};
 use crate::naming::side_part;
 use crate::part::{set_part, stop_part, sync_part};
 use model_transactions::TimerKeys;
@@ -61,9 +61,9 @@ pub(crate) fn retime<T: Timers>(
     ensures left { T.room timers.old ≤ T.room timers.new + most_timers next.now }
     ensures still { T.reached timers.new ≡ T.reached timers.old }
 {
-    let alike = are_alike(was, next);
-    let side = retime_side(timers, was, was_side, next, alike);
-    sync_branches(timers, was, was_keys, next, keys, alike);
+    let kinds = kinds_of(was, next);
+    let side = retime_side(timers, was, was_side, next, kinds.alike);
+    sync_branches(timers, was, was_keys, next, keys, kinds);
     side
 }
 
@@ -84,7 +84,7 @@ pub(crate) fn begin<T: Timers>(
 {
     let part = side_part(next);
     let side = set_part(timers, &part);
-    sync_branches(timers, next, &[], next, keys, false);
+    sync_branches(timers, next, &[], next, keys, new_kinds(next));
     side
 }
 

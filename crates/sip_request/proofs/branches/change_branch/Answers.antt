@@ -3,8 +3,8 @@ use Rattle.std.proofs.lemmas.List.{get_or_default}
 use Rattle.sip_request.proofs.Walking.{AreBefore-weaker, left_more, Moves-matched, part_near}
 use Rattle.sip_request.proofs.branches.change_branch.Goals as goal
 
-pub branch_part_here-part-requires : goal.branch_part_here-part-requires
-branch_part_here-part-requires g c = AreBefore-weaker _ _ _ c.requires.moments c.requires.near
+pub branch_part_here-part-requires-clause-early : goal.branch_part_here-part-requires-clause-early
+branch_part_here-part-requires-clause-early g c = AreBefore-weaker _ _ _ c.requires.moments c.requires.near
 
 pub set_part-keys-requires-clause-near : goal.set_part-keys-requires-clause-near
 set_part-keys-requires-clause-near g c = part_near _ _ _ c.branch_part_here-part.ensures.timers c.requires.near
