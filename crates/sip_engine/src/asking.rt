@@ -13,9 +13,10 @@ ghost use Rattle.sip_engine.specs.Delivery.{IsServed, Takes};
 
 use crate::configured::Configured;
 use crate::going::go_to;
-use crate::keeping::{KeptRequest, keep};
+use crate::keeping::keep;
 use crate::new_request::NewRequest;
-use sip_core::state::Server;
+use sip_base::Shared;
+use sip_core::state::{Names, Server};
 use sip_core::{Judged, Outcome};
 use sip_engine_open::proxy::Proxy;
 use sip_engine_open::take_dropped;
@@ -23,6 +24,7 @@ use sip_engine_request::take_judged;
 use sip_engine_request::uas::is_answered_here;
 use sip_event::StepOut;
 use sip_timers::Timers;
+use sip_transaction_table::Key;
 use std::alloc::{AllocError, Global};
 
 /// A new request about which policy decided is answered here: challenged, denied, registered, or sent to nobody. `AllocError`
@@ -31,26 +33,26 @@ fn answer_judged<T: Timers>(
     alloc: Global,
     server: &Server,
     proxy: &mut Proxy<T>,
-    request: NewRequest<'_>,
+    request: &NewRequest<'_>,
+    key: Shared<Key>,
     judged: Judged<'_>,
 ) -> Result<StepOut, AllocError>
-    requires coming { IsComing proxy.old.state request.arrival }
-    requires key { key_of request.message.now ≡ Some request.key }
-    requires via { top_via request.message.now ≡ Some request.via.now }
-    requires alone { position (has_key request.key) proxy.old.state.requests ≡ None }
+    requires coming { IsComing proxy.old.state request.now.arrival }
+    requires key { key_of request.now.message.now ≡ Some key }
+    requires via { top_via request.now.message.now ≡ Some request.now.via.now }
+    requires alone { position (has_key key) proxy.old.state.requests ≡ None }
     requires here { Asking.is_answered_here judged.outcome ≡ true }
     requires room { HasRoomFor proxy.old.room judged.outcome }
-    requires answers { IsAnswered server.now proxy.old.state.bindings request.arrival.now judged }
+    requires answers { IsAnswered server.now proxy.old.state.bindings request.now.arrival.now judged }
     ensures does { IfOk result (λ out. (verdict : Definition.Verdict)
-        → Is server.now proxy.old.state.bindings request.entry.arrival.now
-        (Definition.found_for_cancel proxy.old.state request.entry.key request.entry.arrival.from) verdict (Arrived.Judged judged.entry)
-        → Takes server.now proxy.old.state request.entry.arrival request.entry.message.now verdict out proxy.new.state) }
+        → Is server.now proxy.old.state.bindings request.now.arrival.now
+        (Definition.found_for_cancel proxy.old.state key request.now.arrival.from) verdict (Arrived.Judged judged.entry)
+        → Takes server.now proxy.old.state request.now.arrival request.now.message.now verdict out proxy.new.state) }
     ensures unchanged { OnErr result (proxy.new.state ≡ proxy.old.state) }
     ensures timers { OnErr result (proxy.new.timers ≡ proxy.old.timers) }
 {
     let arrival = request.arrival;
-    let kept = keep(alloc, request)?;
-    let KeptRequest { key, message } = kept;
+    let message = keep(alloc, request)?;
     take_judged(alloc, server, proxy, arrival, key, message, judged)
 }
 
@@ -60,27 +62,31 @@ fn send_judged<T: Timers>(
     alloc: Global,
     configured: &Configured<'_>,
     proxy: &mut Proxy<T>,
-    request: NewRequest<'_>,
+    request: &NewRequest<'_>,
+    key: Shared<Key>,
+    names: &mut Option<Names>,
     judged: &Judged<'_>,
 ) -> Result<StepOut, AllocError>
-    requires coming { IsComing proxy.old.state request.arrival }
-    requires key { key_of request.message.now ≡ Some request.key }
-    requires via { top_via request.message.now ≡ Some request.via.now }
-    requires names { AreNames request.message.now request.names }
-    requires alone { position (has_key request.key) proxy.old.state.requests ≡ None }
+    requires coming { IsComing proxy.old.state request.now.arrival }
+    requires key { key_of request.now.message.now ≡ Some key }
+    requires via { top_via request.now.message.now ≡ Some request.now.via.now }
+    requires names { AreNames request.now.message.now names.old }
+    requires alone { position (has_key key) proxy.old.state.requests ≡ None }
     requires rows { configured.now.hops.now.addresses ≡ configured.now.server.now.config.addresses }
     requires there { Asking.is_answered_here judged.now.outcome ≡ false }
-    requires served { IsServed configured.now.server.now proxy.old.state request.arrival request.key (Arrived.Judged judged.now) }
+    requires served { IsServed configured.now.server.now proxy.old.state request.now.arrival key (Arrived.Judged judged.now) }
     ensures does { IfOk result (λ out. (verdict : Definition.Verdict)
-        → Is configured.now.server.now proxy.old.state.bindings request.entry.arrival.now
-        (Definition.found_for_cancel proxy.old.state request.entry.key request.entry.arrival.from) verdict (Arrived.Judged judged.now)
-        → Takes configured.now.server.now proxy.old.state request.entry.arrival request.entry.message.now verdict out proxy.new.state) }
+        → Is configured.now.server.now proxy.old.state.bindings request.now.arrival.now
+        (Definition.found_for_cancel proxy.old.state key request.now.arrival.from) verdict (Arrived.Judged judged.now)
+        → Takes configured.now.server.now proxy.old.state request.now.arrival request.now.message.now verdict out proxy.new.state) }
     ensures unchanged { OnErr result (proxy.new.state ≡ proxy.old.state) }
     ensures timers { OnErr result (proxy.new.timers ≡ proxy.old.timers) }
 {
     match &judged.outcome {
         Outcome::Send(rule, targets) => {
-            go_to(alloc, configured, proxy, request, judged, *rule, targets)
+            go_to(
+                alloc, configured, proxy, request, key, names, judged, *rule, targets,
+            )
         }
         Outcome::Challenge | Outcome::Deny(_) | Outcome::Register(_, _) => {
             Ok(take_dropped(alloc, proxy, request.arrival))
@@ -94,26 +100,28 @@ pub(crate) fn take_asked<T: Timers>(
     alloc: Global,
     configured: &Configured<'_>,
     proxy: &mut Proxy<T>,
-    request: NewRequest<'_>,
+    request: &NewRequest<'_>,
+    key: Shared<Key>,
+    names: &mut Option<Names>,
     judged: Judged<'_>,
 ) -> Result<StepOut, AllocError>
-    requires coming { IsComing proxy.old.state request.arrival }
-    requires key { key_of request.message.now ≡ Some request.key }
-    requires via { top_via request.message.now ≡ Some request.via.now }
-    requires names { AreNames request.message.now request.names }
-    requires alone { position (has_key request.key) proxy.old.state.requests ≡ None }
+    requires coming { IsComing proxy.old.state request.now.arrival }
+    requires key { key_of request.now.message.now ≡ Some key }
+    requires via { top_via request.now.message.now ≡ Some request.now.via.now }
+    requires names { AreNames request.now.message.now names.old }
+    requires alone { position (has_key key) proxy.old.state.requests ≡ None }
     requires rows { configured.now.hops.now.addresses ≡ configured.now.server.now.config.addresses }
     requires room { HasRoomFor proxy.old.room judged.outcome }
-    requires served { IsServed configured.now.server.now proxy.old.state request.arrival request.key (Arrived.Judged judged) }
+    requires served { IsServed configured.now.server.now proxy.old.state request.now.arrival key (Arrived.Judged judged) }
     ensures does { IfOk result (λ out. (verdict : Definition.Verdict)
-        → Is configured.now.server.now proxy.old.state.bindings request.entry.arrival.now
-        (Definition.found_for_cancel proxy.old.state request.entry.key request.entry.arrival.from) verdict (Arrived.Judged judged.entry)
-        → Takes configured.now.server.now proxy.old.state request.entry.arrival request.entry.message.now verdict out proxy.new.state) }
+        → Is configured.now.server.now proxy.old.state.bindings request.now.arrival.now
+        (Definition.found_for_cancel proxy.old.state key request.now.arrival.from) verdict (Arrived.Judged judged.entry)
+        → Takes configured.now.server.now proxy.old.state request.now.arrival request.now.message.now verdict out proxy.new.state) }
     ensures unchanged { OnErr result (proxy.new.state ≡ proxy.old.state) }
     ensures timers { OnErr result (proxy.new.timers ≡ proxy.old.timers) }
 {
     if is_answered_here(&judged.outcome) {
-        return answer_judged(alloc, configured.server, proxy, request, judged);
+        return answer_judged(alloc, configured.server, proxy, request, key, judged);
     }
-    send_judged(alloc, configured, proxy, request, &judged)
+    send_judged(alloc, configured, proxy, request, key, names, &judged)
 }

@@ -9,15 +9,18 @@ ghost use Rattle.sip_engine_request.specs.Routing.{are_somebody};
 ghost use Rattle.sip_engine.specs.Delivery.{Takes};
 
 use crate::configured::Configured;
-use crate::keeping::{KeptRequest, keep_onward};
+use crate::keeping::keep_onward;
 use crate::new_request::NewRequest;
+use sip_base::Shared;
 use sip_core::Judged;
+use sip_core::state::Names;
 use sip_dialog::DialogId;
 use sip_engine_open::proxy::Proxy;
 use sip_engine_request::{send_to, send_within};
 use sip_event::StepOut;
 use sip_targets::Targets;
 use sip_timers::Timers;
+use sip_transaction_table::Key;
 use sip_uri::Addr;
 use std::alloc::{AllocError, Global};
 
@@ -27,28 +30,29 @@ pub(crate) fn go_to<T: Timers>(
     alloc: Global,
     configured: &Configured<'_>,
     proxy: &mut Proxy<T>,
-    request: NewRequest<'_>,
+    request: &NewRequest<'_>,
+    key: Shared<Key>,
+    names: &mut Option<Names>,
     judged: &Judged<'_>,
     rule: u32,
     targets: &Targets,
 ) -> Result<StepOut, AllocError>
-    requires coming { IsComing proxy.old.state request.arrival }
-    requires key { key_of request.message.now ≡ Some request.key }
-    requires via { top_via request.message.now ≡ Some request.via.now }
-    requires names { AreNames request.message.now request.names }
-    requires alone { position (has_key request.key) proxy.old.state.requests ≡ None }
+    requires coming { IsComing proxy.old.state request.now.arrival }
+    requires key { key_of request.now.message.now ≡ Some key }
+    requires via { top_via request.now.message.now ≡ Some request.now.via.now }
+    requires names { AreNames request.now.message.now names.old }
+    requires alone { position (has_key key) proxy.old.state.requests ≡ None }
     requires space { Definition.is_full proxy.old.state ≡ false }
     requires rows { configured.now.hops.now.addresses ≡ configured.now.server.now.config.addresses }
     requires minute { judged.now.minute ≡ Definition.minute_on configured.now.server.now judged.now.question }
     requires somebody { are_somebody targets.now ≡ true }
-    ensures does { IfOk result (λ out. Takes configured.now.server.now proxy.old.state request.entry.arrival request.entry.message.now
+    ensures does { IfOk result (λ out. Takes configured.now.server.now proxy.old.state request.now.arrival request.now.message.now
         (Definition.Send judged.now.question rule targets.now) out proxy.new.state) }
     ensures unchanged { OnErr result (proxy.new.state ≡ proxy.old.state) }
     ensures timers { OnErr result (proxy.new.timers ≡ proxy.old.timers) }
 {
     let arrival = request.arrival;
-    let kept = keep_onward(alloc, configured.server, request)?;
-    let KeptRequest { key, message } = kept;
+    let message = keep_onward(alloc, configured.server, request, names)?;
     send_to(
         alloc,
         configured.server,
@@ -68,25 +72,26 @@ pub(crate) fn go_within<T: Timers>(
     alloc: Global,
     configured: &Configured<'_>,
     proxy: &mut Proxy<T>,
-    request: NewRequest<'_>,
+    request: &NewRequest<'_>,
+    key: Shared<Key>,
+    names: &mut Option<Names>,
     address: Addr,
     id: DialogId,
 ) -> Result<StepOut, AllocError>
-    requires coming { IsComing proxy.old.state request.arrival }
-    requires key { key_of request.message.now ≡ Some request.key }
-    requires via { top_via request.message.now ≡ Some request.via.now }
-    requires names { AreNames request.message.now request.names }
-    requires alone { position (has_key request.key) proxy.old.state.requests ≡ None }
+    requires coming { IsComing proxy.old.state request.now.arrival }
+    requires key { key_of request.now.message.now ≡ Some key }
+    requires via { top_via request.now.message.now ≡ Some request.now.via.now }
+    requires names { AreNames request.now.message.now names.old }
+    requires alone { position (has_key key) proxy.old.state.requests ≡ None }
     requires space { Definition.is_full proxy.old.state ≡ false }
     requires rows { configured.now.hops.now.addresses ≡ configured.now.server.now.config.addresses }
-    ensures does { IfOk result (λ out. Takes configured.now.server.now proxy.old.state request.entry.arrival request.entry.message.now
+    ensures does { IfOk result (λ out. Takes configured.now.server.now proxy.old.state request.now.arrival request.now.message.now
         (Definition.InDialog address id) out proxy.new.state) }
     ensures unchanged { OnErr result (proxy.new.state ≡ proxy.old.state) }
     ensures timers { OnErr result (proxy.new.timers ≡ proxy.old.timers) }
 {
     let arrival = request.arrival;
-    let kept = keep_onward(alloc, configured.server, request)?;
-    let KeptRequest { key, message } = kept;
+    let message = keep_onward(alloc, configured.server, request, names)?;
     send_within(
         alloc,
         configured.server,

@@ -62,12 +62,18 @@ pub(crate) fn take_new<T: Timers, R: Rules>(
             let configured = Configured { server, hops };
             let request = NewRequest {
                 arrival: received.arrival,
-                key,
                 message: received.message,
                 via: &received.via,
-                names,
             };
-            serve(alloc, &configured, proxy, request, decided)
+            serve(
+                alloc,
+                &configured,
+                proxy,
+                &request,
+                key,
+                &mut names,
+                decided,
+            )
         }
         Err(_) => Err(AllocError),
     }

@@ -13,12 +13,15 @@ use crate::asking::take_asked;
 use crate::configured::Configured;
 use crate::going::go_within;
 use crate::new_request::NewRequest;
+use sip_base::Shared;
 use sip_core::Verdict;
+use sip_core::state::Names;
 use sip_engine_open::proxy::Proxy;
 use sip_engine_open::take_dropped;
 use sip_engine_request::send_ack;
 use sip_event::StepOut;
 use sip_timers::Timers;
+use sip_transaction_table::Key;
 use std::alloc::{AllocError, Global};
 
 /// The step of a new request, of what was decided about it. `AllocError` is the only refusal; nothing is changed then.
@@ -26,21 +29,23 @@ pub(crate) fn serve<T: Timers>(
     alloc: Global,
     configured: &Configured<'_>,
     proxy: &mut Proxy<T>,
-    request: NewRequest<'_>,
+    request: &NewRequest<'_>,
+    key: Key,
+    names: &mut Option<Names>,
     decided: Verdict<'_>,
 ) -> Result<StepOut, AllocError>
-    requires coming { IsComing proxy.old.state request.arrival }
-    requires key { key_of request.message.now ≡ Some request.key }
-    requires via { top_via request.message.now ≡ Some request.via.now }
-    requires names { AreNames request.message.now request.names }
-    requires alone { position (has_key request.key) proxy.old.state.requests ≡ None }
+    requires coming { IsComing proxy.old.state request.now.arrival }
+    requires key { key_of request.now.message.now ≡ Some key }
+    requires via { top_via request.now.message.now ≡ Some request.now.via.now }
+    requires names { AreNames request.now.message.now names.old }
+    requires alone { position (has_key key) proxy.old.state.requests ≡ None }
     requires rows { configured.now.hops.now.addresses ≡ configured.now.server.now.config.addresses }
     requires room { HasRoom proxy.old.room decided }
-    requires served { IsServed configured.now.server.now proxy.old.state request.arrival request.key decided }
+    requires served { IsServed configured.now.server.now proxy.old.state request.now.arrival key decided }
     ensures does { IfOk result (λ out. (verdict : Definition.Verdict)
-        → Is configured.now.server.now proxy.old.state.bindings request.entry.arrival.now
-        (Definition.found_for_cancel proxy.old.state request.entry.key request.entry.arrival.from) verdict decided.entry
-        → Takes configured.now.server.now proxy.old.state request.entry.arrival request.entry.message.now verdict out proxy.new.state) }
+        → Is configured.now.server.now proxy.old.state.bindings request.now.arrival.now
+        (Definition.found_for_cancel proxy.old.state key request.now.arrival.from) verdict decided.entry
+        → Takes configured.now.server.now proxy.old.state request.now.arrival request.now.message.now verdict out proxy.new.state) }
     ensures unchanged { OnErr result (proxy.new.state ≡ proxy.old.state) }
     ensures timers { OnErr result (proxy.new.timers ≡ proxy.old.timers) }
 {
@@ -56,13 +61,29 @@ pub(crate) fn serve<T: Timers>(
             address,
             id,
         ),
-        Verdict::Cancel => cancel(alloc, configured, proxy, request),
+        Verdict::Cancel => {
+            let key = Shared::new(alloc, key)?;
+            cancel(alloc, configured, proxy, request, key)
+        }
         Verdict::Answer(status, extras) => {
-            answer(alloc, configured.server, proxy, request, status, &extras)
+            let key = Shared::new(alloc, key)?;
+            answer(
+                alloc,
+                configured.server,
+                proxy,
+                request,
+                key,
+                status,
+                &extras,
+            )
         }
         Verdict::InDialog(address, id) => {
-            go_within(alloc, configured, proxy, request, address, id)
+            let key = Shared::new(alloc, key)?;
+            go_within(alloc, configured, proxy, request, key, names, address, id)
         }
-        Verdict::Judged(judged) => take_asked(alloc, configured, proxy, request, judged),
+        Verdict::Judged(judged) => {
+            let key = Shared::new(alloc, key)?;
+            take_asked(alloc, configured, proxy, request, key, names, judged)
+        }
     }
 }

@@ -3,5 +3,5 @@ use Rattle.sip_engine.proofs.asking.answer_judged.Goals as goal
 
 pub returns-clause-does : goal.returns-clause-does
 returns-clause-does g c =
-    told c.args.server.now c.args.request.arrival c.args.proxy.now.state c.take_judged.new.proxy.state c.args.request.key c.args.request.message.now c.in_ok-kept.kept.message c.args.judged c.take_judged.result
-    c.in_ok-kept.ensures.message c.take_judged.ensures.does
+    told c.args.server.now c.args.request.now.arrival c.args.proxy.now.state c.take_judged.new.proxy.state c.args.key c.args.request.now.message.now c.in_ok-message.message c.args.judged c.take_judged.result
+    c.in_ok-message.ensures c.take_judged.ensures.does
