@@ -37,7 +37,7 @@ fn recorded(
     ensures { IfOk result (λ records. (server : Server) → judged.now.minute ≡ minute_on server judged.now.question
         → records ≡ Effects.record_of server (arrival_of arrival) request.now judged.now.question outcome ∷ []) }
 {
-    let record = record_of(
+    let records = record_of(
         alloc,
         arrival.number,
         arrival.now,
@@ -46,8 +46,6 @@ fn recorded(
         judged.minute,
         outcome,
     )?;
-    let mut records = Items::with_room(alloc, 1)?;
-    records.push(record)?;
     Ok(records)
 }
 

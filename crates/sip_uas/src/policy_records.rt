@@ -24,7 +24,7 @@ pub(crate) fn records_of(
         → records ≡ Effects.record_of server (arrival_of arrival) request.now judged.now.question outcome ∷ []) }
 {
     let question = &judged.question;
-    let record = record_of(
+    let records = record_of(
         alloc,
         arrival.number,
         arrival.now,
@@ -33,7 +33,5 @@ pub(crate) fn records_of(
         judged.minute,
         outcome,
     )?;
-    let mut records = Items::with_room(alloc, 1)?;
-    records.push(record)?;
     Ok(records)
 }

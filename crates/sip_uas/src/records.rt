@@ -1,4 +1,4 @@
-ghost use Rattle.std.specs.Prelude.{◌≡◌, ℕ, IfOk};
+ghost use Rattle.std.specs.Prelude.{◌≡◌, [], ◌∷◌, ℕ, IfOk};
 ghost use Rattle.std.specs.Option.{option_copied};
 ghost use Rattle.sip_message_form.specs.declared.message.Message.{Message};
 ghost use Rattle.sip_message_form.specs.ViewStart.{start_seen};
@@ -11,7 +11,7 @@ use sip_audit::{Outcome, Record};
 use sip_core::verdict_model::Question;
 use sip_message_form::ViewStart;
 use sip_policy::Operation;
-use sip_text::Bytes;
+use sip_text::{Bytes, Items};
 use std::alloc::{AllocError, Global};
 
 /// The method that the first line of a request says; a response has none. Takes no memory.
@@ -47,7 +47,7 @@ fn copied_name(alloc: Global, name: Option<&[u8]>) -> Result<Option<Bytes>, Allo
 
 /// What is recorded of a request with this first line that policy was asked about, and that came at a moment in the
 /// datagram of a number: its method, the name of the user that it proves to come from, the address of record that it is
-/// for, the minute of the ruling on it, and what became of it. `AllocError` is the only refusal.
+/// for, the minute of the ruling on it, and what became of it. It is made where it stands. `AllocError` is the only refusal.
 pub fn record_of(
     alloc: Global,
     number: u64,
@@ -56,15 +56,16 @@ pub fn record_of(
     question: &Question<'_>,
     minute: Option<u16>,
     outcome: Outcome,
-) -> Result<Record, AllocError>
+) -> Result<Items<Record>, AllocError>
     ensures { IfOk result (λ made. (server : Server) (word : ℕ) (from : Addr) (request : Message) → request.start ≡ start_seen start.now
         → minute ≡ minute_on server question.now → made ≡ Effects.record_of server
-        (record { number = number; now = now; word = word; from = from }) request question.now outcome) }
+        (record { number = number; now = now; word = word; from = from }) request question.now outcome ∷ []) }
 {
+    let mut records = Items::with_room(alloc, 1)?;
     let method = Bytes::copy(alloc, method_of(start))?;
     let who = copied_name(alloc, question.proof.name())?;
     let target = question.target.clone()?;
-    Ok(Record {
+    records.push(Record {
         at: now,
         number,
         method,
@@ -73,5 +74,6 @@ pub fn record_of(
         operation: recorded(&question.operation),
         minute,
         outcome,
-    })
+    })?;
+    Ok(records)
 }
