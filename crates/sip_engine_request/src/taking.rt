@@ -7,7 +7,6 @@ ghost use Rattle.sip_uas.specs.Drafts.{with_opened};
 ghost use Rattle.sip_engine_request.specs.Admitting.{IsOpenableIn};
 
 use sip_dialog_lessons::Lessons;
-use sip_dialog_lessons::state::OpenRequest;
 use sip_event::StepOut;
 use sip_proxy::Proxy;
 use sip_proxy::fork::Opening;
@@ -22,7 +21,7 @@ fn open<T: Timers>(
     alloc: Global,
     proxy: &mut Proxy<T>,
     arrival: Arrival,
-    request: OpenRequest,
+    request: Opening,
 ) -> Result<(), AllocError>
     requires coming { IsComing proxy.old.state arrival }
     requires opens { IsOpenableIn proxy.old.state arrival request }
@@ -31,8 +30,7 @@ fn open<T: Timers>(
     ensures timers { OnErr result (proxy.new.timers ≡ proxy.old.timers) }
     ensures room { proxy.new.room ≡ proxy.old.room }
 {
-    let opening = Opening::of(alloc, request)?;
-    proxy.open(arrival.now, opening, Lessons::new(alloc))
+    proxy.open(arrival.now, request, Lessons::new(alloc))
 }
 
 /// The moment of a datagram comes, and the request is opened that was drafted, if one was: where 1,024 are open, none is.
@@ -41,7 +39,7 @@ fn open_drafted<T: Timers>(
     alloc: Global,
     proxy: &mut Proxy<T>,
     arrival: Arrival,
-    opened: Option<OpenRequest>,
+    opened: Option<Opening>,
 ) -> Result<(), AllocError>
     requires coming { IsComing proxy.old.state arrival }
     requires opens { IfSome opened (IsOpenableIn proxy.old.state arrival) }

@@ -5,7 +5,7 @@
 //! moments are near that of the last event, and its number and key stay. Nothing that changes a request takes memory: who
 //! plans reserves before. No moment is read here; who reaches one says so.
 //!
-//! - Used: `sip_proxy`.
+//! - Used: `sip_proxy`; `sip_uas`, which places a request that it answers.
 //! - Not here: the choice of targets: a call is forked by `sip_targets` and `sip_forwarding`.
 //! - Tried: `test_server` by its stored runs.
 #![tactic(auto)]

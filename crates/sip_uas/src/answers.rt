@@ -13,17 +13,26 @@ use sip_base::Shared;
 use sip_core::state::Heard;
 use sip_dialog_lessons::Lessons;
 use sip_dialog_lessons::state::{OpenRequest, Server};
+use sip_fork::Opening;
 use sip_forwarding::{Arrival, Replied, reply};
 use sip_message_fields::Fields;
 use sip_text::Items;
 use sip_transaction_table::Key;
 use std::alloc::{AllocError, Global};
 
-/// The request, unless there is no room for it.
-fn where_room(request: OpenRequest, is_full: bool) -> Option<OpenRequest>
-    ensures { result ≡ (if is_full then None else Some request) }
+/// The request where it is to stand, unless there is no room for it.
+fn where_room(
+    alloc: Global,
+    request: OpenRequest,
+    is_full: bool,
+) -> Result<Option<Opening>, AllocError>
+    ensures { IfOk result (λ opened. opened ≡ (if is_full then None else Some request)) }
 {
-    if is_full { None } else { Some(request) }
+    if is_full {
+        return Ok(None);
+    }
+    let opening = Opening::of(alloc, request)?;
+    Ok(Some(opening))
 }
 
 /// What a final answer does, with what is recorded of its request.
@@ -45,10 +54,11 @@ fn drafted(
     let Replied { packet, request } = replied;
     let mut packets = Items::with_room(alloc, 1)?;
     packets.push(packet)?;
+    let opened = where_room(alloc, request, is_full)?;
     Ok(Draft {
         packets,
         records,
-        opened: where_room(request, is_full),
+        opened,
         lessons: Lessons::new(alloc),
     })
 }
