@@ -13,7 +13,7 @@ use Rattle.sip_event.specs.declared.event.Event.{Event}
 use Rattle.sip_replay_script.specs.declared.script.DatagramHead.{DatagramHead}
 use Rattle.sip_replay_script.specs.declared.script.Line.{Line}
 use Rattle.sip_replay_script.specs.declared.script.Line.TheVariants.{Head, Whole}
-use Rattle.sip_replay_script.specs.Script.{line_of, datagram_at, event_of, unstuffed, BeginsWithHead}
+use Rattle.sip_replay_script.specs.Script.{line_of, datagram_at, event_of, unstuffed, SaysAtOnce}
 use Rattle.sip_replay_script.specs.Lines.{Reading, BeginsWith, PassesLine, IsLine, IsUnended, is_end, pending, left, GivesLine, IsOver, LineStops}
 use Rattle.sip_replay_script.specs.declared.stop.Stop.{Stop}
 use Rattle.sip_replay_script.specs.declared.stop.Stop.TheVariants as stops
@@ -305,17 +305,17 @@ line_stops F script stops.Write h = h
 pub said_passed : (old new : Reading) (rest : Option (List ℕ)) (line : List ℕ) (said : Option Line) → PassesLine old new line → line_of line ≡ said → GivesSaid old new rest rest said
 said_passed old new rest line said passes says = record { line = line; given = given_passed old new rest line passes; says = says }
 
--- the head that they begin with
+-- a line that is read at once
 
-pub head_fits : (unread seen : List ℕ) (head : DatagramHead) (count : ℕ) → BeginsWithHead seen head count → seen ≡ unread → count < length unread
-head_fits unread seen head count found same =
+pub at_once_fits : (unread seen : List ℕ) (said : Line) (count : ℕ) → SaysAtOnce seen said count → seen ≡ unread → count < length unread
+at_once_fits unread seen said count found same =
     let size : length found.line ≡ count = found.size in
     omega (arith, ap length (sym same ∙ found.begins.cut), length-append found.line (10 ∷ found.begins.rest), size)
 
-pub head_passed : (old new : Reading) (rest : Option (List ℕ)) (seen : List ℕ) (head : DatagramHead) (count : ℕ) → BeginsWithHead seen head count → seen ≡ old.unread → new.unread ≡ drop (count + 1) old.unread
-    → new.number ≡ old.number + 1 → new.asks ≡ old.asks → GivesSaid old new rest rest (Some (Head head))
-head_passed old new rest seen head count found same unread number asks =
-    said_passed old new rest found.line (Some (Head head))
+pub at_once_passed : (old new : Reading) (rest : Option (List ℕ)) (seen : List ℕ) (said : Line) (count : ℕ) → SaysAtOnce seen said count → seen ≡ old.unread → new.unread ≡ drop (count + 1) old.unread
+    → new.number ≡ old.number + 1 → new.asks ≡ old.asks → GivesSaid old new rest rest (Some said)
+at_once_passed old new rest seen said count found same unread number asks =
+    said_passed old new rest found.line (Some said)
     (passes_line old new found.line (subst (λ l. BeginsWith l found.line) same found.begins) (unread ∙ ap (λ n. drop (n + 1) old.unread) (sym found.size)) number asks) found.says
 
 pub said_other : (old new : Reading) (before after : Option (List ℕ)) → GivesSaid old new before after None → IfSome (pending old before) IsNoEvent

@@ -16,9 +16,11 @@ use Rattle.sip_uri.specs.declared.addr.Addr.{Addr}
 use Rattle.sip_uri.specs.Addresses.{addr_text}
 use Rattle.sip_digest.specs.NonceText.{nonce_text, word_of}
 use Rattle.sip_digest.proofs.NonceTexts.{names_word}
-use Rattle.sip_replay_script.specs.Script.{IsNumberAt, IsNumberBefore, IsSourceBefore, IsWordBefore, BeginsWithHead}
+use Rattle.sip_replay_script.specs.Script.{IsNumberAt, IsNumberBefore, IsSourceBefore, IsWordBefore, SaysAtOnce}
 use Rattle.sip_replay_script.specs.EventText.{head_before}
-use Rattle.sip_replay_script.proofs.WrittenEvents.{IsSource, head_says, head_single, head_short, head_more, no_end, word_long}
+use Rattle.sip_event.specs.declared.event.Event.TheVariants.{Time}
+use Rattle.sip_replay_script.specs.declared.script.Line.TheVariants.{Head, Whole}
+use Rattle.sip_replay_script.proofs.WrittenEvents.{IsSource, head_says, head_single, head_short, head_more, no_end, number_others, number_short, time_says, word_long}
 
 -- the digits of a text from a place on write a number
 pub record AreDigits (text : List ℕ) (from count number : ℕ) : Type 0 where
@@ -133,7 +135,7 @@ word_before text from word says lt at = record {
 
 -- a text that begins with a line that says a head so
 pub head_is : (text : List ℕ) (moment next behind word count : ℕ) (source : Addr) → take 9 text ≡ codes "datagram " → IsNumberBefore text 9 32 moment next → IsSourceBefore text next source behind → IsWordBefore text behind word count
-    → moment < 2 ^ 62 → BeginsWithHead text (record { at = moment; word = word; from = source }) count
+    → moment < 2 ^ 62 → SaysAtOnce text (Head (record { at = moment; word = word; from = source })) count
 head_is text moment next behind word count source front at from seed small =
     let named = (names_word (take 32 (drop behind text)) word).0 seed.says in
     let is_source : IsSource source = record { four = from.four; octets = from.octets; some = from.some; small = from.small } in
@@ -156,4 +158,22 @@ head_is text moment next behind word count source front at from seed small =
       };
       says = head_says moment word source small named.0 is_source;
       size = omega (arith, ap length cut, length-append line (10 ∷ seed.rest), ap length tail, length-append (nonce_text word) (10 ∷ seed.rest), length-drop behind text, long, within, place);
+    }
+
+-- a text that begins with a line that says a moment
+pub time_is : (text : List ℕ) (moment next : ℕ) → take 5 text ≡ codes "time " → IsNumberBefore text 5 10 moment next → moment < 2 ^ 62 → SaysAtOnce text (Whole (Time moment)) (next - 1)
+time_is text moment next front at small =
+    let line : List ℕ = codes "time " ++ decimal moment in
+    let cut : text ≡ line ++ 10 ∷ drop next text = sym (take-append-drop 5 text) ∙ ap (λ l. l ++ drop 5 text) front ∙ ap (λ l. codes "time " ++ l) at.digits in
+    let few : length (decimal moment) ≤ 20 = number_short moment (omega (arith, small)) in
+    let within : next ≤ length text = at.within in
+    record {
+      line = line;
+      begins = record {
+        rest = drop next text;
+        is_line = record { short = omega (arith, few); single = no_end line (number_others 10 refl moment (omega (arith, small))) };
+        cut = cut;
+      };
+      says = time_says moment small;
+      size = omega (arith, ap length cut, length-append line (10 ∷ drop next text), length-drop next text, within);
     }

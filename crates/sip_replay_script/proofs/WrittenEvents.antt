@@ -145,7 +145,7 @@ number_short n lt = length-decimal-le 20 n (omega arith) (omega (arith, lt)) lt
 
 -- ---- moments and faults
 
-time_says : (moment : ℕ) → moment < 2 ^ 62 → line_of (codes "time " ++ decimal moment) ≡ Some (Whole (Time moment))
+pub time_says : (moment : ℕ) → moment < 2 ^ 62 → line_of (codes "time " ++ decimal moment) ≡ Some (Whole (Time moment))
 time_says moment lt = rw (below_again (2 ^ 62) moment lt (omega (arith, lt))) refl
 
 written_time : (moment : ℕ) → moment < 2 ^ 62 → SaysEvent (event_text (Time moment)) (Time moment)

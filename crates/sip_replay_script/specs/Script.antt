@@ -131,9 +131,9 @@ pub record IsWordBefore (text : List ℕ) (from word count : ℕ) : Type 0 where
   pub digits : drop from text ≡ take 32 (drop from text) ++ 10 ∷ rest
   pub place : count ≡ from + 32
 
--- a text begins with a line of so many bytes that says a head
-pub record BeginsWithHead (text : List ℕ) (head : DatagramHead) (count : ℕ) : Type 0 where
+-- a text begins with a line of so many bytes, and that is what it says
+pub record SaysAtOnce (text : List ℕ) (said : Line) (count : ℕ) : Type 0 where
   pub line : List ℕ
   pub begins : BeginsWith text line
-  pub says : line_of line ≡ Some (Head head)
+  pub says : line_of line ≡ Some said
   pub size : length line ≡ count

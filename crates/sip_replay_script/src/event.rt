@@ -11,7 +11,7 @@ ghost use Rattle.sip_replay_script.specs.declared.stop.Stop.TheVariants.{NoMemor
 use crate::device::TellingReader;
 use crate::gathered::{Gathered, KEPT};
 use crate::lines::Lines;
-use crate::script::{DatagramHead, Line, head_at_once, line_of, unstuffed};
+use crate::script::{DatagramHead, Line, head_at_once, line_of, time_at_once, unstuffed};
 use crate::stop::Stop;
 use sip_event::Event;
 use sip_text::{Bytes, same_bytes};
@@ -58,7 +58,8 @@ fn event_at(alloc: Global, line: Line, bytes: &[u8]) -> Result<Event, AllocError
 }
 
 /// The line that begins the next event of a script; `None` at its end. Behind the head of a datagram its bytes are gathered, so
-/// that they are used from there. Most lines are such a head, and are read at once.
+/// that they are used from there. Most lines are such a head or a moment, and are read at once.
+#[tactic(auto, using(crate::proofs::Datagrams::at_once_fits))]
 pub fn next_line<R: TellingReader>(
     alloc: Global,
     lines: &mut Lines,
@@ -72,6 +73,10 @@ pub fn next_line<R: TellingReader>(
     ensures asked { later lines.new.asks (R.asked reader.new) ≡ later lines.old.asks (R.asked reader.old) }
     ensures less { lines.new.asks ≤ lines.old.asks }
 {
+    if let Some((at, count)) = time_at_once(lines.unread()) {
+        lines.pass(count);
+        return Ok(Some(Line::Whole(Event::Time { at })));
+    }
     if let Some(head) = front_head(lines) {
         bytes.clear();
         gather(alloc, lines, reader, bytes)?;
@@ -83,7 +88,7 @@ pub fn next_line<R: TellingReader>(
 /// The head of a datagram that the next line says, which is passed, if it stands whole among the bytes that were read and is
 /// read at once. None says nothing, and passes nothing.
 #[inline(always)]
-#[tactic(auto, using(crate::proofs::Datagrams::head_fits))]
+#[tactic(auto, using(crate::proofs::Datagrams::at_once_fits))]
 fn front_head(lines: &mut Lines) -> Option<DatagramHead>
     ensures head { MatchOption result (lines.new ≡ lines.old)
         (λ head. (rest : Option (List ℕ)) → GivesSaid lines.old lines.new rest rest (Some (Head head))) }

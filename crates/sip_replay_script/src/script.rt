@@ -4,8 +4,9 @@ ghost use Rattle.memchr.specs.Find.{IsFirstByte, is_byte};
 ghost use Rattle.sip_text.specs.Numbers;
 ghost use Rattle.sip_text.specs.Splits.{split_at_byte};
 ghost use Rattle.sip_replay_script.specs.Script;
-ghost use Rattle.sip_replay_script.specs.Script.{BeginsWithHead, IsNumberAt, IsNumberBefore, IsSourceBefore, IsWordBefore};
-ghost use Rattle.sip_replay_script.specs.declared.script.Line.TheVariants.{Head};
+ghost use Rattle.sip_replay_script.specs.Script.{IsNumberAt, IsNumberBefore, IsSourceBefore, IsWordBefore, SaysAtOnce};
+ghost use Rattle.sip_replay_script.specs.declared.script.Line.TheVariants.{Head, Whole};
+ghost use Rattle.sip_event.specs.declared.event.Event.TheVariants.{Time};
 
 use memchr::memchr_iter;
 use sip_digest::word_of;
@@ -257,7 +258,7 @@ fn word_before_end(text: &[u8], from: usize) -> Option<(u128, usize)>
 /// The head that a line `datagram AT IP:PORT WORD` at the front of a text says, and how many bytes that line has, which LF ends. It is read
 /// from one end to the other, its end found on the way: most lines are one. None says nothing.
 pub(crate) fn head_at_once(text: &[u8]) -> Option<(DatagramHead, usize)>
-    ensures { IfSome result (λ found. BeginsWithHead text.now found.0 found.1) }
+    ensures { IfSome result (λ found. SaysAtOnce text.now (Head found.0) found.1) }
 {
     if text.len() < 29 || !same_bytes(&text[..9], b"datagram ") {
         return None;
@@ -269,6 +270,21 @@ pub(crate) fn head_at_once(text: &[u8]) -> Option<(DatagramHead, usize)>
     let (from, next) = source_before_space(text, next)?;
     let (word, count) = word_before_end(text, next)?;
     Some((DatagramHead { at, word, from }, count))
+}
+
+/// The moment that a line `time AT` at the front of a text says, and how many bytes that line has, which LF ends. None says nothing.
+#[inline(always)]
+pub(crate) fn time_at_once(text: &[u8]) -> Option<(u64, usize)>
+    ensures { IfSome result (λ found. SaysAtOnce text.now (Whole (Time found.0)) found.1) }
+{
+    if text.len() < 25 || !same_bytes(&text[..5], b"time ") {
+        return None;
+    }
+    let (at, next) = number_before(text, 5, 19, b'\n')?;
+    if at >= TOO_LARGE {
+        return None;
+    }
+    Some((at, next - 1))
 }
 
 /// What an event's first line says: `datagram AT IP:PORT WORD`, `hex AT IP:PORT WORD DIGITS`, `time AT`
