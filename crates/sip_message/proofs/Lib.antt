@@ -23,6 +23,7 @@ pub mod TextRuns
 pub mod Spaced
 pub mod Names
 pub mod NamedLines
+pub mod StandingLines
 pub mod OneValue
 pub mod HeadFills
 pub mod ViewLaws

@@ -12,3 +12,4 @@ pub mod Line
 pub mod Parts
 pub mod HeadContent
 pub mod Filled
+pub mod Stands

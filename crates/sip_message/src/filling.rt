@@ -1,13 +1,15 @@
-ghost use Rattle.std.specs.Prelude.{◌≡◌, ◌⊎◌, ◌++◌, [], ◌∷◌, true, false, map, All, MatchResult, OnOk, Some, None};
+ghost use Rattle.std.specs.Prelude.{◌≡◌, ◌⊎◌, ◌++◌, [], ◌∷◌, true, false, map, All, MatchResult, IfOk, OnOk, Some, None};
 ghost use Rattle.std.specs.List.{list_all};
 ghost use Rattle.sip_message.specs.Field.{is_text};
 ghost use Rattle.sip_message.specs.Named.{IsNamed};
 ghost use Rattle.sip_message.specs.Seen.{seen_field};
 ghost use Rattle.sip_message.specs.Filled.{item_of, IsFieldFilled, IsLineFilled, filled_seen};
+ghost use Rattle.sip_message.specs.Stands.{IsStanding, IsTakenAs};
 ghost use Rattle.sip_message.specs.HeadContent.{IsFault, IsLineRefused, next_length, field_taken};
 ghost use Rattle.sip_message.specs.Reading.{Gives, head_said};
 ghost use Rattle.sip_message_fields.specs.FieldName.{is_length, is_list};
 ghost use Rattle.sip_message_fields.specs.Lines.{line_of};
+ghost use Rattle.sip_message_form.specs.Text.{AreLinesOf};
 ghost use Rattle.sip_text.specs.Lists.{cut};
 ghost use Rattle.sip_text.specs.Span.{IsWithin};
 ghost use Rattle.sip_message.specs.Lines.{is_fold};
@@ -21,6 +23,7 @@ use crate::line_fault::LineFault;
 use crate::lines::{HeadLine, NamedLine, Slice, head_line, is_fold_line, named_line, whole_line};
 use crate::marks::is_one_value;
 use crate::part_field::PartField;
+use crate::stands::{Run, Stands, Taken, go_on, lines_in};
 use sip_message_fields::{Value, ViewField, ViewFields, ViewName};
 use sip_message_form::{ViewError, ViewRefusal};
 use sip_text::{Span, is_one_item};
@@ -32,6 +35,8 @@ use std::alloc::{AllocError, Global};
 pub(crate) struct Filling<'a> {
     pub fields: ViewFields<'a>,
     pub length: Option<u64>,
+    /// The lines of the fields, once it was seen that they stand so in the head, one behind the other.
+    pub lines: Option<&'a [u8]>,
 }
 
 /// Puts a field with a part of a value behind those of a view.
@@ -119,18 +124,20 @@ impl<'a> Filling<'a> {
         name: ViewName<'a>,
         value: &'a [u8],
         line: &'a [u8],
-    ) -> Result<(), LineFault>
+    ) -> Result<Stands, LineFault>
         requires one { is_list name ≡ true → cut value.now ≡ Some (value.now ∷ []) }
         requires line { line.now ≡ line_of (record { name = name; value = value.now }) }
-        ensures { MatchResult result
+        ensures filled { MatchResult result
             (λ _. IsFieldFilled self.old (record { name = name.entry; value = value.now }) self.new)
             (λ e. IsFault e (field_taken self.old.length (record { name = name.entry; value = value.now }))) }
+        ensures stands { IfOk result (λ stands. IsStanding stands line.now self.old.fields self.new.fields) }
     {
         if name.is_content_length() {
-            return self.take_length(value);
+            self.take_length(value)?;
+            return Ok(Stands::AsLength);
         }
         self.fields.push_line(name, value, line)?;
-        Ok(())
+        Ok(Stands::AsField)
     }
 
     /// Takes a field of any form, wherever its value stands.
@@ -267,29 +274,35 @@ impl<'a> Filling<'a> {
 
     /// Takes a line with a name and its folds, and gives what follows them.
     #[inline(always)]
-    fn take_named(&mut self, alloc: Global, next: NamedLine<'a>) -> Result<&'a [u8], LineFault>
+    fn take_named(&mut self, alloc: Global, next: NamedLine<'a>) -> Result<Taken<'a>, LineFault>
         requires named { IsNamed next.line.now next.name.now next.value.now }
         requires text { list_all is_text next.value.now ≡ true }
         requires whole { next.text.now ≡ next.line.now ++ 13 ∷ 10 ∷ [] }
-        ensures { MatchResult result (λ rest. IsLineFilled self.old next.entry.line.now next.entry.after.now self.new rest.now)
+        ensures filled { MatchResult result (λ taken. IsLineFilled self.old next.entry.line.now next.entry.after.now self.new taken.after.now)
             (λ e. (e ≡ LineFault.NoMemory) ⊎ IsLineRefused self.old.length next.entry.line.now next.entry.after.now) }
+        ensures stands { IfOk result (λ taken. IsTakenAs taken.stands next.entry.text.now next.entry.after.now self.old.fields self.new.fields
+            taken.after.now) }
     {
         if is_fold_line(next.after) {
-            return self.take_folded(alloc, next.line, next.after);
+            let after = self.take_folded(alloc, next.line, next.after)?;
+            return Ok(Taken::apart(after));
         }
         let Some(value) = behind_space(next.value) else {
-            return self.take_unusual(alloc, next);
+            let after = self.take_unusual(alloc, next)?;
+            return Ok(Taken::apart(after));
         };
         let (name, is_full) = ViewName::of_written(next.name);
         if !is_full {
-            return self.take_unusual(alloc, next);
+            let after = self.take_unusual(alloc, next)?;
+            return Ok(Taken::apart(after));
         }
         if !is_one_field(&name, value) {
             self.take_parts(alloc, next.name, value)?;
-            return Ok(next.after);
+            return Ok(Taken::apart(next.after));
         }
-        self.take_field(name, value, next.text)?;
-        Ok(next.after)
+        let stands = self.take_field(name, value, next.text)?;
+        let after = next.after;
+        Ok(Taken { after, stands })
     }
 }
 
@@ -300,18 +313,25 @@ pub(crate) fn filling_of_head<'a>(
     alloc: Global,
     head: &'a [u8],
 ) -> Result<(Filling<'a>, &'a [u8]), ViewError<'a>>
-    ensures { Gives filled_seen result (head_said head.now) }
+    ensures said { Gives filled_seen result (head_said head.now) }
+    ensures lines { IfOk result (λ x. AreLinesOf x.0.lines x.0.fields) }
 {
     let fields = ViewFields::with_room(alloc, USUAL_FIELDS)?;
     let mut filling = Filling {
         fields,
         length: None,
+        lines: None,
     };
     let mut rest = Slice { bytes: head };
+    let mut run = Run::Going;
     'by_lines: loop {
         if let Some(next) = named_line(rest.bytes) {
             match filling.take_named(alloc, next) {
-                Ok(after) => rest = Slice { bytes: after },
+                Ok(taken) => {
+                    let count = filling.fields.as_slice().len();
+                    go_on(&mut run, taken.stands, count, rest.bytes.len());
+                    rest = Slice { bytes: taken.after };
+                }
                 Err(fault) => return Err(refusal_of(fault, next.after)),
             }
             continue 'by_lines;
@@ -320,10 +340,15 @@ pub(crate) fn filling_of_head<'a>(
             return Err(ViewError::new(ViewRefusal::NotSip));
         };
         if next.line.is_empty() {
+            let count = filling.fields.as_slice().len();
+            filling.lines = lines_in(run, count, head, rest.bytes);
             return Ok((filling, next.after));
         }
         match filling.take_line(alloc, next) {
-            Ok(after) => rest = Slice { bytes: after },
+            Ok(after) => {
+                run = Run::Parted;
+                rest = Slice { bytes: after };
+            }
             Err(fault) => return Err(refusal_of(fault, next.after)),
         }
     }

@@ -27,6 +27,7 @@ mod marks;
 mod part_field;
 mod parting;
 mod reading;
+mod stands;
 mod start_line;
 mod text_run;
 mod viewing;

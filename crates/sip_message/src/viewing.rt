@@ -36,8 +36,13 @@ fn view_of_datagram<'a>(alloc: Global, bytes: &'a [u8]) -> Result<View<'a>, View
         return Err(ViewError::new(ViewRefusal::NotSip));
     };
     let start = start_of_line(alloc, line)?;
-    let (Filling { fields, length }, rest) = filling_of_head(alloc, head)?;
-    let view = View::new(start, fields, body_part(length, rest));
+    let (filling, rest) = filling_of_head(alloc, head)?;
+    let Filling {
+        fields,
+        length,
+        lines,
+    } = filling;
+    let view = View::of_lines(start, fields, lines, body_part(length, rest));
     within_limits(is_cut_short(length, rest), view)
 }
 

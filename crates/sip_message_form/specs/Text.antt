@@ -1,5 +1,6 @@
 -- The written form of a message (RFC 3261 7).
-use Rattle.std.specs.Prelude.{ℕ, List, ◌++◌, length, codes, decimal}
+use Rattle.std.specs.Prelude.{◌≡◌, ℕ, List, ◌++◌, length, codes, decimal, Option, IfSome}
+use denote.Ref.{Bor}
 use Rattle.std.specs.List.{flat_map}
 use Rattle.sip_message_fields.specs.declared.field.Field.{Field}
 use Rattle.sip_message_form.specs.declared.message.Start.{Start}
@@ -19,6 +20,10 @@ field_line f = spelling f.name ++ codes ": " ++ f.value
 -- a field with its CRLF
 abbrev pub field_text : Field → List ℕ
 field_text f = field_line f ++ codes "\r\n"
+
+-- bytes, if there are some, are the lines of fields, each with its CRLF, one behind the other
+abbrev pub AreLinesOf : Option (Bor (List ℕ)) → List Field → Type 0
+AreLinesOf lines fields = IfSome lines (λ l. l.now ≡ flat_map field_text fields)
 
 -- start line, fields, the length of the body, the empty line, the body (RFC 3261 7; Content-Length last: this project's profile)
 abbrev pub text_of : Message → List ℕ

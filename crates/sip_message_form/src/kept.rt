@@ -1,7 +1,7 @@
 ghost use Rattle.std.specs.Prelude.{◌≡◌, IfOk, All, drop, map};
 ghost use Rattle.sip_message_fields.specs.Values;
 ghost use Rattle.sip_message_fields.specs.KeptField.{field_kept, IsStored};
-ghost use Rattle.sip_message_form.specs.Text.{text_of};
+ghost use Rattle.sip_message_form.specs.Text.{text_of, AreLinesOf};
 ghost use Rattle.sip_message_form.specs.ViewStart.{start_seen};
 
 use crate::kept_start::{KeptStart, start_in};
@@ -10,7 +10,7 @@ use crate::lengths::rest_length;
 use crate::message_view::View;
 use crate::view_length::first_line_length;
 use crate::view_start::ViewStart;
-use crate::view_writing::put_fields;
+use crate::view_writing::put_lines;
 use sip_message_fields::{
     FieldName, KeptField, ViewField, ViewFields, fields_in, fields_in_with_first, lines_at,
 };
@@ -44,15 +44,17 @@ fn written(
     alloc: Global,
     start: &ViewStart<'_>,
     fields: &[ViewField<'_>],
+    known_lines: Option<&[u8]>,
     body: &[u8],
 ) -> Result<Kept, AllocError>
+    requires { AreLinesOf known_lines fields.now }
     ensures { IfOk result (λ kept. kept ≡ record { start = start_seen start.now; fields = fields.now; body = body.now }) }
 {
     let lines = lines_at(alloc, fields, first_line_length(start)?)?;
     let room = lines.end.saturating_add(rest_length(body.len()));
     let mut store = Buffer::with_room(alloc, room)?;
     let first_line = put_start_line(&mut store, start)?;
-    put_fields(&mut store, fields)?;
+    put_lines(&mut store, fields, known_lines)?;
     let span = put_body_text(&mut store, body)?;
     Ok(Kept {
         store,
@@ -68,7 +70,8 @@ impl Kept {
     pub fn of(alloc: Global, view: &View<'_>) -> Result<Self, AllocError>
         ensures { IfOk result (λ kept. kept ≡ view.now) }
     {
-        written(alloc, view.start(), view.fields().as_slice(), view.body())
+        let fields = view.fields().as_slice();
+        written(alloc, view.start(), fields, view.lines(), view.body())
     }
 
     /// The message of a view without its first field. `AllocError` is the only refusal.
@@ -77,8 +80,11 @@ impl Kept {
     {
         let fields = view.fields().as_slice();
         match fields.split_first() {
-            Some((_, others)) => written(alloc, view.start(), others, view.body()),
-            None => written(alloc, view.start(), fields, view.body()),
+            Some((_, others)) => {
+                let lines = view.lines_behind_first();
+                written(alloc, view.start(), others, lines, view.body())
+            }
+            None => written(alloc, view.start(), fields, None, view.body()),
         }
     }
 

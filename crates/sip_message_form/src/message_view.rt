@@ -1,17 +1,21 @@
-ghost use Rattle.std.specs.Prelude.{◌≡◌, IfOk};
+ghost use Rattle.std.specs.Prelude.{◌≡◌, ◌∷◌, IfOk, List, drop};
+ghost use Rattle.sip_message_fields.specs.declared.field.Field.{Field};
+ghost use Rattle.sip_message_form.specs.Text.{AreLinesOf};
 ghost use Rattle.sip_message_form.specs.ViewStart.{start_seen};
 
 use crate::message::Message;
 use crate::view_start::ViewStart;
-use sip_message_fields::ViewFields;
+use sip_message_fields::{ViewField, ViewFields};
 use sip_text::Bytes;
 use std::alloc::{AllocError, Global};
 use std::marker::Model;
 
-/// A message as parts of a datagram or of another message, seen as that message.
+/// A message as parts of a datagram or of another message, seen as that message. Where the lines of its fields stand so in
+/// what was read, one behind the other, it has these, too: they are counted and copied as a whole.
 pub struct View<'a> {
     start: ViewStart<'a>,
     fields: ViewFields<'a>,
+    lines: Option<&'a [u8]>,
     body: &'a [u8],
 }
 
@@ -21,6 +25,7 @@ impl<'a> Drop for View<'a> {
         let View {
             start: _,
             fields: _,
+            lines: _,
             body: _,
         } = self;
     }
@@ -29,10 +34,25 @@ impl<'a> Drop for View<'a> {
 impl<'a> Model for View<'a> {
     ghost use Rattle.sip_message_form.specs.declared.message.Message.{Message};
     ghost use Rattle.sip_message_form.specs.ViewStart.{start_seen};
+    ghost use Rattle.sip_message_form.specs.Text.{AreLinesOf};
 
     ghost Value = { Message };
 
     ghost view = { λ v. record { start = start_seen v.start; fields = v.fields; body = v.body.now } };
+
+    ghost invariant = { λ v. AreLinesOf v.lines v.fields };
+}
+
+/// The lines of the fields behind the first one, where those of all are known.
+fn lines_behind<'a>(first: &ViewField<'_>, lines: Option<&'a [u8]>) -> Option<&'a [u8]>
+    ensures { (others : List Field) → AreLinesOf lines.entry (first.now ∷ others) → AreLinesOf result others }
+{
+    let lines = lines?;
+    let line = first.line()?;
+    if line.len() > lines.len() {
+        return None;
+    }
+    Some(&lines[line.len()..])
 }
 
 impl<'a> View<'a> {
@@ -43,6 +63,26 @@ impl<'a> View<'a> {
         View {
             start,
             fields,
+            lines: None,
+            body,
+        }
+    }
+
+    /// The message of a first line, fields, of which these are the lines where they stand so in what was read, one behind the
+    /// other, and a body.
+    pub fn of_lines(
+        start: ViewStart<'a>,
+        fields: ViewFields<'a>,
+        lines: Option<&'a [u8]>,
+        body: &'a [u8],
+    ) -> Self
+        requires { AreLinesOf lines fields }
+        ensures { result ≡ record { start = start_seen start.entry; fields = fields.entry; body = body.now } }
+    {
+        View {
+            start,
+            fields,
+            lines,
             body,
         }
     }
@@ -59,6 +99,24 @@ impl<'a> View<'a> {
         ensures { result.now ≡ self.now.fields }
     {
         &self.fields
+    }
+
+    /// The lines of its fields, where they stand so in what was read, one behind the other.
+    #[inline]
+    pub(crate) fn lines(&self) -> Option<&[u8]>
+        ensures { AreLinesOf result self.now.fields }
+    {
+        self.lines
+    }
+
+    /// The lines of its fields behind the first one, where those of all are known.
+    pub(crate) fn lines_behind_first(&self) -> Option<&[u8]>
+        ensures { AreLinesOf result (drop 1 self.now.fields) }
+    {
+        match self.fields.as_slice().split_first() {
+            Some((first, _others)) => lines_behind(first, self.lines),
+            None => None,
+        }
     }
 
     /// Its body.

@@ -64,7 +64,10 @@ impl<'a> View<'a> {
         ensures { result ≡ min (length (text_of self.now)) (2 ^ 64 - 1) }
     {
         let start = start_length(self.start());
-        let fields = fields_length(self.fields().as_slice());
+        let fields = match self.lines() {
+            Some(lines) => lines.len(),
+            None => fields_length(self.fields().as_slice()),
+        };
         whole_length(start, fields, self.body().len())
     }
 }

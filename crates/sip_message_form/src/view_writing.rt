@@ -1,6 +1,6 @@
 ghost use Rattle.std.specs.Prelude.{◌≡◌, ◌++◌, IfOk, OnOk};
 ghost use Rattle.std.specs.List.{flat_map};
-ghost use Rattle.sip_message_form.specs.Text.{start_text, field_text, text_of};
+ghost use Rattle.sip_message_form.specs.Text.{start_text, field_text, text_of, AreLinesOf};
 ghost use Rattle.sip_message_form.specs.ViewStart.{start_seen};
 
 use crate::message_view::View;
@@ -44,13 +44,28 @@ pub fn put_fields(out: &mut Buffer, fields: &[ViewField<'_>]) -> Result<(), Allo
     Ok(())
 }
 
+/// Puts each field with its CRLF, by their lines where these are known. `AllocError` is the only refusal.
+pub(crate) fn put_lines(
+    out: &mut Buffer,
+    fields: &[ViewField<'_>],
+    lines: Option<&[u8]>,
+) -> Result<(), AllocError>
+    requires { AreLinesOf lines fields.now }
+    ensures { OnOk result (out.new ≡ out.old ++ flat_map field_text fields.now) }
+{
+    match lines {
+        Some(lines) => out.extend(lines),
+        None => put_fields(out, fields),
+    }
+}
+
 /// Puts the written form of a view.
 fn put_view(out: &mut Buffer, view: &View<'_>) -> Result<(), AllocError>
     ensures { OnOk result (out.new ≡ out.old ++ text_of view.now) }
 {
     put_start(out, view.start())?;
     out.extend(b"\r\n")?;
-    put_fields(out, view.fields().as_slice())?;
+    put_lines(out, view.fields().as_slice(), view.lines())?;
     put_body(out, view.body())
 }
 
