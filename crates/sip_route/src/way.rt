@@ -136,6 +136,18 @@ fn may_have_parameters(uri: &[u8]) -> bool
     split_once(uri, b';').is_some()
 }
 
+/// The same of a Request-URI that is parsed. It stands apart, so that no room is made for a URI where none is parsed.
+#[inline(never)]
+fn is_parsed_record_route(alloc: Global, own: &Own, uri: &[u8]) -> Result<bool, AllocError>
+    ensures { IfOk result (λ is_own. is_own ≡ Ways.came_strictly own.now uri.now) }
+{
+    match parse_uri(alloc, uri) {
+        Ok(uri) => is_record_route(alloc, own, &uri),
+        Err(UriError::NoMemory) => Err(AllocError),
+        Err(_) => Ok(false),
+    }
+}
+
 /// Whether a Request-URI is one that this server put into Record-Route. Only one that may be is parsed, since a long
 /// one costs much to parse.
 fn came_strictly(alloc: Global, own: &Own, uri: &[u8]) -> Result<bool, AllocError>
@@ -144,11 +156,7 @@ fn came_strictly(alloc: Global, own: &Own, uri: &[u8]) -> Result<bool, AllocErro
     if !may_be_own(own, uri) || !may_have_parameters(uri) {
         return Ok(false);
     }
-    match parse_uri(alloc, uri) {
-        Ok(uri) => is_record_route(alloc, own, &uri),
-        Err(UriError::NoMemory) => Err(AllocError),
-        Err(_) => Ok(false),
-    }
+    is_parsed_record_route(alloc, own, uri)
 }
 
 /// The Route that takes the place of a Request-URI.
