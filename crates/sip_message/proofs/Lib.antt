@@ -24,6 +24,7 @@ pub mod Spaced
 pub mod Names
 pub mod NamedLines
 pub mod StandingLines
+pub mod UsualStarts
 pub mod OneValue
 pub mod HeadFills
 pub mod ViewLaws

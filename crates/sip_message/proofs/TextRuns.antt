@@ -1,4 +1,4 @@
--- A front of bytes of which each may stand in a value.
+-- A front of bytes that pass a test, as those do that may stand in a value.
 use Rattle.std.proofs.Common.{◌≡◌, ℕ, ◌+◌, ◌<◌, ◌≤◌, Bool, true, false, List, [], ◌∷◌, ◌++◌, length, take, drop, get_or, Some, refl, sym, ap, subst, ◌∙◌, arith, inl, inr}
 use Rattle.std.specs.Prelude.{◌==◌, ◌&&◌}
 use Rattle.std.specs.List.{list_all}
@@ -10,36 +10,36 @@ use Rattle.sip_message.specs.Field.{is_text}
 use Rattle.sip_message.specs.Lines.{is_crlf, line_at}
 use Rattle.sip_message.specs.Named.{IsNamed}
 
--- the bytes before a place may stand in a value
-pub record IsTextBefore (bytes : List ℕ) (end : ℕ) : Type 0 where
+-- the bytes before a place pass a test
+pub record PassesBefore (test : ℕ → Bool) (bytes : List ℕ) (end : ℕ) : Type 0 where
   pub within : end ≤ length bytes
-  pub pass : AllPassBetween is_text bytes 0 end
+  pub pass : AllPassBetween test bytes 0 end
 
-pub begins_text : (bytes : List ℕ) → IsTextBefore bytes 0
-begins_text bytes = record { within = omega arith; pass = λ k from to. absurd (omega arith) }
+pub begins_run : (test : ℕ → Bool) (bytes : List ℕ) → PassesBefore test bytes 0
+begins_run test bytes = record { within = omega arith; pass = λ k from to. absurd (omega arith) }
 
-pub text_more : (bytes : List ℕ) (end run next : ℕ) → IsTextBefore bytes end → PassesIn is_text bytes end 16 run → end + 16 ≤ length bytes → next ≡ end + run → IsTextBefore bytes next
-text_more bytes end run next so_far more fits is = record {
+pub run_more : (test : ℕ → Bool) (bytes : List ℕ) (end run next : ℕ) → PassesBefore test bytes end → PassesIn test bytes end 16 run → end + 16 ≤ length bytes → next ≡ end + run → PassesBefore test bytes next
+run_more test bytes end run next so_far more fits is = record {
   within = omega (arith, is, more.0);
   pass = λ k from to. elim (cases_lt k end) [ inl early ↦ so_far.pass k from early | inr late ↦ more.1 k late (omega (arith, is)) ];
 }
 
-pub text_next : (bytes : List ℕ) (end next : ℕ) → IsTextBefore bytes end → end < length bytes → is_text (get_or bytes end 0) ≡ true → next ≡ end + 1 → IsTextBefore bytes next
-text_next bytes end next so_far fits here is = record {
+pub run_next : (test : ℕ → Bool) (bytes : List ℕ) (end next : ℕ) → PassesBefore test bytes end → end < length bytes → test (get_or bytes end 0) ≡ true → next ≡ end + 1 → PassesBefore test bytes next
+run_next test bytes end next so_far fits here is = record {
   within = omega (arith, is);
   pass = λ k from to. elim (cases_lt k end) [
     | inl early ↦ so_far.pass k from early
     | inr late ↦
         let same : k ≡ end = omega (arith, is) in
-        subst (λ (n : ℕ). is_text (get_or bytes n 0) ≡ true) (sym same) here
+        subst (λ (n : ℕ). test (get_or bytes n 0) ≡ true) (sym same) here
   ];
 }
 
-pub text_front : (bytes : List ℕ) (end : ℕ) → IsTextBefore bytes end → list_all is_text (take end bytes) ≡ true
-text_front bytes end is =
-    all_pass is_text (take end bytes) (λ k from to.
+pub run_front : (test : ℕ → Bool) (bytes : List ℕ) (end : ℕ) → PassesBefore test bytes end → list_all test (take end bytes) ≡ true
+run_front test bytes end is =
+    all_pass test (take end bytes) (λ k from to.
     let below : k < end = omega (arith, length-take end bytes) in
-    subst (λ (b : ℕ). is_text b ≡ true) (sym (get_or-take end bytes k 0 below)) (is.pass k from below))
+    subst (λ (b : ℕ). test b ≡ true) (sym (get_or-take end bytes k 0 below)) (is.pass k from below))
 
 -- ---- the line that it is
 

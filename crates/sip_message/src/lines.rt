@@ -139,7 +139,7 @@ pub(crate) fn named_line(bytes: &[u8]) -> Option<NamedLine<'_>>
     ensures text { IfSome result (λ x. list_all is_text x.value.now ≡ true) }
     ensures whole { IfSome result (λ x. x.text.now ≡ x.line.now ++ 13 ∷ 10 ∷ []) }
 {
-    let at = name_end(bytes)?;
+    let at = name_end(bytes, b':')?;
     let (value, after) = text_line(slice_from(bytes, at + 1))?;
     Some(NamedLine {
         line: slice_before(bytes, at + 1 + value.len()),
@@ -157,7 +157,7 @@ fn other_text_line(bytes: &[u8]) -> Option<(&[u8], &[u8])>
     ensures line { IfSome result (λ x. Some (x.0.now, x.1.now) ≡ line_at bytes.now) }
     ensures text { IfSome result (λ x. list_all is_text x.0.now ≡ true) }
 {
-    if name_end(bytes).is_some() {
+    if name_end(bytes, b':').is_some() {
         return None;
     }
     text_line(bytes)

@@ -1,4 +1,4 @@
-ghost use Rattle.std.specs.Prelude.{◌≡◌, Ok};
+ghost use Rattle.std.specs.Prelude.{◌≡◌, Ok, IfSome, Some};
 ghost use Rattle.std.specs.List.{list_all};
 ghost use Rattle.std.specs.Option.{ok_or, option_and_then};
 ghost use Rattle.std.specs.Char.{is_ascii_digit};
@@ -9,6 +9,7 @@ ghost use Rattle.sip_message_form.specs.ViewStart.{start_seen};
 ghost use Rattle.sip_message.specs.Reading.{Gives};
 ghost use Rattle.sip_message_form.specs.declared.error.ReadError.TheVariants.{NotSip};
 
+use crate::text_run::{name_end, visible_length};
 use sip_message_fields::Value;
 use sip_message_form::{ViewError, ViewRefusal, ViewStart};
 use sip_text::{Bytes, decimal, is_token, same_bytes, same_no_case, split_once};
@@ -146,6 +147,28 @@ fn request_from<'a>(
     })
 }
 
+/// A request line as most write it: the method is few letters, and the version is `SIP/2.0` in upper case. No space is looked
+/// for in it. None says nothing.
+fn usual_request(line: &[u8]) -> Option<ViewStart<'_>>
+    ensures { IfSome result (λ start. start_of line.now ≡ Some (start_seen start)) }
+{
+    let (method, behind) = line.split_at(name_end(line, b' ')?);
+    let (_, behind) = behind.split_at(1);
+    let (uri, behind) = behind.split_at(visible_length(behind));
+    if uri.is_empty() {
+        return None;
+    }
+    if !same_bytes(behind, b" SIP/2.0") {
+        return None;
+    }
+    let (_, version) = behind.split_at(1);
+    Some(ViewStart::Request {
+        method,
+        uri,
+        version: Value::of_part(version),
+    })
+}
+
 /// A line cut at its first two spaces.
 fn three_words(line: &[u8]) -> Option<(&[u8], &[u8], &[u8])>
     ensures { option_and_then (λ x. start_from x.0.now x.1.now x.2.now) result ≡ start_of line.now }
@@ -163,6 +186,9 @@ pub(crate) fn start_of_line<'a>(
 ) -> Result<ViewStart<'a>, ViewError<'a>>
     ensures { Gives start_seen result (ok_or (start_of line.now) NotSip) }
 {
+    if let Some(start) = usual_request(line) {
+        return Ok(start);
+    }
     let Some((first, second, third)) = three_words(line) else {
         return Err(ViewError::new(ViewRefusal::NotSip));
     };

@@ -2,6 +2,7 @@ ghost use Rattle.std.specs.Prelude.{◌≡◌, ◌+◌, ◌<◌, ◌≤◌, true
 ghost use Rattle.std.specs.List.{list_all};
 ghost use Rattle.httparse.specs.Pieces.{PassesIn, first_set};
 ghost use Rattle.sip_message.specs.Field.{is_text};
+ghost use Rattle.sip_message.specs.Start.{is_visible};
 ghost use Rattle.sip_text.specs.Words.{is_token_byte};
 
 use sip_text::split_token;
@@ -62,6 +63,46 @@ pub(crate) fn text_length(bytes: &[u8]) -> usize
     end
 }
 
+/// How many of the bytes from a place on, of those that are looked at at once, are from `!` to `~`, up to the first that
+/// isn't.
+#[inline(always)]
+fn visible_in_lanes(bytes: &[u8], at: usize) -> usize
+    requires { at + 16 ≤ length bytes.now }
+    ensures { PassesIn is_visible bytes.now at 16 result }
+{
+    let lanes = u8x16::from_slice(&bytes[at..]);
+    let stops = (lanes - u8x16::splat(b'!')).simd_ge(u8x16::splat(94));
+    first_set(stops.to_bitmask())
+}
+
+/// Whether a byte is one from `!` to `~`.
+#[inline]
+fn is_visible_byte(byte: u8) -> bool
+    ensures { result ≡ true → is_visible byte ≡ true }
+{
+    (b'!'..=b'~').contains(&byte)
+}
+
+/// How many bytes from `!` to `~` stand at the front.
+#[inline]
+pub(crate) fn visible_length(bytes: &[u8]) -> usize
+    ensures within { result ≤ length bytes.now }
+    ensures visible { list_all is_visible (take result bytes.now) ≡ true }
+{
+    let mut end = 0;
+    'by_lanes: while bytes.len() - end >= LANES {
+        let run = visible_in_lanes(bytes, end);
+        if run < LANES {
+            return end + run;
+        }
+        end += LANES;
+    }
+    while end < bytes.len() && is_visible_byte(bytes[end]) {
+        end += 1;
+    }
+    end
+}
+
 /// How many letters and dashes stand at the front of bytes, of those that are looked at at once.
 #[inline(always)]
 fn letters_in_lanes(bytes: &[u8]) -> usize
@@ -74,14 +115,14 @@ fn letters_in_lanes(bytes: &[u8]) -> usize
     first_set(stops.to_bitmask())
 }
 
-/// Where a `:` stands at once behind letters and dashes at the front, of the bytes that are looked at at once. None says
+/// Where a mark stands at once behind letters and dashes at the front, of the bytes that are looked at at once. None says
 /// nothing.
 #[inline(always)]
 #[tactic(auto, using(crate::proofs::Names::letters))]
-pub(crate) fn name_end(bytes: &[u8]) -> Option<usize>
+pub(crate) fn name_end(bytes: &[u8], mark: u8) -> Option<usize>
     ensures within { IfSome result (λ at. (0 < at) × (at < length bytes.now)) }
     ensures token { IfSome result (λ at. list_all is_token_byte (take at bytes.now) ≡ true) }
-    ensures mark { IfSome result (λ at. slice_index bytes.now at ≡ 58) }
+    ensures mark { IfSome result (λ at. slice_index bytes.now at ≡ mark) }
 {
     if bytes.len() < LANES {
         return None;
@@ -93,7 +134,7 @@ pub(crate) fn name_end(bytes: &[u8]) -> Option<usize>
     if at >= LANES {
         return None;
     }
-    if bytes[at] != b':' {
+    if bytes[at] != mark {
         return None;
     }
     Some(at)

@@ -1,15 +1,16 @@
 use Rattle.std.proofs.Common.{◌-◌, length}
-use Rattle.sip_message.proofs.TextRuns.{IsTextBefore}
+use Rattle.sip_message.specs.Field.{is_text}
+use Rattle.sip_message.proofs.TextRuns.{PassesBefore}
 use Rattle.sip_message.proofs.text_run.text_length.Given as goal
 
 abbrev pub invariant-by_lanes : goal.invariant-by_lanes
-invariant-by_lanes l = IsTextBefore l.bytes l.end
+invariant-by_lanes l = PassesBefore is_text l.bytes l.end
 
 abbrev pub decreases-by_lanes : goal.decreases-by_lanes
 decreases-by_lanes l = length l.bytes - l.end
 
 abbrev pub invariant-loop-end : goal.invariant-loop-end
-invariant-loop-end l = IsTextBefore l.bytes l.end
+invariant-loop-end l = PassesBefore is_text l.bytes l.end
 
 abbrev pub decreases-loop-end : goal.decreases-loop-end
 decreases-loop-end l = length l.bytes - l.end
