@@ -83,6 +83,9 @@ impl AddressTable {
         ensures { result ≡ option_map (λ row. row.address) (find (is_row_for host.now port) self.now) }
     {
         let rows = self.rows.as_slice();
+        if rows.is_empty() {
+            return None;
+        }
         let mut place = self.firsts.get(&code_of(host, port)).copied();
         while let Some(at) = place {
             let row = &rows[at];
