@@ -22,18 +22,26 @@ with_by : (to : NameAddr) (tag : List ℕ) (core : Option CoreFields) → tag_of
 with_by to tag None is = refl
 with_by to tag (Some c) is = ap (λ (t : Option (List ℕ)). option_map (λ tag. record { call_id = c.call_id; from_tag = (names_of c).from_tag; to_tag = tag }) t) (sym is)
 
-pub with_tag : (r : OpenRequest) (answer : Message) (to : NameAddr) (tag : List ℕ) → Some to ≡ result_ok (name_addr_in Name.To answer.fields) → Some tag ≡ tag_of to.parameters
+-- the tag of an answer's To
+abbrev tag_in : Option NameAddr → Option (List ℕ)
+tag_in to = option_and_then (λ (to : NameAddr). tag_of to.parameters) to
+
+with_to : (to : Option NameAddr) (tag : List ℕ) (core : Option CoreFields) → Some tag ≡ tag_in to → dialog_to tag (option_map names_of core) ≡ named to core
+with_to None tag core is = absurd cc
+with_to (Some to) tag core is = with_by to tag core (sym is)
+
+pub with_tag : (r : OpenRequest) (answer : Message) (tag : List ℕ) → Some tag ≡ option_and_then (λ (to : NameAddr). tag_of to.parameters) (result_ok (name_addr_in Name.To answer.fields))
     → dialog_to tag (names_in r.request) ≡ answered_dialog r answer
-with_tag r answer to tag is_to is_tag = with_by to tag (result_ok (core_of r.request)) (sym is_tag) ∙ ap (λ (o : Option NameAddr). named o (result_ok (core_of r.request))) is_to
+with_tag r answer tag is = with_to (result_ok (name_addr_in Name.To answer.fields)) tag (result_ok (core_of r.request)) is
 
 none_by : (to : Option NameAddr) (core : Option CoreFields) → ((c : CoreFields) → option_and_then (id_with c.call_id c.from) to ≡ None) → None ≡ named to core
 none_by to None none = refl
 none_by to (Some c) none = sym (none c)
 
-pub without_tag : (r : OpenRequest) (answer : Message) (to : NameAddr) → Some to ≡ result_ok (name_addr_in Name.To answer.fields) → None ≡ tag_of to.parameters → None ≡ answered_dialog r answer
-without_tag r answer to is_to is_tag =
-    none_by (Some to) (result_ok (core_of r.request)) (λ c. ap (λ (t : Option (List ℕ)). option_map (λ tag. record { call_id = c.call_id; from_tag = (names_of c).from_tag; to_tag = tag }) t) (sym is_tag))
-    ∙ ap (λ (o : Option NameAddr). named o (result_ok (core_of r.request))) is_to
+without : (to : Option NameAddr) (core : Option CoreFields) → None ≡ tag_in to → None ≡ named to core
+without None core is = none_by None core (λ c. refl)
+without (Some to) core is =
+    none_by (Some to) core (λ c. ap (λ (t : Option (List ℕ)). option_map (λ tag. record { call_id = c.call_id; from_tag = (names_of c).from_tag; to_tag = tag }) t) (sym is))
 
-pub without_to : (r : OpenRequest) (answer : Message) → None ≡ result_ok (name_addr_in Name.To answer.fields) → None ≡ answered_dialog r answer
-without_to r answer is_to = none_by None (result_ok (core_of r.request)) (λ c. refl) ∙ ap (λ (o : Option NameAddr). named o (result_ok (core_of r.request))) is_to
+pub without_tag : (r : OpenRequest) (answer : Message) → None ≡ option_and_then (λ (to : NameAddr). tag_of to.parameters) (result_ok (name_addr_in Name.To answer.fields)) → None ≡ answered_dialog r answer
+without_tag r answer is = without (result_ok (name_addr_in Name.To answer.fields)) (result_ok (core_of r.request)) is

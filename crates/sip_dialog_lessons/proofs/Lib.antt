@@ -3,3 +3,5 @@ pub mod OneTo
 pub mod Order
 pub mod Told
 pub mod PlainAddresses
+pub mod PlainTags
+pub mod ToTags

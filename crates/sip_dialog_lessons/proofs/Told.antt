@@ -1,6 +1,6 @@
 -- What the lessons of answers and requests make of the dialogs.
-use Rattle.std.proofs.Common.{◌≡◌, ℕ, ◌+◌, ◌<◌, ◌≤◌, Bool, true, false, cond, ltb, List, [], ◌∷◌, ◌++◌, length, drop, get_or, Option, Some, refl, sym, ◌∙◌, ap, arith}
-use Rattle.std.specs.Prelude.{◌&&◌, codes, count_by, nat_le}
+use Rattle.std.proofs.Common.{◌≡◌, ℕ, ◌+◌, ◌<◌, ◌≤◌, Bool, true, false, cond, ltb, List, [], ◌∷◌, ◌++◌, length, drop, get_or, Option, Some, None, refl, sym, ◌∙◌, ap, arith}
+use Rattle.std.specs.Prelude.{◌&&◌, codes, count_by, nat_le, is_some}
 use Rattle.std.specs.Option.{option_map_or}
 use Rattle.std.specs.List.{list_any}
 use Rattle.std.specs.Str.{bytes_eq}
@@ -74,6 +74,15 @@ pub within_told : (server : Server) (now : ℕ) (r : OpenRequest) (u : Upward) (
     → after ≡ Dialogs.after_answer_within server now r u id dialogs → after ≡ Dialogs.after_answer server now r u dialogs
 within_told server now r u id after dialogs lt named is =
     is ∙ ap (λ (o : Option DialogId). Dialogs.after_answer_of server now r u o dialogs) named ∙ if_false (nat_le u.status 100) _ _ (is_above u.status 100 lt)
+
+no_dialog : (o : Option DialogId) → is_some o ≡ false → None ≡ o
+no_dialog None e = refl
+no_dialog (Some id) e = absurd (cc)
+
+pub unnamed_told : (server : Server) (now : ℕ) (r : OpenRequest) (u : Upward) (after dialogs : List Dialog) → 100 < u.status → is_some (Dialogs.dialog_of r.request) ≡ false
+    → after ≡ Dialogs.after_first_answer server now r u dialogs → after ≡ Dialogs.after_answer server now r u dialogs
+unnamed_told server now r u after dialogs lt unnamed is =
+    is ∙ ap (λ (o : Option DialogId). Dialogs.after_answer_of server now r u o dialogs) (no_dialog (Dialogs.dialog_of r.request) unnamed) ∙ if_false (nat_le u.status 100) _ _ (is_above u.status 100 lt)
 
 -- ---- lists
 

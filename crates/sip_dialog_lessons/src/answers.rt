@@ -148,6 +148,29 @@ fn put_first(
     Ok(())
 }
 
+/// Adds what an answer above 100 tells whose request names a dialog. It stands apart, so that no room is made for a name
+/// where none is copied.
+#[inline(never)]
+fn put_named(
+    alloc: Global,
+    hops: &Hops,
+    list: &mut Vec<Lesson>,
+    request: &OpenRequest,
+    up: &Upward,
+) -> Result<(), AllocError>
+    requires { 100 < up.now.status }
+    ensures told { OnOk result (Adds hops.now.addresses list.old.items list.new.items
+        (λ server now dialogs. Dialogs.after_answer server now request.now up.now dialogs)) }
+    ensures room { OnOk result (beginnings list.new.items ≤ beginnings list.old.items + (if is_early_or_success up.now then 1 else 0)) }
+{
+    let Some(id) = request.request.get().dialog(alloc)? else {
+        put_first(alloc, hops, list, request, up)?;
+        return Ok(());
+    };
+    put_within(alloc, hops, list, request, up, id)?;
+    Ok(())
+}
+
 /// Adds what an answer tells that goes to the caller of a request.
 pub(crate) fn put_answer(
     alloc: Global,
@@ -163,10 +186,11 @@ pub(crate) fn put_answer(
     if up.status <= 100 {
         return Ok(());
     }
-    let Some(id) = request.request.get().dialog(alloc)? else {
-        put_first(alloc, hops, list, request, up)?;
+    let is_within = request.request.get().names_dialog(alloc)?;
+    if is_within {
+        put_named(alloc, hops, list, request, up)?;
         return Ok(());
-    };
-    put_within(alloc, hops, list, request, up, id)?;
+    }
+    put_first(alloc, hops, list, request, up)?;
     Ok(())
 }

@@ -106,7 +106,24 @@ fn field_in<'k>(store: &'k [u8], kept: &KeptField) -> ViewField<'k>
     ViewField::new(name, Value::of_part(kept.value.of(store)))
 }
 
+/// The address that a field gives which is kept so in a store and may give one. It stands apart, so that no room is made
+/// for the view of another.
+#[inline(never)]
+fn given_address(
+    alloc: Global,
+    hops: &Hops,
+    store: &[u8],
+    kept: &KeptField,
+) -> Result<Option<Addr>, AllocError>
+    requires { IsStored store.now kept.now }
+    ensures { IfOk result (λ address. address ≡ Given.address_in (address_of hops.now.addresses) (field_kept store.now kept.now)) }
+{
+    let field = field_in(store, kept);
+    address_in(alloc, hops, &field)
+}
+
 /// The address that a field which is kept so in a store gives.
+#[inline(always)]
 #[tactic(auto, using(crate::proofs::PlainAddresses::no_address))]
 fn kept_address(
     alloc: Global,
@@ -120,8 +137,7 @@ fn kept_address(
     if !may_give(kept) {
         return Ok(None);
     }
-    let field = field_in(store, kept);
-    address_in(alloc, hops, &field)
+    given_address(alloc, hops, store, kept)
 }
 
 /// Adds the addresses that a kept message gives. Of its fields only those are viewed that may give one.

@@ -14,6 +14,7 @@ pub mod laws;
 mod lesson;
 mod lessons;
 mod naming;
+mod tags;
 mod taking;
 
 pub use given::addresses_of;

@@ -1,14 +1,16 @@
 ghost use Rattle.std.specs.Prelude.{◌≡◌, All, map, option_map, count_by, IfOk};
+ghost use Rattle.std.specs.Option.{option_and_then};
 ghost use Rattle.std.specs.Result.{result_ok};
 ghost use Rattle.sip_message_fields.specs.declared.field_name.FieldName.TheVariants as Name;
 ghost use Rattle.sip_message_fields.specs.FieldName.{is_same_name};
 ghost use Rattle.sip_message_fields.specs.KeptField.{field_kept, IsStored};
 ghost use Rattle.sip_message_fields.specs.Values.{first_value};
 ghost use Rattle.sip_header.specs.CoreFields.{name_addr_in};
+ghost use Rattle.sip_header.specs.Parameters.{tag_of};
 ghost use Rattle.sip_state.specs.Dialogs as Dialogs;
 
+use crate::tags::written_tag_of;
 use sip_dialog::DialogId;
-use sip_header::{WrittenAddress, tag_of, written_address_of};
 use sip_message_fields::{KeptField, KnownName};
 use sip_message_form::Kept;
 use sip_state::OpenRequest;
@@ -53,10 +55,11 @@ fn count_of_to(store: &[u8], list: &[KeptField]) -> usize
     count
 }
 
-/// What the one To of a kept message says, if there is one.
-#[tactic(auto, using(crate::proofs::OneTo::none_there, crate::proofs::OneTo::several_there, crate::proofs::OneTo::one_there))]
-fn to_of<'v>(alloc: Global, message: &'v Kept) -> Result<Option<WrittenAddress<'v>>, AllocError>
-    ensures { IfOk result (λ to. to ≡ result_ok (name_addr_in Name.To message.now.fields)) }
+/// The tag of the one To of a kept message, if there is one and it has a tag.
+#[tactic(auto, using(crate::proofs::ToTags::none_there, crate::proofs::ToTags::several_there, crate::proofs::ToTags::one_there))]
+fn to_tag_of(alloc: Global, message: &Kept) -> Result<Option<&[u8]>, AllocError>
+    ensures { IfOk result (λ tag. option_map (λ x. x.now) tag
+        ≡ option_and_then (λ to. tag_of to.parameters) (result_ok (name_addr_in Name.To message.now.fields))) }
 {
     let (store, list) = message.places();
     let Some(value) = first_to(store, list) else {
@@ -65,11 +68,12 @@ fn to_of<'v>(alloc: Global, message: &'v Kept) -> Result<Option<WrittenAddress<'
     if 1 < count_of_to(store, list) {
         return Ok(None);
     }
-    written_address_of(alloc, value)
+    let tag = written_tag_of(alloc, value)?;
+    Ok(tag)
 }
 
 /// The dialog that an answer names for an open INVITE (RFC 3261 12.1.1). `AllocError` is the only refusal.
-#[tactic(auto, using(crate::proofs::Answered::with_tag, crate::proofs::Answered::without_tag, crate::proofs::Answered::without_to))]
+#[tactic(auto, using(crate::proofs::Answered::with_tag, crate::proofs::Answered::without_tag))]
 pub fn answered_dialog(
     alloc: Global,
     request: &OpenRequest,
@@ -77,10 +81,7 @@ pub fn answered_dialog(
 ) -> Result<Option<DialogId>, AllocError>
     ensures { IfOk result (λ id. id ≡ Dialogs.answered_dialog request.now answer.now) }
 {
-    let Some(to) = to_of(alloc, answer)? else {
-        return Ok(None);
-    };
-    match tag_of(to.parameters()) {
+    match to_tag_of(alloc, answer)? {
         Some(to_tag) => request.request.get().dialog_to(alloc, to_tag),
         None => Ok(None),
     }
