@@ -62,11 +62,13 @@ pub(crate) fn core_values<'v>(fields: &'v [ViewField<'_>]) -> CoreValues<'v>
         call_id: Found::Nowhere,
         cseq: Found::Nowhere,
     };
+    let (from, to) = (FieldName::From, FieldName::To);
+    let (call_id, cseq) = (FieldName::CallId, FieldName::CSeq);
     for field in fields {
-        values.from.see(field, &FieldName::From);
-        values.to.see(field, &FieldName::To);
-        values.call_id.see(field, &FieldName::CallId);
-        values.cseq.see(field, &FieldName::CSeq);
+        values.from.see(field, &from);
+        values.to.see(field, &to);
+        values.call_id.see(field, &call_id);
+        values.cseq.see(field, &cseq);
     }
     values
 }
