@@ -116,7 +116,7 @@ name_here name behind token none =
 pub name_begins : (name rest kept : List ℕ) (behind : Option (List ℕ)) → is_token_text name ≡ true → rest ≡ closing behind → needs_value name ≡ false → kept ≡ name → Begins (name ++ rest) (record { name = kept; value = None }) behind
 name_begins name rest kept behind token closed none same = rw (closed, same) (name_here name behind token none)
 
-value_here : (name value : List ℕ) (behind : Option (List ℕ)) → is_token_text name ≡ true → is_token_text value ≡ true → Begins ((name ++ 61 ∷ value) ++ closing behind) (record { name = name; value = Some value }) behind
+pub value_here : (name value : List ℕ) (behind : Option (List ℕ)) → is_token_text name ≡ true → is_token_text value ≡ true → Begins ((name ++ 61 ∷ value) ++ closing behind) (record { name = name; value = Some value }) behind
 value_here name value behind token is =
     let assigned : IsAssigned (name ++ 61 ∷ value) name value = record { left = name; right = value; whole = refl; is_name = trimmed_token name token; is_value = trimmed_token value is } in
     let fits : is_value value ≡ true = rw is refl in

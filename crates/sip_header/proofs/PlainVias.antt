@@ -1,5 +1,5 @@
 -- A Via that is written plainly, read in one pass.
-use Rattle.std.proofs.Common.{◌≡◌, ℕ, Bool, true, false, cond, List, [], ◌∷◌, ◌++◌, length, Option, Some, None, refl, sym, ap, ◌∙◌, append_assoc, arith}
+use Rattle.std.proofs.Common.{◌≡◌, ℕ, Bool, true, false, cond, List, [], ◌∷◌, ◌++◌, length, Option, Some, None, refl, sym, ap, ◌∙◌, append_assoc, append-nil, subst, arith}
 use Rattle.std.specs.Prelude.{option_map, codes, ◌==◌, ◌||◌, IfSome}
 use Rattle.std.specs.Option.{option_and_then}
 use Rattle.sip_text.specs.Words.{is_token_byte, is_token_text, token_at, behind_token}
@@ -10,10 +10,10 @@ use Rattle.sip_uri.specs.Host.{is_place_byte, place_of, host_port_of, IsPlaceAt}
 use Rattle.sip_uri.specs.Port.{port_number, port_value}
 use Rattle.sip_header.specs.declared.parameters.Parameter.{Parameter}
 use Rattle.sip_header.specs.declared.via.Sender.{Sender}
-use Rattle.sip_header.specs.Parameters.{parameters_in, closing}
-use Rattle.sip_header.specs.Via.{sender_behind, sender_of, via_from, via_in, via_of, is_sender_byte, IsSenderAt}
+use Rattle.sip_header.specs.Parameters.{parameters_in, closing, Begins}
+use Rattle.sip_header.specs.Via.{sender_behind, sender_of, via_from, via_in, via_of, is_sender_byte, IsSenderAt, IsBeforeBranch}
 use Rattle.sip_header.proofs.Words.{AllPassing, all_passing, all_weaker, token_is_full, IsWordCut, word_cut}
-use Rattle.sip_header.proofs.Plain.{parts_close, tokens, is_token_here, token_whole, token_not_blank, list_passing_by}
+use Rattle.sip_header.proofs.Plain.{begun, parts_close, value_here, tokens, is_token_here, token_whole, token_not_blank, list_passing_by}
 use Rattle.sip_header.proofs.Unread.{version_is}
 
 -- ---- the bytes of sent-by
@@ -122,3 +122,25 @@ via_is value text rest sender behind parameters whole at closed are =
     ap via_in parted
     ∙ ap (option_and_then (λ s. option_map (λ p. via_from s p) (parameters_in (parts_behind 59 behind)))) is_sender
     ∙ ap (option_map (λ (p : List Parameter). via_from sender p)) are
+
+-- ---- what stands before a branch
+
+abbrev branched : List ℕ → Parameter
+branched branch = record { name = codes "branch"; value = Some branch }
+
+sender_before : (text rest branch : List ℕ) (sender : Sender) → IsSenderAt text sender rest → IsSenderAt (text ++ branch) sender (rest ++ branch)
+sender_before text rest branch sender at = record { front = at.front; whole = ap (λ (w : List ℕ). w ++ branch) at.whole ∙ append_assoc at.front rest branch; plain = at.plain; is_sender = at.is_sender }
+
+branch_alone : (branch : List ℕ) → is_token_text branch ≡ true → parameters_in (parts_at 59 (codes "branch" ++ 61 ∷ branch)) ≡ Some (branched branch ∷ [])
+branch_alone branch token =
+    let here : Begins (codes "branch" ++ 61 ∷ branch) (branched branch) None =
+    subst (λ (w : List ℕ). Begins w (branched branch) None) (append-nil (codes "branch" ++ 61 ∷ branch)) (value_here (codes "branch") branch None refl token) in
+    begun (codes "branch" ++ 61 ∷ branch) (branched branch) None here refl
+
+pub before_branch : (front text rest : List ℕ) (sender : Sender) (parameters : List Parameter) → front ≡ codes "SIP/2.0/" ++ text → IsSenderAt text sender rest → rest ≡ codes ";branch=" → IsBeforeBranch front (via_from sender parameters)
+before_branch front text rest sender parameters whole at closed =
+    record {
+      says = λ branch token.
+          via_is (front ++ branch) (text ++ branch) (rest ++ branch) sender (Some (codes "branch" ++ 61 ∷ branch)) (branched branch ∷ [])
+          (ap (λ (w : List ℕ). w ++ branch) whole ∙ append_assoc (codes "SIP/2.0/") text branch) (sender_before text rest branch sender at) (ap (λ (w : List ℕ). w ++ branch) closed) (branch_alone branch token);
+    }

@@ -40,5 +40,5 @@ pub use parameters::{
 };
 pub use plain_address::bracketed_place;
 pub use route::route_of;
-pub use via::{Via, via_of};
+pub use via::{Via, via_before_branch, via_of};
 pub use written_address::{WrittenAddress, written_address_of};

@@ -1,5 +1,5 @@
 ghost use Rattle.std.specs.Prelude.{◌≡◌, ◌++◌, codes, Some, option_map, IfOk, IfSome};
-ghost use Rattle.sip_header.specs.Via.{sender_behind, versioned, sender_of, via_of, IsSenderAt};
+ghost use Rattle.sip_header.specs.Via.{sender_behind, versioned, sender_of, via_of, IsSenderAt, IsBeforeBranch};
 
 use crate::parameters::{Parameters, parameters_from, plain_end};
 use sip_text::{
@@ -176,4 +176,28 @@ pub fn via_of(_alloc: Global, value: &[u8]) -> Result<Option<Via<'_>>, AllocErro
         Some(via) => Ok(Some(via)),
         None => Ok(any_via(value)),
     }
+}
+
+/// The Via, without its branch, that a text begins up to its branch, if it is written plainly: a token that follows the text is
+/// that branch. So Vias of which one place writes many needn't be read each. None says nothing. Takes no memory.
+pub fn via_before_branch(front: &[u8]) -> Option<Via<'_>>
+    ensures { IfSome result (λ via. IsBeforeBranch front.now via) }
+{
+    let text = behind_version(front)?;
+    let (sender, rest) = plain_sender(text)?;
+    if !same_bytes(rest, b";branch=") {
+        return None;
+    }
+    let parameters = parameters_from(None)?;
+    let Sender {
+        transport,
+        host,
+        port,
+    } = sender;
+    Some(Via {
+        transport,
+        host,
+        port,
+        parameters,
+    })
 }
