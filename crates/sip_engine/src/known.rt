@@ -85,6 +85,7 @@ fn take_ack<T: Timers, R: Rules>(
                 proxy,
                 ack.arrival,
                 ack.message,
+                &ack.via,
                 address,
                 id,
             )

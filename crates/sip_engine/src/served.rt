@@ -58,6 +58,7 @@ pub(crate) fn serve<T: Timers>(
             proxy,
             request.arrival,
             request.message,
+            request.via,
             address,
             id,
         ),

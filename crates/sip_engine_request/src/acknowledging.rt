@@ -1,4 +1,5 @@
-ghost use Rattle.std.specs.Prelude.{◌≡◌, IfOk, OnErr};
+ghost use Rattle.std.specs.Prelude.{◌≡◌, IfOk, OnErr, Some};
+ghost use Rattle.sip_edit.specs.ReceivedRequest.{top_via};
 ghost use Rattle.sip_proxy.specs.Proxy.{IsComing};
 ghost use Rattle.sip_proxy.specs.steps_model.Effect.{counted, effect_of};
 ghost use Rattle.sip_proxy.specs.steps_model.Step.{Does};
@@ -9,6 +10,7 @@ use crate::forwarded::take_lessons;
 use sip_dialog::DialogId;
 use sip_dialog_lessons::state::Server;
 use sip_event::StepOut;
+use sip_header::Via;
 use sip_hops::Hops;
 use sip_message_form::View;
 use sip_proxy::Proxy;
@@ -19,7 +21,7 @@ use sip_uas::forwarding::Arrival;
 use sip_uri::Addr;
 use std::alloc::{AllocError, Global};
 
-/// An ACK of a dialog goes on to the address that the dialog holds, without a transaction, and renews the dialog (RFC 3261
+/// An ACK of a dialog, with this Via on top, goes on to the address that the dialog holds, without a transaction, and renews the dialog (RFC 3261
 /// 12.2, 13.2.2.4, 16.11). No request is opened, and nothing is recorded. `AllocError` is the only refusal; nothing is
 /// changed then.
 pub fn send_ack<T: Timers>(
@@ -29,10 +31,12 @@ pub fn send_ack<T: Timers>(
     proxy: &mut Proxy<T>,
     arrival: Arrival,
     request: &View<'_>,
+    via: &Via<'_>,
     address: Addr,
     id: DialogId,
 ) -> Result<StepOut, AllocError>
     requires coming { IsComing proxy.old.state arrival }
+    requires via { top_via request.now ≡ Some via.now }
     requires rows { hops.now.addresses ≡ server.now.config.addresses }
     ensures does { IfOk result (λ out. Does server.now proxy.old.state arrival.now
         (effect_of server.now (arrival_of arrival) request.now (Definition.AckOn address id) (counted (arrival_of arrival) proxy.old.state))
@@ -40,7 +44,7 @@ pub fn send_ack<T: Timers>(
     ensures unchanged { OnErr result (proxy.new.state ≡ proxy.old.state) }
     ensures timers { OnErr result (proxy.new.timers ≡ proxy.old.timers) }
 {
-    let ack = forward_ack(alloc, server, hops, arrival, request, address, id)?;
+    let ack = forward_ack(alloc, server, hops, arrival, request, via, address, id)?;
     let mut packets = Items::with_room(alloc, 1)?;
     packets.push(ack.packet)?;
     take_lessons(proxy, arrival, ack.lessons)?;

@@ -6,3 +6,4 @@ pub mod Keys
 pub mod Moved
 pub mod ForkOpened
 pub mod Trying
+pub mod AckVias

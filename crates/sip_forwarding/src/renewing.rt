@@ -1,5 +1,6 @@
-ghost use Rattle.std.specs.Prelude.{◌≡◌, [], IfOk};
+ghost use Rattle.std.specs.Prelude.{◌≡◌, [], IfOk, Some};
 ghost use Rattle.sip_forwarding.specs.Arrivals.{arrival_of};
+ghost use Rattle.sip_edit.specs.ReceivedRequest.{top_via};
 ghost use Rattle.sip_dialog_lessons.specs.state.Dialogs.{after_request};
 ghost use Rattle.model_steps.specs.Effect as Effects;
 ghost use Rattle.sip_dialog_lessons.specs.Lessons.{beginnings};
@@ -12,6 +13,7 @@ use sip_dialog::DialogId;
 use sip_dialog_lessons::Lessons;
 use sip_dialog_lessons::state::Server;
 use sip_event::Packet;
+use sip_header::Via;
 use sip_hops::Hops;
 use sip_message_form::View;
 use sip_uri::Addr;
@@ -40,7 +42,7 @@ pub struct ForwardedAck {
     pub lessons: Lessons,
 }
 
-/// An ACK of a dialog goes on to the address that the dialog holds, without a transaction, and renews the dialog (RFC 3261
+/// An ACK of a dialog, with this Via on top, goes on to the address that the dialog holds, without a transaction, and renews the dialog (RFC 3261
 /// 12.2, 16.11, 17): exactly its packet, and what that tells the dialogs, of which none begins. `AllocError` is the only
 /// refusal.
 pub fn forward_ack(
@@ -49,15 +51,17 @@ pub fn forward_ack(
     hops: &Hops,
     arrival: Arrival,
     request: &View<'_>,
+    via: &Via<'_>,
     address: Addr,
     id: DialogId,
 ) -> Result<ForwardedAck, AllocError>
+    requires via { top_via request.now ≡ Some via.now }
     ensures packet { IfOk result (λ ack. ack.packet ≡ Effects.ack_packet server.now (arrival_of arrival) request.now address) }
     ensures lessons { IfOk result (λ ack. Teach hops.now.addresses server.now arrival.now ack.lessons
         (λ dialogs. after_request server.now arrival.now id request.now dialogs)) }
     ensures none_begins { IfOk result (λ ack. beginnings ack.lessons ≡ 0) }
 {
     let lessons = renewing(alloc, hops, id, request)?;
-    let packet = ack_packet(alloc, server, arrival, request, address)?;
+    let packet = ack_packet(alloc, server, arrival, request, via, address)?;
     Ok(ForwardedAck { packet, lessons })
 }
