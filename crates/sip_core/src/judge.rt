@@ -1,11 +1,16 @@
 ghost use Rattle.std.specs.Prelude.{◌≡◌, IfOk};
 ghost use Rattle.sip_hops.specs.HostAddress.{address_of};
 ghost use Rattle.model_verdict.specs.Verdict.{answer_of, minute_on};
+ghost use Rattle.sip_core.specs.Incoming.{Is};
 
 use crate::copies::{copy_addresses, copy_hops};
+use crate::incoming::Incoming;
+use crate::own_front::OwnFront;
+use crate::reading::incoming_of;
 use model_verdict::Question;
 use model_verdict::state::Server;
 use sip_hops::Hops;
+use sip_message_form::View;
 use sip_policy::{Rules, Ruling};
 use sip_uri::{Addr, Uri};
 use std::alloc::{AllocError, Global};
@@ -17,6 +22,8 @@ pub struct Judge<R: Rules> {
     server: Server,
     rules: R,
     hops: Hops,
+    /// What its Vias begin with, by which those on top of responses are known.
+    front: Option<OwnFront>,
 }
 
 /// Written out, so that it is proved once and not wherever one is dropped.
@@ -26,11 +33,14 @@ impl<R: Rules> Drop for Judge<R> {
             server: _,
             rules: _,
             hops: _,
+            front: _,
         } = self;
     }
 }
 
 impl<R: Rules> Model for Judge<R> {
+    ghost use Rattle.std.specs.Prelude.{IfSome};
+    ghost use Rattle.sip_core.specs.OwnFront.{IsOwnFront};
     ghost use Rattle.sip_core.specs.Judge.{IsConfigured};
     ghost use Rattle.model_verdict.specs.state.declared.server.Server.{Server};
 
@@ -38,7 +48,8 @@ impl<R: Rules> Model for Judge<R> {
 
     ghost view = { λ j. j.server };
 
-    ghost invariant = { λ j. IsConfigured j.server.config (R.rules_of j.rules) (R.users_of j.rules) (R.domains_of j.rules) j.hops };
+    ghost invariant = { λ j. IsConfigured j.server.config (R.rules_of j.rules) (R.users_of j.rules) (R.domains_of j.rules) j.hops
+        × IfSome j.front (IsOwnFront j.server.config.own) };
 }
 
 impl<R: Rules> Judge<R> {
@@ -55,10 +66,12 @@ impl<R: Rules> Judge<R> {
         let Ok(hops) = Hops::new(alloc, addresses, hops) else {
             return Err(AllocError);
         };
+        let front = OwnFront::of(alloc, &config.own, server.word)?;
         Ok(Judge {
             server,
             rules,
             hops,
+            front,
         })
     }
 
@@ -82,6 +95,22 @@ impl<R: Rules> Judge<R> {
         ensures { result ≡ address_of self.now.config.addresses uri.now }
     {
         self.hops.address_of(uri)
+    }
+
+    /// What a message is that came in, of whose body fewer bytes may have come than its length says: what finds the request or
+    /// the branch that it belongs to, or nothing (RFC 3261 8.1.1.7, 16.7 step 1, 17.1.3, 17.2.3, 18.1.2, 18.3). A response is
+    /// dropped whose body is short, whose top Via isn't this server's or has no branch, or that hasn't one CSeq; a request
+    /// without a key. `AllocError` is the only refusal.
+    pub fn incoming<'v>(
+        &self,
+        alloc: Global,
+        message: &'v View<'_>,
+        short: bool,
+    ) -> Result<Incoming<'v>, AllocError>
+        ensures { IfOk result (Is self.now.config.own message.now short) }
+    {
+        let own = &self.server.config.own;
+        incoming_of(alloc, own, self.front.as_ref(), message, short)
     }
 
     /// What the first rule that applies decides, with the minute that is recorded of it. Takes no memory.

@@ -13,10 +13,7 @@ use sip_transaction_table::Key;
 use std::alloc::{AllocError, Global};
 
 /// The Via on top of a message, if there is one that can be read (RFC 3261 20.42).
-pub(crate) fn top_via<'v>(
-    alloc: Global,
-    message: &'v View<'_>,
-) -> Result<Option<Via<'v>>, AllocError>
+fn top_via<'v>(alloc: Global, message: &'v View<'_>) -> Result<Option<Via<'v>>, AllocError>
     ensures { IfOk result (λ via. via ≡ option_and_then via_of (first_value Name.Via message.now.fields)) }
 {
     match message.fields().first(&FieldName::Via) {

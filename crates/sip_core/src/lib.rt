@@ -10,7 +10,7 @@
 //! - Tried: `test_server` by its stored runs.
 //!
 //! ```text
-//! let incoming = incoming_of(alloc, &own, &message, short)?;
+//! let incoming = judge.incoming(alloc, &message, short)?;
 //! ```
 #![tactic(auto)]
 
@@ -25,6 +25,7 @@ mod judge;
 mod key_reading;
 mod known;
 pub mod laws;
+mod own_front;
 mod policy;
 mod question;
 mod reading;
@@ -44,7 +45,6 @@ pub use datagram::read_datagram;
 pub use incoming::Incoming;
 pub use judge::Judge;
 pub use known::Known;
-pub use reading::incoming_of;
 pub use received::Received;
 pub use registering::Registering;
 pub use validated::Validated;

@@ -1,4 +1,4 @@
-ghost use Rattle.std.specs.Prelude.{◌≡◌, IfOk, option_map, List, ℕ, None, if◌then◌else◌};
+ghost use Rattle.std.specs.Prelude.{◌≡◌, IfOk, IfSome, option_map, List, ℕ, None, if◌then◌else◌};
 ghost use Rattle.std.specs.Option.{option_and_then};
 ghost use Rattle.std.specs.Result.{result_ok};
 ghost use Rattle.sip_message_fields.specs.declared.field_name.FieldName.TheVariants as Name;
@@ -8,12 +8,13 @@ ghost use Rattle.sip_header.specs.Parameters as Parameters;
 ghost use Rattle.sip_header.specs.Via.{via_of};
 ghost use Rattle.sip_message_form.specs.declared.message.Start.TheVariants as Start;
 ghost use Rattle.sip_core.specs.Incoming.{Is};
+ghost use Rattle.sip_core.specs.OwnFront.{IsOwnFront, branch_by, own_branch};
 ghost use Rattle.model_verdict.specs.Verdict.{is_many};
 ghost use Rattle.sip_route.specs.Own.{is_own_via};
 
 use crate::incoming::Incoming;
-use crate::key_reading::top_via;
-use sip_header::{Via, branch_of, cseq_of};
+use crate::own_front::OwnFront;
+use sip_header::{Via, branch_of, cseq_of, via_of};
 use sip_message_fields::FieldName;
 use sip_message_form::View;
 use sip_route::Own;
@@ -21,7 +22,7 @@ use std::alloc::{AllocError, Global};
 
 /// The branch of a Via, if the Via is this server's.
 fn own_branch<'v>(own: &Own, via: &Via<'v>) -> Option<&'v [u8]>
-    ensures { option_map (λ branch. branch.now) result ≡ (if is_own_via own.now via.now then Parameters.branch_of via.now.parameters else None) }
+    ensures { option_map (λ branch. branch.now) result ≡ branch_by own.now via.now }
 {
     if own.is_own_via(via) {
         return branch_of(&via.parameters);
@@ -29,18 +30,67 @@ fn own_branch<'v>(own: &Own, via: &Via<'v>) -> Option<&'v [u8]>
     None
 }
 
+/// The branch of a value of a Via, in any form, if it is this server's.
+fn read_branch<'v>(
+    alloc: Global,
+    own: &Own,
+    value: &'v [u8],
+) -> Result<Option<&'v [u8]>, AllocError>
+    ensures { IfOk result (λ branch. option_map (λ text. text.now) branch ≡ own_branch own.now value.now) }
+{
+    match via_of(alloc, value)? {
+        Some(via) => Ok(own_branch(own, &via)),
+        None => Ok(None),
+    }
+}
+
+/// The same, where Vias of this server's begin so: one that does isn't read.
+#[tactic(auto, using(crate::proofs::OwnFronts::branch_is))]
+fn branch_by_front<'v>(
+    alloc: Global,
+    own: &Own,
+    front: &OwnFront,
+    value: &'v [u8],
+) -> Result<Option<&'v [u8]>, AllocError>
+    requires { IsOwnFront own.now front.now }
+    ensures { IfOk result (λ branch. option_map (λ text. text.now) branch ≡ own_branch own.now value.now) }
+{
+    match front.branch_in(value) {
+        Some(branch) => Ok(Some(branch)),
+        None => read_branch(alloc, own, value),
+    }
+}
+
+/// The same, where it may be known what Vias of this server's begin with.
+fn branch_in<'v>(
+    alloc: Global,
+    own: &Own,
+    front: Option<&OwnFront>,
+    value: &'v [u8],
+) -> Result<Option<&'v [u8]>, AllocError>
+    requires { IfSome front (λ f. IsOwnFront own.now f.now) }
+    ensures { IfOk result (λ branch. option_map (λ text. text.now) branch ≡ own_branch own.now value.now) }
+{
+    match front {
+        Some(front) => branch_by_front(alloc, own, front, value),
+        None => read_branch(alloc, own, value),
+    }
+}
+
 /// The branch of this server's Via on top of a response (RFC 3261 16.7 step 1, 18.1.2).
 pub(crate) fn top_branch<'v>(
     alloc: Global,
     own: &Own,
+    front: Option<&OwnFront>,
     response: &'v View<'_>,
 ) -> Result<Option<&'v [u8]>, AllocError>
+    requires { IfSome front (λ f. IsOwnFront own.now f.now) }
     ensures { IfOk result (λ branch. option_map (λ text. text.now) branch
         ≡ option_and_then (λ via. if is_own_via own.now via then Parameters.branch_of via.parameters else None)
         (option_and_then via_of (first_value Name.Via response.now.fields))) }
 {
-    match top_via(alloc, response)? {
-        Some(via) => Ok(own_branch(own, &via)),
+    match response.fields().first(&FieldName::Via) {
+        Some(value) => branch_in(alloc, own, front, value),
         None => Ok(None),
     }
 }
@@ -70,16 +120,18 @@ fn has_more_vias(response: &View<'_>) -> bool
 pub(crate) fn response_of<'v>(
     alloc: Global,
     own: &Own,
+    front: Option<&OwnFront>,
     response: &'v View<'_>,
     status: u16,
     short: bool,
 ) -> Result<Incoming<'v>, AllocError>
+    requires { IfSome front (λ f. IsOwnFront own.now f.now) }
     ensures { IfOk result (λ incoming. (reason : List ℕ) → response.now.start ≡ Start.Status status reason → Is own.now response.now short incoming) }
 {
     if short {
         return Ok(Incoming::Dropped);
     }
-    let Some(branch) = top_branch(alloc, own, response)? else {
+    let Some(branch) = top_branch(alloc, own, front, response)? else {
         return Ok(Incoming::Dropped);
     };
     let Some(method) = cseq_method(response) else {

@@ -13,7 +13,7 @@ use crate::new::take_new;
 use crate::received_request::ReceivedRequest;
 use crate::received_response::ReceivedResponse;
 use crate::responses::take_reply;
-use sip_core::{Incoming, Judge, incoming_of, laws, read_datagram};
+use sip_core::{Incoming, Judge, laws, read_datagram};
 use sip_engine_open::forwarding::Arrival;
 use sip_engine_open::proxy::Proxy;
 use sip_engine_open::take_dropped;
@@ -64,7 +64,7 @@ fn take_message<T: Timers, R: Rules>(
     ensures unchanged { OnErr result (proxy.new.state ≡ proxy.old.state) }
     ensures timers { OnErr result (proxy.new.timers ≡ proxy.old.timers) }
 {
-    let incoming = incoming_of(alloc, &judge.server().config.own, message, short)?;
+    let incoming = judge.incoming(alloc, message, short)?;
     match incoming {
         Incoming::Dropped => Ok(take_dropped(alloc, proxy, arrival)),
         Incoming::Response {
