@@ -131,20 +131,24 @@ fn first_slot(levels: &Levels, reached: u64) -> Option<FirstSlot>
     None
 }
 
-/// Looks up the timer that fires first, and remembers in its slot that it is due first there.
-fn find_first(levels: &mut Levels, reached: u64) -> Option<Timer>
+/// Looks up the timer that fires first and keeps it, and remembers in its slot that it is due first there.
+fn find_first(levels: &mut Levels, reached: u64, first: &mut Option<Timer>)
     requires { IsWheel reached levels.old.lists }
-    ensures first { result ≡ first_of (pending_in levels.old.lists) }
+    ensures first { first.new ≡ first_of (pending_in levels.old.lists) }
     ensures same { levels.new.lists ≡ levels.old.lists }
     ensures left { levels.old.room ≤ levels.new.room }
 {
     earlier_fires_first();
     if let Some(late) = levels.least(LATE) {
-        return Some(late);
+        *first = Some(late);
+        return;
     }
-    let first = first_slot(levels, reached)?;
-    levels.remember_least(first.slot);
-    levels.least(first.slot)
+    let Some(slot) = first_slot(levels, reached) else {
+        *first = None;
+        return;
+    };
+    levels.remember_least(slot.slot);
+    *first = levels.least(slot.slot);
 }
 
 /// Takes the timer of a key out of its slot.
@@ -205,7 +209,7 @@ fn take_out(levels: &mut Levels, reached: u64, first: &mut Option<Timer>, key: u
 {
     remove(levels, reached, key);
     if !stays_first(first, key) {
-        *first = find_first(levels, reached);
+        find_first(levels, reached, first);
     }
 }
 
