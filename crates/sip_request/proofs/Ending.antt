@@ -6,6 +6,7 @@ use Rattle.sip_timers.specs.declared.timer.Owner.TheVariants as Of
 use Rattle.sip_timers.specs.Moves.{IsHeld, Moves}
 use Rattle.model_transactions.specs.state.State.{is_invite}
 use Rattle.model_transactions.specs.state.declared.branch.Branch.{Branch}
+use Rattle.model_transactions.specs.state.declared.branch.Phase.{Phase}
 use Rattle.model_transactions.specs.state.declared.branch.Phase.TheVariants.{Ended}
 use Rattle.model_transactions.specs.state.declared.open_request.OpenRequest.{OpenRequest}
 use Rattle.model_transactions.specs.InviteClient.{call_timers, invite_timers}
@@ -34,6 +35,10 @@ no_branch r b = by_test (is_invite r && not b.is_cancel) where
   by_test : (t : Bool) → cond t (invite_timers Ended b.again ++ call_timers Ended) (other_timers Ended b.again) ≡ []
   by_test true = refl
   by_test false = refl
+
+pub ended_none : (r : OpenRequest) (b : Branch) (keys : TimerKeys) → b.phase ≡ Ended → part_timers r.number (owner_of b) keys (branch_timers r b) ≡ []
+ended_none r b keys e =
+    ap (part_timers r.number (owner_of b) keys) (ap (λ (phase : Phase). cond (is_invite r && not b.is_cancel) (invite_timers phase b.again ++ call_timers phase) (other_timers phase b.again)) e ∙ no_branch r b)
 
 -- ---- requests of one number and one method name the timers of branches alike
 

@@ -164,6 +164,10 @@ Moves-less ts us vs all left front back e m n =
     let k : Moves ts all us (front ++ back) = subst (λ xs. Moves ts all us xs) e m in
     record { same = λ p. omega (arith, k.same p, n.same p, count-append p front back); keys_differ = λ differ. n.keys_differ (k.keys_differ differ) }
 
+-- of what was left, less is left
+pub Moves-passed : (ts us vs all left rest : List Timer) → Moves ts all us left → Moves us left vs rest → Moves ts all vs rest
+Moves-passed ts us vs all left rest m n = record { same = λ p. omega (arith, m.same p, n.same p); keys_differ = λ differ. n.keys_differ (m.keys_differ differ) }
+
 -- nothing is left to be stopped
 pub Moves-through : (ts us all left : List Timer) → left ≡ [] → Moves ts all us left → Moves ts all us []
 Moves-through ts us all left e m = subst (λ xs. Moves ts all us xs) e m

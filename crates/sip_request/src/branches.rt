@@ -1,16 +1,16 @@
-ghost use Rattle.std.specs.Prelude.{◌≡◌, ◌≤◌, ◌<◌, ◌+◌, ◌*◌, ◌^◌, ◌++◌, [], true, length, IfNone, IfSome, MatchOption};
+ghost use Rattle.std.specs.Prelude.{◌≡◌, ◌≤◌, ◌<◌, ◌+◌, ◌*◌, ◌^◌, ◌++◌, [], true, length, IfSome};
 ghost use Rattle.sip_timers.specs.Moves.{IsHeld, Moves};
+ghost use Rattle.model_transactions.specs.state.declared.branch.Phase.TheVariants.{Ended};
 ghost use Rattle.model_transactions.specs.Ties.{branch_timers, branches_timers, owner_of, part_timers};
 ghost use Rattle.sip_request.specs.Likeness.{AreAlike, AreKinds};
 ghost use Rattle.sip_request.specs.Near.{AreBefore, IsNear};
-ghost use Rattle.sip_request.specs.Slots.{part_standing};
 ghost use Rattle.sip_request.specs.Walk.{left_timers};
 
 use crate::likeness::are_as_far;
 use crate::naming::{branch_part, branch_part_here};
-use crate::part::{Part, set_part, stop_part, sync_part};
+use crate::part::{set_part, stop_part, sync_part};
 use model_transactions::TimerKeys;
-use model_transactions::state::{Branch, OpenRequest};
+use model_transactions::state::{Branch, OpenRequest, Phase};
 use sip_timers::Timers;
 
 /// Whether an open request as it was, and as it is to be, is an INVITE, and whether both give their parts timers alike.
@@ -21,43 +21,11 @@ pub(crate) struct Kinds {
     pub(crate) alike: bool,
 }
 
-/// A branch whose timers stand, with their keys, and the place behind it.
-#[derive(Clone, Copy)]
-struct Stood {
-    part: Part,
-    keys: TimerKeys,
-    behind: usize,
-}
-
 /// Keys of a branch, and how many of the branches before are through.
 #[derive(Clone, Copy)]
 struct Synced {
     keys: TimerKeys,
     place: usize,
-}
-
-/// The branch at a place with its timers, if it has keys.
-fn stood_at(was: &OpenRequest, keys: &[TimerKeys], place: usize) -> Option<Stood>
-    requires { IsNear (2 ^ 64) was.now }
-    ensures left { MatchOption result (left_timers was.now keys.now place ≡ [])
-        (λ s. left_timers was.now keys.now place ≡ part_standing s.keys s.part ++ left_timers was.now keys.now s.behind) }
-    ensures within { IfSome result (λ s. (s.behind ≡ place + 1) × (place < length keys.now)) }
-    ensures past { IfNone result (left_timers was.now keys.now (place + 1) ≡ []) }
-{
-    let branches = was.branches.as_slice();
-    if place >= branches.len() {
-        return None;
-    }
-    if place >= keys.len() {
-        return None;
-    }
-    let part = branch_part(was, &branches[place]);
-    let behind = place + 1;
-    Some(Stood {
-        part,
-        keys: keys[place],
-        behind,
-    })
 }
 
 /// Whether the branch at a place has keys and is this one.
@@ -171,24 +139,26 @@ fn sync_branch<T: Timers>(
     change_branch(timers, was, was_keys, place, next, branch, kinds)
 }
 
-/// Stops the timers of the branches from a place on.
-pub(crate) fn stop_left<T: Timers>(
-    timers: &mut T,
-    was: &OpenRequest,
-    keys: &[TimerKeys],
-    place: usize,
-)
-    requires held { IsHeld (T.pending timers.old) (left_timers was.now keys.now place) }
-    requires timed { IsNear (2 ^ 64) was.now }
-    ensures moves { Moves (T.pending timers.old) (left_timers was.now keys.now place) (T.pending timers.new) [] }
+/// Whether the transaction of a branch has ended.
+fn has_ended(branch: &Branch) -> bool
+    ensures { result ≡ true → branch.now.phase ≡ Ended }
+{
+    matches!(branch.phase, Phase::Ended)
+}
+
+/// Stops the timers of a branch. One that has ended has none.
+fn stop_branch<T: Timers>(timers: &mut T, was: &OpenRequest, branch: &Branch, keys: TimerKeys)
+    requires held { IsHeld (T.pending timers.old) (part_timers was.now.number (owner_of branch.now) keys (branch_timers was.now branch.now)) }
+    requires early { AreBefore (2 ^ 64) (branch_timers was.now branch.now) }
+    ensures moves { Moves (T.pending timers.old) (part_timers was.now.number (owner_of branch.now) keys (branch_timers was.now branch.now))
+        (T.pending timers.new) [] }
     ensures left { T.room timers.old ≤ T.room timers.new }
     ensures still { T.reached timers.new ≡ T.reached timers.old }
 {
-    let mut at = place;
-    while let Some(stood) = stood_at(was, keys, at) {
-        stop_part(timers, &stood.part, stood.keys);
-        at = stood.behind;
+    if has_ended(branch) {
+        return;
     }
+    stop_part(timers, &branch_part(was, branch), keys);
 }
 
 /// Stops the timers of the branch at a place.
@@ -204,8 +174,33 @@ pub(crate) fn stop_at<T: Timers>(
     ensures left { T.room timers.old ≤ T.room timers.new }
     ensures still { T.reached timers.new ≡ T.reached timers.old }
 {
-    if let Some(stood) = stood_at(was, keys, place) {
-        stop_part(timers, &stood.part, stood.keys);
+    if place >= keys.len() {
+        return;
+    }
+    let branches = was.branches.as_slice();
+    if place >= branches.len() {
+        return;
+    }
+    stop_branch(timers, was, &branches[place], keys[place]);
+}
+
+/// Stops the timers of the branches from a place on.
+pub(crate) fn stop_left<T: Timers>(
+    timers: &mut T,
+    was: &OpenRequest,
+    keys: &[TimerKeys],
+    place: usize,
+)
+    requires held { IsHeld (T.pending timers.old) (left_timers was.now keys.now place) }
+    requires timed { IsNear (2 ^ 64) was.now }
+    ensures moves { Moves (T.pending timers.old) (left_timers was.now keys.now place) (T.pending timers.new) [] }
+    ensures left { T.room timers.old ≤ T.room timers.new }
+    ensures still { T.reached timers.new ≡ T.reached timers.old }
+{
+    let mut at = place;
+    while at < keys.len() {
+        stop_at(timers, was, keys, at);
+        at += 1;
     }
 }
 

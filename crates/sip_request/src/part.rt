@@ -1,11 +1,11 @@
 ghost use Rattle.std.specs.Prelude.{◌≡◌, ◌≤◌, ◌<◌, ◌+◌, ◌^◌, []};
 ghost use Rattle.sip_timers.specs.Moves.{IsHeld, Moves};
 ghost use Rattle.model_transactions.specs.declared.timer_keys.TimerKeys.{TimerKeys};
-ghost use Rattle.sip_request.specs.Slots.{IsBefore, IsPartNear, part_standing, slot_timers};
+ghost use Rattle.sip_request.specs.Slots.{IsBefore, IsPartNear, name_of, part_standing, slot_timers};
 
-use crate::slots::{clear, set, standing, sync};
+use crate::slots::{change, clear, set, standing};
 use model_transactions::TimerKeys;
-use sip_timers::{Letter, Name, Owner, Timers};
+use sip_timers::{Letter, Name, Owner, Timer, Timers};
 
 /// The timers that a part of an open request has by its phase, each with its letter and the moment at which it is due, in
 /// milliseconds. No part has more than these three.
@@ -36,27 +36,15 @@ pub(crate) const NO_KEYS: TimerKeys = TimerKeys {
     call: 0,
 };
 
-/// Lets the timer of a slot of a part stand, and no other one in place of the timer of a slot of a part before. Gives the
-/// key.
-#[inline(always)]
-fn move_slot<T: Timers>(
-    timers: &mut T,
-    was: &Part,
-    key: usize,
-    stood: Option<(Letter, u64)>,
-    next: &Part,
-    slot: Option<(Letter, u64)>,
-) -> usize
-    requires held { IsHeld (T.pending timers.old) (slot_timers was.now.request was.now.owner key stood) }
-    requires room { 1 ≤ T.room timers.old }
-    requires near { IsBefore (T.reached timers.old + 2 ^ 30) slot }
-    ensures moves { Moves (T.pending timers.old) (slot_timers was.now.request was.now.owner key stood) (T.pending timers.new)
-        (slot_timers next.now.request next.now.owner result slot) }
-    ensures left { T.room timers.old ≤ T.room timers.new + 1 }
-    ensures still { T.reached timers.new ≡ T.reached timers.old }
+/// What a timer of a part is for.
+fn name_of(part: &Part, letter: Letter) -> Name
+    ensures { result ≡ name_of part.now.request part.now.owner letter }
 {
-    let timer = standing(was.request, was.owner, key, stood);
-    sync(timers, timer, next.request, next.owner, slot)
+    Name {
+        request: part.request,
+        owner: part.owner,
+        letter,
+    }
 }
 
 /// Lets the timer of a slot of a part stand, and no other one in place of the timer of a slot of a part before: two timers
@@ -85,7 +73,11 @@ fn sync_slot<T: Timers>(
             0
         }
         (None, Some(_)) => set_slot(timers, next, slot),
-        (Some(_), Some(_)) => move_slot(timers, was, key, stood, next, slot),
+        (Some((letter, due)), Some((next_letter, next_due))) => {
+            let name = name_of(was, letter);
+            let timer = Timer { key, due, name };
+            change(timers, timer, next_due, name_of(next, next_letter))
+        }
     }
 }
 
@@ -144,14 +136,7 @@ fn set_slot<T: Timers>(timers: &mut T, part: &Part, slot: Option<(Letter, u64)>)
 {
     match slot {
         None => 0,
-        Some((letter, due)) => {
-            let name = Name {
-                request: part.request,
-                owner: part.owner,
-                letter,
-            };
-            set(timers, due, name)
-        }
+        Some((letter, due)) => set(timers, due, name_of(part, letter)),
     }
 }
 
@@ -171,6 +156,7 @@ pub(crate) fn set_part<T: Timers>(timers: &mut T, part: &Part) -> TimerKeys
 }
 
 /// Stops the timer of a slot of a part.
+#[inline(always)]
 fn stop_slot<T: Timers>(timers: &mut T, was: &Part, key: usize, stood: Option<(Letter, u64)>)
     requires { IsHeld (T.pending timers.old) (slot_timers was.now.request was.now.owner key stood) }
     ensures moves { Moves (T.pending timers.old) (slot_timers was.now.request was.now.owner key stood) (T.pending timers.new) [] }
@@ -182,6 +168,7 @@ fn stop_slot<T: Timers>(timers: &mut T, was: &Part, key: usize, stood: Option<(L
 }
 
 /// Stops the timers of a part, what is due last first.
+#[inline(always)]
 pub(crate) fn stop_part<T: Timers>(timers: &mut T, was: &Part, keys: TimerKeys)
     requires { IsHeld (T.pending timers.old) (part_standing keys was.now) }
     ensures moves { Moves (T.pending timers.old) (part_standing keys was.now) (T.pending timers.new) [] }

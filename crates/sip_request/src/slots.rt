@@ -1,7 +1,7 @@
 ghost use Rattle.std.specs.Prelude.{◌≡◌, ◌≤◌, ◌<◌, ◌+◌, ◌^◌, [], ◌∷◌, true};
 ghost use Rattle.sip_timers.specs.declared.timer.Timer.{Timer};
 ghost use Rattle.sip_timers.specs.Moves.{IsHeld, Moves};
-ghost use Rattle.sip_request.specs.Slots.{IsBefore, slot_timers, stood};
+ghost use Rattle.sip_request.specs.Slots.{slot_timers, stood};
 
 use sip_timers::{Letter, Name, Owner, Timer, Timers, start, stop};
 
@@ -37,8 +37,10 @@ fn replace<T: Timers>(timers: &mut T, was: Timer, due: u64, name: Name) -> usize
     set(timers, due, name)
 }
 
-/// Sets a timer in place of another one, which stays as it is if it is the same.
-fn change<T: Timers>(timers: &mut T, timer: Timer, due: u64, name: Name) -> usize
+/// Sets a timer in place of another one, which stays as it is, with its key and its place in the order of firing, if it is
+/// the same.
+#[inline(always)]
+pub(crate) fn change<T: Timers>(timers: &mut T, timer: Timer, due: u64, name: Name) -> usize
     requires held { IsHeld (T.pending timers.old) (timer ∷ []) }
     requires room { 1 ≤ T.room timers.old }
     requires near { due < T.reached timers.old + 2 ^ 30 }
@@ -64,21 +66,6 @@ pub(crate) fn clear<T: Timers>(timers: &mut T, was: Option<Timer>)
     }
 }
 
-/// Sets a timer, in place of another one if there is one.
-fn put<T: Timers>(timers: &mut T, was: Option<Timer>, due: u64, name: Name) -> usize
-    requires held { IsHeld (T.pending timers.old) (stood was) }
-    requires room { 1 ≤ T.room timers.old }
-    requires near { due < T.reached timers.old + 2 ^ 30 }
-    ensures moves { Moves (T.pending timers.old) (stood was) (T.pending timers.new) (record { key = result; due = due; name = name } ∷ []) }
-    ensures left { T.room timers.old ≤ T.room timers.new + 1 }
-    ensures still { T.reached timers.new ≡ T.reached timers.old }
-{
-    match was {
-        None => set(timers, due, name),
-        Some(timer) => change(timers, timer, due, name),
-    }
-}
-
 /// The timer of a slot as it stands under a key, if there is one.
 pub(crate) fn standing(
     request: u64,
@@ -95,37 +82,4 @@ pub(crate) fn standing(
         letter,
     };
     Some(Timer { key, due, name })
-}
-
-/// Lets the timer of a slot stand, for which there is room, and no other one: one that stood stays as it is, with its key
-/// and its place in the order of firing, if it is the same, and is stopped otherwise. Gives the key.
-#[inline(never)]
-pub(crate) fn sync<T: Timers>(
-    timers: &mut T,
-    was: Option<Timer>,
-    request: u64,
-    owner: Owner,
-    slot: Option<(Letter, u64)>,
-) -> usize
-    requires held { IsHeld (T.pending timers.old) (stood was) }
-    requires room { 1 ≤ T.room timers.old }
-    requires near { IsBefore (T.reached timers.old + 2 ^ 30) slot }
-    ensures moves { Moves (T.pending timers.old) (stood was) (T.pending timers.new) (slot_timers request owner result slot) }
-    ensures left { T.room timers.old ≤ T.room timers.new + 1 }
-    ensures still { T.reached timers.new ≡ T.reached timers.old }
-{
-    match slot {
-        None => {
-            clear(timers, was);
-            0
-        }
-        Some((letter, due)) => {
-            let name = Name {
-                request,
-                owner,
-                letter,
-            };
-            put(timers, was, due, name)
-        }
-    }
 }
