@@ -1,6 +1,7 @@
 -- The host and the port of a URI in the form that most have.
 use Rattle.std.proofs.Common.{◌≡◌, ◌⊎◌, ℕ, true, false, List, [], ◌∷◌, ◌++◌, length, Option, Some, None, Ok, refl, sym, ap, subst, ◌∙◌, append_assoc, arith, inl, inr}
 use Rattle.std.specs.Prelude.{◌==◌, codes, option_map, is_some, IfSome}
+use Rattle.std.proofs.lemmas.Bool.{eqb-true}
 use Rattle.std.proofs.lemmas.List.{append-nil}
 use Rattle.std.specs.List.{list_all}
 use denote.Ref.{Bor}
@@ -10,7 +11,11 @@ use Rattle.sip_uri.specs.Port.{port_value}
 use Rattle.sip_uri.specs.declared.scheme.Scheme.TheVariants as Scheme
 use Rattle.sip_uri.specs.declared.user.UserInfo.{UserInfo}
 use Rattle.sip_uri.specs.Reading.{user_of, user_from, rest_of, reading_of, is_of_place, AreTexts, HasPlace}
-use Rattle.sip_uri.specs.PlainPlace.{HasUser, IsPlain, loose_routing, is_plain_byte, IsUriAt}
+use Rattle.sip_uri.specs.PlainPlace.{HasNames, HasUser, IsPlain, loose_routing, is_plain_byte, IsUriAt}
+use Rattle.sip_uri.specs.Aor.{IsAorIn}
+use Rattle.sip_text.specs.Words.{without_case}
+use Rattle.sip_text.specs.Escapes.{unescaped}
+use Rattle.std.specs.Option.{unwrap_or}
 use Rattle.sip_uri.proofs.Tests.{and_both, all_join, others, never_split}
 use Rattle.sip_uri.proofs.Users.{user_there}
 use Rattle.sip_uri.proofs.ReadingLaws.{behind_sip}
@@ -135,3 +140,43 @@ user_at text behind name next place host rest digits number whole user mark at n
 pub no_number : (port : Option (Bor (List ℕ) × ℕ)) → is_some port ≡ false → option_map (λ p. p.1) port ≡ None
 no_number None e = refl
 no_number (Some p) e = absurd cc
+
+-- ---- the address of record of a URI with a user and a host alone
+
+pub named_alone : (text behind name next place host rest : List ℕ) (digits : Option (List ℕ)) → text ≡ codes "sip:" ++ behind → IsNameAt behind name next → next ≡ 64 ∷ place → IsPlaceAt place host digits rest → rest ≡ [] → HasNames text name host
+named_alone text behind name next place host rest digits whole user mark at none =
+    let here : behind ≡ (name ++ codes "@") ++ (at.front ++ []) =
+    user.whole ∙ ap (λ (w : List ℕ). name ++ w) (mark ∙ ap (λ (w : List ℕ). 64 ∷ w) (at.whole ∙ ap (λ (w : List ℕ). at.front ++ w) none)) ∙ sym (append_assoc name (codes "@") (at.front ++ [])) in
+    record {
+      plain = user.bytes;
+      digits = digits;
+      is_read =
+          ap reading_of (whole ∙ ap (λ (w : List ℕ). codes "sip:" ++ w) here) ∙ behind_sip ((name ++ codes "@") ++ (at.front ++ []))
+          ∙ without ((name ++ codes "@") ++ (at.front ++ [])) (at.front ++ []) host (Some (record { user = name; password = None })) digits (with_user name at.front [] user.bytes user.some) (at_end at.front host digits at.plain at.is_place);
+    }
+
+pub none_left : (rest : List ℕ) → (length rest == 0) ≡ true → rest ≡ []
+none_left [] e = refl
+none_left (b ∷ rest) e = absurd (omega (arith, eqb-true (length (b ∷ rest)) 0 e))
+
+no_percent : (b : ℕ) → is_host_byte b ≡ true → (b == 37) ≡ false
+no_percent b e = grind arith
+
+without_escape : (bs : List ℕ) → list_all is_host_byte bs ≡ true → unescaped bs ≡ Some bs
+without_escape [] e = refl
+without_escape (b ∷ []) e = rw (no_percent b (and_both (is_host_byte b) true e).0) refl
+without_escape (b ∷ c ∷ []) e =
+    let both = and_both (is_host_byte b) (list_all is_host_byte (c ∷ [])) e in
+    rw (no_percent b both.0, without_escape (c ∷ []) both.1) refl
+without_escape (b ∷ c ∷ d ∷ bs) e =
+    let both = and_both (is_host_byte b) (list_all is_host_byte (c ∷ d ∷ bs)) e in
+    rw (no_percent b both.0, without_escape (c ∷ d ∷ bs) both.1) refl
+
+pub named_aor : (text name host user lower : List ℕ) → HasNames text name host → user ≡ name → lower ≡ without_case host → IsAorIn text (record { user = user; host = lower })
+named_aor text name host user lower names same small =
+    let plain : unwrap_or (unescaped name) name ≡ name = ap (λ (o : Option (List ℕ)). unwrap_or o name) (without_escape name names.plain) in
+    record {
+      uri = record { scheme = Scheme.Sip; userinfo = Some (record { user = name; password = None }); host = host; port = names.digits; parameters = []; headers = [] };
+      is_read = names.is_read;
+      is_named = rw (plain, same, small) refl;
+    }

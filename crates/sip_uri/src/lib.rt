@@ -33,7 +33,7 @@ mod user;
 mod writing;
 
 pub use addr::{Addr, addr_of, addr_text, ip_of, ip_text};
-pub use aor::{Aor, aor_of, same_aor};
+pub use aor::{Aor, aor_of, plain_aor, same_aor};
 pub use error::UriError;
 pub use headers::UriHeader;
 pub use host::{begins_bracket, host_port, is_host, place_at, place_in};

@@ -1,5 +1,5 @@
 ghost use Rattle.std.specs.Prelude.{◌≡◌, ◌⊎◌, true, codes, option_map, IfSome, Some, None};
-ghost use Rattle.sip_uri.specs.PlainPlace.{HasUser, IsPlain, IsUriAt};
+ghost use Rattle.sip_uri.specs.PlainPlace.{HasNames, HasUser, IsPlain, IsUriAt};
 
 use crate::host::{place_at, place_by, split_name};
 use crate::parts::behind_place;
@@ -76,4 +76,25 @@ pub fn plain_uri_at(text: &[u8]) -> Option<(&[u8], Option<u16>, &[u8])>
     let (host, rest) = split_name(place);
     let (host, port, rest) = place_by(host, rest)?;
     Some((host, number_of(port), rest))
+}
+
+/// The user and the host of a `sip` URI that has a user of bytes of a host name, and neither parameters nor headers: where
+/// they stand, so that nothing is made of the URI. None says nothing.
+pub(crate) fn plain_names(text: &[u8]) -> Option<(&[u8], &[u8])>
+    ensures { IfSome result (λ x. HasNames text.now x.0.now x.1.now) }
+{
+    let text = behind_sip(text)?;
+    let (name, rest) = split_name(text);
+    let Some((b'@', place)) = rest.split_first() else {
+        return None;
+    };
+    if name.is_empty() {
+        return None;
+    }
+    let (host, rest) = split_name(place);
+    let (host, _, rest) = place_by(host, rest)?;
+    if !rest.is_empty() {
+        return None;
+    }
+    Some((name, host))
 }
