@@ -1,6 +1,6 @@
 -- Addresses whose URI stays as it was written.
 use Rattle.std.proofs.Common.{◌≡◌, ℕ, ◌-◌, ◌≤◌, Bool, true, false, cond, List, [], ◌∷◌, ◌++◌, length, take, Option, Some, None, Ok, Err, refl, sym, ap, subst, ◌∙◌, arith, length-append}
-use Rattle.std.specs.Prelude.{is_some}
+use Rattle.std.specs.Prelude.{is_some, option_map}
 use Rattle.std.specs.Option.{unwrap_or}
 use Rattle.std.proofs.lemmas.List.{take_at}
 use Rattle.sip_text.specs.Lists.{is_blank, trimmed}
@@ -8,6 +8,8 @@ use Rattle.sip_text.specs.Cuts.{split_outside, parts_at, parts_behind}
 use Rattle.sip_uri.specs.declared.uri.Uri.{Uri}
 use Rattle.sip_uri.specs.declared.error.UriError.{UriError}
 use Rattle.sip_uri.specs.declared.error.UriError.TheVariants.{NoMemory, Scheme, Syntax}
+use Rattle.sip_uri.specs.declared.aor.Aor.{Aor}
+use Rattle.sip_uri.specs.Aor.{aor_of, IsAorIn}
 use Rattle.sip_uri.specs.Reading.{reading_of}
 use Rattle.sip_uri.specs.PlainPlace.{is_plain_byte, IsUriAt}
 use Rattle.sip_header.specs.declared.parameters.Parameter.{Parameter}
@@ -31,6 +33,9 @@ said_by text u is = ap (λ (o : Option AnyUri). unwrap_or o (Other text)) is
 
 pub sip_is : (text : List ℕ) (uri : Uri) → reading_of text ≡ Ok uri → Some uri ≡ sip_uri (uri_written text)
 sip_is text uri is = sym (ap sip_uri (said_by text (Sip uri) (any_sip text uri is)))
+
+pub aor_is : (text : List ℕ) (aor : Aor) → IsAorIn text aor → Some aor ≡ option_map (λ u. aor_of u) (sip_uri (uri_written text))
+aor_is text aor is = ap (λ (a : Aor). Some a) (sym is.is_named) ∙ ap (λ (o : Option Uri). option_map (λ u. aor_of u) o) (sip_is text is.uri is.is_read)
 
 no_sip : (text : List ℕ) (t : Bool) → sip_uri (unwrap_or (cond t (Some (Other text)) None) (Other text)) ≡ None
 no_sip text true = refl

@@ -8,7 +8,7 @@ use crate::name_addr::{NameAddr, name_addr_of};
 use crate::parameters::{Parameters, parameters_from, plain_end};
 use crate::written_uri::WrittenUri;
 use sip_text::Text;
-use sip_uri::{Aor, Uri, UriError, aor_of, parse_uri, plain_uri_at};
+use sip_uri::{Aor, Uri, UriError, aor_of, parse_uri, plain_aor, plain_uri_at};
 use std::alloc::{AllocError, Global};
 use std::marker::Model;
 
@@ -52,6 +52,18 @@ fn aor_in(alloc: Global, uri: Option<&Uri>) -> Result<Option<Aor>, AllocError>
     }
 }
 
+/// The address of record of the SIP or SIPS URI that a text writes, if it writes one: of the plainest no URI is made.
+#[tactic(auto, using(crate::proofs::WrittenAddresses::aor_is))]
+fn aor_written(alloc: Global, text: &[u8]) -> Result<Option<Aor>, AllocError>
+    ensures { IfOk result (λ aor. aor ≡ option_map (λ u. Aors.aor_of u) (sip_uri (uri_written text.now))) }
+{
+    if let Some(aor) = plain_aor(alloc, text)? {
+        return Ok(Some(aor));
+    }
+    let uri = written_uri(alloc, text)?;
+    aor_in(alloc, uri.as_ref())
+}
+
 impl<'a> WrittenAddress<'a> {
     ghost use Rattle.std.specs.Prelude.{is_some};
 
@@ -80,10 +92,7 @@ impl<'a> WrittenAddress<'a> {
         ensures { IfOk result (λ aor. aor ≡ option_map (λ u. Aors.aor_of u) (sip_uri self.now.uri)) }
     {
         match &self.uri {
-            WrittenUri::Plain(text) => {
-                let uri = written_uri(alloc, text.as_slice())?;
-                aor_in(alloc, uri.as_ref())
-            }
+            WrittenUri::Plain(text) => aor_written(alloc, text.as_slice()),
             WrittenUri::Made(uri) => aor_in(alloc, uri.sip_uri()),
         }
     }
