@@ -170,10 +170,9 @@ fn core_verdict<'v, R: Rules>(
 {
     let core = request.core;
     if is_outside(request.method, core) {
-        // Matched, not `?`: what was judged is large, and is moved less so.
         return match policy_verdict(alloc, judge, locations, known.nonces, request) {
             Ok(judged) => {
-                if goes_out(&judged.outcome) {
+                if goes_out(&judged.get().outcome) {
                     *names = Some(Names::of(alloc, core)?);
                 }
                 Ok(Verdict::Judged(judged))

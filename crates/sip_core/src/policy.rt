@@ -12,6 +12,7 @@ use model_verdict::Question;
 use sip_digest::Nonces;
 use sip_location::Locations;
 use sip_policy::{Decision, Rules};
+use sip_transaction_table::Held;
 use std::alloc::{AllocError, Global};
 
 /// What comes of a request that a rule let through: a REGISTER is taken, every other is sent to its targets.
@@ -80,7 +81,7 @@ fn judged<'v, R: Rules>(
     locations: &mut Locations,
     request: &Validated<'_, '_>,
     question: Question<'v>,
-) -> Result<Judged<'v>, AllocError>
+) -> Result<Held<Judged<'v>>, AllocError>
     requires moment { request.now.moment < 2 ^ 62 }
     requires uri { request.now.uri.now ≡ request_uri_of judge.now.config.own request.now.message.now }
     requires question { question.target ≡ Definition.target_of judge.now request.now.message.now request.now.method.now
@@ -97,11 +98,15 @@ fn judged<'v, R: Rules>(
     let ruling = judge.ruling(&question);
     let decision = &ruling.decision;
     match decided(alloc, judge, locations, request, &question, decision) {
-        Ok(outcome) => Ok(Judged {
-            question,
-            minute: ruling.minute,
-            outcome,
-        }),
+        Ok(outcome) => {
+            let judged = Judged {
+                question,
+                minute: ruling.minute,
+                outcome,
+            };
+            let held = Held::new(alloc, judged)?;
+            Ok(held)
+        }
         Err(refusal) => Err(refusal),
     }
 }
@@ -113,7 +118,7 @@ pub(crate) fn policy_verdict<'v, R: Rules>(
     locations: &mut Locations,
     nonces: &Nonces,
     request: &Validated<'v, '_>,
-) -> Result<Judged<'v>, AllocError>
+) -> Result<Held<Judged<'v>>, AllocError>
     requires moment { request.now.moment < 2 ^ 62 }
     requires uri { request.now.uri.now ≡ request_uri_of judge.now.config.own request.now.message.now }
     ensures minute { IfOk result (λ judged. judged.minute ≡ Definition.minute_on judge.now judged.question) }

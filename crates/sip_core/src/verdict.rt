@@ -7,6 +7,7 @@ use sip_dialog::DialogId;
 use sip_location::Plan;
 use sip_message_fields::Fields;
 use sip_targets::Targets;
+use sip_transaction_table::Held;
 use sip_uri::Addr;
 
 /// What is to be done with a request that no open one is found for.
@@ -22,8 +23,8 @@ pub enum Verdict<'v> {
     Answer(u16, Fields),
     /// It is sent on to this address in this dialog.
     InDialog(Addr, DialogId),
-    /// Policy decided about it.
-    Judged(Judged<'v>),
+    /// Policy decided about it. What it was asked is large, and stands apart: a verdict is moved often.
+    Judged(Held<Judged<'v>>),
 }
 
 /// What policy was asked about a request, and what comes of what it decided.

@@ -24,7 +24,7 @@ use sip_engine_request::take_judged;
 use sip_engine_request::uas::is_answered_here;
 use sip_event::StepOut;
 use sip_timers::Timers;
-use sip_transaction_table::Key;
+use sip_transaction_table::{Held, Key};
 use std::alloc::{AllocError, Global};
 
 /// A new request about which policy decided is answered here: challenged, denied, registered, or sent to nobody. `AllocError`
@@ -35,7 +35,7 @@ fn answer_judged<T: Timers>(
     proxy: &mut Proxy<T>,
     request: &NewRequest<'_>,
     key: Shared<Key>,
-    judged: Judged<'_>,
+    judged: Held<Judged<'_>>,
 ) -> Result<StepOut, AllocError>
     requires coming { IsComing proxy.old.state request.now.arrival }
     requires key { key_of request.now.message.now ≡ Some key }
@@ -103,7 +103,7 @@ pub(crate) fn take_asked<T: Timers>(
     request: &NewRequest<'_>,
     key: Shared<Key>,
     names: &mut Option<Names>,
-    judged: Judged<'_>,
+    judged: Held<Judged<'_>>,
 ) -> Result<StepOut, AllocError>
     requires coming { IsComing proxy.old.state request.now.arrival }
     requires key { key_of request.now.message.now ≡ Some key }
@@ -120,8 +120,8 @@ pub(crate) fn take_asked<T: Timers>(
     ensures unchanged { OnErr result (proxy.new.state ≡ proxy.old.state) }
     ensures timers { OnErr result (proxy.new.timers ≡ proxy.old.timers) }
 {
-    if is_answered_here(&judged.outcome) {
+    if is_answered_here(&judged.get().outcome) {
         return answer_judged(alloc, configured.server, proxy, request, key, judged);
     }
-    send_judged(alloc, configured, proxy, request, key, names, &judged)
+    send_judged(alloc, configured, proxy, request, key, names, judged.get())
 }
