@@ -12,8 +12,7 @@ pub(crate) fn keep(alloc: Global, request: &NewRequest<'_>) -> Result<Shared<Hea
     requires { top_via request.now.message.now ≡ Some request.now.via.now }
     ensures { IfOk result (λ kept. kept ≡ request.now.message.now) }
 {
-    let heard = Heard::of(alloc, request.message, request.via, request.arrival.from)?;
-    Shared::new(alloc, heard)
+    Heard::of(alloc, request.message, request.via, request.arrival.from)
 }
 
 /// Keeps a new request that goes on from this server, with its names, where they were made. `AllocError` is the only refusal.
@@ -31,6 +30,5 @@ pub(crate) fn keep_onward(
     let realm = server.config.realm.as_slice();
     let from = request.arrival.from;
     let names = names.take();
-    let heard = Heard::onward(alloc, own, realm, request.message, request.via, from, names)?;
-    Shared::new(alloc, heard)
+    Heard::onward(alloc, own, realm, request.message, request.via, from, names)
 }

@@ -142,28 +142,31 @@ fn put_unread(
 }
 
 impl Heard {
-    /// A request with this Via on top that came from an address, and that is answered here. `AllocError` is the only
-    /// refusal.
+    /// A request with this Via on top that came from an address, and that is answered here: its first owner. `AllocError` is
+    /// the only refusal.
     pub fn of(
         alloc: Global,
         request: &View<'_>,
         via: &Via<'_>,
         from: Addr,
-    ) -> Result<Self, AllocError>
+    ) -> Result<Shared<Self>, AllocError>
         requires { top_via request.now ≡ Some via.now }
         ensures { IfOk result (λ heard. heard ≡ request.now) }
     {
         let message = KeptParts::of(alloc, request)?;
         let via = TopVia::of(alloc, request, via, from)?;
-        Ok(Heard {
-            message,
-            via,
-            onward: None,
-        })
+        Shared::new(
+            alloc,
+            Heard {
+                message,
+                via,
+                onward: None,
+            },
+        )
     }
 
-    /// A request with this Via on top that came from an address, and that goes on from a server of this place and realm. Its
-    /// core fields aren't read for names that were made before. `AllocError` is the only refusal.
+    /// A request with this Via on top that came from an address, and that goes on from a server of this place and realm: its
+    /// first owner. Its core fields aren't read for names that were made before. `AllocError` is the only refusal.
     pub fn onward(
         alloc: Global,
         own: &Own,
@@ -172,7 +175,7 @@ impl Heard {
         via: &Via<'_>,
         from: Addr,
         names: Option<Names>,
-    ) -> Result<Self, AllocError>
+    ) -> Result<Shared<Self>, AllocError>
         requires names { Spec.AreNames request.now names }
         requires via { top_via request.now ≡ Some via.now }
         ensures { IfOk result (λ heard. heard ≡ request.now) }
@@ -180,11 +183,14 @@ impl Heard {
         let message = KeptParts::of(alloc, request)?;
         let via = TopVia::of(alloc, request, via, from)?;
         let onward = Onward::of(alloc, own, realm, request, &via, names)?;
-        Ok(Heard {
-            message,
-            via,
-            onward: Some(Shared::new(alloc, onward)?),
-        })
+        Shared::new(
+            alloc,
+            Heard {
+                message,
+                via,
+                onward: Some(onward),
+            },
+        )
     }
 
     /// The first line of the message, of which no byte is copied. Takes no memory.

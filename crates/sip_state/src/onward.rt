@@ -7,6 +7,7 @@ ghost use Rattle.sip_state.specs.TopVia.{IsTopVia};
 use crate::names::{Names, names_by};
 use crate::tail::Tail;
 use crate::top_via::TopVia;
+use sip_base::Shared;
 use sip_context_places::{Place, RouteFacts, places_in};
 use sip_message_form::{View, ViewStart};
 use sip_route::Own;
@@ -54,7 +55,7 @@ impl Onward {
         request: &View<'_>,
         via: &TopVia,
         names: Option<Names>,
-    ) -> Result<Self, AllocError>
+    ) -> Result<Shared<Self>, AllocError>
         requires names { AreNames request.now names }
         requires via { IsTopVia request.now via.now }
         ensures read { IfOk result (λ onward. IsOnward request.now onward) }
@@ -65,11 +66,14 @@ impl Onward {
         let given = given_by(alloc, request)?;
         let kept = routes.kept(alloc, own)?;
         let tail = Tail::of(alloc, realm, kept, request, via.value.as_slice())?;
-        Ok(Onward {
-            routes,
-            names,
-            given,
-            tail,
-        })
+        Shared::new(
+            alloc,
+            Onward {
+                routes,
+                names,
+                given,
+                tail,
+            },
+        )
     }
 }
