@@ -10,7 +10,6 @@ use Rattle.sip_request.specs.transactions_model.Fits.{Fits}
 use Rattle.sip_request.specs.declared.request.Request.{Request}
 use Rattle.sip_request.specs.Named.{HasKeys, named_by}
 use Rattle.sip_request.specs.Near.{most_timers}
-use Rattle.sip_request.specs.declared.request.Plan.{Plan}
 
 -- What the table of open requests shows: them, in rising order of their numbers; the timers that stand, in the order in
 -- which they fire; the last moment that came, and the greatest by which timers were told that they aren't due; and for how
@@ -53,12 +52,8 @@ pub record AreTied (pending : List Timer) (reached : ℕ) (rows : List Request) 
   pub kept : All (IsKept reached) rows
   pub early : reached < 2 ^ 62
 
--- A request as it is to be is prepared: there are keys for its branches, and its numbers are of their types.
-pub record IsPrepared (plan : Plan) : Type 0 where
-  pub keys : HasKeys plan.request plan.keys
-  pub numbers : HasNumbers plan.request
-
--- A request as it is to be opened is placed: there are keys for its branches, and its numbers are of their types.
+-- A request as it is to be opened, or to take the place of another one, is placed: there are keys for its branches, and its
+-- numbers are of their types.
 pub record IsPlaced (r : Request) : Type 0 where
   pub keys : HasKeys r.open_request r.branches
   pub numbers : HasNumbers r.open_request

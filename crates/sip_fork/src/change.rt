@@ -13,22 +13,22 @@ use sip_transaction_table::Held;
 use std::alloc::{AllocError, Global};
 use std::marker::Model;
 
-/// An open request as it is to be, with all the memory that it takes to change the one of its number and its key; seen as
-/// the request.
+/// An open request as it is to be, where it is to stand, with all the memory that it takes to take the place of the one of
+/// its number and its key; seen as the request.
 #[derive(Drop)]
 pub struct Change {
-    pub(crate) plan: Plan,
+    pub(crate) row: Held<Standing>,
 }
 
 impl Model for Change {
     ghost use Rattle.sip_dialog_lessons.specs.state.declared.open_request.OpenRequest.{OpenRequest};
-    ghost use Rattle.sip_fork.specs.Contexts.{IsPrepared};
+    ghost use Rattle.sip_fork.specs.Contexts.{IsPlaced};
 
     ghost Value = { OpenRequest };
 
-    ghost view = { λ c. c.plan.request };
+    ghost view = { λ c. c.row.open_request };
 
-    ghost invariant = { λ c. IsPrepared c.plan };
+    ghost invariant = { λ c. IsPlaced c.row };
 }
 
 /// A request as it is to be opened, where it is to stand, with all the memory that it takes; seen as the request.
@@ -99,26 +99,26 @@ fn has_numbers(request: &OpenRequest) -> u64
 
 impl Change {
     /// An open request as it was planned. Takes no memory.
-    pub(crate) fn of_plan(plan: Plan) -> Self
-        requires { HasKeys plan.request plan.keys }
-        ensures { result ≡ plan.request }
+    pub(crate) fn of(row: Held<Standing>) -> Self
+        requires { HasKeys row.open_request row.branches }
+        ensures { result ≡ row.open_request }
     {
-        let _number = has_numbers(&plan.request);
-        Change { plan }
+        let _number = has_numbers(&row.get().request.open_request);
+        Change { row }
     }
 
     /// The request.
     pub fn request(&self) -> &OpenRequest
         ensures { result.now ≡ self.now }
     {
-        &self.plan.request
+        &self.row.get().request.open_request
     }
 
     /// Whether it stays open no longer.
     pub(crate) fn closes(&self) -> bool
         ensures { result ≡ States.has_left self.now }
     {
-        has_left(&self.plan.request)
+        has_left(&self.row.get().request.open_request)
     }
 }
 

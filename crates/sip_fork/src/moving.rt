@@ -1,9 +1,9 @@
-ghost use Rattle.std.specs.Prelude.{◌≡◌, ◌<◌, ◌≤◌, ◌+◌, ◌++◌, ◌∷◌, [], length, map, position, remove, slice_get, slice_set, Some, None};
+ghost use Rattle.std.specs.Prelude.{◌≡◌, ◌<◌, ◌≤◌, ◌+◌, ◌^◌, ◌++◌, ◌∷◌, [], length, map, position, remove, slice_get, slice_set, Some, None};
 ghost use Rattle.std.specs.List.{All};
 ghost use Rattle.sip_transaction_table.specs.Key.{same_key};
 ghost use Rattle.sip_request.specs.Named.{HasKeys, IsReady, named_by};
-ghost use Rattle.sip_request.specs.Near.{most_timers};
-ghost use Rattle.sip_timers.specs.Moves.{Moves};
+ghost use Rattle.sip_request.specs.Near.{IsNear, most_timers};
+ghost use Rattle.sip_timers.specs.Moves.{IsHeld, Moves};
 ghost use Rattle.sip_timers.specs.Timers.{KeysDiffer};
 ghost use Rattle.sip_request.specs.declared.request.Request.{Request};
 ghost use Rattle.sip_request.specs.transactions_model.Fits.{Fits};
@@ -15,6 +15,7 @@ use crate::change::{Change, Opening};
 use crate::ending::stop;
 use crate::queue::Queue;
 use crate::row::Standing;
+use sip_request::Request;
 use sip_timers::Timers;
 use sip_transaction_table::{Held, Table, Transaction};
 
@@ -29,7 +30,23 @@ pub(crate) fn close_row<T: Timers>(table: &mut Table<Standing>, timers: &mut Que
     ensures still { timers.new.reached ≡ timers.old.reached }
 {
     let row = table.remove(place);
-    row.request.close(timers);
+    let standing = row.get();
+    standing.request.close(timers);
+}
+
+/// Sets the timers of a request where it is to stand, and no others of those of the one in whose place it is to stand.
+fn follow<T: Timers>(row: &mut Held<Standing>, timers: &mut Queue<T>, was: &Request)
+    requires held { IsHeld timers.old.pending (named_by was.now) }
+    requires timed { IsNear (2 ^ 64) was.now.open_request }
+    requires ready { IsReady timers.old.reached timers.old.room (record { request = row.old.open_request; keys = row.old.branches }) }
+    ensures moves { Moves timers.old.pending (named_by was.now) timers.new.pending (named_by row.new) }
+    ensures request { row.new.open_request ≡ row.old.open_request }
+    ensures keys { HasKeys row.new.open_request row.new.branches }
+    ensures left { timers.old.room ≤ timers.new.room + most_timers row.old.open_request }
+    ensures still { timers.new.reached ≡ timers.old.reached }
+{
+    let standing = row.get_mut();
+    standing.request.follow(timers, was);
 }
 
 /// Changes the request at a place: its timers follow.
@@ -50,10 +67,10 @@ pub(crate) fn change_row<T: Timers>(
     ensures room { timers.old.room ≤ timers.new.room + most_timers change }
     ensures still { timers.new.reached ≡ timers.old.reached }
 {
-    let Change { plan } = change;
-    let row = table.get(place);
-    let request = row.request.changed(timers, plan);
-    table.replace(place, Standing { request });
+    let Change { mut row } = change;
+    let stood = table.get(place);
+    follow(&mut row, timers, &stood.request);
+    table.replace(place, row);
 }
 
 /// A transaction of the request at a place ends where it stands: its timers are stopped.

@@ -1,17 +1,66 @@
-ghost use Rattle.std.specs.Prelude.{◌≡◌, ◌<◌, ◌+◌, ◌^◌, IfOk};
+ghost use Rattle.std.specs.Prelude.{◌≡◌, ◌<◌, ◌+◌, ◌^◌, IfOk, OnOk};
 ghost use Rattle.sip_context.specs.Inputs.{IsFit, outcome, outcome_of};
+ghost use Rattle.sip_request.specs.Named.{HasKeys};
 
 use crate::change::{Change, Prepared};
-use sip_context::{Input, take_input};
+use crate::row::Standing;
+use sip_context::{Input, Sent, take_input};
 use sip_dialog_lessons::state::{OpenRequest, Server};
-use sip_request::Plan;
+use sip_request::{Plan, Request};
+use sip_text::Items;
+use sip_transaction_table::Held;
 use std::alloc::{AllocError, Global};
 
 /// A copy of an open request.
-fn copied(request: &OpenRequest) -> Result<OpenRequest, AllocError>
+#[inline(always)]
+fn clone_of(request: &OpenRequest) -> Result<OpenRequest, AllocError>
     ensures { IfOk result (λ copy. copy ≡ request.now) }
 {
     request.clone()
+}
+
+/// A copy of an open request, where it is to stand, without keys. `AllocError` is the only refusal.
+fn copied(alloc: Global, request: &OpenRequest) -> Result<Held<Standing>, AllocError>
+    ensures { IfOk result (λ row. row.open_request ≡ request.now) }
+{
+    let plan = Plan {
+        request: clone_of(request)?,
+        keys: Items::new(alloc),
+    };
+    let request = Request::planned(plan);
+    Held::new(alloc, Standing { request })
+}
+
+/// Lets a request become what an input makes of it, where it is to stand. `AllocError` is the only refusal.
+fn take_in(
+    alloc: Global,
+    server: &Server,
+    now: u64,
+    row: &mut Held<Standing>,
+    input: Input<'_>,
+) -> Result<Sent, AllocError>
+    requires now { now + 185000 < 2 ^ 64 }
+    requires fit { IsFit row.old.open_request input }
+    ensures { IfOk result (λ sent. outcome row.new.open_request sent ≡ outcome_of server.now now row.old.open_request input.entry) }
+{
+    let standing = row.get_mut();
+    take_input(
+        alloc,
+        server,
+        now,
+        &mut standing.request.open_request,
+        input,
+    )
+}
+
+/// Gives a request keys for its branches. `AllocError` is the only refusal.
+fn give_keys(alloc: Global, row: &mut Held<Standing>) -> Result<(), AllocError>
+    ensures request { row.new.open_request ≡ row.old.open_request }
+    ensures keys { OnOk result (HasKeys row.new.open_request row.new.branches) }
+{
+    let standing = row.get_mut();
+    standing.request.branches = Plan::room_for(alloc, &standing.request.open_request)?;
+    Ok(())
 }
 
 /// Prepares what an input makes of an open request at a moment, in milliseconds, and what is sent then: exactly the change
@@ -27,12 +76,9 @@ pub(crate) fn prepared(
     requires fit { IsFit request.now input }
     ensures { IfOk result (λ prepared. outcome prepared.change prepared.sent ≡ outcome_of server.now now request.now input.entry) }
 {
-    let mut next = copied(request)?;
-    let sent = take_input(alloc, server, now, &mut next, input)?;
-    let keys = Plan::room_for(alloc, &next)?;
-    let change = Change::of_plan(Plan {
-        request: next,
-        keys,
-    });
+    let mut row = copied(alloc, request)?;
+    let sent = take_in(alloc, server, now, &mut row, input)?;
+    give_keys(alloc, &mut row)?;
+    let change = Change::of(row);
     Ok(Prepared { change, sent })
 }

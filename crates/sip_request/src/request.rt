@@ -115,31 +115,26 @@ impl Request {
         self.side = begin(timers, &self.open_request, self.branches.as_mut_slice());
     }
 
-    /// The request as it was planned, which takes its place: its timers follow. Takes no memory.
-    pub fn changed<T: Timers>(&self, timers: &mut T, plan: Plan) -> Self
-        requires held { IsHeld (T.pending timers.old) (named_by self.now) }
-        requires timed { IsNear (2 ^ 64) self.now.open_request }
-        requires ready { IsReady (T.reached timers.old) (T.room timers.old) plan }
-        ensures moves { Moves (T.pending timers.old) (named_by self.now) (T.pending timers.new) (named_by result) }
-        ensures request { result.open_request ≡ plan.request }
-        ensures keys { HasKeys result.open_request result.branches }
-        ensures left { T.room timers.old ≤ T.room timers.new + most_timers plan.request }
+    /// The request as it was planned, which is to take the place of another one: its timers are set, and no others of those
+    /// that stood before. Takes no memory.
+    pub fn follow<T: Timers>(&mut self, timers: &mut T, was: &Request)
+        requires held { IsHeld (T.pending timers.old) (named_by was.now) }
+        requires timed { IsNear (2 ^ 64) was.now.open_request }
+        requires ready { IsReady (T.reached timers.old) (T.room timers.old) (record { request = self.old.open_request; keys = self.old.branches }) }
+        ensures moves { Moves (T.pending timers.old) (named_by was.now) (T.pending timers.new) (named_by self.new) }
+        ensures request { self.new.open_request ≡ self.old.open_request }
+        ensures keys { HasKeys self.new.open_request self.new.branches }
+        ensures left { T.room timers.old ≤ T.room timers.new + most_timers self.old.open_request }
         ensures still { T.reached timers.new ≡ T.reached timers.old }
     {
-        let Plan { request, mut keys } = plan;
-        let side = retime(
+        self.side = retime(
             timers,
+            &was.open_request,
+            was.side,
+            was.branches.as_slice(),
             &self.open_request,
-            self.side,
-            self.branches.as_slice(),
-            &request,
-            keys.as_mut_slice(),
+            self.branches.as_mut_slice(),
         );
-        Request {
-            open_request: request,
-            side,
-            branches: keys,
-        }
     }
 
     /// The timers of the answering side, which is to close, are stopped.
@@ -180,10 +175,10 @@ impl Request {
     }
 
     /// The request is open no longer: its timers are stopped.
-    pub fn close<T: Timers>(self, timers: &mut T)
-        requires held { IsHeld (T.pending timers.old) (named_by self) }
-        requires timed { IsNear (2 ^ 64) self.open_request }
-        ensures moves { Moves (T.pending timers.old) (named_by self) (T.pending timers.new) [] }
+    pub fn close<T: Timers>(&self, timers: &mut T)
+        requires held { IsHeld (T.pending timers.old) (named_by self.now) }
+        requires timed { IsNear (2 ^ 64) self.now.open_request }
+        ensures moves { Moves (T.pending timers.old) (named_by self.now) (T.pending timers.new) [] }
         ensures left { T.room timers.old ≤ T.room timers.new }
         ensures still { T.reached timers.new ≡ T.reached timers.old }
     {

@@ -43,14 +43,6 @@ impl<T: Drop> Held<T> {
         self.owned.as_mut()
     }
 
-    /// Puts another value in its place. Takes no memory.
-    pub fn set(&mut self, value: T)
-        ensures { self.new ≡ value }
-    {
-        let place = self.owned.as_mut();
-        *place = value;
-    }
-
     /// The value, taken out of its memory.
     pub fn into_value(self) -> T
         ensures { result ≡ self }

@@ -93,12 +93,12 @@ impl<R: Row> Numbered<R> {
     }
 
     /// Puts a row in the place of one with its number. Takes no memory.
-    pub(crate) fn replace(&mut self, place: usize, row: R)
+    pub(crate) fn replace(&mut self, place: usize, row: Held<R>)
         requires number { (r : R) → slice_get self.old place ≡ Some r → R.number row ≡ R.number r }
         requires place { place < length self.old }
         ensures { self.new ≡ slice_set self.old place row }
     {
-        self.rows[place].set(row);
+        self.rows[place] = row;
     }
 
     /// A transaction of the row at a place ends; its number and its key stay. Takes no memory.
@@ -111,11 +111,11 @@ impl<R: Row> Numbered<R> {
     }
 
     /// Takes a row out. Takes no memory.
-    pub(crate) fn remove(&mut self, place: usize) -> R
+    pub(crate) fn remove(&mut self, place: usize) -> Held<R>
         requires { place < length self.old }
         ensures new { self.new ≡ remove self.old place }
         ensures old { slice_get self.old place ≡ Some result }
     {
-        take_out(&mut self.rows, place).into_value()
+        take_out(&mut self.rows, place)
     }
 }

@@ -135,7 +135,7 @@ impl<R: Row> Table<R> {
     }
 
     /// Puts a row in the place of one with its number and its key. Takes no memory.
-    pub fn replace(&mut self, place: usize, row: R)
+    pub fn replace(&mut self, place: usize, row: Held<R>)
         requires place { place < length self.old.rows }
         requires number { (r : R) → slice_get self.old.rows place ≡ Some r → R.number row ≡ R.number r }
         requires key { (r : R) → slice_get self.old.rows place ≡ Some r → R.key row ≡ R.key r }
@@ -155,7 +155,7 @@ impl<R: Row> Table<R> {
     }
 
     /// Closes the request at a place: takes its row out, and its key isn't open any more. Takes no memory.
-    pub fn remove(&mut self, place: usize) -> R
+    pub fn remove(&mut self, place: usize) -> Held<R>
         requires { place < length self.old.rows }
         ensures rows { self.new.rows ≡ remove self.old.rows place }
         ensures old { slice_get self.old.rows place ≡ Some result }

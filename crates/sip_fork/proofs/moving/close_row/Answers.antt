@@ -6,16 +6,16 @@ use Rattle.sip_fork.proofs.moving.close_row.Goals as goal
 
 pub close-requires-clause-held : goal.close-requires-clause-held
 close-requires-clause-held g c =
-    let at : slice_get c.args.table.now.rows c.args.place ≡ Some c.row.inside.request = rw c.row.view_is c.remove-row.ensures.old in
-    held_at c.args.timers.now.pending c.args.timers.now.reached c.args.table.now.rows c.args.place c.row.inside.request c.requires.tied at
+    let at : slice_get c.args.table.now.rows c.args.place ≡ Some c.standing.inside.request = rw (c.standing.view_is, c.get-standing.ensures) c.remove-row.ensures.old in
+    held_at c.args.timers.now.pending c.args.timers.now.reached c.args.table.now.rows c.args.place c.standing.inside.request c.requires.tied at
 
 pub close-requires-clause-timed : goal.close-requires-clause-timed
 close-requires-clause-timed g c =
-    let at : slice_get c.args.table.now.rows c.args.place ≡ Some c.row.inside.request = rw c.row.view_is c.remove-row.ensures.old in
-    timed_at c.args.timers.now.pending c.args.timers.now.reached c.args.table.now.rows c.args.place c.row.inside.request c.requires.tied at
+    let at : slice_get c.args.table.now.rows c.args.place ≡ Some c.standing.inside.request = rw (c.standing.view_is, c.get-standing.ensures) c.remove-row.ensures.old in
+    timed_at c.args.timers.now.pending c.args.timers.now.reached c.args.table.now.rows c.args.place c.standing.inside.request c.requires.tied at
 
 pub returns-clause-tied : goal.returns-clause-tied
 returns-clause-tied g c =
-    let at : slice_get c.args.table.now.rows c.args.place ≡ Some c.row.inside.request = rw c.row.view_is c.remove-row.ensures.old in
+    let at : slice_get c.args.table.now.rows c.args.place ≡ Some c.standing.inside.request = rw (c.standing.view_is, c.get-standing.ensures) c.remove-row.ensures.old in
     subst (λ (xs : List Request). AreTied c.close.new.timers.pending c.close.new.timers.reached xs) (sym c.remove-row.ensures.rows)
-    (closed c.args.timers.now.pending c.close.new.timers.pending c.args.timers.now.reached c.close.new.timers.reached c.args.table.now.rows c.args.place c.row.inside.request c.requires.tied at c.close.ensures.still c.close.ensures.moves)
+    (closed c.args.timers.now.pending c.close.new.timers.pending c.args.timers.now.reached c.close.new.timers.reached c.args.table.now.rows c.args.place c.standing.inside.request c.requires.tied at c.close.ensures.still c.close.ensures.moves)

@@ -6,6 +6,6 @@ use Rattle.sip_fork.proofs.planning.prepared.Goals as goal
 
 pub returns : goal.returns
 returns c =
-    ap (λ (r : OpenRequest). outcome r c.in_ok-sent.sent) c.of_plan-change.ensures
-    ∙ planned c.args.server.now c.args.now c.args.input c.in_ok-sent.sent c.args.request.now c.in_ok-next.next c.take_input.new.request
-    c.in_ok-next.ensures c.in_ok-sent.ensures
+    ap (λ (r : OpenRequest). outcome r c.in_ok-sent.sent) (c.of-change.ensures ∙ c.give_keys.ensures.request)
+    ∙ planned c.args.server.now c.args.now c.args.input c.in_ok-sent.sent c.args.request.now c.in_ok-row.row.open_request c.take_in.new.row.open_request
+    c.in_ok-row.ensures c.in_ok-sent.ensures
