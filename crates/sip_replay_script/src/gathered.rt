@@ -71,15 +71,17 @@ fn copy_line(text: &[u8], from: usize, room: &mut [u8], to: usize, limit: usize)
     ensures within { IfSome result (λ count. from + count + 1 ≤ length text.now) }
 {
     let mut done = 0;
-    while from + done <= limit {
+    loop {
         let end = end_in_lanes(text, from + done);
         copy_lanes(text, from + done, room, to + done);
         if let Some(run) = end {
             return Some(done + run);
         }
         done += LANES;
+        if from + done > limit {
+            return None;
+        }
     }
-    None
 }
 
 /// Puts bytes at a place of the room.
