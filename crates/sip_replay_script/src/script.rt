@@ -4,7 +4,7 @@ ghost use Rattle.memchr.specs.Find.{IsFirstByte, is_byte};
 ghost use Rattle.sip_text.specs.Numbers;
 ghost use Rattle.sip_text.specs.Splits.{split_at_byte};
 ghost use Rattle.sip_replay_script.specs.Script;
-ghost use Rattle.sip_replay_script.specs.Script.{IsNumberAt, IsNumberBefore, IsSourceBefore, IsWordBefore, SaysAtOnce};
+ghost use Rattle.sip_replay_script.specs.Script.{IsNumberBefore, IsSourceBefore, IsWordBefore, SaysAtOnce};
 ghost use Rattle.sip_replay_script.specs.declared.script.Line.TheVariants.{Head, Whole};
 ghost use Rattle.sip_event.specs.declared.event.Event.TheVariants.{Time};
 
@@ -179,41 +179,31 @@ fn line_of_kind(alloc: Global, kind: &[u8], rest: &[u8]) -> Result<Option<Line>,
     Ok(None)
 }
 
-/// The number that at most so many decimal digits without leading zeros write from a place on, and the place behind them. None says
-/// nothing.
+/// The number that at most so many decimal digits without leading zeros write from a place on, in front of a byte that is none,
+/// and the place behind that. None says nothing.
 #[inline(always)]
-#[tactic(auto, using(crate::proofs::HeadAtOnce::no_digits, crate::proofs::HeadAtOnce::one_more, crate::proofs::HeadAtOnce::fits, crate::proofs::HeadAtOnce::number_is))]
-fn number_at(text: &[u8], from: usize, most: usize) -> Option<(u64, usize)>
-    requires { (from + most ≤ length text.now) × (most ≤ 19) }
-    ensures number { IfSome result (λ found. IsNumberAt text.now from found.0 found.1) }
-    ensures most { IfSome result (λ found. found.1 ≤ from + most) }
+#[tactic(auto, using(crate::proofs::HeadAtOnce::no_digits, crate::proofs::HeadAtOnce::one_more, crate::proofs::HeadAtOnce::fits, crate::proofs::HeadAtOnce::number_is, crate::proofs::HeadAtOnce::number_before))]
+fn number_before(text: &[u8], from: usize, most: usize, mark: u8) -> Option<(u64, usize)>
+    requires { (from + most < length text.now) × (most ≤ 19) }
+    ensures number { IfSome result (λ found. IsNumberBefore text.now from mark found.0 found.1) }
+    ensures most { IfSome result (λ found. found.1 ≤ from + most + 1) }
 {
     let mut number: u64 = 0;
     let mut count: usize = 0;
-    while count < most && text[from + count].is_ascii_digit() {
+    while text[from + count] != mark {
+        if count == most {
+            return None;
+        }
+        if !text[from + count].is_ascii_digit() {
+            return None;
+        }
         number = number * 10 + u64::from(text[from + count] - b'0');
         count += 1;
     }
     if count == 0 || count > 1 && text[from] == b'0' {
         return None;
     }
-    Some((number, from + count))
-}
-
-/// Such a number in front of a byte, and the place behind that.
-#[inline(always)]
-#[tactic(auto, using(crate::proofs::HeadAtOnce::number_before))]
-fn number_before(text: &[u8], from: usize, most: usize, mark: u8) -> Option<(u64, usize)>
-    requires { (from + most < length text.now) × (most ≤ 19) }
-    ensures number { IfSome result (λ found. IsNumberBefore text.now from mark found.0 found.1) }
-    ensures most { IfSome result (λ found. found.1 ≤ from + most + 1) }
-{
-    let (number, end) = number_at(text, from, most)?;
-    if text[end] == mark {
-        Some((number, end + 1))
-    } else {
-        None
-    }
+    Some((number, from + count + 1))
 }
 
 /// The address in front of a space, and the place behind that. At least as many bytes follow as such an address has.
@@ -257,6 +247,7 @@ fn word_before_end(text: &[u8], from: usize) -> Option<(u128, usize)>
 
 /// The head that a line `datagram AT IP:PORT WORD` at the front of a text says, and how many bytes that line has, which LF ends. It is read
 /// from one end to the other, its end found on the way: most lines are one. None says nothing.
+#[inline(never)]
 pub(crate) fn head_at_once(text: &[u8]) -> Option<(DatagramHead, usize)>
     ensures { IfSome result (λ found. SaysAtOnce text.now (Head found.0) found.1) }
 {

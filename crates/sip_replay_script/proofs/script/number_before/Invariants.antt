@@ -1,6 +1,6 @@
 use Rattle.std.proofs.Common.{◌-◌, ◌≤◌}
 use Rattle.sip_replay_script.proofs.HeadAtOnce.{AreDigits}
-use Rattle.sip_replay_script.proofs.script.number_at.Given as goal
+use Rattle.sip_replay_script.proofs.script.number_before.Given as goal
 
 -- the digits so far write the number so far
 abbrev pub invariant-loop-count : goal.invariant-loop-count
