@@ -1,7 +1,7 @@
 -- A number whose digits are put in front, the last one first.
 use Rattle.std.proofs.Common.{◌≡◌, ℕ, ◌+◌, ◌/◌, ◌%◌, ◌^◌, ◌<◌, ◌≤◌, List, [], ◌∷◌, ◌++◌, length, decimal, ◌*◌, ◌==◌, get_or, true, refl, eqb-true, sym, ap, ◌∙◌, arith, append_assoc, length-append}
 use Rattle.std.proofs.lemmas.Bool.{agree_below_at}
-use Rattle.sip_replay_script.specs.declared.head_line.TheConstants.{PAIRS}
+use Rattle.sip_replay_script.specs.declared.front.TheConstants.{PAIRS}
 use Rattle.std.proofs.lemmas.Fmt.{decimal_digit, decimal_step, decimal_by_steps, length-decimal-le}
 
 -- the last digit of more than one

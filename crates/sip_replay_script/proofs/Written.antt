@@ -1,5 +1,5 @@
 -- What several writes leave.
-use Rattle.std.proofs.Common.{◌≡◌, ℕ, ◌+◌, ◌<◌, List, [], ◌∷◌, ◌++◌, length, get_or, Option, None, Some, subst, take, ap, ◌∙◌, append-nil, sym}
+use Rattle.std.proofs.Common.{◌≡◌, ℕ, ◌+◌, ◌<◌, List, [], ◌∷◌, ◌++◌, length, get_or, Option, None, Some, subst, take, ap, ◌∙◌, append-nil, sym, arith}
 use Rattle.std.specs.List.{flat_map}
 use Rattle.std.proofs.lemmas.Grind.{flat_map-append}
 use Rattle.std.proofs.lemmas.List.{take_more}
@@ -11,6 +11,11 @@ appends_nothing a = Appends-nil a
 
 pub appends_both : (a b c : Option (List ℕ)) (first second : List ℕ) → Appends a b first → Appends b c second → Appends a c (first ++ second)
 appends_both a b c first second h1 h2 = Appends-trans a b c first second h1 h2
+
+-- no parts
+pub appends_none_of : {X : Type 0} (f : X → List ℕ) (xs : List X) (a : Option (List ℕ)) → length xs ≡ 0 → Appends a a (flat_map f xs)
+appends_none_of f [] a none = Appends-nil a
+appends_none_of f (x ∷ xs) a none = absurd (omega (arith, none))
 
 -- one part more
 pub appends_part : {X : Type 0} (f : X → List ℕ) (xs : List X) (i : ℕ) (x : X) (a b c : Option (List ℕ)) → i < length xs → x ≡ get_or xs i x → Appends a b (flat_map f (take i xs)) → Appends b c (f x) → Appends a c (flat_map f (take (i + 1) xs))

@@ -3,7 +3,6 @@ ghost use Rattle.sip_event.specs.declared.event.Event.TheVariants.{Datagram, Tim
 ghost use Rattle.sip_replay_script.specs.EventText;
 
 use crate::head_line::HeadLine;
-use crate::print::put_addr;
 use sip_digest::nonce_text;
 use sip_event::Ticket;
 use sip_uri::Addr;
@@ -16,7 +15,7 @@ fn put_head(text: &mut HeadLine, at: u64, word: u128, from: Addr)
 {
     text.put_word(&nonce_text(word));
     text.put(b' ');
-    put_addr(text, from);
+    text.put_addr(from);
     text.put(b' ');
     text.put_number(at);
 }

@@ -1,12 +1,16 @@
-ghost use Rattle.std.specs.Prelude.{◌≡◌, ◌≤◌, ◌<◌, ◌+◌, ◌-◌, ◌*◌, ◌/◌, ◌%◌, ◌++◌, ◌∷◌, [], decimal, drop, length};
+ghost use Rattle.std.specs.Prelude.{◌≡◌, ◌≤◌, ◌<◌, ◌+◌, ◌++◌, ◌∷◌, [], decimal, length};
+ghost use Rattle.sip_replay_script.specs.Print;
+ghost use Rattle.sip_uri.specs.Addresses.{addr_text};
 
+use crate::{front, packet_head};
+use sip_event::Packet;
+use sip_uri::Addr;
 use std::marker::Model;
 
 /// The room for a head line: nine numbers, each as if it had 20 digits, and what stands between them.
 const ROOM: usize = 208;
 
-/// A head line, made from its last byte to its first in room of its own: so it takes no memory, and of a number the
-/// last digit is known first.
+/// A head line, made from its last byte to its first in room of its own: so it takes no memory.
 #[derive(Drop)]
 pub struct HeadLine {
     room: [u8; 208],
@@ -21,57 +25,6 @@ impl Model for HeadLine {
     ghost view = { λ h. drop h.start h.room };
 
     ghost invariant = { λ h. h.start ≤ 208 };
-}
-
-/// Puts a byte in front of a place.
-#[inline(always)]
-fn put_before(room: &mut [u8; 208], place: usize, byte: u8)
-    requires { (1 ≤ place) × (place ≤ 208) }
-    ensures { drop (place - 1) room.new ≡ byte ∷ drop place room.old }
-{
-    room[place - 1] = byte;
-}
-
-/// The two digits of each number below 100, one pair behind the other.
-static PAIRS: [u8; 200] = *b"\
-    0001020304050607080910111213141516171819\
-    2021222324252627282930313233343536373839\
-    4041424344454647484950515253545556575859\
-    6061626364656667686970717273747576777879\
-    8081828384858687888990919293949596979899";
-
-/// Puts the two digits of a number below 100 in front of a place.
-#[inline(always)]
-fn put_pair(room: &mut [u8; 208], place: usize, number: u8)
-    requires place { (2 ≤ place) × (place ≤ 208) }
-    requires number { number < 100 }
-    ensures { drop (place - 2) room.new ≡ (48 + number / 10) ∷ (48 + number % 10) ∷ drop place room.old }
-{
-    let first = 2 * usize::from(number);
-    put_before(room, place, PAIRS[first + 1]);
-    put_before(room, place - 1, PAIRS[first]);
-}
-
-/// Puts the digits of a number in decimal in front of a place; where they begin.
-#[inline(always)]
-fn put_digits(room: &mut [u8; 208], end: usize, number: u64) -> usize
-    requires { (20 ≤ end) × (end ≤ 208) }
-    ensures text { drop result room.new ≡ decimal number ++ drop end room.old }
-    ensures within { (result ≤ 208) × (end ≤ result + 20) }
-{
-    let mut left = number;
-    let mut start = end;
-    while left >= 100 {
-        put_pair(room, start, (left % 100) as u8);
-        start -= 2;
-        left /= 100;
-    }
-    if left >= 10 {
-        put_pair(room, start, left as u8);
-        return start - 2;
-    }
-    put_before(room, start, b'0' + left as u8);
-    start - 1
 }
 
 impl HeadLine {
@@ -93,8 +46,7 @@ impl HeadLine {
         ensures text { self.new ≡ byte ∷ self.old }
         ensures size { length self.new ≡ length self.old + 1 }
     {
-        self.start -= 1;
-        self.room[self.start] = byte;
+        self.start = front::put_byte(&mut self.room, self.start, byte);
     }
 
     /// Puts a word in front.
@@ -104,9 +56,7 @@ impl HeadLine {
         ensures text { self.new ≡ word.now ++ self.old }
         ensures size { length self.new ≡ length self.old + length word.now }
     {
-        let start = self.start - word.len();
-        self.room[start..self.start].copy_from_slice(word);
-        self.start = start;
+        self.start = front::put_word(&mut self.room, self.start, word);
     }
 
     /// Puts a number in decimal in front.
@@ -115,7 +65,24 @@ impl HeadLine {
         ensures text { self.new ≡ decimal number ++ self.old }
         ensures size { length self.new ≤ length self.old + 20 }
     {
-        self.start = put_digits(&mut self.room, self.start, number);
+        self.start = front::put_number(&mut self.room, self.start, number);
+    }
+
+    /// Puts an address as `IP:PORT` in front.
+    pub(crate) fn put_addr(&mut self, addr: Addr)
+        requires { length self.old + 104 ≤ 208 }
+        ensures text { self.new ≡ addr_text addr ++ self.old }
+        ensures size { length self.new ≤ length self.old + 104 }
+    {
+        self.start = front::put_addr(&mut self.room, self.start, addr);
+    }
+
+    /// Puts the line before a packet's bytes in front.
+    pub(crate) fn put_head(&mut self, at: u64, packet: &Packet)
+        requires { length self.old + 208 ≤ 208 }
+        ensures { self.new ≡ Print.head_text at packet.now ++ self.old }
+    {
+        self.start = packet_head::put_head(&mut self.room, self.start, at, packet);
     }
 
     /// Its bytes.

@@ -1,72 +1,24 @@
-ghost use Rattle.std.specs.Prelude.{◌≡◌, ◌≤◌, ◌+◌, ◌++◌, [], length, IfErr, OnOk, OnErr};
+ghost use Rattle.std.specs.Prelude.{◌≡◌, ◌≤◌, drop, length, IfErr, OnOk, OnErr};
 ghost use Rattle.std.specs.List.{flat_map};
 ghost use Rattle.std.specs.Io.KnownBytes.{Appends};
 ghost use Rattle.sip_replay_script.specs.Devices.{GaveUp, PrintStops, WritesFront};
 ghost use Rattle.sip_replay_script.specs.Print;
-ghost use Rattle.sip_uri.specs.Addresses.{addr_text};
 
 use crate::device::TellingWriter;
+use crate::front::{put_byte, put_word};
 use crate::head_line::HeadLine;
+use crate::packet_head::put_head;
 use crate::stop::Stop;
-use crate::writing::put_three;
+use crate::writing::{put_one, put_three};
 use sip_audit::{Record, line_of};
 use sip_event::{Packet, StepOut};
-use sip_uri::Addr;
 use std::alloc::Global;
 
-/// The word of a packet that is sent for the first time, or again.
-fn mark_of(again: bool) -> &'static [u8]
-    ensures word { result.now ≡ Print.mark_of again }
-    ensures size { length result.now ≡ 6 }
-{
-    if again { b" again" } else { b" first" }
-}
+/// A packet of at most so many bytes is written at once.
+const AT_ONCE: usize = 1024;
 
-/// Puts an address as `IP:PORT` in front.
-#[inline(always)]
-pub(crate) fn put_addr(text: &mut HeadLine, addr: Addr)
-    requires { length text.old + 104 ≤ 208 }
-    ensures text { text.new ≡ addr_text addr ++ text.old }
-    ensures size { length text.new ≤ length text.old + 104 }
-{
-    text.put_number(u64::from(addr.port));
-    text.put(b':');
-    text.put_number(u64::from(addr.ip[3]));
-    text.put(b'.');
-    text.put_number(u64::from(addr.ip[2]));
-    text.put(b'.');
-    text.put_number(u64::from(addr.ip[1]));
-    text.put(b'.');
-    text.put_number(u64::from(addr.ip[0]));
-}
-
-/// Puts what stands behind the address in front: the ticket, the mark, the length and LF.
-fn put_tail(text: &mut HeadLine, packet: &Packet)
-    requires { length text.old + 70 ≤ 208 }
-    ensures text { text.new ≡ Print.tail_text packet.now ++ text.old }
-    ensures size { length text.new ≤ length text.old + 70 }
-{
-    text.put(b'\n');
-    text.put_number(packet.bytes.as_slice().len() as u64);
-    text.put(b' ');
-    text.put_word(mark_of(packet.again));
-    text.put_number(u64::from(packet.ticket.branch));
-    text.put(b'/');
-    text.put_number(packet.ticket.datagram);
-    text.put(b' ');
-}
-
-/// Puts the line before a packet's bytes, AT being the moment of its step in milliseconds.
-fn put_head(text: &mut HeadLine, at: u64, packet: &Packet)
-    requires { text.old ≡ [] }
-    ensures { text.new ≡ Print.head_text at packet.now }
-{
-    put_tail(text, packet);
-    put_addr(text, packet.to);
-    text.put(b' ');
-    text.put_number(at);
-    text.put_word(b"packet ");
-}
+/// The room in which such a packet's text is put together: its head line, its bytes, and LF.
+const ROOM: usize = 1280;
 
 /// The line before a packet's bytes: `packet AT IP:PORT D/K first LEN`, or `again`, and LF; AT is the
 /// moment of its step in milliseconds. Takes no memory.
@@ -74,33 +26,97 @@ pub fn head_text(at: u64, packet: &Packet) -> HeadLine
     ensures { result ≡ Print.head_text at packet.now }
 {
     let mut text = HeadLine::new();
-    put_head(&mut text, at, packet);
+    text.put_head(at, packet);
     text
 }
 
-/// Prints a packet: its head line, its bytes, and LF.
-#[tactic(auto, using(crate::proofs::Fronts::front_none))]
-fn print_packet<W: TellingWriter>(writer: &mut W, at: u64, packet: &Packet) -> Result<(), Stop>
+/// Puts a packet's text together at the end of the room: its head line, its bytes, and LF; where it begins.
+#[inline(always)]
+fn put_packet(room: &mut [u8; ROOM], at: u64, packet: &Packet) -> usize
+    requires { length packet.now.bytes ≤ AT_ONCE }
+    ensures text { drop result room.new ≡ Print.packet_text at packet.now }
+    ensures within { result ≤ ROOM }
+{
+    let end = put_byte(room, ROOM, b'\n');
+    let start = put_word(room, end, packet.bytes.as_slice());
+    put_head(room, start, at, packet)
+}
+
+/// What stands in the room from a place on.
+#[inline(always)]
+fn text_from(room: &[u8; ROOM], start: usize) -> &[u8]
+    requires { start ≤ ROOM }
+    ensures { result.now ≡ drop start room.now }
+{
+    &room[start..]
+}
+
+/// Prints a packet of more bytes than are written at once.
+#[inline(never)]
+fn print_long<W: TellingWriter>(
+    writer: &mut W,
+    room: &mut [u8; ROOM],
+    at: u64,
+    packet: &Packet,
+) -> Result<(), Stop>
     ensures ok { OnOk result (Appends (W.contents writer.old) (W.contents writer.new) (Print.packet_text at packet.now)) }
     ensures front { OnErr result (WritesFront (W.contents writer.old) (W.contents writer.new) (Print.packet_text at packet.now)) }
     ensures stopped { IfErr result (PrintStops (GaveUp (W.has_failed writer.new) (W.called writer.new))) }
 {
-    let mut head = HeadLine::new();
-    put_head(&mut head, at, packet);
-    put_three(writer, head.as_slice(), packet.bytes.as_slice(), b"\n")
+    let start = put_head(room, ROOM, at, packet);
+    put_three(
+        writer,
+        text_from(room, start),
+        packet.bytes.as_slice(),
+        b"\n",
+    )
+}
+
+/// Prints a packet: its head line, its bytes, and LF.
+#[inline(always)]
+fn print_packet<W: TellingWriter>(
+    writer: &mut W,
+    room: &mut [u8; ROOM],
+    at: u64,
+    packet: &Packet,
+) -> Result<(), Stop>
+    ensures ok { OnOk result (Appends (W.contents writer.old) (W.contents writer.new) (Print.packet_text at packet.now)) }
+    ensures front { OnErr result (WritesFront (W.contents writer.old) (W.contents writer.new) (Print.packet_text at packet.now)) }
+    ensures stopped { IfErr result (PrintStops (GaveUp (W.has_failed writer.new) (W.called writer.new))) }
+{
+    if packet.bytes.as_slice().len() > AT_ONCE {
+        return print_long(writer, room, at, packet);
+    }
+    let start = put_packet(room, at, packet);
+    put_one(writer, text_from(room, start))
+}
+
+/// Prints packets, in order, of a step that has some: only for these there has to be room.
+#[inline(always)]
+#[tactic(auto, using(crate::proofs::Written::appends_nothing))]
+fn print_some<W: TellingWriter>(writer: &mut W, at: u64, packets: &[Packet]) -> Result<(), Stop>
+    ensures ok { OnOk result (Appends (W.contents writer.old) (W.contents writer.new) (flat_map (Print.packet_text at) packets.now)) }
+    ensures front { OnErr result (WritesFront (W.contents writer.old) (W.contents writer.new) (flat_map (Print.packet_text at) packets.now)) }
+    ensures stopped { IfErr result (PrintStops (GaveUp (W.has_failed writer.new) (W.called writer.new))) }
+{
+    let mut room = [0; ROOM];
+    for packet in packets {
+        print_packet(writer, &mut room, at, packet)?;
+    }
+    Ok(())
 }
 
 /// Prints packets, in order.
-#[tactic(auto, using(crate::proofs::Written::appends_nothing))]
+#[tactic(auto, using(crate::proofs::Written::appends_none_of))]
 fn print_packets<W: TellingWriter>(writer: &mut W, at: u64, packets: &[Packet]) -> Result<(), Stop>
     ensures ok { OnOk result (Appends (W.contents writer.old) (W.contents writer.new) (flat_map (Print.packet_text at) packets.now)) }
     ensures front { OnErr result (WritesFront (W.contents writer.old) (W.contents writer.new) (flat_map (Print.packet_text at) packets.now)) }
     ensures stopped { IfErr result (PrintStops (GaveUp (W.has_failed writer.new) (W.called writer.new))) }
 {
-    for packet in packets {
-        print_packet(writer, at, packet)?;
+    if packets.is_empty() {
+        return Ok(());
     }
-    Ok(())
+    print_some(writer, at, packets)
 }
 
 /// Prints a record: `audit`, its line, and LF.

@@ -64,6 +64,19 @@ fn put_parts<W: TellingWriter>(writer: &mut W, text: &[u8]) -> Result<(), Stop>
     Err(Stop::Write)
 }
 
+/// Writes a text whole, as `put` does: what it stops for, printing stops for.
+#[inline(always)]
+pub fn put_one<W: TellingWriter>(writer: &mut W, text: &[u8]) -> Result<(), Stop>
+    ensures ok { OnOk result (Appends (W.contents writer.old) (W.contents writer.new) text.now) }
+    ensures front { OnErr result (WritesFront (W.contents writer.old) (W.contents writer.new) text.now) }
+    ensures stopped { IfErr result (PrintStops (GaveUp (W.has_failed writer.new) (W.called writer.new))) }
+{
+    match put(writer, text) {
+        Ok(()) => Ok(()),
+        Err(stop) => Err(stop),
+    }
+}
+
 /// Writes three texts, one after the other.
 #[inline(always)]
 #[tactic(auto, using(crate::proofs::Written::appends_both, crate::proofs::Fronts::front_first, crate::proofs::Fronts::front_second))]
