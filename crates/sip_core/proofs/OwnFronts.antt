@@ -1,17 +1,13 @@
 -- A Via that begins as this server's do.
-use Rattle.std.proofs.Common.{◌≡◌, ◌∙◌, ℕ, Bool, true, false, cond, ◌&&◌, List, [], ◌∷◌, ◌++◌, length, drop, take, Option, Some, None, refl, sym, ap, append_assoc}
+use Rattle.std.proofs.Common.{◌≡◌, ◌∙◌, ℕ, Bool, true, false, ◌&&◌, List, [], ◌∷◌, ◌++◌, length, drop, take, Option, Some, refl, sym, ap, append_assoc}
 use Rattle.std.specs.Prelude.{codes}
 use Rattle.std.specs.List.{list_all}
-use Rattle.std.specs.Str.{bytes_eq}
 use Rattle.std.specs.Option.{option_and_then}
 use Rattle.std.proofs.Math.Seq.{drop-append_seam}
 use Rattle.std.proofs.lemmas.List.{take-append-drop}
-use Rattle.std.proofs.lemmas.Slice.Eq.{bytes_eq-Decides}
 use Rattle.std.proofs.lemmas.List.Folds.{list_all-append}
 use Rattle.sip_text.specs.Words.{is_token_byte, is_token_text}
-use Rattle.sip_header.specs.Parameters.{branch_of}
 use Rattle.sip_header.specs.Via.{IsBeforeBranch}
-use Rattle.sip_header.specs.declared.parameters.Parameter.{Parameter}
 use Rattle.sip_header.specs.declared.via.Via.{Via}
 use Rattle.sip_route.specs.Own.{is_own_via}
 use Rattle.sip_route.specs.declared.own.Own.{Own}
@@ -61,7 +57,6 @@ pub branch_is : (own : Own) (front : OwnFront) (value branch : List ℕ) → IsO
 branch_is own front value branch of ends =
     ap (λ (w : List ℕ). Some w) (ends.is_branch ∙ ap (drop front.before_branch) ends.whole) ∙ sym (of.says ends.rest ends.token) ∙ sym (ap (own_branch own) ends.whole)
 
-pub behind_is : (text value front rest : List ℕ) (n : ℕ) → front ≡ take n value → rest ≡ drop n value → bytes_eq front text ≡ true → value ≡ text ++ rest
-behind_is text value front rest n is_front is_rest same =
-    let begun : take n value ≡ text = sym is_front ∙ (bytes_eq-Decides front text).0 same in
-    sym (take-append-drop n value) ∙ ap (λ (w : List ℕ). w ++ drop n value) begun ∙ ap (λ (w : List ℕ). text ++ w) (sym is_rest)
+pub behind_is : (text value rest : List ℕ) → take (length text) value ≡ text → rest ≡ drop (length text) value → value ≡ text ++ rest
+behind_is text value rest begun is_rest =
+    sym (take-append-drop (length text) value) ∙ ap (λ (w : List ℕ). w ++ drop (length text) value) begun ∙ ap (λ (w : List ℕ). text ++ w) (sym is_rest)

@@ -16,6 +16,7 @@
 
 mod acknowledging;
 mod arriving;
+mod begins;
 mod cancelling;
 mod checks;
 mod copies;

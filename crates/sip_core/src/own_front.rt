@@ -1,6 +1,7 @@
 ghost use Rattle.std.specs.Prelude.{◌≡◌, ◌++◌, true, drop, IfOk, IfSome};
 ghost use Rattle.sip_core.specs.OwnFront.{EndsIn, IsOwnFront, IsOwnPlace};
 
+use crate::begins::begins_with;
 use sip_edit::{branch_text, own_via_value};
 use sip_header::via_before_branch;
 use sip_route::Own;
@@ -50,11 +51,11 @@ fn joined(alloc: Global, front: &[u8], rest: &[u8]) -> Result<Bytes, AllocError>
 fn behind<'v>(text: &[u8], value: &'v [u8]) -> Option<&'v [u8]>
     ensures { IfSome result (λ rest. value.now ≡ text.now ++ rest.now) }
 {
-    if value.len() < text.len() {
+    if !begins_with(value, text) {
         return None;
     }
-    let (front, rest) = value.split_at(text.len());
-    if front == text { Some(rest) } else { None }
+    let rest = from_place(value, text.len())?;
+    Some(rest)
 }
 
 /// A value from a place on.
