@@ -7,7 +7,7 @@ copy=$(mktemp -d) || exit 2
 trap 'rm -rf "$copy"' EXIT
 mkdir "$copy/crates"
 cp HANDLES "$copy/"
-for crate in sip_text sip_message_fields sip_message_form sip_message; do
+for crate in sip_text sip_text_runs sip_message_fields sip_message_form sip_message; do
     cp -a "crates/$crate" "$copy/crates/" || exit 2
     rm -rf "$copy/crates/$crate/must-fail"
     grep "^$crate:" crates.txt >> "$copy/crates.txt"

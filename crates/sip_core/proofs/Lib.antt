@@ -6,5 +6,4 @@ pub mod Deciding
 pub mod OneCSeq
 pub mod DecidingKeys
 pub mod Refreshing
-pub mod Beginnings
 pub mod OwnFronts

@@ -16,7 +16,6 @@
 
 mod acknowledging;
 mod arriving;
-mod begins;
 mod cancelling;
 mod checks;
 mod copies;

@@ -1,11 +1,11 @@
 ghost use Rattle.std.specs.Prelude.{◌≡◌, ◌++◌, true, drop, IfOk, IfSome};
 ghost use Rattle.sip_core.specs.OwnFront.{EndsIn, IsOwnFront, IsOwnPlace};
 
-use crate::begins::begins_with;
 use sip_edit::{branch_text, own_via_value};
 use sip_header::via_before_branch;
 use sip_route::Own;
 use sip_text::{Buffer, Bytes, is_token};
+use sip_text_runs::begins_with;
 use std::alloc::{AllocError, Global};
 
 /// How many bytes of a branch stand before its numbers: the magic cookie, the word of the run and a `.`.

@@ -14,7 +14,8 @@ use Rattle.sip_message_fields.specs.declared.field.Field.{Field}
 use Rattle.sip_message_fields.specs.declared.field_name.FieldName.TheVariants.{ContentLength}
 use Rattle.sip_message_form.specs.declared.message.Message.{Message}
 use Rattle.sip_message.specs.Lines.{unfolded_on, unfolded, IsLine, as_lines}
-use Rattle.sip_message.specs.Field.{is_text, entries_of, kept}
+use Rattle.sip_text_runs.specs.TextRun.{is_text}
+use Rattle.sip_message.specs.Field.{entries_of, kept}
 use Rattle.sip_message.specs.Body.{lengths, IsBody}
 use Rattle.sip_message_form.specs.Text.{start_text, field_line, field_text, text_of}
 use Rattle.sip_message.specs.Says.{Says, IsWithinLimits}

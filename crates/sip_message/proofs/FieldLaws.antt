@@ -10,7 +10,8 @@ use Rattle.sip_text.proofs.Trims.{EndSplit, end_split, end_without, ends_full}
 use Rattle.sip_message_fields.specs.declared.field.Field.{Field}
 use Rattle.sip_text.specs.Splits.{split_at_byte}
 use Rattle.sip_message_fields.specs.FieldName.{name_of}
-use Rattle.sip_message.specs.Field.{is_text, field_from, field_of, entries_of, IsField}
+use Rattle.sip_text_runs.specs.TextRun.{is_text}
+use Rattle.sip_message.specs.Field.{field_from, field_of, entries_of, IsField}
 use Rattle.sip_message.specs.Named.{IsNamed}
 use Rattle.sip_message.proofs.CutLaws.{some_is}
 use Rattle.sip_message.proofs.FieldsAgain.{all_join, differs, is_other, others, split_again, split_is, token_bytes, full_end}

@@ -16,7 +16,8 @@ use Rattle.sip_message.specs.Lines.{is_crlf, is_fold, IsOneLine, IsLine}
 use Rattle.sip_text.specs.Splits.{in_front, split_at_byte}
 use Rattle.sip_message_fields.specs.FieldName.{spelling, Known, known_names, is_named, named_in, name_of, is_length, is_list}
 use Rattle.sip_message.specs.Start.{is_unbroken}
-use Rattle.sip_message.specs.Field.{is_text, field_from, field_of, entries_of, pieces, kept}
+use Rattle.sip_text_runs.specs.TextRun.{is_text}
+use Rattle.sip_message.specs.Field.{field_from, field_of, entries_of, pieces, kept}
 use Rattle.sip_message_form.specs.Text.{field_line}
 use Rattle.sip_message.proofs.CutLaws.{some_is, pair_is}
 

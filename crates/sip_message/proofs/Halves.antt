@@ -23,11 +23,6 @@ none_of : (n : ℕ) → take {A = ℕ} n [] ≡ []
 none_of zero = refl
 none_of (suc n) = refl
 
-pub front_cut : (k : ℕ) (xs : List ℕ) → take k xs ≡ take (length (take k xs)) xs
-front_cut zero xs = refl
-front_cut (suc k) [] = refl
-front_cut (suc k) (x ∷ xs) = ap (λ (w : List ℕ). x ∷ w) (front_cut k xs)
-
 cut_cut : (b k : ℕ) (xs : List ℕ) → take (k - b) (drop b xs) ≡ drop b (take k xs)
 cut_cut zero k xs =
     let all : k - 0 ≡ k = omega arith in
@@ -53,18 +48,6 @@ trimmed_is bytes front end middle result f e m r =
     blanks_fit xs = omega (arith, length-take (prefix_len is_blank xs) xs)
 
 -- ---- a token at the front
-
-while_one : (p : ℕ → Bool) (x : ℕ) (xs : List ℕ) (t : Bool) → p x ≡ t → list_all p (take_while p xs) ≡ true → list_all p (take_while p (x ∷ xs)) ≡ true
-while_one p x xs true is rest =
-    let more : 1 + prefix_len p xs ≡ suc (prefix_len p xs) = omega arith in
-    let all : list_all p (x ∷ take_while p xs) ≡ true = rw is rest in
-    let here : take_while p (x ∷ xs) ≡ x ∷ take_while p xs = rw is (ap (λ (n : ℕ). take n (x ∷ xs)) more) in
-    ap (list_all p) here ∙ all
-while_one p x xs false is rest = rw is refl
-
-pub while_all : (p : ℕ → Bool) (xs : List ℕ) → list_all p (take_while p xs) ≡ true
-while_all p [] = refl
-while_all p (x ∷ xs) = while_one p x xs (p x) refl (while_all p xs)
 
 pub token_all : (name : List ℕ) → (length name == 0) ≡ false → list_all is_token_byte name ≡ true → is_token_text name ≡ true
 token_all [] some all = absurd cc

@@ -25,6 +25,5 @@ pub mod Names
 pub mod NamedLines
 pub mod StandingLines
 pub mod UsualStarts
-pub mod OneValue
 pub mod HeadFills
 pub mod ViewLaws

@@ -12,7 +12,7 @@ use Rattle.std.proofs.lemmas.Bool.Decides.{nat_tests}
 use Rattle.std.proofs.lemmas.List.{length-take-le, length-drop}
 use Rattle.std.proofs.Math.Seq.{take-append_seam}
 use Rattle.sip_text.specs.Words.{is_token_byte}
-use Rattle.sip_message.specs.Field.{is_text}
+use Rattle.sip_text_runs.specs.TextRun.{is_text}
 use Rattle.sip_message.specs.Lines.{line_at}
 use Rattle.sip_message.specs.Named.{IsNamed}
 use Rattle.sip_message.proofs.Names.{named}

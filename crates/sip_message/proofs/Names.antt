@@ -1,24 +1,11 @@
 -- The name at the front of a line.
-use Rattle.std.proofs.Common.{◌≡◌, ℕ, ◌+◌, ◌<◌, ◌≤◌, true, false, List, ◌∷◌, ◌++◌, length, take, drop, get_or, sym, ap, subst, ◌∙◌, arith}
+use Rattle.std.proofs.Common.{◌≡◌, ℕ, ◌+◌, ◌<◌, true, false, List, ◌∷◌, ◌++◌, length, take, drop, get_or, sym, ap, ◌∙◌, arith}
 use Rattle.std.specs.Prelude.{◌==◌}
-use Rattle.std.specs.List.{list_all, prefix_len}
-use Rattle.std.proofs.lemmas.List.{get_or-take, length-take, take-append-drop, drop_more}
-use Rattle.httparse.specs.Pieces.{PassesIn}
-use Rattle.httparse.proofs.LaneLemmas.{all_pass}
-use Rattle.sip_text.specs.Words.{is_token_byte, is_token_text, token_at}
+use Rattle.std.specs.List.{list_all}
+use Rattle.std.proofs.lemmas.List.{length-take, take-append-drop, drop_more}
+use Rattle.sip_text.specs.Words.{is_token_byte, is_token_text}
 use Rattle.sip_message.specs.Named.{IsNamed}
-use Rattle.sip_message.proofs.Halves.{front_cut, token_all, while_all}
-
-pub letters : (line : List ℕ) (run : ℕ) → PassesIn is_token_byte line 0 16 run → 16 ≤ length line → list_all is_token_byte (take run line) ≡ true
-letters line run is fits =
-    all_pass is_token_byte (take run line) (λ k from to.
-    let below : k < run = omega (arith, length-take run line) in
-    subst (λ (b : ℕ). is_token_byte b ≡ true) (sym (get_or-take run line k 0 below)) (is.1 k from (omega (arith, below))))
-
-pub token : (line name : List ℕ) → name ≡ token_at line → list_all is_token_byte (take (length name) line) ≡ true
-token line name is =
-    let front : take (length name) line ≡ name = ap (λ (w : List ℕ). take (length w) line) is ∙ sym (front_cut (prefix_len is_token_byte line) line) ∙ sym is in
-    ap (list_all is_token_byte) (front ∙ is) ∙ while_all is_token_byte line
+use Rattle.sip_message.proofs.Halves.{token_all}
 
 -- a token at the front, and a `:` at once behind it
 pub named : (line name value : List ℕ) (at : ℕ) → 0 < at → at < length line → list_all is_token_byte (take at line) ≡ true → get_or line at 0 ≡ 58 → name ≡ take at line → value ≡ drop (at + 1) line → IsNamed line name value

@@ -1,18 +1,15 @@
 -- A value behind one space.
 use Rattle.std.proofs.Common.{◌≡◌, ℕ, suc, ◌-◌, ◌<◌, ◌≤◌, true, false, List, [], ◌∷◌, length, drop, get_or, refl, sym, ap, subst, ◌∙◌, arith}
 use Rattle.std.specs.Prelude.{◌==◌}
-use Rattle.std.proofs.lemmas.Bool.Decides.{nat_tests}
 use Rattle.sip_text.specs.Lists.{is_blank, trimmed}
-use Rattle.sip_message.specs.Lines.{is_fold}
 use Rattle.sip_text.proofs.Trims.{ends_full, tight_behind}
+use Rattle.sip_text_runs.proofs.OneValue.{over_blank}
+use Rattle.sip_message.specs.Lines.{is_fold}
 
 -- bytes end with no blank whose last one is none
 last_full : (b : ℕ) (bs : List ℕ) → is_blank (get_or (b ∷ bs) (length bs) 0) ≡ false → ends_full (b ∷ bs)
 last_full b [] e = e
 last_full b (c ∷ bs) e = last_full c bs e
-
-pub over_blank : (b : ℕ) → 32 < b → is_blank b ≡ false
-over_blank b lt = grind (arith, nat_tests, lt)
 
 pub spaced : (bytes value : List ℕ) → 2 ≤ length bytes → get_or bytes 0 0 ≡ 32 → 32 < get_or bytes 1 0 → 32 < get_or bytes (length bytes - 1) 0 → value ≡ drop 1 bytes → value ≡ trimmed bytes
 spaced [] value fits first second last is = absurd (omega arith)

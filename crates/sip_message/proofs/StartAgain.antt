@@ -13,7 +13,8 @@ use Rattle.sip_message_form.specs.declared.message.Start.{Start}
 use Rattle.sip_message_form.specs.declared.message.Start.TheVariants.{Request, Status}
 use Rattle.sip_message.specs.Lines.{IsLine}
 use Rattle.sip_text.specs.Splits.{split_at_byte}
-use Rattle.sip_message.specs.Start.{is_visible, is_uri, is_number, is_pair, version_of, is_unbroken, is_code, status_of, request_of, start_from, start_of}
+use Rattle.sip_text_runs.specs.TextRun.{is_visible}
+use Rattle.sip_message.specs.Start.{is_uri, is_number, is_pair, version_of, is_unbroken, is_code, status_of, request_of, start_from, start_of}
 use Rattle.sip_message_form.specs.Text.{start_text}
 use Rattle.sip_message.proofs.CutLaws.{some_is}
 use Rattle.sip_message.proofs.FieldsAgain.{and_both, all_join, differs, others, unbroken, split_again, split_is, one_line, token_bytes}

@@ -12,7 +12,8 @@ use Rattle.sip_text.specs.Words.{is_token_byte, is_token_text, decimal_of, witho
 use Rattle.sip_message_form.specs.declared.message.Start.{Start}
 use Rattle.sip_message_form.specs.declared.message.Start.TheVariants.{Request, Status}
 use Rattle.sip_text.specs.Splits.{split_at_byte}
-use Rattle.sip_message.specs.Start.{is_visible, is_uri, is_number, is_pair, version_of, is_unbroken, is_code, status_of, request_of, start_from, start_of, IsVersion, IsRequestLine, IsStatusLine, IsStart}
+use Rattle.sip_text_runs.specs.TextRun.{is_visible}
+use Rattle.sip_message.specs.Start.{is_uri, is_number, is_pair, version_of, is_unbroken, is_code, status_of, request_of, start_from, start_of, IsVersion, IsRequestLine, IsStatusLine, IsStart}
 use Rattle.sip_message.proofs.CutLaws.{some_is}
 use Rattle.sip_message.proofs.FieldsAgain.{and_both, and_is, is_other, others, split_again, split_is, token_bytes}
 use Rattle.sip_message.proofs.StartAgain.{IsNumberOf, number_of, uri_bytes}

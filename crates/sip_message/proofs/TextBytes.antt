@@ -4,7 +4,7 @@ use Rattle.std.proofs.lemmas.Bool.{agree_below_at}
 use Rattle.std.proofs.lemmas.Bool.Decides.{nat_tests}
 use Rattle.std.specs.List.{list_all}
 use Rattle.httparse.specs.Grammar.{is_value_byte}
-use Rattle.sip_message.specs.Field.{is_text}
+use Rattle.sip_text_runs.specs.TextRun.{is_text}
 
 high_value : (b : ℕ) → 128 ≤ b → is_value_byte b ≡ true
 high_value b le = grind (arith, nat_tests)

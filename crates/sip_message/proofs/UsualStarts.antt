@@ -5,7 +5,8 @@ use Rattle.std.specs.List.{list_all}
 use Rattle.std.proofs.lemmas.List.{length-take, take-append-drop, drop_more, drop-drop}
 use Rattle.sip_text.specs.Words.{is_token_byte, is_token_text}
 use Rattle.sip_message_form.specs.declared.message.Start.TheVariants.{Request}
-use Rattle.sip_message.specs.Start.{is_visible, is_uri, start_of, IsRequestLine}
+use Rattle.sip_text_runs.specs.TextRun.{is_visible}
+use Rattle.sip_message.specs.Start.{is_uri, start_of, IsRequestLine}
 use Rattle.sip_message.proofs.Halves.{token_all}
 use Rattle.sip_message.proofs.StartLaws.{start_found}
 

@@ -1,17 +1,14 @@
 -- The fields that lines write, and those of them that a message keeps (RFC 3261 7.3).
-use Rattle.std.specs.Prelude.{◌≡◌, ℕ, Bool, true, ◌||◌, ◌&&◌, ◌==◌, nat_le, List, [], ◌∷◌, ◌++◌, map, Option, Some, None, option_map, if◌then◌else◌}
+use Rattle.std.specs.Prelude.{◌≡◌, ℕ, true, List, [], ◌∷◌, ◌++◌, map, Option, Some, None, option_map, if◌then◌else◌}
 use Rattle.std.specs.Option.{option_and_then}
 use Rattle.std.specs.List.{AllByRecursion, list_all}
 use Rattle.std.specs.Str.{byte}
+use Rattle.sip_text_runs.specs.TextRun.{is_text}
 use Rattle.sip_text.specs.Words.{is_token_text}
 use Rattle.sip_text.specs.Lists.{is_blank, trimmed, end_trimmed, cut}
 use Rattle.sip_message_fields.specs.declared.field.Field.{Field}
 use Rattle.sip_text.specs.Splits.{split_at_byte}
 use Rattle.sip_message_fields.specs.FieldName.{name_of, is_length, is_list}
-
--- neither a control character other than tab nor DEL (this project's profile of TEXT-UTF8 in RFC 3261 25.1)
-abbrev pub is_text : ℕ → Bool
-is_text b = (nat_le 32 b && nat_le b 126) || b == 9 || nat_le 128 b
 
 -- A line writes a field: a name, blanks, `:`, and a value, which is trimmed of blanks (RFC 3261 7.3.1).
 pub record IsField (line : List ℕ) (field : Field) : Type 0 where

@@ -7,7 +7,6 @@ pub mod Reading
 pub mod Begins
 pub mod Seen
 pub mod Named
-pub mod Marks
 pub mod Line
 pub mod Parts
 pub mod HeadContent

@@ -5,15 +5,12 @@ use Rattle.std.specs.Option.{option_and_then}
 use Rattle.std.specs.List.{list_all}
 use Rattle.std.specs.Str.{byte}
 use Rattle.std.specs.Char.{is_ascii_digit}
+use Rattle.sip_text_runs.specs.TextRun.{is_visible}
 use Rattle.sip_text.specs.Words.{is_token_text, decimal_of, is_same_text}
 use Rattle.sip_text.specs.Lists.{is_nil}
 use Rattle.sip_message_form.specs.declared.message.Start.{Start}
 use Rattle.sip_message_form.specs.declared.message.Start.TheVariants.{Request, Status}
 use Rattle.sip_text.specs.Splits.{split_at_byte}
-
--- a byte from `!` to `~` (VCHAR of RFC 2234 6.1, which RFC 3261 25.1 cites)
-abbrev pub is_visible : ℕ → Bool
-is_visible b = nat_le 33 b && nat_le b 126
 
 -- one or more bytes from `!` to `~`: what may stand as a Request-URI (this project's profile)
 abbrev pub is_uri : List ℕ → Bool

@@ -6,7 +6,8 @@ ghost use Rattle.sip_text.specs.Splits.{split_at_byte};
 ghost use Rattle.sip_message_fields.specs.declared.piece.Piece.TheVariants.{Part, Joined};
 ghost use Rattle.sip_message_fields.specs.Slice.{IsCutFrom, IsPieceCutFrom};
 ghost use Rattle.sip_message.specs.HeadContent.{IsFault};
-ghost use Rattle.sip_message.specs.Field.{is_text, field_from, field_of};
+ghost use Rattle.sip_text_runs.specs.TextRun.{is_text};
+ghost use Rattle.sip_message.specs.Field.{field_from, field_of};
 ghost use Rattle.sip_message.specs.Line.{line_piece, line_bytes};
 ghost use Rattle.sip_message.specs.Named.{IsNamed};
 ghost use Rattle.sip_message.specs.Parts.{field_seen};
@@ -16,10 +17,10 @@ use crate::joined_line::JoinedLine;
 use crate::line::Line;
 use crate::line_fault::LineFault;
 use crate::part_field::PartField;
-use crate::text_run::name_length;
 use httparse::is_header_value;
 use sip_message_fields::{Piece, ViewName, slice_before, slice_from};
 use sip_text::{Buffer, is_token, split_once, without_end_blanks, without_front_blanks};
+use sip_text_runs::name_length;
 use std::alloc::{AllocError, Global};
 
 /// Whether bytes may be a value: those that may stand in one of HTTP are the same, so that `httparse` looks at sixteen

@@ -1,6 +1,6 @@
 ghost use Rattle.std.specs.Prelude.{◌≡◌, ◌⊎◌, ◌++◌, [], ◌∷◌, true, false, map, All, MatchResult, IfOk, OnOk, Some, None};
 ghost use Rattle.std.specs.List.{list_all};
-ghost use Rattle.sip_message.specs.Field.{is_text};
+ghost use Rattle.sip_text_runs.specs.TextRun.{is_text};
 ghost use Rattle.sip_message.specs.Named.{IsNamed};
 ghost use Rattle.sip_message.specs.Seen.{seen_field};
 ghost use Rattle.sip_message.specs.Filled.{item_of, IsFieldFilled, IsLineFilled, filled_seen};
@@ -21,12 +21,12 @@ use crate::entries::{
 use crate::keeping::items_of;
 use crate::line_fault::LineFault;
 use crate::lines::{HeadLine, NamedLine, Slice, head_line, is_fold_line, named_line, whole_line};
-use crate::marks::is_one_value;
 use crate::part_field::PartField;
 use crate::stands::{Run, Stands, Taken, go_on, lines_in};
 use sip_message_fields::{Value, ViewField, ViewFields, ViewName};
 use sip_message_form::{ViewError, ViewRefusal};
 use sip_text::{Span, is_one_item};
+use sip_text_runs::is_one_value;
 use std::alloc::{AllocError, Global};
 
 /// What the lines of a head say so far, as a view has it: the fields that are kept, and the one Content-Length

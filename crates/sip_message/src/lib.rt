@@ -23,13 +23,11 @@ pub mod laws;
 mod line;
 mod line_fault;
 mod lines;
-mod marks;
 mod part_field;
 mod parting;
 mod reading;
 mod stands;
 mod start_line;
-mod text_run;
 mod viewing;
 
 pub use datagram_parts::Parts;

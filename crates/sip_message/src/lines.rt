@@ -2,16 +2,16 @@ ghost use Rattle.std.specs.Prelude.{◌≡◌, ◌+◌, ◌<◌, slice_index, �
 ghost use Rattle.memchr.specs.Find.{OccursAt, FindsNeedle};
 ghost use Rattle.sip_message_fields.specs.Slice.{IsCutFrom};
 ghost use Rattle.std.specs.List.{list_all};
-ghost use Rattle.sip_message.specs.Field.{is_text};
+ghost use Rattle.sip_text_runs.specs.TextRun.{is_text};
 ghost use Rattle.sip_message.specs.HeadContent.{IsWhole};
 ghost use Rattle.sip_message.specs.Named.{IsNamed};
 ghost use Rattle.sip_message.specs.Lines.{after_blanks, line_at, is_fold, head_at};
 
 use crate::line::Line;
-use crate::text_run::{name_end, text_length};
 use memchr::memchr;
 use sip_message_fields::{slice_before, slice_from};
 use sip_text::is_space_or_tab;
+use sip_text_runs::{name_end, text_length};
 use std::alloc::{AllocError, Global};
 
 /// A slice with its place: of a variable that is a reference, an invariant sees what it points to, and not where

@@ -3,16 +3,17 @@ ghost use Rattle.std.specs.List.{list_all};
 ghost use Rattle.std.specs.Option.{ok_or, option_and_then};
 ghost use Rattle.std.specs.Char.{is_ascii_digit};
 ghost use Rattle.sip_text.specs.Splits.{split_at_byte};
-ghost use Rattle.sip_message.specs.Start.{is_visible, is_uri, is_number, is_pair, is_unbroken, version_of, status_of, request_of};
+ghost use Rattle.sip_text_runs.specs.TextRun.{is_visible};
+ghost use Rattle.sip_message.specs.Start.{is_uri, is_number, is_pair, is_unbroken, version_of, status_of, request_of};
 ghost use Rattle.sip_message.specs.Start.{start_from, start_of};
 ghost use Rattle.sip_message_form.specs.ViewStart.{start_seen};
 ghost use Rattle.sip_message.specs.Reading.{Gives};
 ghost use Rattle.sip_message_form.specs.declared.error.ReadError.TheVariants.{NotSip};
 
-use crate::text_run::{name_end, visible_length};
 use sip_message_fields::Value;
 use sip_message_form::{ViewError, ViewRefusal, ViewStart};
 use sip_text::{Bytes, decimal, is_token, same_bytes, same_no_case, split_once};
+use sip_text_runs::{name_end, visible_length};
 use std::alloc::Global;
 
 /// Whether each byte is one from `!` to `~`.

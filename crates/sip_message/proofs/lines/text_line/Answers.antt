@@ -1,6 +1,6 @@
 use Rattle.std.proofs.Common.{ap, ◌∙◌, arith}
 use Rattle.std.specs.List.{list_all}
-use Rattle.sip_message.specs.Field.{is_text}
+use Rattle.sip_text_runs.specs.TextRun.{is_text}
 use Rattle.sip_message.proofs.TextRuns.{text_whole, text_found}
 use Rattle.sip_message.proofs.lines.text_line.Goals as goal
 

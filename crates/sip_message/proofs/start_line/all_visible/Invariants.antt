@@ -1,6 +1,6 @@
 use Rattle.std.proofs.Common.{◌≡◌, drop}
 use Rattle.std.specs.List.{list_all}
-use Rattle.sip_message.specs.Start.{is_visible}
+use Rattle.sip_text_runs.specs.TextRun.{is_visible}
 use Rattle.sip_message.proofs.start_line.all_visible.Given as goal
 
 -- the rest decides

@@ -1,0 +1,4 @@
+pub mod TextRuns
+pub mod Names
+pub mod OneValue
+pub mod Beginnings

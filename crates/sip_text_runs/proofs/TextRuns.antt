@@ -1,0 +1,38 @@
+-- A front of bytes that pass a test, as those do that may stand in a value.
+use Rattle.std.proofs.Common.{◌≡◌, ℕ, ◌+◌, ◌<◌, ◌≤◌, Bool, true, List, length, take, get_or, sym, subst, arith, inl, inr}
+use Rattle.std.specs.List.{list_all}
+use Rattle.std.proofs.lemmas.Bool.{cases_lt}
+use Rattle.std.proofs.lemmas.List.{get_or-take, length-take}
+use Rattle.httparse.specs.Pieces.{AllPassBetween, PassesIn}
+use Rattle.httparse.proofs.LaneLemmas.{all_pass}
+
+-- the bytes before a place pass a test
+pub record PassesBefore (test : ℕ → Bool) (bytes : List ℕ) (end : ℕ) : Type 0 where
+  pub within : end ≤ length bytes
+  pub pass : AllPassBetween test bytes 0 end
+
+pub begins_run : (test : ℕ → Bool) (bytes : List ℕ) → PassesBefore test bytes 0
+begins_run test bytes = record { within = omega arith; pass = λ k from to. absurd (omega arith) }
+
+pub run_more : (test : ℕ → Bool) (bytes : List ℕ) (end run next : ℕ) → PassesBefore test bytes end → PassesIn test bytes end 16 run → end + 16 ≤ length bytes → next ≡ end + run → PassesBefore test bytes next
+run_more test bytes end run next so_far more fits is = record {
+  within = omega (arith, is, more.0);
+  pass = λ k from to. elim (cases_lt k end) [ inl early ↦ so_far.pass k from early | inr late ↦ more.1 k late (omega (arith, is)) ];
+}
+
+pub run_next : (test : ℕ → Bool) (bytes : List ℕ) (end next : ℕ) → PassesBefore test bytes end → end < length bytes → test (get_or bytes end 0) ≡ true → next ≡ end + 1 → PassesBefore test bytes next
+run_next test bytes end next so_far fits here is = record {
+  within = omega (arith, is);
+  pass = λ k from to. elim (cases_lt k end) [
+    | inl early ↦ so_far.pass k from early
+    | inr late ↦
+        let same : k ≡ end = omega (arith, is) in
+        subst (λ (n : ℕ). test (get_or bytes n 0) ≡ true) (sym same) here
+  ];
+}
+
+pub run_front : (test : ℕ → Bool) (bytes : List ℕ) (end : ℕ) → PassesBefore test bytes end → list_all test (take end bytes) ≡ true
+run_front test bytes end is =
+    all_pass test (take end bytes) (λ k from to.
+    let below : k < end = omega (arith, length-take end bytes) in
+    subst (λ (b : ℕ). test b ≡ true) (sym (get_or-take end bytes k 0 below)) (is.pass k from below))

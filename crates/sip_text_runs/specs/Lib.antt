@@ -1,0 +1,2 @@
+pub mod TextRun
+pub mod Marks

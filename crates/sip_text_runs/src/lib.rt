@@ -1,0 +1,23 @@
+//! How far bytes of one kind go from the front of a text, looked at sixteen at a time: those that may stand in a value of a
+//! field, those from `!` to `~`, and those of a name; and, seen in the same way, whether a value is a list of one item, and
+//! whether it begins with a text. An answer of None or `false` says nothing: then it is looked at byte by byte.
+//!
+//! - Used: `sip_message` looks over the lines of a head, `sip_core` over the front of a Via.
+//! - Not here: what a byte alone tells, and lists that are cut (`sip_text`).
+//! - Tried: `test_parts`, by the messages that it reads.
+//!
+//! ```text
+//! let end = text_length(line);
+//! ```
+#![tactic(auto)]
+
+mod begins;
+mod lanes;
+mod marks;
+mod name;
+mod text_run;
+
+pub use begins::begins_with;
+pub use marks::is_one_value;
+pub use name::{name_end, name_length};
+pub use text_run::{text_length, visible_length};
