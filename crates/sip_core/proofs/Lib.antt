@@ -6,4 +6,3 @@ pub mod Deciding
 pub mod OneCSeq
 pub mod DecidingKeys
 pub mod Refreshing
-pub mod OwnFronts

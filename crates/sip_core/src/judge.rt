@@ -5,12 +5,12 @@ ghost use Rattle.sip_core.specs.Incoming.{Is};
 
 use crate::copies::{copy_addresses, copy_hops};
 use crate::incoming::Incoming;
-use crate::own_front::OwnFront;
 use crate::reading::incoming_of;
 use model_verdict::Question;
 use model_verdict::state::Server;
 use sip_hops::Hops;
 use sip_message_form::View;
+use sip_own_via::OwnVias;
 use sip_policy::{Rules, Ruling};
 use sip_uri::{Addr, Uri};
 use std::alloc::{AllocError, Global};
@@ -22,8 +22,8 @@ pub struct Judge<R: Rules> {
     server: Server,
     rules: R,
     hops: Hops,
-    /// What its Vias begin with, by which those on top of responses are known.
-    front: Option<OwnFront>,
+    /// Its Vias, by which those on top of responses are known.
+    own_vias: OwnVias,
 }
 
 /// Written out, so that it is proved once and not wherever one is dropped.
@@ -33,14 +33,13 @@ impl<R: Rules> Drop for Judge<R> {
             server: _,
             rules: _,
             hops: _,
-            front: _,
+            own_vias: _,
         } = self;
     }
 }
 
 impl<R: Rules> Model for Judge<R> {
-    ghost use Rattle.std.specs.Prelude.{IfSome};
-    ghost use Rattle.sip_core.specs.OwnFront.{IsOwnFront};
+    ghost use Rattle.std.specs.Prelude.{◌≡◌};
     ghost use Rattle.sip_core.specs.Judge.{IsConfigured};
     ghost use Rattle.model_verdict.specs.state.declared.server.Server.{Server};
 
@@ -49,7 +48,7 @@ impl<R: Rules> Model for Judge<R> {
     ghost view = { λ j. j.server };
 
     ghost invariant = { λ j. IsConfigured j.server.config (R.rules_of j.rules) (R.users_of j.rules) (R.domains_of j.rules) j.hops
-        × IfSome j.front (IsOwnFront j.server.config.own) };
+        × (j.own_vias ≡ j.server.config.own) };
 }
 
 impl<R: Rules> Judge<R> {
@@ -66,12 +65,12 @@ impl<R: Rules> Judge<R> {
         let Ok(hops) = Hops::new(alloc, addresses, hops) else {
             return Err(AllocError);
         };
-        let front = OwnFront::of(alloc, &config.own, server.word)?;
+        let own_vias = OwnVias::of(alloc, &config.own, server.word)?;
         Ok(Judge {
             server,
             rules,
             hops,
-            front,
+            own_vias,
         })
     }
 
@@ -109,8 +108,7 @@ impl<R: Rules> Judge<R> {
     ) -> Result<Incoming<'v>, AllocError>
         ensures { IfOk result (Is self.now.config.own message.now short) }
     {
-        let own = &self.server.config.own;
-        incoming_of(alloc, own, self.front.as_ref(), message, short)
+        incoming_of(alloc, &self.own_vias, message, short)
     }
 
     /// What the first rule that applies decides, with the minute that is recorded of it. Takes no memory.

@@ -25,7 +25,6 @@ mod judge;
 mod key_reading;
 mod known;
 pub mod laws;
-mod own_front;
 mod policy;
 mod question;
 mod reading;

@@ -2,7 +2,7 @@
 //! field, those from `!` to `~`, and those of a name; and, seen in the same way, whether a value is a list of one item, and
 //! whether it begins with a text. An answer of None or `false` says nothing: then it is looked at byte by byte.
 //!
-//! - Used: `sip_message` looks over the lines of a head, `sip_core` over the front of a Via.
+//! - Used: `sip_message` looks over the lines of a head, `sip_own_via` over the front of a Via.
 //! - Not here: what a byte alone tells, and lists that are cut (`sip_text`).
 //! - Tried: `test_parts`, by the messages that it reads.
 //!

@@ -11,8 +11,8 @@ use Rattle.sip_header.specs.Via.{IsBeforeBranch}
 use Rattle.sip_header.specs.declared.via.Via.{Via}
 use Rattle.sip_route.specs.Own.{is_own_via}
 use Rattle.sip_route.specs.declared.own.Own.{Own}
-use Rattle.sip_core.specs.declared.own_front.OwnFront.{OwnFront}
-use Rattle.sip_core.specs.OwnFront.{branch_by, own_branch, IsOwnPlace, IsOwnFront, EndsIn}
+use Rattle.sip_own_via.specs.declared.own_front.OwnFront.{OwnFront}
+use Rattle.sip_own_via.specs.OwnFront.{branch_by, own_branch, IsOwnPlace, IsOwnFront, EndsIn}
 
 -- ---- up to the branch
 

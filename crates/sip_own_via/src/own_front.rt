@@ -1,5 +1,5 @@
 ghost use Rattle.std.specs.Prelude.{◌≡◌, ◌++◌, true, drop, IfOk, IfSome};
-ghost use Rattle.sip_core.specs.OwnFront.{EndsIn, IsOwnFront, IsOwnPlace};
+ghost use Rattle.sip_own_via.specs.OwnFront.{EndsIn, IsOwnFront, IsOwnPlace};
 
 use sip_edit::{branch_text, own_via_value};
 use sip_header::via_before_branch;
@@ -54,8 +54,7 @@ fn behind<'v>(text: &[u8], value: &'v [u8]) -> Option<&'v [u8]>
     if !begins_with(value, text) {
         return None;
     }
-    let rest = from_place(value, text.len())?;
-    Some(rest)
+    from_place(value, text.len())
 }
 
 /// A value from a place on.
@@ -102,7 +101,6 @@ impl OwnFront {
         if !is_token(rest) {
             return None;
         }
-        let branch = from_place(value, self.before_branch)?;
-        Some(branch)
+        from_place(value, self.before_branch)
     }
 }

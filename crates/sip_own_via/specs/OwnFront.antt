@@ -7,7 +7,7 @@ use Rattle.sip_header.specs.Via.{via_of}
 use Rattle.sip_header.specs.declared.via.Via.{Via}
 use Rattle.sip_route.specs.Own.{is_own_via}
 use Rattle.sip_route.specs.declared.own.Own.{Own}
-use Rattle.sip_core.specs.declared.own_front.OwnFront.{OwnFront}
+use Rattle.sip_own_via.specs.declared.own_front.OwnFront.{OwnFront}
 
 -- the branch of a Via, if the Via is this server's
 abbrev pub branch_by : Own → Via → Option (List ℕ)
