@@ -1,3 +1,4 @@
+pub mod PlainUri
 pub mod Target
 pub mod Targets
 pub mod Examples

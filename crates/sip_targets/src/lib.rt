@@ -12,10 +12,13 @@
 
 pub mod examples;
 pub mod laws;
+mod plain_uri;
 mod target;
 mod target_set;
+mod target_uri;
 mod targets;
 
 pub use target::Target;
 pub use target_set::targets_of;
+pub use target_uri::TargetUri;
 pub use targets::Targets;

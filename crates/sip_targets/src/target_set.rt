@@ -16,11 +16,7 @@ use std::alloc::{AllocError, Global};
 fn target_at(alloc: Global, binding: &BindingRef<'_>, hops: &Hops) -> Result<Target, AllocError>
     ensures { IfOk result (λ target. target ≡ target_for hops.now.addresses binding.now.uri) }
 {
-    // Matched, not `?`: a URI is large, and is moved less so.
-    match binding.uri(alloc) {
-        Ok(uri) => Target::for_contact(alloc, uri, hops),
-        Err(refusal) => Err(refusal),
-    }
+    Target::for_contact(alloc, binding.uri_text(), hops)
 }
 
 /// One target for each binding, in their order.
