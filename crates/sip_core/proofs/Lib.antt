@@ -8,3 +8,4 @@ pub mod DecidingKeys
 pub mod Refreshing
 pub mod Beginnings
 pub mod OwnFronts
+pub mod RequestUris
