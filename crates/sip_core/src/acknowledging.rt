@@ -12,7 +12,7 @@ ghost use Rattle.sip_core.specs.declared.verdict.Verdict.TheVariants.{Dropped};
 ghost use Rattle.sip_core.specs.Verdict.{Is, IsRequestOf, HasRoom, goes_on};
 
 use crate::Judge;
-use crate::checks::refusal;
+use crate::checks::{refusal, request_uri};
 use crate::received::Received;
 use crate::validated::Validated;
 use crate::verdict::Verdict;
@@ -66,7 +66,7 @@ fn read_ack<'v, R: Rules>(
     ensures kept { IfOk result (λ verdict. goes_on verdict ≡ false) }
 {
     let way = way_of(alloc, &judge.server().config.own, request.message)?;
-    let uri = way.request_uri(alloc)?;
+    let uri = request_uri(alloc, &way)?;
     let refused = refusal(alloc, judge, request, core, &way, &uri)?;
     match refused {
         None => {

@@ -22,7 +22,7 @@ ghost use Rattle.sip_core.specs.Verdict.{Is, IsRequestOf, Knows, HasRoom, goes_o
 use crate::Judge;
 use crate::acknowledging::ack_verdict;
 use crate::cancelling::cancel_verdict;
-use crate::checks::refusal;
+use crate::checks::{refusal, request_uri};
 use crate::known::Known;
 use crate::policy::policy_verdict;
 use crate::question::is_register;
@@ -239,7 +239,7 @@ fn read_verdict<'v, R: Rules>(
 {
     let own = &judge.server().config.own;
     let way = way_of(alloc, own, request.message)?;
-    let uri = way.request_uri(alloc)?;
+    let uri = request_uri(alloc, &way)?;
     let refused = refusal(alloc, judge, request, core, &way, &uri)?;
     match refused {
         None => {

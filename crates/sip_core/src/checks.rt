@@ -11,9 +11,17 @@ use crate::received::Received;
 use sip_header::CoreFields;
 use sip_policy::Rules;
 use sip_route::Way;
-use sip_uri::Uri;
+use sip_targets::RequestUri;
 use sip_validate::{Refused, refusal_of};
 use std::alloc::{AllocError, Global};
+
+/// The SIP or SIPS URI that a request is for, by its way.
+#[inline]
+pub(crate) fn request_uri<'a>(alloc: Global, way: &'a Way<'_>) -> Result<RequestUri<'a>, AllocError>
+    ensures { IfOk result (λ uri. uri ≡ request_uri_in way.now) }
+{
+    RequestUri::of(alloc, way.uri.as_slice())
+}
 
 /// What refuses a request of which this was read, if anything does (RFC 3261 16.3).
 pub(crate) fn refusal<R: Rules>(
@@ -22,7 +30,7 @@ pub(crate) fn refusal<R: Rules>(
     request: &Received<'_, '_>,
     core: &CoreFields<'_>,
     way: &Way<'_>,
-    uri: &Option<Uri>,
+    uri: &RequestUri<'_>,
 ) -> Result<Option<Refused>, AllocError>
     requires via { top_via request.now.message.now ≡ Some request.now.via.now }
     requires core { result_ok (core_of request.now.message.now) ≡ Some core.now }
@@ -40,6 +48,6 @@ pub(crate) fn refusal<R: Rules>(
         own,
         core,
         way,
-        uri,
+        uri.is_some(),
     )
 }

@@ -1,5 +1,5 @@
 ghost use Rattle.std.specs.Prelude.{◌≡◌, false, IfOk, if◌then◌else◌};
-ghost use Rattle.std.specs.Option.{option_copied, unwrap_or};
+ghost use Rattle.std.specs.Option.{unwrap_or};
 ghost use Rattle.sip_policy.specs.Operation as Operations;
 ghost use Rattle.sip_location.specs.Registering as Naming;
 ghost use Rattle.sip_route.specs.Way.{request_uri_of};
@@ -14,8 +14,9 @@ use sip_header::CoreFields;
 use sip_message_fields::FieldName;
 use sip_message_form::View;
 use sip_policy::{Operation, Rules, minute_of};
+use sip_targets::RequestUri;
 use sip_text::Bytes;
-use sip_uri::{Aor, Uri, aor_of};
+use sip_uri::Aor;
 use std::alloc::{AllocError, Global};
 
 /// Whether a method is REGISTER. Takes no memory.
@@ -38,16 +39,6 @@ fn known_or_nobody(alloc: Global, aor: Option<Aor>) -> Aor
     }
 }
 
-/// The address of record of a URI; without one, what names nobody.
-fn aor_or_nobody(alloc: Global, uri: Option<&Uri>) -> Result<Aor, AllocError>
-    ensures { IfOk result (λ aor. aor ≡ Naming.aor_or_nobody (option_copied uri.entry)) }
-{
-    match uri {
-        Some(uri) => aor_of(alloc, uri),
-        None => Ok(known_or_nobody(alloc, None)),
-    }
-}
-
 /// The address of record that To names (RFC 3261 10.3 step 5).
 fn to_aor(alloc: Global, core: &CoreFields<'_>) -> Result<Aor, AllocError>
     ensures { IfOk result (λ aor. aor ≡ Naming.to_aor core.now) }
@@ -62,7 +53,7 @@ fn target_of(
     alloc: Global,
     method: &[u8],
     core: &CoreFields<'_>,
-    uri: &Option<Uri>,
+    uri: &RequestUri<'_>,
 ) -> Result<Aor, AllocError>
     ensures { IfOk result (λ aor. aor ≡ (if Verdict.is_register method.now then Naming.to_aor core.now
         else Naming.aor_or_nobody uri.now)) }
@@ -70,7 +61,7 @@ fn target_of(
     if is_register(method) {
         to_aor(alloc, core)
     } else {
-        aor_or_nobody(alloc, uri.as_ref())
+        uri.aor(alloc)
     }
 }
 

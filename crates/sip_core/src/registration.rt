@@ -2,7 +2,6 @@ ghost use Rattle.std.specs.Prelude.{◌≡◌, ◌≢◌, ◌≤◌, ◌<◌, �
 ghost use Rattle.sip_message_fields.specs.Values.{values_of};
 ghost use Rattle.sip_message_fields.specs.declared.field_name.FieldName.TheVariants as Name;
 ghost use Rattle.sip_location.specs.Locations.{IsPlan};
-ghost use Rattle.std.specs.Option.{option_copied};
 ghost use Rattle.sip_location.specs.Registering as Naming;
 ghost use Rattle.sip_location.specs.Registration.{registered};
 ghost use Rattle.sip_location.specs.declared.binding.Binding.{Binding};
@@ -23,8 +22,9 @@ use sip_header::{CoreFields, expires_of};
 use sip_location::{Contacts, LocationError, Locations, Plan, Refresh, Registration};
 use sip_message_fields::{Field, FieldName, Fields, ViewFields};
 use sip_policy::{Rules, is_own_domain, is_users_address};
+use sip_targets::RequestUri;
 use sip_text::Text;
-use sip_uri::{Aor, Uri};
+use sip_uri::Aor;
 use std::alloc::{AllocError, Global};
 
 /// What a REGISTER with these core fields and fields asks for, whose To names this address of record (RFC 3261 10.3).
@@ -181,12 +181,13 @@ fn not_found(alloc: Global) -> Registering
 }
 
 /// Whether a Request-URI names an own domain.
-fn is_for_own_domain(server: &Server, uri: Option<&Uri>) -> bool
-    ensures { result ≡ Verdict.is_own_uri server.now (option_copied uri.entry) }
+#[tactic(auto, using(crate::proofs::RequestUris::by_host, crate::proofs::RequestUris::by_none))]
+fn is_for_own_domain(server: &Server, uri: &RequestUri<'_>) -> bool
+    ensures { result ≡ Verdict.is_own_uri server.now uri.now }
 {
     let domains = server.config.own.domains.as_slice();
-    match uri {
-        Some(uri) => is_own_domain(domains, uri.host.as_slice()),
+    match uri.host() {
+        Some(host) => is_own_domain(domains, host),
         None => false,
     }
 }
@@ -205,7 +206,7 @@ fn is_registrable(server: &Server, request: &Validated<'_, '_>, aor: &Aor) -> bo
     ensures { result ≡ (Verdict.is_own_uri server.now request.now.uri.now
         && is_users_address server.now.config.users server.now.config.own.domains (Naming.to_aor request.now.core.now)) }
 {
-    is_for_own_domain(server, request.uri.as_ref()) && is_for_user(server, aor)
+    is_for_own_domain(server, request.uri) && is_for_user(server, aor)
 }
 
 /// What a REGISTER that was let through comes to.

@@ -1,7 +1,7 @@
 use sip_header::CoreFields;
 use sip_message_form::View;
 use sip_route::Way;
-use sip_uri::Uri;
+use sip_targets::RequestUri;
 
 /// A request that passed the checks (RFC 3261 16.3), lent, with what they read of it.
 #[derive(Drop)]
@@ -14,5 +14,5 @@ pub struct Validated<'v, 'a> {
     /// Where it goes, without this server's own part of the way.
     pub way: &'a Way<'v>,
     /// The SIP or SIPS URI that it is for: the Request-URI that is left, where that is one.
-    pub uri: &'a Option<Uri>,
+    pub uri: &'a RequestUri<'a>,
 }

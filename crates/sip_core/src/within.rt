@@ -1,5 +1,5 @@
 ghost use Rattle.std.specs.Prelude.{◌≡◌, IfOk, Some, []};
-ghost use Rattle.std.specs.Option.{option_and_then, option_copied, unwrap_or};
+ghost use Rattle.std.specs.Option.{option_and_then, unwrap_or};
 ghost use Rattle.std.specs.Result.{result_ok};
 ghost use Rattle.sip_dialog.specs.DialogId as Names;
 ghost use Rattle.sip_header.specs.CoreFields.{core_of};
@@ -14,8 +14,9 @@ use sip_dialog::{DialogId, Dialogs};
 use sip_header::{CoreFields, tag_of};
 use sip_policy::Rules;
 use sip_route::Way;
+use sip_targets::RequestUri;
 use sip_text::Bytes;
-use sip_uri::{Addr, Uri};
+use sip_uri::Addr;
 use std::alloc::{AllocError, Global};
 
 /// The tag of From; it is empty where there is none.
@@ -55,13 +56,26 @@ fn dialog_of(alloc: Global, core: &CoreFields<'_>) -> Result<Option<DialogId>, A
     Ok(Some(id))
 }
 
-/// The address to which a request for a URI goes, if it has one.
-fn address_for<R: Rules>(judge: &Judge<R>, uri: Option<&Uri>) -> Option<Addr>
-    ensures { result ≡ option_and_then (address_of judge.now.config.addresses) (option_copied uri.entry) }
+/// The address to which a request goes by its Request-URI, if it has one.
+fn address_for<R: Rules>(judge: &Judge<R>, uri: &RequestUri<'_>) -> Option<Addr>
+    ensures { result ≡ option_and_then (address_of judge.now.config.addresses) uri.now }
 {
-    match uri {
-        Some(uri) => judge.address_of(uri),
-        None => None,
+    uri.address(judge.hops())
+}
+
+/// The address of the URI that the first Route of a way names. It stands apart, so that no room is made for a URI where
+/// none is read.
+#[inline(never)]
+fn routed_address<R: Rules>(
+    alloc: Global,
+    judge: &Judge<R>,
+    way: &Way<'_>,
+) -> Result<Option<Addr>, AllocError>
+    ensures { IfOk result (λ address. address ≡ option_and_then (address_of judge.now.config.addresses) (Ways.next_uri way.now)) }
+{
+    match way.next_uri(alloc)? {
+        Some(uri) => Ok(judge.address_of(&uri)),
+        None => Ok(None),
     }
 }
 
@@ -71,16 +85,15 @@ fn next_address<R: Rules>(
     alloc: Global,
     judge: &Judge<R>,
     way: &Way<'_>,
-    uri: &Option<Uri>,
+    uri: &RequestUri<'_>,
 ) -> Result<Option<Addr>, AllocError>
     requires { uri.now ≡ Ways.request_uri_in way.now }
     ensures { IfOk result (λ address. address ≡ option_and_then (address_of judge.now.config.addresses) (Ways.next_uri way.now)) }
 {
     if way.routes.as_slice().is_empty() {
-        return Ok(address_for(judge, uri.as_ref()));
+        return Ok(address_for(judge, uri));
     }
-    let uri = way.next_uri(alloc)?;
-    Ok(address_for(judge, uri.as_ref()))
+    routed_address(alloc, judge, way)
 }
 
 /// Where a request that passed the checks goes in a dialog that is known: to the next address of its way, if the dialog

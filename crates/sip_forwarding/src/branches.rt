@@ -54,19 +54,13 @@ fn new_branch(now: u64, number: u32, uri: Shared<Bytes>, address: Option<Addr>) 
     }
 }
 
-/// The branch of a number to a target.
-fn branch_to(
-    alloc: Global,
-    now: u64,
-    number: u32,
-    uri: &Uri,
-    address: Option<Addr>,
-) -> Result<Branch, AllocError>
+/// The branch of a number to a target, whose text it owns with it.
+fn branch_to(now: u64, number: u32, target: &Target) -> Result<Branch, AllocError>
     requires { now + 32000 < 2 ^ 64 }
-    ensures { IfOk result (λ branch. branch ≡ Definitions.branch_to now number (record { uri = uri.now; address = address })) }
+    ensures { IfOk result (λ branch. branch ≡ Definitions.branch_to now number target.now) }
 {
-    let uri = Shared::new(alloc, write_uri(alloc, uri)?)?;
-    Ok(new_branch(now, number, uri, address))
+    let uri = target.uri.text().clone()?;
+    Ok(new_branch(now, number, uri, target.address))
 }
 
 /// The branches to targets, numbered from 1.
@@ -78,7 +72,7 @@ fn branches_from(alloc: Global, now: u64, targets: &[Target]) -> Result<Items<Br
     let mut branches = Items::with_room(alloc, targets.len())?;
     let mut number = 1;
     for target in targets {
-        branches.push(branch_to(alloc, now, number, &target.uri, target.address)?)?;
+        branches.push(branch_to(now, number, target)?)?;
         number += 1;
     }
     Ok(branches)
@@ -94,8 +88,9 @@ fn hop_branch(
     requires { now + 32000 < 2 ^ 64 }
     ensures { IfOk result (λ branches. branches ≡ Definitions.branches_from now 1 (record { uri = uri.now; address = Some address } ∷ [])) }
 {
+    let uri = Shared::new(alloc, write_uri(alloc, uri)?)?;
     let mut branches = Items::new(alloc);
-    branches.push(branch_to(alloc, now, 1, uri, Some(address))?)?;
+    branches.push(new_branch(now, 1, uri, Some(address)))?;
     Ok(branches)
 }
 

@@ -1,11 +1,11 @@
-ghost use Rattle.std.specs.Prelude.{◌≡◌, IfOk};
+ghost use Rattle.std.specs.Prelude.{◌≡◌};
 ghost use Rattle.sip_uri.specs.Uri.{text_of};
+ghost use Rattle.sip_location.specs.KeptBinding.{uri_in, IsUriText};
 
 use crate::aor_ref::AorRef;
 use crate::row::Row;
 use sip_text::Bytes;
 use sip_uri::{Aor, Uri};
-use std::alloc::{AllocError, Global};
 use std::marker::Model;
 
 /// A binding as contracts see it: an address of record, the URI of a contact where its user can be reached, the Call-ID
@@ -64,16 +64,11 @@ impl<'a> BindingRef<'a> {
         self.aor.again()
     }
 
-    /// Its URI, which is read. `AllocError` is the only refusal.
-    pub fn uri(&self, alloc: Global) -> Result<Uri, AllocError>
-        ensures { IfOk result (λ uri. uri ≡ self.now.uri) }
-    {
-        self.row.uri(alloc)
-    }
-
     /// The text of its URI. Takes no memory.
     pub fn uri_text(&self) -> &'a [u8]
-        ensures { result.now ≡ text_of self.now.uri }
+        ensures says { result.now ≡ text_of self.now.uri }
+        ensures reads { IsUriText result.now }
+        ensures uri { uri_in result.now ≡ self.now.uri }
     {
         self.row.uri_text()
     }

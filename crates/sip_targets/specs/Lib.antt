@@ -1,3 +1,5 @@
+pub mod PlainUri
+pub mod ReadUri
 pub mod Target
 pub mod Targets
 pub mod Examples

@@ -33,6 +33,11 @@ targets_of (Decision.Allow id) known request_uri contacts hops addresses = if kn
 targets_of (Decision.Deny id) known request_uri contacts hops addresses = no_targets
 targets_of Decision.Challenge known request_uri contacts hops addresses = no_targets
 
+-- the same of a request whose Request-URI may be none
+abbrev pub targets_for : Decision → Bool → Option Uri → List Uri → List Hop → List HostAddress → Targets
+targets_for decision known None contacts hops addresses = Targets.NotFound
+targets_for decision known (Some uri) contacts hops addresses = targets_of decision known uri contacts hops addresses
+
 -- the targets one by one, in the order of their branches; at 404 and 480 there is none
 abbrev pub target_list : Targets → List Target
 target_list (Targets.Bindings targets) = targets

@@ -12,10 +12,16 @@
 
 pub mod examples;
 pub mod laws;
+mod plain_uri;
+mod read_uri;
+mod request_uri;
 mod target;
 mod target_set;
+mod target_uri;
 mod targets;
 
+pub use request_uri::RequestUri;
 pub use target::Target;
 pub use target_set::targets_of;
+pub use target_uri::TargetUri;
 pub use targets::Targets;

@@ -1,10 +1,14 @@
 ghost use Rattle.std.specs.Prelude.{◌≡◌, not, filter, IfOk, OnOk};
+ghost use Rattle.sip_uri.specs.Uri.{IsValid};
+ghost use Rattle.sip_location.specs.KeptBinding.{uri_in, IsUriText};
 ghost use Rattle.sip_targets.specs.Target as Definitions;
 ghost use Rattle.sip_targets.specs.Target.{target_for};
 
+use crate::plain_uri::plain_place_of;
+use crate::target_uri::TargetUri;
 use sip_hops::Hops;
-use sip_text::Items;
-use sip_uri::{Addr, Parameter, Uri};
+use sip_text::{Bytes, Items};
+use sip_uri::{Addr, Parameter, Uri, UriError, parse_uri, write_uri};
 use sip_uri_equality::says_same_no_case;
 use std::alloc::{AllocError, Global};
 
@@ -12,7 +16,7 @@ use std::alloc::{AllocError, Global};
 #[derive(Drop)]
 pub struct Target {
     /// The Request-URI that goes there.
-    pub uri: Uri,
+    pub uri: TargetUri,
     /// None: nothing can be sent, and the branch counts as answered 503.
     pub address: Option<Addr>,
 }
@@ -53,14 +57,48 @@ fn make_target(alloc: Global, uri: &mut Uri) -> Result<(), AllocError>
     Ok(())
 }
 
+/// The URI that a text writes.
+fn uri_of(alloc: Global, text: &[u8]) -> Result<Uri, AllocError>
+    requires { IsUriText text.now }
+    ensures says { IfOk result (λ uri. uri ≡ uri_in text.now) }
+    ensures valid { IfOk result (λ uri. IsValid uri) }
+{
+    match parse_uri(alloc, text) {
+        Ok(uri) => Ok(uri),
+        Err(UriError::NoMemory | UriError::Scheme | UriError::Syntax) => Err(AllocError),
+    }
+}
+
+/// The target for a contact of any form. It stands apart, so that no room is made for a URI where none is read.
+#[inline(never)]
+#[tactic(auto, using(crate::proofs::Contacts::is_target_text))]
+fn target_read(alloc: Global, contact: &[u8], hops: &Hops) -> Result<Target, AllocError>
+    requires { IsUriText contact.now }
+    ensures { IfOk result (λ target. target ≡ target_for hops.now.addresses (uri_in contact.now)) }
+{
+    let mut uri = uri_of(alloc, contact)?;
+    make_target(alloc, &mut uri)?;
+    let address = hops.address_of(&uri);
+    let uri = TargetUri::of(alloc, write_uri(alloc, &uri)?)?;
+    Ok(Target { uri, address })
+}
+
 impl Target {
-    /// The target for a contact, at the address of its URI if it has one. `AllocError` is the only refusal.
-    pub(crate) fn for_contact(alloc: Global, contact: Uri, hops: &Hops) -> Result<Self, AllocError>
-        ensures { IfOk result (λ target. target ≡ target_for hops.now.addresses contact) }
+    /// The target for the contact of a text, at the address of its URI if it has one. `AllocError` is the only refusal.
+    #[tactic(auto, using(crate::proofs::Contacts::plain_target))]
+    pub(crate) fn for_contact(
+        alloc: Global,
+        contact: &[u8],
+        hops: &Hops,
+    ) -> Result<Self, AllocError>
+        requires { IsUriText contact.now }
+        ensures { IfOk result (λ target. target ≡ target_for hops.now.addresses (uri_in contact.now)) }
     {
-        let mut uri = contact;
-        make_target(alloc, &mut uri)?;
-        let address = hops.address_of(&uri);
+        let Some((host, port)) = plain_place_of(contact) else {
+            return target_read(alloc, contact, hops);
+        };
+        let address = hops.address_at(host, port);
+        let uri = TargetUri::of(alloc, Bytes::copy(alloc, contact)?)?;
         Ok(Target { uri, address })
     }
 }

@@ -1,7 +1,10 @@
 ghost use Rattle.std.specs.Prelude.{◌≡◌, map, IfOk};
+ghost use Rattle.std.specs.Option.{option_map_or};
+ghost use Rattle.sip_targets.specs.declared.targets.Targets.TheVariants.{NotFound};
 ghost use Rattle.sip_targets.specs.Target.{target_for};
 ghost use Rattle.sip_targets.specs.Targets as Definitions;
 
+use crate::request_uri::RequestUri;
 use crate::target::Target;
 use crate::targets::Targets;
 use sip_base::Shared;
@@ -16,11 +19,7 @@ use std::alloc::{AllocError, Global};
 fn target_at(alloc: Global, binding: &BindingRef<'_>, hops: &Hops) -> Result<Target, AllocError>
     ensures { IfOk result (λ target. target ≡ target_for hops.now.addresses binding.now.uri) }
 {
-    // Matched, not `?`: a URI is large, and is moved less so.
-    match binding.uri(alloc) {
-        Ok(uri) => Target::for_contact(alloc, uri, hops),
-        Err(refusal) => Err(refusal),
-    }
+    Target::for_contact(alloc, binding.uri_text(), hops)
 }
 
 /// One target for each binding, in their order.
@@ -51,35 +50,55 @@ fn targets_at(alloc: Global, bindings: LiveBindings<'_>, hops: &Hops) -> Result<
     Ok(Targets::Bindings(targets))
 }
 
-/// The Request-URI as it came, at the address of a hop, if it has one.
-fn target_by(alloc: Global, request_uri: &Uri, address: Option<Addr>) -> Result<Targets, AllocError>
-    ensures { IfOk result (λ targets. targets ≡ Definitions.target_by request_uri.now address) }
+/// A Request-URI as it came, at the address of a hop, if it has one.
+fn target_by(alloc: Global, uri: Uri, address: Option<Addr>) -> Result<Targets, AllocError>
+    ensures { IfOk result (λ targets. targets ≡ Definitions.target_by uri address) }
 {
     match address {
         Some(address) => {
-            let uri = Shared::new(alloc, request_uri.clone()?)?;
+            let uri = Shared::new(alloc, uri)?;
             Ok(Targets::Hop(uri, address))
         }
         None => Ok(Targets::NotFound),
     }
 }
 
-/// Where a request goes that policy decided about (RFC 3261 16.5): by a hop whoever is called, and not found where the
-/// tables have no such hop; else to the live bindings of its address of record, if that is known as a configured user's
-/// in an own domain. One that is denied or challenged goes nowhere. `AllocError` is the only refusal.
+/// The target by a hop. It stands apart, so that no room is made for a URI where none is made.
+#[inline(never)]
+fn targets_by(
+    alloc: Global,
+    request_uri: &RequestUri<'_>,
+    address: Option<Addr>,
+) -> Result<Targets, AllocError>
+    ensures { IfOk result (λ targets. targets ≡ option_map_or (λ uri. Definitions.target_by uri address) request_uri.now NotFound) }
+{
+    match request_uri.to_uri(alloc)? {
+        Some(uri) => target_by(alloc, uri, address),
+        None => Ok(Targets::NotFound),
+    }
+}
+
+/// Where a request goes that policy decided about (RFC 3261 16.5): without a SIP or SIPS URI nowhere; by a hop whoever is
+/// called, and not found where the tables have no such hop; else to the live bindings of its address of record, if that is
+/// known as a configured user's in an own domain. One that is denied or challenged goes nowhere. `AllocError` is the only
+/// refusal.
+#[tactic(auto, using(crate::proofs::Deciding::for_nothing, crate::proofs::Deciding::for_callee, crate::proofs::Deciding::for_denied, crate::proofs::Deciding::for_challenged, crate::proofs::Deciding::by_hop))]
 pub fn targets_of(
     alloc: Global,
     decision: &Decision,
     is_known: bool,
-    request_uri: &Uri,
+    request_uri: &RequestUri<'_>,
     bindings: LiveBindings<'_>,
     hops: &Hops,
 ) -> Result<Targets, AllocError>
-    ensures { IfOk result (λ targets. targets ≡ Definitions.targets_of decision.now is_known request_uri.now
+    ensures { IfOk result (λ targets. targets ≡ Definitions.targets_for decision.now is_known request_uri.now
         (map (λ binding. binding.uri) bindings.entry) hops.now.hops hops.now.addresses) }
 {
+    if !request_uri.is_some() {
+        return Ok(Targets::NotFound);
+    }
     match decision {
-        Decision::Via(_, place) => target_by(alloc, request_uri, hops.hop(*place)),
+        Decision::Via(_, place) => targets_by(alloc, request_uri, hops.hop(*place)),
         Decision::Allow(_) => {
             if is_known {
                 targets_at(alloc, bindings, hops)

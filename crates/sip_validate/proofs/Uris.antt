@@ -17,6 +17,9 @@ there (Err e) = refl
 pub read_is_uri : (way : Way) (uri : Option Uri) → uri ≡ request_uri_in way → is_some uri ≡ is_ok (reading_of way.uri)
 read_is_uri way uri is = ap (λ (u : Option Uri). is_some u) is ∙ there (reading_of way.uri)
 
+pub there_is_uri : (way : Way) (is_uri : Bool) → is_uri ≡ is_some (request_uri_in way) → is_uri ≡ is_ok (reading_of way.uri)
+there_is_uri way is_uri is = is ∙ there (reading_of way.uri)
+
 -- the same bytes are a URI, or aren't
 pub by_bytes : (left came : List ℕ) (is_uri : Bool) → is_uri ≡ is_ok (reading_of left) → bytes_eq left came ≡ true → is_uri ≡ is_ok (reading_of came)
 by_bytes left came is_uri is same = is ∙ ap (λ (bytes : List ℕ). is_ok (reading_of bytes)) ((bytes_eq-Decides left came).0 same)

@@ -1,4 +1,4 @@
-ghost use Rattle.std.specs.Prelude.{◌≡◌, IfOk, Some, None, false, is_ok, option_map};
+ghost use Rattle.std.specs.Prelude.{◌≡◌, IfOk, Some, None, false, is_ok, is_some, option_map};
 ghost use Rattle.std.specs.Result.{result_ok};
 ghost use Rattle.std.specs.Option.{option_and_then, option_map_or};
 ghost use Rattle.sip_message_fields.specs.declared.field_name.FieldName.TheVariants as Name;
@@ -19,7 +19,6 @@ use crate::refused::Refused;
 use sip_header::{CoreFields, HeaderError, Via, core_of};
 use sip_message_form::{View, ViewStart};
 use sip_route::{Own, Way, way_of};
-use sip_uri::Uri;
 use std::alloc::{AllocError, Global};
 
 /// The core fields of a message, if each stands there once and can be read.
@@ -60,9 +59,9 @@ fn refusal(
 }
 
 /// What refuses a request of which this was read, each once (RFC 3261 16.3, 8.2.2, 10.3): its top Via, its core fields, its
-/// way and the Request-URI that is left. All of it stays where it was read. `short` says that fewer bytes of its body came
-/// than its Content-Length says. None where it may be served. `AllocError` is the only refusal of the call.
-#[tactic(auto, using(crate::proofs::Serving::by_table, crate::proofs::Uris::read_is_uri))]
+/// way, and whether the Request-URI that is left is a SIP or SIPS URI. All of it stays where it was read. `short` says that
+/// fewer bytes of its body came than its Content-Length says. None where it may be served. `AllocError` is the only refusal of the call.
+#[tactic(auto, using(crate::proofs::Serving::by_table, crate::proofs::Uris::there_is_uri))]
 pub fn refusal_of(
     alloc: Global,
     request: &View<'_>,
@@ -71,15 +70,14 @@ pub fn refusal_of(
     own: &Own,
     core: &CoreFields<'_>,
     way: &Way<'_>,
-    uri: &Option<Uri>,
+    is_uri: bool,
 ) -> Result<Option<Refused>, AllocError>
     requires via { option_and_then via_of (first_value Name.Via request.now.fields) ≡ Some via.now }
     requires core { result_ok (Cores.core_of request.now) ≡ Some core.now }
     requires way { way.now ≡ Ways.way_of own.now request.now }
-    requires uri { uri.now ≡ Ways.request_uri_in way.now }
+    requires uri { is_uri ≡ is_some (Ways.request_uri_in way.now) }
     ensures row { IfOk result (λ refused. refused ≡ option_map refused_with (Definition.refusal_of own.now request.now short)) }
 {
-    let is_uri = uri.is_some();
     refusal(alloc, request, via, short, own, core, way, is_uri)
 }
 

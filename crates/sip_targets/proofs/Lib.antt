@@ -1,0 +1,3 @@
+pub mod Contacts
+pub mod RequestUris
+pub mod Deciding
