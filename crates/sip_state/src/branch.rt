@@ -69,12 +69,12 @@ pub struct Branch {
     pub number: u32,
     /// Whether it is the CANCEL of the branch of that number (RFC 3261 9.1: a transaction of its own).
     pub is_cancel: bool,
+    /// Whether it is to be cancelled.
+    pub wants_cancel: bool,
     /// The Request-URI of its request.
     pub uri: Shared<Bytes>,
     /// Where its request goes, if it can go anywhere.
     pub address: Option<Addr>,
-    /// Whether it is to be cancelled.
-    pub wants_cancel: bool,
     pub phase: Phase,
     /// To of its final answer, if that had one: its ACK is made with it (RFC 3261 17.1.1.3).
     pub final_to: Option<Shared<Bytes>>,
@@ -88,9 +88,9 @@ impl Drop for Branch {
         let Branch {
             number: _,
             is_cancel: _,
+            wants_cancel: _,
             uri: _,
             address: _,
-            wants_cancel: _,
             phase: _,
             final_to: _,
             again: _,

@@ -7,7 +7,7 @@ use crate::open_request::OpenRequest;
 pub fn is_invite(request: &OpenRequest) -> bool
     ensures { result ≡ States.is_invite request.now }
 {
-    request.key.get().is_method(b"INVITE")
+    request.key.get().method.is_invite()
 }
 
 /// 1xx (RFC 3261 7.2).

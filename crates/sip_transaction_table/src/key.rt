@@ -2,6 +2,7 @@ ghost use Rattle.std.specs.Prelude.{◌≡◌, ◌↔◌, IsTrue, IfOk};
 ghost use Rattle.std.specs.Str.{bytes_eq};
 ghost use Rattle.sip_transaction_table.specs.Key.{key_method, key_from, same_key};
 
+use crate::method::KeyMethod;
 use sip_header::{Via, branch_of};
 use sip_text::{Bytes, lower_case, same_bytes};
 use std::alloc::{AllocError, Global};
@@ -15,7 +16,7 @@ pub struct Key {
     /// The port of its sent-by, 5060 where none is written.
     pub port: u16,
     /// The method, INVITE for an ACK.
-    pub method: Bytes,
+    pub method: KeyMethod,
 }
 
 /// Written out, so that it is proved once and not wherever one is dropped.
@@ -55,7 +56,7 @@ fn key_from(
     }
     let branch = Bytes::copy(alloc, branch)?;
     let host = lower_case(alloc, via.host.as_slice())?;
-    let method = Bytes::copy(alloc, method_in_key(method))?;
+    let method = KeyMethod::copy(alloc, method_in_key(method))?;
     Ok(Some(Key {
         branch,
         host,

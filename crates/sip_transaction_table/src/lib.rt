@@ -18,6 +18,7 @@ mod front;
 mod held;
 mod key;
 mod keys;
+mod method;
 mod numbered;
 mod row;
 mod table;
@@ -25,6 +26,7 @@ mod transaction;
 
 pub use held::Held;
 pub use key::{Key, same_key};
+pub use method::KeyMethod;
 pub use row::Row;
 pub use table::Table;
 pub use transaction::Transaction;
