@@ -53,7 +53,15 @@ fn answer_judged<T: Timers>(
 {
     let arrival = request.arrival;
     let message = keep(alloc, request)?;
-    take_judged(alloc, server, proxy, arrival, key, message, judged)
+    take_judged(
+        alloc,
+        server,
+        proxy,
+        arrival,
+        key,
+        message,
+        judged.into_value(),
+    )
 }
 
 /// A new request about which policy decided, and that isn't answered here, goes to its targets (RFC 3261 16.5). `AllocError`

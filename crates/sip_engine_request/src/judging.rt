@@ -21,7 +21,7 @@ use sip_dialog_lessons::state::Server;
 use sip_event::StepOut;
 use sip_proxy::Proxy;
 use sip_timers::Timers;
-use sip_transaction_table::{Held, Key};
+use sip_transaction_table::Key;
 use sip_uas::forwarding::Arrival;
 use sip_uas::judged as draft_judged;
 use std::alloc::{AllocError, Global};
@@ -31,40 +31,6 @@ use std::alloc::{AllocError, Global};
 /// on, unless 1,024 are. A right credential is used up, whatever was decided; a challenge issues its nonce, and a REGISTER
 /// makes its bindings. `AllocError` is the only refusal; nothing is changed then.
 pub fn take_judged<T: Timers>(
-    alloc: Global,
-    server: &Server,
-    proxy: &mut Proxy<T>,
-    arrival: Arrival,
-    key: Shared<Key>,
-    request: Shared<Heard>,
-    judged: Held<Judged<'_>>,
-) -> Result<StepOut, AllocError>
-    requires coming { IsComing proxy.old.state arrival }
-    requires key { key_of request ≡ Some key }
-    requires alone { position (has_key key) proxy.old.state.requests ≡ None }
-    requires here { Asking.is_answered_here judged.outcome ≡ true }
-    requires room { HasRoomFor proxy.old.room judged.outcome }
-    requires answers { IsAnswered server.now proxy.old.state.bindings arrival.now judged }
-    ensures does { IfOk result (λ out. (named : Option OpenRequest) (verdict : Definition.Verdict)
-        → Is server.now proxy.old.state.bindings arrival.now named verdict (Arrived.Judged judged.entry)
-        → Does server.now proxy.old.state arrival.now (effect_of server.now (arrival_of arrival) request verdict
-        (counted (arrival_of arrival) proxy.old.state)) out proxy.new.state) }
-    ensures unchanged { OnErr result (proxy.new.state ≡ proxy.old.state) }
-    ensures timers { OnErr result (proxy.new.timers ≡ proxy.old.timers) }
-{
-    take_value(
-        alloc,
-        server,
-        proxy,
-        arrival,
-        key,
-        request,
-        judged.into_value(),
-    )
-}
-
-/// The same of what was decided, taken out of its memory.
-fn take_value<T: Timers>(
     alloc: Global,
     server: &Server,
     proxy: &mut Proxy<T>,
