@@ -1,14 +1,14 @@
 ghost use Rattle.std.specs.Prelude.{◌≡◌, [], IfOk};
 
 use sip_base::Shared;
-use sip_text::Bytes;
+use sip_text::Buffer;
 use std::alloc::{AllocError, Global};
 use std::marker::Model;
 
 /// The text of an answer that was sent, seen as its bytes; of some answers none is kept. A clone copies no byte.
 #[derive(Clone, Drop)]
 pub struct AnswerText {
-    bytes: Option<Shared<Bytes>>,
+    bytes: Option<Shared<Buffer>>,
 }
 
 impl Model for AnswerText {
@@ -32,7 +32,7 @@ impl AnswerText {
     pub fn copy(alloc: Global, text: &[u8]) -> Result<Self, AllocError>
         ensures { IfOk result (λ copy. copy ≡ text.now) }
     {
-        let bytes = Shared::new(alloc, Bytes::copy(alloc, text)?)?;
+        let bytes = Shared::new(alloc, Buffer::copy(alloc, text)?)?;
         Ok(AnswerText { bytes: Some(bytes) })
     }
 
