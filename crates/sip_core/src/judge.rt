@@ -1,5 +1,4 @@
 ghost use Rattle.std.specs.Prelude.{◌≡◌, IfOk};
-ghost use Rattle.sip_hops.specs.HostAddress.{address_of};
 ghost use Rattle.model_verdict.specs.Verdict.{answer_of, minute_on};
 ghost use Rattle.sip_core.specs.Incoming.{Is};
 
@@ -12,7 +11,6 @@ use sip_hops::Hops;
 use sip_message_form::View;
 use sip_own_via::OwnVias;
 use sip_policy::{Rules, Ruling};
-use sip_uri::{Addr, Uri};
 use std::alloc::{AllocError, Global};
 use std::marker::Model;
 
@@ -87,13 +85,6 @@ impl<R: Rules> Judge<R> {
         ensures hops { result.now.hops ≡ self.now.config.hops }
     {
         &self.hops
-    }
-
-    /// The address to which a request for a URI goes, if it has one. Takes no memory.
-    pub fn address_of(&self, uri: &Uri) -> Option<Addr>
-        ensures { result ≡ address_of self.now.config.addresses uri.now }
-    {
-        self.hops.address_of(uri)
     }
 
     /// What a message is that came in, of whose body fewer bytes may have come than its length says: what finds the request or

@@ -74,7 +74,7 @@ fn routed_address<R: Rules>(
     ensures { IfOk result (λ address. address ≡ option_and_then (address_of judge.now.config.addresses) (Ways.next_uri way.now)) }
 {
     match way.next_uri(alloc)? {
-        Some(uri) => Ok(judge.address_of(&uri)),
+        Some(uri) => Ok(judge.hops().address_of(&uri)),
         None => Ok(None),
     }
 }
