@@ -4,3 +4,4 @@ pub mod Digest
 pub mod Keys
 pub mod Numbered
 pub mod Rows
+pub mod KeyMethod

@@ -1,36 +1,47 @@
-ghost use Rattle.std.specs.Prelude.{◌≡◌, codes, IfOk};
+ghost use Rattle.std.specs.Prelude.{◌≡◌, codes, false, IfOk};
 ghost use Rattle.std.specs.Str.{bytes_eq};
+ghost use Rattle.sip_transaction_table.specs.KeyMethod.{method_in, IsTold};
 
+use crate::known_method::KnownMethod;
+use crate::method_text::MethodText;
 use sip_text::{Bytes, same_bytes};
 use std::alloc::{AllocError, Global};
 use std::marker::Model;
 
-/// The method of a key, seen as its bytes. Whether it is INVITE is asked of an open request at every turn, so it is told
-/// without them.
+/// The method of a key, seen as its bytes. Whether it is INVITE is asked of an open request at every turn, and told without
+/// them.
 pub struct KeyMethod {
-    is_invite: bool,
-    text: Bytes,
+    text: MethodText,
 }
 
 /// Written out, so that it is proved once and not wherever one is dropped.
 impl Drop for KeyMethod {
     fn drop(self) {
-        let KeyMethod {
-            is_invite: _,
-            text: _,
-        } = self;
+        let KeyMethod { text: _ } = self;
     }
 }
 
 impl Model for KeyMethod {
-    ghost use Rattle.std.specs.Prelude.{◌≡◌, ℕ, List, codes};
-    ghost use Rattle.std.specs.Str.{bytes_eq};
+    ghost use Rattle.std.specs.Prelude.{ℕ, List};
+    ghost use Rattle.sip_transaction_table.specs.KeyMethod.{method_in, IsTold};
 
     ghost Value = { List ℕ };
 
-    ghost view = { λ m. m.text };
+    ghost view = { λ m. method_in m.text };
 
-    ghost invariant = { λ m. m.is_invite ≡ bytes_eq m.text (codes "INVITE") };
+    ghost invariant = { λ m. IsTold m.text };
+}
+
+/// Where the bytes of a method stand that isn't INVITE.
+fn other_text(alloc: Global, method: &[u8]) -> Result<MethodText, AllocError>
+    requires { bytes_eq method.now (codes "INVITE") ≡ false }
+    ensures { IfOk result (λ text. (method_in text ≡ method.now) × IsTold text) }
+{
+    if let Some(known) = KnownMethod::of_other(method) {
+        return Ok(MethodText::Known(known));
+    }
+    let bytes = Box::new(alloc, Bytes::copy(alloc, method)?)?;
+    Ok(MethodText::Other(bytes))
 }
 
 impl KeyMethod {
@@ -38,9 +49,12 @@ impl KeyMethod {
     pub(crate) fn copy(alloc: Global, method: &[u8]) -> Result<Self, AllocError>
         ensures { IfOk result (λ copy. copy ≡ method.now) }
     {
-        let is_invite = same_bytes(method, b"INVITE");
-        let text = Bytes::copy(alloc, method)?;
-        Ok(KeyMethod { is_invite, text })
+        if same_bytes(method, b"INVITE") {
+            let text = MethodText::Known(KnownMethod::Invite);
+            return Ok(KeyMethod { text });
+        }
+        let text = other_text(alloc, method)?;
+        Ok(KeyMethod { text })
     }
 
     /// Whether it is INVITE, byte by byte. Takes no memory.
@@ -48,7 +62,10 @@ impl KeyMethod {
     pub fn is_invite(&self) -> bool
         ensures { result ≡ bytes_eq self.now (codes "INVITE") }
     {
-        self.is_invite
+        match &self.text {
+            MethodText::Known(known) => known.is_invite(),
+            MethodText::Other(_) => false,
+        }
     }
 
     /// Its bytes. Takes no memory.
@@ -56,6 +73,9 @@ impl KeyMethod {
     pub fn as_slice(&self) -> &[u8]
         ensures { result.now ≡ self.now }
     {
-        self.text.as_slice()
+        match &self.text {
+            MethodText::Known(known) => known.spelling(),
+            MethodText::Other(bytes) => bytes.as_slice(),
+        }
     }
 }
