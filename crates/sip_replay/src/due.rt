@@ -9,7 +9,7 @@ ghost use Rattle.sip_replay.specs.Replays.{Plays};
 use crate::error::stop_of;
 use sip_event::StepOut;
 use sip_policy::Rules;
-use sip_replay_script::{Stop, TellingWriter, print_step};
+use sip_replay_script::{PrintRoom, Stop, TellingWriter, print_step};
 use sip_run::engine::Engine;
 use sip_run::fire_next;
 use sip_timers::Timers;
@@ -21,6 +21,7 @@ pub fn fire_due<T: Timers, R: Rules, W: TellingWriter>(
     engine: &mut Engine<T, R>,
     at: u64,
     writer: &mut W,
+    room: &mut PrintRoom,
 ) -> Result<(), Stop>
     ensures server { engine.new.server ≡ engine.old.server }
     ensures fired { OnOk result (Plays engine.old.server engine.old.state engine.new.state [] (Some at) (W.contents writer.old)
@@ -30,7 +31,7 @@ pub fn fire_due<T: Timers, R: Rules, W: TellingWriter>(
         (GaveUp (W.has_failed writer.new) (W.called writer.new))) }
 {
     while let Some(out) = fire_one(engine, at)? {
-        print_step(alloc, writer, &out)?;
+        print_step(alloc, writer, room, &out)?;
     }
     Ok(())
 }

@@ -20,7 +20,8 @@ use sip_config_types::Config;
 use sip_event::{Boot, StepOut};
 use sip_policy::Rules;
 use sip_replay_script::{
-    Gathered, Line, Lines, Stop, TellingReader, TellingWriter, hand_on, next_line, print_step,
+    Gathered, Line, Lines, PrintRoom, Stop, TellingReader, TellingWriter, hand_on, next_line,
+    print_step,
 };
 use sip_run::engine::{Engine, StepError};
 use sip_run::{event_moment, take_datagram, take_event};
@@ -85,8 +86,17 @@ fn play<T: Timers, R: Rules, I: TellingReader, W: TellingWriter>(
         Err(_) => return Err(ReplayError::NoMemory),
     };
     let mut bytes = Gathered::new(alloc);
+    let mut room = PrintRoom::new();
     runs_join();
-    while take_next(alloc, &mut engine, &mut lines, &mut bytes, reader, writer)? {}
+    while take_next(
+        alloc,
+        &mut engine,
+        &mut lines,
+        &mut bytes,
+        &mut room,
+        reader,
+        writer,
+    )? {}
     Ok(())
 }
 
@@ -96,6 +106,7 @@ fn take_next<T: Timers, R: Rules, I: TellingReader, W: TellingWriter>(
     engine: &mut Engine<T, R>,
     lines: &mut Lines,
     bytes: &mut Gathered,
+    room: &mut PrintRoom,
     reader: &mut I,
     writer: &mut W,
 ) -> Result<bool, ReplayError>
@@ -117,7 +128,7 @@ fn take_next<T: Timers, R: Rules, I: TellingReader, W: TellingWriter>(
         Ok(None) => return Ok(false),
         Err(stop) => return Err(ReplayError::at_line(stop, first)),
     };
-    match take_line(alloc, engine, &line, bytes, writer) {
+    match take_line(alloc, engine, &line, bytes, room, writer) {
         Ok(()) => {}
         Err(stop) => return Err(ReplayError::at_line(stop, first)),
     }
@@ -130,6 +141,7 @@ fn take_line<T: Timers, R: Rules, W: TellingWriter>(
     engine: &mut Engine<T, R>,
     line: &Line,
     bytes: &Gathered,
+    room: &mut PrintRoom,
     writer: &mut W,
 ) -> Result<(), Stop>
     ensures server { engine.new.server ≡ engine.old.server }
@@ -138,12 +150,12 @@ fn take_line<T: Timers, R: Rules, W: TellingWriter>(
     ensures stopped { IfErr result (TakingStops engine.old.server engine.old.state (event_of line.now bytes.now) (W.contents writer.old)
         (W.contents writer.new) (GaveUp (W.has_failed writer.new) (W.called writer.new))) }
 {
-    fire_due(alloc, engine, line_moment(line), writer)?;
+    fire_due(alloc, engine, line_moment(line), writer, room)?;
     let out = match own_step(engine, line, bytes) {
         Ok(out) => out,
         Err(e) => return Err(stop_of(e)),
     };
-    print_step(alloc, writer, &out)?;
+    print_step(alloc, writer, room, &out)?;
     Ok(())
 }
 

@@ -17,8 +17,21 @@ use std::alloc::Global;
 /// A packet of at most so many bytes is written at once.
 const AT_ONCE: usize = 1024;
 
-/// The room in which such a packet's text is put together: its head line, its bytes, and LF.
+/// How much room the text of such a packet takes: its head line, its bytes, and LF.
 const ROOM: usize = 1280;
+
+/// The room in which the texts of packets are put together, one after another, so that it is made once.
+#[derive(Drop)]
+pub struct PrintRoom {
+    bytes: [u8; ROOM],
+}
+
+impl PrintRoom {
+    /// The room. Takes no memory.
+    pub fn new() -> Self {
+        PrintRoom { bytes: [0; ROOM] }
+    }
+}
 
 /// The line before a packet's bytes: `packet AT IP:PORT D/K first LEN`, or `again`, and LF; AT is the
 /// moment of its step in milliseconds. Takes no memory.
@@ -91,32 +104,22 @@ fn print_packet<W: TellingWriter>(
     put_one(writer, text_from(room, start))
 }
 
-/// Prints packets, in order, of a step that has some: only for these there has to be room.
-#[inline(always)]
+/// Prints packets, in order.
 #[tactic(auto, using(crate::proofs::Written::appends_nothing))]
-fn print_some<W: TellingWriter>(writer: &mut W, at: u64, packets: &[Packet]) -> Result<(), Stop>
+fn print_packets<W: TellingWriter>(
+    writer: &mut W,
+    room: &mut [u8; ROOM],
+    at: u64,
+    packets: &[Packet],
+) -> Result<(), Stop>
     ensures ok { OnOk result (Appends (W.contents writer.old) (W.contents writer.new) (flat_map (Print.packet_text at) packets.now)) }
     ensures front { OnErr result (WritesFront (W.contents writer.old) (W.contents writer.new) (flat_map (Print.packet_text at) packets.now)) }
     ensures stopped { IfErr result (PrintStops (GaveUp (W.has_failed writer.new) (W.called writer.new))) }
 {
-    let mut room = [0; ROOM];
     for packet in packets {
-        print_packet(writer, &mut room, at, packet)?;
+        print_packet(writer, room, at, packet)?;
     }
     Ok(())
-}
-
-/// Prints packets, in order.
-#[tactic(auto, using(crate::proofs::Written::appends_none_of))]
-fn print_packets<W: TellingWriter>(writer: &mut W, at: u64, packets: &[Packet]) -> Result<(), Stop>
-    ensures ok { OnOk result (Appends (W.contents writer.old) (W.contents writer.new) (flat_map (Print.packet_text at) packets.now)) }
-    ensures front { OnErr result (WritesFront (W.contents writer.old) (W.contents writer.new) (flat_map (Print.packet_text at) packets.now)) }
-    ensures stopped { IfErr result (PrintStops (GaveUp (W.has_failed writer.new) (W.called writer.new))) }
-{
-    if packets.is_empty() {
-        return Ok(());
-    }
-    print_some(writer, at, packets)
 }
 
 /// Prints a record: `audit`, its line, and LF.
@@ -154,17 +157,18 @@ fn print_records<W: TellingWriter>(
     Ok(())
 }
 
-/// Prints a step: its packets, in order, then its records.
+/// Prints a step: its packets, in order, each put together in the room, then its records.
 #[tactic(auto, using(crate::proofs::Written::appends_both))]
 pub fn print_step<W: TellingWriter>(
     alloc: Global,
     writer: &mut W,
+    room: &mut PrintRoom,
     out: &StepOut,
 ) -> Result<(), Stop>
     ensures ok { OnOk result (Appends (W.contents writer.old) (W.contents writer.new) (Print.step_text out.now)) }
     ensures front { OnErr result (WritesFront (W.contents writer.old) (W.contents writer.new) (Print.step_text out.now)) }
     ensures stopped { IfErr result (PrintStops (GaveUp (W.has_failed writer.new) (W.called writer.new))) }
 {
-    print_packets(writer, out.at, out.packets.as_slice())?;
+    print_packets(writer, &mut room.bytes, out.at, out.packets.as_slice())?;
     print_records(alloc, writer, out.records.as_slice())
 }

@@ -3,7 +3,7 @@ use crate::kinds::Server;
 use crate::refusals::take::take;
 use sip_config_types::Config;
 use sip_event::{Boot, Event};
-use sip_replay_script::{Lines, next_event, print_step};
+use sip_replay_script::{Lines, PrintRoom, next_event, print_step};
 use std::alloc::Global;
 use std::io::{Read, Write};
 
@@ -22,10 +22,11 @@ fn take_event<W: Write, M: Write>(
     output: &mut W,
     marks: &mut M,
 ) -> Result<u64, Fault> {
+    let mut room = PrintRoom::new();
     let mut refused = 0u64;
     for _ in 0..u64::MAX {
         let taken = take(alloc, engine, event, marks)?;
-        print_step(alloc, output, &taken.out)?;
+        print_step(alloc, output, &mut room, &taken.out)?;
         refused = refused.saturating_add(u64::from(taken.is_refused));
         if taken.is_own {
             return Ok(refused);

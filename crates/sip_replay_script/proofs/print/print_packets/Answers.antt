@@ -2,7 +2,7 @@ use Rattle.sip_replay_script.specs.Print.{packet_text}
 use Rattle.std.proofs.lemmas.Result.{err_from_is_err_and}
 use Rattle.sip_replay_script.proofs.Fronts.{front_part}
 use Rattle.sip_replay_script.proofs.Written.{appends_part}
-use Rattle.sip_replay_script.proofs.print.print_some.Goals as goal
+use Rattle.sip_replay_script.proofs.print.print_packets.Goals as goal
 
 pub loop-packet-preserved : goal.loop-packet-preserved
 loop-packet-preserved g c =
