@@ -2,7 +2,7 @@
 # Refuses each allocation of the steps of six stored runs in turn, one in each run, until none is left. The step that meets
 # the refusal must answer NoMemory and leave the moment, what is due and the bindings as they were, and the same step given
 # again must answer as it does with ample memory, so that what is printed in the end is the stored output.
-# `tests/refuse_each.sh [PROGRAM [NAME..]]`, after `rt run` in crates/test_server; takes a minute or two.
+# `tests/refuse_each.sh [PROGRAM [NAME..]]`, after `rt run` in crates/test_server; takes ten seconds.
 cd "$(dirname "$0")/.." || exit 2
 exec python3 - "$@" <<'PY'
 import os
