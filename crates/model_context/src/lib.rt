@@ -16,6 +16,6 @@ pub mod state {
     pub use sip_state::{
         AnswerText, Branch, Heard, LastAnswer, Names, OpenRequest, Phase, Resend, Server, Side,
         Upward, Written, first_resend, is_decline, is_failure, is_invite, is_provisional,
-        is_success, received_value,
+        is_success,
     };
 }

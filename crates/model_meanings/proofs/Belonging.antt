@@ -17,7 +17,7 @@ use Rattle.sip_header.specs.declared.error.HeaderError.{HeaderError}
 use Rattle.sip_header.specs.Via.{via_of}
 use Rattle.sip_header.specs.Parameters.{branch_of}
 use Rattle.sip_header.specs.CoreFields.{cseq_in}
-use Rattle.sip_route.specs.Own.{is_own_via}
+use Rattle.sip_route.specs.Own.{is_own_via, own_branch}
 use Rattle.sip_edit.specs.declared.branch_id.BranchId.{BranchId}
 use Rattle.sip_edit.specs.BranchId.{branch_id_of}
 use Rattle.sip_edit.specs.OwnVia.{branch_text}
@@ -28,7 +28,7 @@ use Rattle.sip_model.specs.state.declared.proxy_state.ProxyState.{ProxyState}
 use Rattle.sip_model.specs.context_model.Branches.{is_same_branch}
 use Rattle.sip_model.specs.context_model.FoundBranch.{is_branch, branch_in, found_branch}
 use Rattle.sip_model.specs.context_model.BranchById.{is_of_datagram, is_sent, sent_in, branch_by_id, HasNumbers}
-use Rattle.sip_model.specs.verdict_model.Verdict.{own_branch, top_branch, responding}
+use Rattle.sip_model.specs.verdict_model.Verdict.{top_branch, responding}
 use Rattle.sip_model.specs.Order.{AreNumbered}
 use Rattle.model_meanings.specs.Responses.{IsMethodOf, SaysBranch, IsOfBranch, IsGivenTo}
 
@@ -163,7 +163,7 @@ named_once_found server text method (q ∷ qs) r b e = by_branch (branch_in serv
 -- ---- a response that is taken
 
 -- the Via on top, where a branch of this server's is read
-own_by : (server : Server) (via : Via) (text : List ℕ) → own_branch server via ≡ Some text → (is_own_via server.config.own via ≡ true) × (branch_of via.parameters ≡ Some text)
+own_by : (server : Server) (via : Via) (text : List ℕ) → own_branch server.config.own via ≡ Some text → (is_own_via server.config.own via ≡ true) × (branch_of via.parameters ≡ Some text)
 own_by server via text e = by_test (is_own_via server.config.own via) e where
   by_test : (t : Bool) → cond t (branch_of via.parameters) None ≡ Some text → (t ≡ true) × (branch_of via.parameters ≡ Some text)
   by_test true e = (refl, e)
@@ -178,7 +178,7 @@ pub taken : (server : Server) (requests : List OpenRequest) (fields : List Field
 taken server requests fields r b e =
     let text = stepped (λ text. option_and_then (λ cseq. found_branch server text cseq.method requests) (result_ok (cseq_in fields))) (top_branch server fields) (r, b) e in
     let cseq = stepped (λ (cseq : CSeq). found_branch server text.from cseq.method requests) (result_ok (cseq_in fields)) (r, b) text.gives in
-    let via = stepped (own_branch server) (option_and_then via_of (first_value Name.Via fields)) text.from text.is_from in
+    let via = stepped (own_branch server.config.own) (option_and_then via_of (first_value Name.Via fields)) text.from text.is_from in
     let value = stepped via_of (first_value Name.Via fields) via.from via.is_from in
     let own = own_by server via.from text.from via.gives in
     let named = named_once_found server text.from cseq.from.method requests r b cseq.gives in
@@ -205,8 +205,8 @@ search_is : (server : Server) (requests : List OpenRequest) (fields : List Field
     → responding server requests fields ≡ found_branch server (branch_text server.word r.number b.number) says.cseq.method requests
 search_is server requests fields r b says =
     let top : top_branch server fields ≡ Some (branch_text server.word r.number b.number) =
-    ap (λ (o : Option (List ℕ)). option_and_then (own_branch server) (option_and_then via_of o)) says.is_top
-    ∙ ap (λ (o : Option Via). option_and_then (own_branch server) o) says.reads
+    ap (λ (o : Option (List ℕ)). option_and_then (own_branch server.config.own) (option_and_then via_of o)) says.is_top
+    ∙ ap (λ (o : Option Via). option_and_then (own_branch server.config.own) o) says.reads
     ∙ ap (λ (t : Bool). cond t (branch_of says.via.parameters) None) says.is_own ∙ says.has_text in
     ap (λ (o : Option (List ℕ)). option_and_then (λ text. option_and_then (λ cseq. found_branch server text cseq.method requests) (result_ok (cseq_in fields))) o) top
     ∙ ap (λ (o : Result CSeq HeaderError). option_and_then (λ (cseq : CSeq). found_branch server (branch_text server.word r.number b.number) cseq.method requests) (result_ok o))

@@ -22,6 +22,5 @@ pub mod context_model {
 pub mod state {
     pub use model_verdict::state::{
         AnswerText, Branch, Heard, LastAnswer, OpenRequest, Phase, Server, Side, Upward,
-        received_value,
     };
 }

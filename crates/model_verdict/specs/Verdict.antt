@@ -20,8 +20,7 @@ use Rattle.sip_header.specs.declared.via.Via.{Via}
 use Rattle.sip_transaction_table.specs.Key.{key_of}
 use Rattle.sip_message_fields.specs.Values.{values_of, first_value}
 use Rattle.sip_header.specs.Via.{via_of}
-use Rattle.sip_header.specs.Parameters.{branch_of}
-use Rattle.sip_route.specs.Own.{is_own_via}
+use Rattle.sip_route.specs.Own.{own_branch}
 use Rattle.sip_header.specs.CoreFields.{core_of, cseq_in}
 use Rattle.sip_route.specs.Way.{way_of, request_uri_of, next_uri}
 use Rattle.sip_digest.specs.declared.nonces.Nonce.{Nonce}
@@ -39,7 +38,7 @@ use Rattle.sip_location.specs.declared.error.LocationError.TheVariants.{NoMemory
 use Rattle.sip_location.specs.Binding.{contacts_of}
 use Rattle.sip_location.specs.Registration.{registered}
 use Rattle.sip_targets.specs.declared.targets.Targets.{Targets}
-use Rattle.sip_targets.specs.Targets.{targets_of}
+use Rattle.sip_targets.specs.Targets.{targets_for}
 use Rattle.sip_validate.specs.Refusal.{refusal_of, is_bad_request}
 use Rattle.sip_dialog.specs.declared.dialog.DialogId.{DialogId}
 use Rattle.sip_dialog.specs.DialogId.{id_of}
@@ -92,13 +91,9 @@ abbrev pub response_verdict : List Field → ℕ → Option (OpenRequest × Bran
 response_verdict fields status None = Drop
 response_verdict fields status (Some x) = if x.1.is_cancel || is_many (values_of Name.Via fields) then Respond x.0 x.1 status else Drop
 
--- the branch of a Via, if the Via is this server's
-abbrev pub own_branch : Server → Via → Option (List ℕ)
-own_branch server via = if is_own_via server.config.own via then branch_of via.parameters else None
-
 -- the branch of this server's Via on top of a response (RFC 3261 16.7 step 1, 18.1.2)
 abbrev pub top_branch : Server → List Field → Option (List ℕ)
-top_branch server fields = option_and_then (own_branch server) (option_and_then via_of (first_value Name.Via fields))
+top_branch server fields = option_and_then (own_branch server.config.own) (option_and_then via_of (first_value Name.Via fields))
 
 -- the branch that a response is to: the one of its top Via, which is this server's, and of the method in its only CSeq (RFC 3261
 -- 16.7 step 1, 17.1.3, 20.16)
@@ -213,12 +208,10 @@ registration_by server rows now m core =
 
 -- ---- targets
 
--- the targets that a decision gives a request to a Request-URI, over some bindings (RFC 3261 16.5); without one, which no checked
--- request is, it names nobody
+-- the targets that a decision gives a request to a Request-URI, over some bindings (RFC 3261 16.5)
 abbrev pub targets_by : Server → List Binding → ℕ → Aor → Decision → Option Uri → Targets
-targets_by server rows now target decision None = Targets.NotFound
-targets_by server rows now target decision (Some uri) =
-    targets_of decision (is_users_address server.config.users server.config.own.domains target) uri (contacts_of rows now target)
+targets_by server rows now target decision uri =
+    targets_for decision (is_users_address server.config.users server.config.own.domains target) uri (contacts_of rows now target)
     server.config.hops server.config.addresses
 
 -- the targets of a request outside a dialog

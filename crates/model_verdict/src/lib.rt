@@ -21,6 +21,5 @@ pub mod context_model {
 pub mod state {
     pub use model_context::state::{
         AnswerText, Branch, Heard, LastAnswer, Names, OpenRequest, Phase, Server, Side, Upward,
-        received_value,
     };
 }

@@ -1,24 +1,11 @@
 ghost use Rattle.std.specs.Prelude.{◌≡◌, true, IfOk};
-ghost use Rattle.std.specs.Result.{result_ok};
-ghost use Rattle.sip_uri.specs.Reading.{reading_of};
 ghost use Rattle.sip_uri_equality.specs.Equality.{same};
 ghost use Rattle.sip_auth.specs.Proof.{is_equal_uri};
 
-use sip_uri::{Uri, UriError, parse_uri, plain_uri_at};
+use sip_uri::{Uri, plain_uri_at, uri_in};
 use sip_uri_equality::laws::equality_is_reflexive;
 use sip_uri_equality::same;
 use std::alloc::{AllocError, Global};
-
-/// The SIP URI that bytes write, if they write one.
-fn uri_in(alloc: Global, text: &[u8]) -> Result<Option<Uri>, AllocError>
-    ensures { IfOk result (λ uri. uri ≡ result_ok (reading_of text.now)) }
-{
-    match parse_uri(alloc, text) {
-        Ok(uri) => Ok(Some(uri)),
-        Err(UriError::NoMemory) => Err(AllocError),
-        Err(_) => Ok(None),
-    }
-}
 
 /// Whether a URI is equal to itself, as one without parameters is.
 fn equals_itself(uri: &Uri) -> bool

@@ -14,8 +14,8 @@ use sip_policy::{Rules, Ruling};
 use std::alloc::{AllocError, Global};
 use std::marker::Model;
 
-/// A configured server with its rules and its tables of addresses, by which it judges requests. Seen as the server:
-/// the rules and tables are those that it was configured with.
+/// A configured server with its rules and its tables of addresses, by which it judges requests, and with its Vias, by which it
+/// knows responses. Seen as the server: rules, tables and Vias are those that it was configured with.
 pub struct Judge<R: Rules> {
     server: Server,
     rules: R,

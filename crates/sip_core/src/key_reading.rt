@@ -8,7 +8,7 @@ ghost use Rattle.sip_transaction_table.specs.Key as Keys;
 
 use sip_header::{Via, via_of};
 use sip_message_fields::FieldName;
-use sip_message_form::{View, ViewStart};
+use sip_message_form::View;
 use sip_transaction_table::Key;
 use std::alloc::{AllocError, Global};
 
@@ -38,27 +38,5 @@ pub(crate) fn keyed_via<'v>(
     match Key::of_request(alloc, method, &via)? {
         Some(key) => Ok(Some((via, key))),
         None => Ok(None),
-    }
-}
-
-/// The key of a request of a method, by the Via on top of it.
-fn key_by(alloc: Global, message: &View<'_>, method: &[u8]) -> Result<Option<Key>, AllocError>
-    ensures { IfOk result (λ key. key ≡ option_and_then (λ value. option_and_then (Keys.via_key method.now) (via_of value))
-        (first_value Name.Via message.now.fields)) }
-{
-    match keyed_via(alloc, message, method)? {
-        Some((_, key)) => Ok(Some(key)),
-        None => Ok(None),
-    }
-}
-
-/// The key of a message: branch, sent-by and method of a request whose top Via is readable and has a branch with the magic
-/// cookie (RFC 3261 8.1.1.7, 17.2.3); no other message has one. `AllocError` is the only refusal.
-pub(crate) fn key_of(alloc: Global, message: &View<'_>) -> Result<Option<Key>, AllocError>
-    ensures { IfOk result (λ key. key ≡ Keys.key_of message.now) }
-{
-    match message.start() {
-        ViewStart::Request { method, .. } => key_by(alloc, message, method),
-        ViewStart::Status { .. } => Ok(None),
     }
 }

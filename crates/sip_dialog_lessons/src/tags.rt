@@ -9,7 +9,7 @@ use sip_text::split_token;
 use sip_uri::plain_uri_at;
 use std::alloc::{AllocError, Global};
 
-/// Longer values are read as any is, so that none is read twice.
+/// Values of more bytes are read as any is, so that none is read twice.
 const USUAL_LENGTH: usize = 256;
 
 /// What follows a `;tag=` at the front of a text, if one stands there so.

@@ -21,9 +21,9 @@ use sip_uas::forwarding::Arrival;
 use sip_uri::Addr;
 use std::alloc::{AllocError, Global};
 
-/// An ACK of a dialog, with this Via on top, goes on to the address that the dialog holds, without a transaction, and renews the dialog (RFC 3261
-/// 12.2, 13.2.2.4, 16.11). No request is opened, and nothing is recorded. `AllocError` is the only refusal; nothing is
-/// changed then.
+/// An ACK of a dialog, with this Via on top, goes on to the address that the dialog holds, without a transaction, and renews the
+/// dialog (RFC 3261 12.2, 13.2.2.4, 16.11). No request is opened, and nothing is recorded. `AllocError` is the only refusal;
+/// nothing is changed then.
 pub fn send_ack<T: Timers>(
     alloc: Global,
     server: &Server,

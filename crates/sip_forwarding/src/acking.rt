@@ -82,8 +82,8 @@ fn onward_text(
     received_on(alloc, server, arrival, request, via, uri.as_slice())
 }
 
-/// The packet of an ACK with this Via on top that goes on, to the address that its dialog holds, without a transaction (RFC 3261 16.11, 17).
-/// `AllocError` is the only refusal.
+/// The packet of an ACK with this Via on top that goes on, to the address that its dialog holds, without a transaction (RFC 3261
+/// 16.11, 17). `AllocError` is the only refusal.
 pub(crate) fn ack_packet(
     alloc: Global,
     server: &Server,

@@ -42,9 +42,9 @@ pub struct ForwardedAck {
     pub lessons: Lessons,
 }
 
-/// An ACK of a dialog, with this Via on top, goes on to the address that the dialog holds, without a transaction, and renews the dialog (RFC 3261
-/// 12.2, 16.11, 17): exactly its packet, and what that tells the dialogs, of which none begins. `AllocError` is the only
-/// refusal.
+/// An ACK of a dialog, with this Via on top, goes on to the address that the dialog holds, without a transaction, and renews the
+/// dialog (RFC 3261 12.2, 16.11, 17): exactly its packet, and what that tells the dialogs, of which none begins. `AllocError` is
+/// the only refusal.
 pub fn forward_ack(
     alloc: Global,
     server: &Server,

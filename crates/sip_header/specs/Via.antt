@@ -53,7 +53,8 @@ pub record IsSenderAt (text : List ℕ) (sender : Sender) (rest : List ℕ) : Ty
   pub plain : list_all is_sender_byte front ≡ true
   pub is_sender : sender_behind (trimmed front) ≡ Some sender
 
--- A text ends where the branch of a Via begins: a token behind it is the only parameter of a Via of this transport and sent-by.
+-- A text ends where the branch of a Via begins: a token behind it is that branch, the only parameter of a Via of this transport and
+-- sent-by.
 pub record IsBeforeBranch (front : List ℕ) (via : Via) : Type 0 where
   pub says : (branch : List ℕ) → is_token_text branch ≡ true → via_of (front ++ branch)
       ≡ Some (record { transport = via.transport; host = via.host; port = via.port; parameters = record { name = codes "branch"; value = Some branch } ∷ [] })

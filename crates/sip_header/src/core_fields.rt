@@ -72,7 +72,7 @@ fn call_id_in<'v>(found: &Found<'v>) -> Result<Text<'v>, HeaderError>
     Ok(Text::new(value))
 }
 
-/// What the one CSeq says. It stands apart, so that its digits are read without what else is read beside them.
+/// What the one CSeq says. It stands apart: read among the other fields, each of its digits takes two instructions more.
 #[inline(never)]
 fn cseq_in<'v>(found: &Found<'v>) -> Result<CSeq<'v>, HeaderError>
     ensures { Gives (λ cseq. cseq) result (cseq_found found.now) }

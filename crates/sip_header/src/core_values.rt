@@ -62,6 +62,7 @@ pub(crate) fn core_values<'v>(fields: &'v [ViewField<'_>]) -> CoreValues<'v>
         call_id: Found::Nowhere,
         cseq: Found::Nowhere,
     };
+    // Made once, and not for each field.
     let (from, to) = (FieldName::From, FieldName::To);
     let (call_id, cseq) = (FieldName::CallId, FieldName::CSeq);
     for field in fields {

@@ -178,8 +178,8 @@ pub fn via_of(_alloc: Global, value: &[u8]) -> Result<Option<Via<'_>>, AllocErro
     }
 }
 
-/// The Via, without its branch, that a text begins up to its branch, if it is written plainly: a token that follows the text is
-/// that branch. So Vias of which one place writes many needn't be read each. None says nothing. Takes no memory.
+/// The Via that a text begins, up to and with `;branch=`, if it is written plainly. It is seen without its branch: a token behind
+/// the text is that. So Vias of which one place writes many needn't be read each. None says nothing. Takes no memory.
 pub fn via_before_branch(front: &[u8]) -> Option<Via<'_>>
     ensures { IfSome result (λ via. IsBeforeBranch front.now via) }
 {

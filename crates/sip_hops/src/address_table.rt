@@ -84,6 +84,7 @@ impl AddressTable {
     {
         let rows = self.rows.as_slice();
         if rows.is_empty() {
+            // Most servers have no row, and no code is made then.
             return None;
         }
         let mut place = self.firsts.get(&code_of(host, port)).copied();

@@ -35,7 +35,7 @@ use std::alloc::{AllocError, Global};
 pub(crate) struct Filling<'a> {
     pub fields: ViewFields<'a>,
     pub length: Option<u64>,
-    /// The lines of the fields, once it was seen that they stand so in the head, one behind the other.
+    /// The lines of the fields, once it was seen that they stand in the head as they are written, one behind the other.
     pub lines: Option<&'a [u8]>,
 }
 
@@ -117,7 +117,7 @@ impl<'a> Filling<'a> {
         Ok(())
     }
 
-    /// Takes a field of one item whose line stands so in the datagram.
+    /// Takes a field of one item, whose line stands in the datagram as it is written.
     #[inline(always)]
     fn take_field(
         &mut self,
@@ -272,7 +272,7 @@ impl<'a> Filling<'a> {
         Ok(next.after)
     }
 
-    /// Takes a line with a name and its folds, and gives what follows them.
+    /// Takes a line with a name and its folds, and gives what follows them, and whether the line stands as its field is written.
     #[inline(always)]
     fn take_named(&mut self, alloc: Global, next: NamedLine<'a>) -> Result<Taken<'a>, LineFault>
         requires named { IsNamed next.line.now next.name.now next.value.now }

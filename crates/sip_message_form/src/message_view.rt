@@ -10,8 +10,8 @@ use sip_text::Bytes;
 use std::alloc::{AllocError, Global};
 use std::marker::Model;
 
-/// A message as parts of a datagram or of another message, seen as that message. Where the lines of its fields stand so in
-/// what was read, one behind the other, it has these, too: they are counted and copied as a whole.
+/// A message as parts of a datagram or of another message, seen as that message. Where the lines of its fields stand in what was
+/// read as they are written, one behind the other, it has these, too: they are counted and copied as a whole.
 pub struct View<'a> {
     start: ViewStart<'a>,
     fields: ViewFields<'a>,
@@ -68,7 +68,7 @@ impl<'a> View<'a> {
         }
     }
 
-    /// The message of a first line, fields, of which these are the lines where they stand so in what was read, one behind the
+    /// The message of a first line, fields, their lines, where these stand in what was read as they are written, one behind the
     /// other, and a body.
     pub fn of_lines(
         start: ViewStart<'a>,
@@ -101,7 +101,7 @@ impl<'a> View<'a> {
         &self.fields
     }
 
-    /// The lines of its fields, where they stand so in what was read, one behind the other.
+    /// The lines of its fields, where they stand in what was read as they are written, one behind the other.
     #[inline]
     pub(crate) fn lines(&self) -> Option<&[u8]>
         ensures { AreLinesOf result self.now.fields }

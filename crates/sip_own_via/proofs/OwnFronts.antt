@@ -9,10 +9,10 @@ use Rattle.std.proofs.lemmas.List.Folds.{list_all-append}
 use Rattle.sip_text.specs.Words.{is_token_byte, is_token_text}
 use Rattle.sip_header.specs.Via.{IsBeforeBranch}
 use Rattle.sip_header.specs.declared.via.Via.{Via}
-use Rattle.sip_route.specs.Own.{is_own_via}
+use Rattle.sip_route.specs.Own.{is_own_via, own_branch}
 use Rattle.sip_route.specs.declared.own.Own.{Own}
 use Rattle.sip_own_via.specs.declared.own_front.OwnFront.{OwnFront}
-use Rattle.sip_own_via.specs.OwnFront.{branch_by, own_branch, IsOwnPlace, IsOwnFront, EndsIn}
+use Rattle.sip_own_via.specs.OwnFront.{branch_said, IsOwnPlace, IsOwnFront, EndsIn}
 
 -- ---- up to the branch
 
@@ -20,12 +20,12 @@ use Rattle.sip_own_via.specs.OwnFront.{branch_by, own_branch, IsOwnPlace, IsOwnF
 abbrev branched : Via → List ℕ → Via
 branched via branch = record { transport = via.transport; host = via.host; port = via.port; parameters = record { name = codes "branch"; value = Some branch } ∷ [] }
 
-own_by : (own : Own) (via : Via) (branch : List ℕ) → is_own_via own via ≡ true → branch_by own (branched via branch) ≡ Some branch
+own_by : (own : Own) (via : Via) (branch : List ℕ) → is_own_via own via ≡ true → own_branch own (branched via branch) ≡ Some branch
 own_by own via branch is = rw is refl
 
 pub place_is : (own : Own) (via : Via) (text : List ℕ) → IsBeforeBranch text via → is_own_via own via ≡ true → IsOwnPlace own text
 place_is own via text before is =
-    record { says = λ branch token. ap (λ (o : Option Via). option_and_then (λ v. branch_by own v) o) (before.says branch token) ∙ own_by own via branch is }
+    record { says = λ branch token. ap (λ (o : Option Via). option_and_then (own_branch own) o) (before.says branch token) ∙ own_by own via branch is }
 
 -- ---- a token of two parts
 
@@ -45,7 +45,7 @@ pub front_is : (own : Own) (place begun text : List ℕ) (at : ℕ) → IsOwnPla
 front_is own place begun text at of_place token whole before =
     rw (whole, before) (record {
       says = λ rest is.
-          ap (own_branch own) (append_assoc place begun rest)
+          ap (branch_said own) (append_assoc place begun rest)
           ∙ of_place.says (begun ++ rest) (token_join begun rest token is)
           ∙ ap (λ (w : List ℕ). Some w) (sym (ap (drop (length place)) (append_assoc place begun rest) ∙ drop-append_seam place (begun ++ rest)));
     })
@@ -53,9 +53,9 @@ front_is own place begun text at of_place token whole before =
 pub ends_in : (front : OwnFront) (value rest branch : List ℕ) → value ≡ front.text ++ rest → is_token_text rest ≡ true → branch ≡ drop front.before_branch value → EndsIn front value branch
 ends_in front value rest branch whole token is = record { rest = rest; whole = whole; token = token; is_branch = is }
 
-pub branch_is : (own : Own) (front : OwnFront) (value branch : List ℕ) → IsOwnFront own front → EndsIn front value branch → Some branch ≡ own_branch own value
+pub branch_is : (own : Own) (front : OwnFront) (value branch : List ℕ) → IsOwnFront own front → EndsIn front value branch → Some branch ≡ branch_said own value
 branch_is own front value branch of ends =
-    ap (λ (w : List ℕ). Some w) (ends.is_branch ∙ ap (drop front.before_branch) ends.whole) ∙ sym (of.says ends.rest ends.token) ∙ sym (ap (own_branch own) ends.whole)
+    ap (λ (w : List ℕ). Some w) (ends.is_branch ∙ ap (drop front.before_branch) ends.whole) ∙ sym (of.says ends.rest ends.token) ∙ sym (ap (branch_said own) ends.whole)
 
 pub behind_is : (text value rest : List ℕ) → take (length text) value ≡ text → rest ≡ drop (length text) value → value ≡ text ++ rest
 behind_is text value rest begun is_rest =

@@ -1,5 +1,6 @@
 ghost use Rattle.std.specs.Prelude.{◌≡◌, IfOk, IfSome, option_map};
-ghost use Rattle.sip_own_via.specs.OwnFront.{IsOwnFront, branch_by, own_branch};
+ghost use Rattle.sip_own_via.specs.OwnFront.{IsOwnFront, branch_said};
+ghost use Rattle.sip_route.specs.Own.{own_branch};
 
 use crate::own_front::OwnFront;
 use sip_header::{Via, branch_of, via_of};
@@ -8,7 +9,7 @@ use std::alloc::{AllocError, Global};
 
 /// The branch of a Via, if the Via is this server's.
 fn own_branch<'v>(own: &Own, via: &Via<'v>) -> Option<&'v [u8]>
-    ensures { option_map (λ branch. branch.now) result ≡ branch_by own.now via.now }
+    ensures { option_map (λ branch. branch.now) result ≡ own_branch own.now via.now }
 {
     if own.is_own_via(via) {
         return branch_of(&via.parameters);
@@ -22,7 +23,7 @@ fn read_branch<'v>(
     own: &Own,
     value: &'v [u8],
 ) -> Result<Option<&'v [u8]>, AllocError>
-    ensures { IfOk result (λ branch. option_map (λ text. text.now) branch ≡ own_branch own.now value.now) }
+    ensures { IfOk result (λ branch. option_map (λ text. text.now) branch ≡ branch_said own.now value.now) }
 {
     match via_of(alloc, value)? {
         Some(via) => Ok(own_branch(own, &via)),
@@ -39,7 +40,7 @@ fn branch_by_front<'v>(
     value: &'v [u8],
 ) -> Result<Option<&'v [u8]>, AllocError>
     requires { IsOwnFront own.now front.now }
-    ensures { IfOk result (λ branch. option_map (λ text. text.now) branch ≡ own_branch own.now value.now) }
+    ensures { IfOk result (λ branch. option_map (λ text. text.now) branch ≡ branch_said own.now value.now) }
 {
     match front.branch_in(value) {
         Some(branch) => Ok(Some(branch)),
@@ -55,7 +56,7 @@ pub(crate) fn branch_in<'v>(
     value: &'v [u8],
 ) -> Result<Option<&'v [u8]>, AllocError>
     requires { IfSome front (λ f. IsOwnFront own.now f.now) }
-    ensures { IfOk result (λ branch. option_map (λ text. text.now) branch ≡ own_branch own.now value.now) }
+    ensures { IfOk result (λ branch. option_map (λ text. text.now) branch ≡ branch_said own.now value.now) }
 {
     match front {
         Some(front) => branch_by_front(alloc, own, front, value),

@@ -1,10 +1,9 @@
-ghost use Rattle.std.specs.Prelude.{◌≡◌, IfOk, option_map, None, if◌then◌else◌};
+ghost use Rattle.std.specs.Prelude.{◌≡◌, IfOk, option_map};
 ghost use Rattle.std.specs.Option.{option_and_then};
 ghost use Rattle.sip_message_fields.specs.declared.field_name.FieldName.TheVariants as Name;
 ghost use Rattle.sip_message_fields.specs.Values.{first_value};
-ghost use Rattle.sip_header.specs.Parameters as Parameters;
 ghost use Rattle.sip_header.specs.Via.{via_of};
-ghost use Rattle.sip_route.specs.Own.{is_own_via};
+ghost use Rattle.sip_route.specs.Own.{own_branch};
 
 use crate::branch::branch_in;
 use crate::own_front::OwnFront;
@@ -34,24 +33,12 @@ impl Model for OwnVias {
     ghost invariant = { λ v. IfSome v.front (IsOwnFront v.own) };
 }
 
-/// The same place of a server.
-fn copied(own: &Own) -> Result<Own, AllocError>
-    ensures { IfOk result (λ copy. copy ≡ own.now) }
-{
-    Ok(Own {
-        host: own.host.clone()?,
-        port: own.port,
-        domains: own.domains.clone()?,
-        ip: own.ip,
-    })
-}
-
 impl OwnVias {
     /// Those of a server's run with this word. `AllocError` is the only refusal.
     pub fn of(alloc: Global, own: &Own, word: u64) -> Result<Self, AllocError>
         ensures { IfOk result (λ vias. vias ≡ own.now) }
     {
-        let own = copied(own)?;
+        let own = own.clone()?;
         let front = OwnFront::of(alloc, &own, word)?;
         Ok(OwnVias { own, front })
     }
@@ -63,8 +50,7 @@ impl OwnVias {
         response: &'v View<'_>,
     ) -> Result<Option<&'v [u8]>, AllocError>
         ensures { IfOk result (λ branch. option_map (λ branch. branch.now) branch
-            ≡ option_and_then (λ via. if is_own_via self.now via then Parameters.branch_of via.parameters else None)
-            (option_and_then via_of (first_value Name.Via response.now.fields))) }
+            ≡ option_and_then (own_branch self.now) (option_and_then via_of (first_value Name.Via response.now.fields))) }
     {
         match response.fields().first(&FieldName::Via) {
             Some(value) => branch_in(alloc, &self.own, self.front.as_ref(), value),

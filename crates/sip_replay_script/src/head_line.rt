@@ -1,13 +1,11 @@
 ghost use Rattle.std.specs.Prelude.{◌≡◌, ◌≤◌, ◌<◌, ◌+◌, ◌++◌, ◌∷◌, [], decimal, length};
-ghost use Rattle.sip_replay_script.specs.Print;
 ghost use Rattle.sip_uri.specs.Addresses.{addr_text};
 
-use crate::{front, packet_head};
-use sip_event::Packet;
+use crate::front;
 use sip_uri::Addr;
 use std::marker::Model;
 
-/// The room for a head line: nine numbers, each as if it had 20 digits, and what stands between them.
+/// The room for a head line, in bytes: nine numbers, each as if it had 20 digits, and what stands between them.
 const ROOM: usize = 208;
 
 /// A head line, made from its last byte to its first in room of its own: so it takes no memory.
@@ -75,14 +73,6 @@ impl HeadLine {
         ensures size { length self.new ≤ length self.old + 104 }
     {
         self.start = front::put_addr(&mut self.room, self.start, addr);
-    }
-
-    /// Puts the line before a packet's bytes in front.
-    pub(crate) fn put_head(&mut self, at: u64, packet: &Packet)
-        requires { length self.old + 208 ≤ 208 }
-        ensures { self.new ≡ Print.head_text at packet.now ++ self.old }
-    {
-        self.start = packet_head::put_head(&mut self.room, self.start, at, packet);
     }
 
     /// Its bytes.

@@ -27,7 +27,7 @@ pub use event_text::{empty_text, fault_text, hex_front, time_text};
 pub use gathered::Gathered;
 pub use head_line::HeadLine;
 pub use lines::Lines;
-pub use print::{PrintRoom, head_text, print_step};
+pub use print::{PrintRoom, print_step};
 pub use script::{DatagramHead, Line, line_of};
 pub use stop::Stop;
 pub use writing::{hand_on, put};

@@ -6,7 +6,6 @@ ghost use Rattle.sip_replay_script.specs.Print;
 
 use crate::device::TellingWriter;
 use crate::front::{put_byte, put_word};
-use crate::head_line::HeadLine;
 use crate::packet_head::put_head;
 use crate::stop::Stop;
 use crate::writing::{put_one, put_three};
@@ -17,7 +16,7 @@ use std::alloc::Global;
 /// A packet of at most so many bytes is written at once.
 const AT_ONCE: usize = 1024;
 
-/// How much room the text of such a packet takes: its head line, its bytes, and LF.
+/// How many bytes the text of such a packet takes at most, rounded up: its head line (208), its bytes, and LF.
 const ROOM: usize = 1280;
 
 /// The room in which the texts of packets are put together, one after another, so that it is made once.
@@ -31,16 +30,6 @@ impl PrintRoom {
     pub fn new() -> Self {
         PrintRoom { bytes: [0; ROOM] }
     }
-}
-
-/// The line before a packet's bytes: `packet AT IP:PORT D/K first LEN`, or `again`, and LF; AT is the
-/// moment of its step in milliseconds. Takes no memory.
-pub fn head_text(at: u64, packet: &Packet) -> HeadLine
-    ensures { result ≡ Print.head_text at packet.now }
-{
-    let mut text = HeadLine::new();
-    text.put_head(at, packet);
-    text
 }
 
 /// Puts a packet's text together at the end of the room: its head line, its bytes, and LF; where it begins.
@@ -64,7 +53,7 @@ fn text_from(room: &[u8; ROOM], start: usize) -> &[u8]
     &room[start..]
 }
 
-/// Prints a packet of more bytes than are written at once.
+/// Prints a packet of more bytes than are written at once. It stands apart, since few packets are so long.
 #[inline(never)]
 fn print_long<W: TellingWriter>(
     writer: &mut W,
@@ -157,7 +146,8 @@ fn print_records<W: TellingWriter>(
     Ok(())
 }
 
-/// Prints a step: its packets, in order, each put together in the room, then its records.
+/// Prints a step: its packets, in order, then its records. A packet of at most 1,024 bytes is put together in the room, and
+/// written at once.
 #[tactic(auto, using(crate::proofs::Written::appends_both))]
 pub fn print_step<W: TellingWriter>(
     alloc: Global,

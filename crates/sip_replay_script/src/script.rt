@@ -179,8 +179,8 @@ fn line_of_kind(alloc: Global, kind: &[u8], rest: &[u8]) -> Result<Option<Line>,
     Ok(None)
 }
 
-/// The number that at most so many decimal digits without leading zeros write from a place on, in front of a byte that is none,
-/// and the place behind that. None says nothing.
+/// The number that at most so many decimal digits without leading zeros write from a place on, in front of a mark, and the place
+/// behind that. None says nothing.
 #[inline(always)]
 #[tactic(auto, using(crate::proofs::HeadAtOnce::no_digits, crate::proofs::HeadAtOnce::one_more, crate::proofs::HeadAtOnce::fits, crate::proofs::HeadAtOnce::number_is, crate::proofs::HeadAtOnce::number_before))]
 fn number_before(text: &[u8], from: usize, most: usize, mark: u8) -> Option<(u64, usize)>
@@ -245,8 +245,8 @@ fn word_before_end(text: &[u8], from: usize) -> Option<(u128, usize)>
     Some((word, from + 32))
 }
 
-/// The head that a line `datagram AT IP:PORT WORD` at the front of a text says, and how many bytes that line has, which LF ends. It is read
-/// from one end to the other, its end found on the way: most lines are one. None says nothing.
+/// The head that a line `datagram AT IP:PORT WORD` at the front of a text says, and how many bytes that line has, which LF ends.
+/// It is read from one end to the other, its end found on the way: most lines are one. None says nothing.
 #[inline(never)]
 pub(crate) fn head_at_once(text: &[u8]) -> Option<(DatagramHead, usize)>
     ensures { IfSome result (λ found. SaysAtOnce text.now (Head found.0) found.1) }

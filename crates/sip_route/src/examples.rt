@@ -24,7 +24,8 @@ pub fn record_route_example()
     ensures no_port { is_record_route own (record (record_route_uri own) { port = None }) ≡ false }
 {}
 
-/// A first Route that names this server is taken off, and a second one isn't; one behind another place stays, and so does one of another scheme.
+/// A first Route that names this server is taken off, and a second one isn't; one behind another place stays, and so does one of
+/// another scheme.
 #[tactic(auto, unfolding(sip_uri::specs::Reading::reading_of, sip_uri::specs::Reading::rest_of))]
 pub fn way_example()
     ensures first { way_of own (invite_by (codes "sip:a@far.net") (codes "<sips:x@host.com>" ∷ codes "<sip:sip.host.com:5060>" ∷ []))

@@ -12,7 +12,7 @@ use std::alloc::{AllocError, Global};
 
 /// Where this server is: what it calls itself in Via and Record-Route, the domains that it serves, and the address
 /// at which it serves them.
-#[derive(Drop)]
+#[derive(Clone, Drop)]
 pub struct Own {
     /// A host name.
     pub host: Bytes,

@@ -14,7 +14,7 @@ use sip_header::{AnyUri, NameAddr, route_of};
 use sip_message_fields::{FieldName, Value};
 use sip_message_form::{View, ViewStart};
 use sip_text::{Items, Text, same_no_case, split_once};
-use sip_uri::{Uri, UriError, parse_uri};
+use sip_uri::{Uri, UriError, parse_uri, uri_in};
 use sip_uri_equality::{same, says_same_no_case};
 use std::alloc::{AllocError, Global};
 
@@ -51,11 +51,7 @@ impl<'a> Way<'a> {
     pub fn request_uri(&self, alloc: Global) -> Result<Option<Uri>, AllocError>
         ensures { IfOk result (λ uri. uri ≡ request_uri_in self.now) }
     {
-        match parse_uri(alloc, self.uri.as_slice()) {
-            Ok(uri) => Ok(Some(uri)),
-            Err(UriError::NoMemory) => Err(AllocError),
-            Err(_) => Ok(None),
-        }
+        uri_in(alloc, self.uri.as_slice())
     }
 
     /// Where the request is to go next: what its first Route names, else its Request-URI (RFC 3261 16.6 step 6). None

@@ -38,5 +38,4 @@ pub use proxy_state::ProxyState;
 pub use resend::{Resend, first_resend};
 pub use server::Server;
 pub use status::{is_decline, is_failure, is_invite, is_provisional, is_success};
-pub use top_via::received_value;
 pub use written::Written;

@@ -45,7 +45,11 @@ fn received_text(alloc: Global, value: &[u8], from: Addr) -> Result<Bytes, Alloc
 /// The value that the top Via of a request gets, which came from an address (RFC 3261 18.2.1); empty where there is no
 /// Via. `AllocError` is the only refusal.
 #[tactic(auto, using(crate::proofs::Received::none_edited, crate::proofs::Received::edited))]
-pub fn received_value(alloc: Global, request: &View<'_>, from: Addr) -> Result<Bytes, AllocError>
+pub(crate) fn received_value(
+    alloc: Global,
+    request: &View<'_>,
+    from: Addr,
+) -> Result<Bytes, AllocError>
     ensures { IfOk result (λ value. with_first Name.Via value request.now.fields ≡ received_fields from request.now.fields) }
 {
     let Some(value) = request.fields().first(&FieldName::Via) else {

@@ -10,7 +10,7 @@ use crate::plain_uri::plain_place_of;
 use crate::read_uri::ReadUri;
 use sip_hops::Hops;
 use sip_text::{Bytes, Text};
-use sip_uri::{Addr, Aor, Uri, UriError, aor_of, parse_uri, plain_aor};
+use sip_uri::{Addr, Aor, Uri, aor_of, plain_aor, uri_in};
 use std::alloc::{AllocError, Global};
 use std::marker::Model;
 
@@ -32,17 +32,6 @@ impl<'a> Model for RequestUri<'a> {
     ghost invariant = { λ r. IsRead r.read };
 }
 
-/// The SIP or SIPS URI that a text writes, if it writes one.
-fn uri_in(alloc: Global, text: &[u8]) -> Result<Option<Uri>, AllocError>
-    ensures { IfOk result (λ uri. uri ≡ result_ok (reading_of text.now)) }
-{
-    match parse_uri(alloc, text) {
-        Ok(uri) => Ok(Some(uri)),
-        Err(UriError::NoMemory) => Err(AllocError),
-        Err(_) => Ok(None),
-    }
-}
-
 /// What is read of a text of any form. It stands apart, so that no room is made for a URI where none is read.
 #[inline(never)]
 fn read_any<'v>(alloc: Global, text: &[u8]) -> Result<ReadUri<'v>, AllocError>
@@ -54,7 +43,8 @@ fn read_any<'v>(alloc: Global, text: &[u8]) -> Result<ReadUri<'v>, AllocError>
     }
 }
 
-/// The address of record of the URI of a text, or what names nobody.
+/// The address of record of the URI of a text, or what names nobody. It stands apart, so that no room is made for a URI where
+/// none is read.
 #[inline(never)]
 fn aor_in(alloc: Global, text: &[u8]) -> Result<Aor, AllocError>
     ensures { IfOk result (λ aor. aor ≡ Naming.aor_or_nobody (result_ok (reading_of text.now))) }

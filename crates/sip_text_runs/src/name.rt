@@ -19,8 +19,8 @@ fn letters_in_lanes(bytes: &[u8]) -> usize
     first_set(stops.to_bitmask())
 }
 
-/// Where a mark stands at once behind letters and dashes at the front, of the bytes that are looked at at once. None says
-/// nothing. Takes no memory.
+/// Where a mark stands right behind letters and dashes at the front, among the first 16 bytes. None says nothing. Takes no
+/// memory.
 #[inline(always)]
 #[tactic(auto, using(crate::proofs::Names::letters))]
 pub fn name_end(bytes: &[u8], mark: u8) -> Option<usize>
@@ -44,8 +44,8 @@ pub fn name_end(bytes: &[u8], mark: u8) -> Option<usize>
     Some(at)
 }
 
-/// How many bytes of a token stand at the front of a line: all of them, where no `:` follows at once.
-/// Takes no memory.
+/// How many bytes of a token stand at the front of a line: sixteen are looked at at once, which tells where a `:` stands right
+/// behind letters and dashes. Takes no memory.
 #[inline]
 #[tactic(auto, using(crate::proofs::Names::letters, crate::proofs::Names::token))]
 pub fn name_length(line: &[u8]) -> usize

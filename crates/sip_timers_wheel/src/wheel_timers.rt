@@ -131,7 +131,7 @@ fn first_slot(levels: &Levels, reached: u64) -> Option<FirstSlot>
     None
 }
 
-/// Looks up the timer that fires first and keeps it, and remembers in its slot that it is due first there.
+/// Looks up the timer that fires first, in the place where it is kept, and remembers in its slot that it is due first there.
 fn find_first(levels: &mut Levels, reached: u64, first: &mut Option<Timer>)
     requires { IsWheel reached levels.old.lists }
     ensures first { first.new ≡ first_of (pending_in levels.old.lists) }

@@ -40,7 +40,7 @@ pub use host::{begins_bracket, host_port, is_host, place_at, place_in};
 pub use parameters::Parameter;
 pub use plain::{plain_place, plain_uri_at};
 pub use port::port_value;
-pub use reading::parse_uri;
+pub use reading::{parse_uri, uri_in};
 pub use scheme::Scheme;
 pub use uri::Uri;
 pub use user::UserInfo;

@@ -1,4 +1,5 @@
 ghost use Rattle.std.specs.Prelude.{◌≡◌, IfOk, IfErr, Ok, Err};
+ghost use Rattle.std.specs.Result.{result_ok};
 ghost use Rattle.sip_uri.specs.Uri.{IsWritten};
 ghost use Rattle.sip_uri.specs.Reading.{Gives, rest_of, reading_of};
 
@@ -11,7 +12,7 @@ use crate::scheme::{Scheme, behind_sip, scheme_named};
 use crate::uri::Uri;
 use crate::user::user_before;
 use sip_text::split_once;
-use std::alloc::Global;
+use std::alloc::{AllocError, Global};
 
 /// The URI that a text behind its scheme writes. The `@` is looked for first, since a user may have `;` and `?`.
 #[tactic(auto, unfolding(crate::specs::Reading::rest_of))]
@@ -73,4 +74,15 @@ pub fn parse_uri(alloc: Global, text: &[u8]) -> Result<Uri, UriError>
     ensures only { (uri : Uri) → IsWritten text.now uri → Gives (λ uri. uri) result (Ok uri) }
 {
     read_uri(alloc, text)
+}
+
+/// The SIP or SIPS URI that bytes write, if they write one, where nobody asks why they don't. `AllocError` is the only refusal.
+pub fn uri_in(alloc: Global, text: &[u8]) -> Result<Option<Uri>, AllocError>
+    ensures { IfOk result (λ uri. uri ≡ result_ok (reading_of text.now)) }
+{
+    match parse_uri(alloc, text) {
+        Ok(uri) => Ok(Some(uri)),
+        Err(UriError::NoMemory) => Err(AllocError),
+        Err(_) => Ok(None),
+    }
 }

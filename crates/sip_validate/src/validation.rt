@@ -60,7 +60,8 @@ fn refusal(
 
 /// What refuses a request of which this was read, each once (RFC 3261 16.3, 8.2.2, 10.3): its top Via, its core fields, its
 /// way, and whether the Request-URI that is left is a SIP or SIPS URI. All of it stays where it was read. `short` says that
-/// fewer bytes of its body came than its Content-Length says. None where it may be served. `AllocError` is the only refusal of the call.
+/// fewer bytes of its body came than its Content-Length says. None where it may be served. `AllocError` is the only refusal of
+/// the call.
 #[tactic(auto, using(crate::proofs::Serving::by_table, crate::proofs::Uris::there_is_uri))]
 pub fn refusal_of(
     alloc: Global,

@@ -65,7 +65,8 @@ fn service_of<'a, T: Timers, P: Rules, R: rt::Clock + AllocGlobal, J: WatchedJou
     })
 }
 
-/// A server that records: one that goes on from where an older record leads, if that is asked and can be had, or one that starts anew.
+/// A server that records: one that goes on from where an older record leads, if that is asked and can be had, or one that starts
+/// anew.
 fn begin<T: Timers, P: Rules, R: Files + AllocGlobal, C: Write>(
     beginning: &Beginning<'_, R>,
     old: Option<&str>,
