@@ -1,7 +1,7 @@
 #!/usr/bin/env python3
-"""Tries what `sipd check --show` says of refused files: `tests/mistakes.py PROGRAM [WORD ..]`, after `rt run` in crates/sipd. Each
-mistake is one change of `examples/office.toml`; what has to be said is its line, as it stands in the changed file, its table, its
-key, and a word of what would do. The words after the program come before the file, `check --show --config` where none are given.
+"""Tries what `sipd check --show` says of refused files, and what it warns of: `tests/mistakes.py PROGRAM [WORD ..]`, after `rt run` in
+crates/sipd. Each mistake is one change of `examples/office.toml`; what has to be said is its line, as it stands in the changed file,
+its table, its key, and a word of what would do; of a file that is taken, the warning. The words after the program come before the file, `check --show --config` where none are given.
 It prints a line for each mistake that isn't told so, and ends with 1 where there is one."""
 
 import os
@@ -60,6 +60,18 @@ CHANGED = [
     ('verdict = "via gateway"', 'verdict = "via gatway"', ["line @: ", "[[rule]] number 5: ", "verdict", "[[hop]]"]),
     ('verdict = "via gateway"', 'verdict = "gateway"', ["line @: ", "[[rule]] number 5: ", "verdict", "via HOP"]),
     ("until = 1080", "until = 1440", ["[[rule]] number 5: ", "1439"]),
+    # one table, or a list by another name, for a list of tables: alone, and beside that list
+    ("[[hop]]", "[hop]", ["line @: ", "hop", "in place of [hop] write [[hop]]"]),
+    ("[[host_address]]", "[host_address]", ["line @: ", "in place of [host_address] write [[host_address]]"]),
+    ("[[host_address]]", "[[address]]", ["line @: ", "in place of [[address]] write [[host_address]]"]),
+    ("[[host_address]]", "[ address ]", ["line @: ", "in place of [address] write [[host_address]]"]),
+    ("[[user]]", "[user]", ["not TOML", "line @: ", "in place of [user] write [[user]]"]),
+    ("[[rule]]", "[rule]", ["not TOML", "line @: ", "in place of [rule] write [[rule]]"]),
+    # files that are taken, and seldom meant
+    ('host = "127.0.0.1"', 'host = "0.0.0.0"', ["warning: host is 0.0.0.0"]),
+    ("send INVITE", "send invite", ["warning: rule 5 ", "capitals"]),
+    ("send PUBLISH", "send Publish", ["warning: rule 3 ", "capitals"]),
+    ("# a1_sha256", "a1_sha256", ["warning: some users have a1_sha256"]),
 ]
 
 
@@ -71,8 +83,8 @@ def first_line(text, part):
 
 def told(folder, text):
     path = os.path.join(folder, "changed.toml")
-    with open(path, "w", encoding="utf-8") as file:
-        file.write(text)
+    with open(path, "wb") as file:
+        file.write(text if isinstance(text, bytes) else text.encode())
     done = subprocess.run([PROGRAM, *WORDS, path], stdin=subprocess.DEVNULL, capture_output=True, timeout=60)
     return done.stdout.decode() + done.stderr.decode()
 
@@ -93,9 +105,15 @@ def main():
     head = office[: office.index("# A user")]
     cases.append(("no users", head, ["missing: user", "[[user]]"]))
     one = head + '[user]\nname = "a"\na1 = "11111111111111111111111111111111"\n'
-    cases.append(("one table", one, [f"line {first_line(one, '[user]')}: ", "user", "[[user]]"]))
+    cases.append(("one table", one, [f"line {first_line(one, '[user]')}: ", "user", "[[user]]", "in place of [user]"]))
     many = office.replace('["office.local", "127.0.0.1"]', "[" + ", ".join(f'"d{n}"' for n in range(17)) + "]", 1)
     cases.append(("17 domains", many, [f"line {first_line(many, 'domains')}: ", "domains", "16"]))
+    cases.append(("UTF-16", b"\xff\xfe" + office.encode("utf-16-le"), ["line 1: ", "UTF-16", "UTF-8"]))
+    cases.append(("UTF-16, the other way round", b"\xfe\xff" + office.encode("utf-16-be"), ["line 1: ", "UTF-16", "UTF-8"]))
+    latin = office.replace("# bob", "# J\u00f6rg", 1)
+    place = latin.index("\u00f6")
+    wanted = [f"line {latin[:place].count(chr(10)) + 1}: ", "not UTF-8", f"byte {place + 1} of the file"]
+    cases.append(("Latin-1", latin.encode("latin-1"), wanted))
     wrong = 0
     with tempfile.TemporaryDirectory() as folder:
         for name, text, wanted in cases:

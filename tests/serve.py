@@ -30,6 +30,19 @@ def stopped(server):
     return rest.decode(), complaints.decode()
 
 
+def hears(it, seconds):
+    """Whether a phone hears something within so many seconds."""
+    before = it.socket.gettimeout()
+    it.socket.settimeout(seconds)
+    try:
+        it.hear()
+        return True
+    except TimeoutError:
+        return False
+    finally:
+        it.socket.settimeout(before)
+
+
 def phones(port):
     return [Phone(name, phone.md5(f"{name}:office:{password}"), ("127.0.0.1", port)) for name, password in phone.PASSWORDS.items()]
 
@@ -125,20 +138,23 @@ def bad_starts(folder):
     """A start that is refused: its status, its line, and nothing on standard output."""
     port = free_port()
     config = office(folder, port)
-    device, missing = (4, "", "sipd: device\n"), os.path.join(folder, "nowhere.toml")
+    missing = os.path.join(folder, "nowhere.toml")
     with socket.socket(socket.AF_INET, socket.SOCK_DGRAM) as taken:
         taken.bind(("127.0.0.1", port))
-        assert ended("serve", "--config", config) == device
+        assert ended("serve", "--config", config) == (4, "", "sipd: port taken\nsipd: device\n")
     foreign = os.path.join(folder, "foreign.toml")
     with open(config) as source, open(foreign, "w") as made:
         made.write(source.read().replace(f'address = "127.0.0.1:{port}"', f'address = "192.0.2.1:{port}"'))
-    assert ended("serve", "--config", foreign) == device
-    assert ended("serve", "--config", missing) == device
+    assert ended("serve", "--config", foreign) == (4, "", "sipd: no such address\nsipd: device\n")
+    assert ended("serve", "--config", missing) == (4, "", "sipd: no file\nsipd: device\n")
     broken = os.path.join(folder, "broken.toml")
     with open(broken, "w") as made:
         made.write("version = ")
     assert ended("serve", "--config", broken) == (2, "", "sipd: configuration refused 2\n")
-    for bad in (["--turns", "x"], ["--turns", "4294967296"], ["--turns=-1"], ["--turns", "1.5"], ["--turns", ""], ["--turns"], ["3"]):
+    alone = (["--resume", "a"], ["--record-fault", "end"])
+    both = (["--record", "a", "--records", "b"], ["--records", "b", "--resume", "a"], ["--record", "a", "--resume", "c", "--records", "b"])
+    counts = (["--turns", "x"], ["--turns", "4294967296"], ["--turns=-1"], ["--turns", "1.5"], ["--turns", ""], ["--turns"], ["3"])
+    for bad in (*counts, *alone, *both):
         status, printed, complaints = ended("serve", "--config", config, *bad)
         assert (status, printed) == (1, "") and complaints.startswith("error: "), (bad, status, printed, complaints)
     status, printed, complaints = ended("serve")
@@ -146,13 +162,16 @@ def bad_starts(folder):
 
 
 def closed_output(folder):
-    """Where its records can't be printed, it ends as by a fault of the device."""
+    """Where a line of the log can't be printed, it ends as by a fault of the device, and what was decided isn't sent."""
     server, port = started(PROGRAM, office(folder, free_port()))
     alice, _ = phones(port)
     server.stdout.close()
     alice.request("REGISTER", "sip:127.0.0.1", alice.address, "closed", 1, [alice.contact()])
-    assert alice.hear().status == 401
-    assert server.wait(10) == 4 and server.stderr.read() == b"sipd: device\n"
+    assert server.wait(10) == 4 and server.stderr.read() == b"sipd: output closed\nsipd: device\n"
+    assert not hears(alice, 0.2)
+    with open("/dev/full", "w") as full:
+        server = subprocess.run([PROGRAM, "serve", "--config", office(folder, free_port())], stdin=subprocess.DEVNULL, stdout=full, stderr=subprocess.PIPE, timeout=10)
+    assert (server.returncode, server.stderr) == (4, b"sipd: disk full\nsipd: device\n"), server
 
 
 def established(alice, bob):
@@ -267,6 +286,19 @@ def no_count_twice(folder):
     killed(server)
 
 
+def marked(folder, path, word):
+    """A copy of a record whose first line begins otherwise."""
+    made = os.path.join(folder, "marked" + word.decode().strip())
+    with open(path, "rb") as source, open(made, "wb") as copy:
+        copy.write(word + source.read()[len(word):])
+    return made
+
+
+def first_word(path):
+    with open(path, "rb") as record:
+        return record.read(7).decode().strip()
+
+
 def not_resumed(folder):
     """A record of another configuration, none, one that is damaged and one that isn't there: a line says so, and the server starts anew."""
     config = office(folder, free_port())
@@ -282,15 +314,21 @@ def not_resumed(folder):
         made.write(source.read() + "\n# another\n")
     with open(damaged, "w") as made:
         made.writelines([*lines[:2], "hello\n", *lines[2:]])
+    broken, left = (marked(folder, good, word) for word in (b"broken ", b"left   "))
     for number, (by, old, why) in enumerate((
         (other, good, "it was made with another configuration"),
         (config, config, "it is no record"),
         (config, damaged, "its line 3 begins no event"),
         (config, missing, "it can't be read"),
+        (config, broken, "its writing failed: it lacks events"),
+        (config, left, "another start went on from it"),
     )):
         server, _ = started(PROGRAM, by, "--record", os.path.join(folder, f"anew{number}"), "--resume", old)
         _, complaints = killed(server)
         assert complaints == f"sipd: {old} isn't resumed: {why}; bindings, dialogs, open calls and nonces are lost\n", complaints
+    _, whole, _ = replayed(config, good)
+    assert replayed(config, left) == (0, whole, "")
+    assert replayed(config, broken) == (0, whole, f"sipd: the writing of {broken} failed: it lacks what came behind\n")
     there = ended("serve", "--config", config, "--record", good)
     assert there == (4, "", "sipd: the record can't be made: its file is there already, or its folder isn't\n"), there
     assert replayed(other, good) == (3, "", "sipd: the record was made with another configuration\n")
@@ -298,23 +336,157 @@ def not_resumed(folder):
 
 
 def full_device(folder):
-    """A record that can't be written any more: said once, and the server goes on; or it ends, by a word of the option."""
+    """A record that can't be written any more: said once, and the server goes on; or it ends, by a word of the option, and is gone on from."""
     config = office(folder, free_port())
     limited = ["env", "--ignore-signal=XFSZ", "prlimit", "--fsize=2000", "--"]
-    server, port = started(PROGRAM, config, "--record", os.path.join(folder, "small"), before=limited)
+    small, other = os.path.join(folder, "small"), os.path.join(folder, "small2")
+    server, port = started(PROGRAM, config, "--record", small, before=limited)
     alice, bob = phones(port)
     assert alice.register() == [401, 200] and bob.register() == [401, 200]
     _, complaints = killed(server)
     assert complaints == "sipd: the record can't be written; nothing more is recorded\n", complaints
-    with open(os.path.join(folder, "small"), "rb") as broken:
-        assert broken.read(7) == b"broken "
-    assert replayed(config, os.path.join(folder, "small")) == (3, "", "sipd: no record\n")
-    server, _ = started(PROGRAM, config, "--record", os.path.join(folder, "small2"), "--record-fault", "end", before=limited)
+    assert first_word(small) == "broken"
+    status, _, complaints = replayed(config, small)
+    assert status == 3 and complaints.startswith(f"sipd: the writing of {small} failed: it lacks what came behind\nsipd: script line "), complaints
+    server, _ = started(PROGRAM, config, "--record", other, "--record-fault", "end", before=limited)
     for _ in range(3):
         alice.request("REGISTER", "sip:127.0.0.1", alice.address, alice.mark(), 1, [alice.contact()])
     assert server.wait(10) == 4
-    complaints = server.stderr.read().decode()
-    assert complaints.endswith("sipd: the record can't be written\n"), complaints
+    assert server.stderr.read() == b"sipd: the record can't be written\n"
+    assert first_word(other) == "record"
+    server, _ = started(PROGRAM, config, "--record", os.path.join(folder, "behind"), "--resume", other)
+    _, complaints = killed(server)
+    assert complaints.startswith("sipd: goes on behind "), complaints
+    assert first_word(other) == "left"
+
+
+def full_start(folder):
+    """A disk that is full at the start: by the word of the option it ends, with nothing made and the older record as it was, or goes on without a record."""
+    config = office(folder, free_port())
+    old, new, anew = (os.path.join(folder, name) for name in ("full_old", "full_new", "full_anew"))
+    server, port = started(PROGRAM, config, "--record", old)
+    alice, bob = phones(port)
+    assert alice.register() == [401, 200] and bob.register() == [401, 200]
+    killed(server)
+    unwritten = "sipd: the record can't be written; nothing is recorded\n"
+    for size in (20, 1000):
+        limited = ["env", "--ignore-signal=XFSZ", "prlimit", f"--fsize={size}", "--", PROGRAM]
+        done = subprocess.run([*limited, "serve", "--config", config, "--record", new, "--resume", old, "--record-fault", "end"], stdin=subprocess.DEVNULL, capture_output=True, timeout=10)
+        assert (done.returncode, done.stdout, done.stderr) == (4, b"", b"sipd: the record can't be written\n"), done
+        assert first_word(old) == "record" and not os.path.exists(new) and not os.path.exists(new + ".part")
+    limited = limited[:-1]
+    server, port = started(PROGRAM, config, "--record", new, "--resume", old, before=limited)
+    alice.invite(bob.address)
+    assert bob.hear().method == "INVITE"
+    _, complaints = killed(server)
+    assert re.fullmatch(r"sipd: goes on behind \d+ lines of .*/full_old\n" + unwritten, complaints), complaints
+    assert first_word(old) == "left" and not os.path.exists(new) and not os.path.exists(new + ".part")
+    server, _ = started(PROGRAM, config, "--record", anew, before=["env", "--ignore-signal=XFSZ", "prlimit", "--fsize=20", "--"])
+    _, complaints = killed(server)
+    assert complaints == unwritten and not os.path.exists(anew), complaints
+
+
+def lost_record(folder):
+    """A record whose file is taken away, changed for another or cut under the server is a fault of the record, and said."""
+    config = office(folder, free_port())
+    lost = "sipd: the record's file was taken away or cut"
+
+    def cut(path):
+        os.truncate(path, 0)
+
+    def moved(path):
+        os.rename(path, path + ".moved")
+
+    for number, harm in enumerate((os.remove, moved, cut)):
+        path = os.path.join(folder, f"lost{number}")
+        server, port = started(PROGRAM, config, "--record", path)
+        time.sleep(2.5)
+        harm(path)
+        time.sleep(2.5)
+        assert server.poll() is None
+        _, complaints = killed(server)
+        assert complaints == lost + "; nothing more is recorded\n", complaints
+        if harm == moved:
+            assert first_word(path + ".moved") == "broken"
+        path += "end"
+        server, port = started(PROGRAM, config, "--record", path, "--record-fault", "end")
+        harm(path)
+        assert server.wait(10) == 4
+        assert server.stderr.read().decode() == f"{lost}\nsipd: the record can't be written\n"
+
+
+def made_in(folder, kind):
+    """The files of this kind that starts made in a folder of records."""
+    return sorted(name for name in os.listdir(folder) if re.fullmatch(r"\d+\." + kind, name))
+
+
+def folder_of_records(folder):
+    """Each start has a file of its own in the folder, beside its configuration, and goes on from the newest one where it can."""
+    config, records = office(folder, free_port()), os.path.join(folder, "records")
+    assert ended("serve", "--config", config, "--records", records) == (4, "", "sipd: the record can't be made: its file is there already, or its folder isn't\n")
+    os.mkdir(records)
+    with open(os.path.join(records, "9999999999999.record.old"), "w"):
+        pass
+    server, port = started(PROGRAM, config, "--records", records)
+    alice, bob = phones(port)
+    assert alice.register() == [401, 200] and bob.register() == [401, 200]
+    dialog = established(alice, bob)
+    _, complaints = killed(server)
+    assert complaints == "", complaints
+    (first,), (copy,) = made_in(records, "record"), made_in(records, "toml")
+    assert sorted(os.listdir(records)) == sorted([first, copy, "9999999999999.record.old"])
+    assert re.fullmatch(r"\d{13}\.record", first) and copy == first.replace("record", "toml"), (first, copy)
+    assert abs(int(first.split(".")[0]) - time.time() * 1000) < 60000
+    with open(config, "rb") as one, open(os.path.join(records, copy), "rb") as other:
+        assert one.read() == other.read()
+    assert all(os.stat(os.path.join(records, name)).st_mode & 0o777 == 0o600 for name in (first, copy))
+    # a record of tomorrow: the next one is newer, whatever the clock says
+    later = os.path.join(records, "1%013d.record" % 0)
+    os.rename(os.path.join(records, first), later)
+    server, _ = started(PROGRAM, config, "--records", records)
+    hung_up(alice, bob, dialog)
+    _, complaints = killed(server)
+    assert re.fullmatch(f"sipd: goes on behind \\d+ lines of {later}\n", complaints), complaints
+    newest = os.path.join(records, "1%013d.record" % 1)
+    assert first_word(later) == "left" and first_word(newest) == "record"
+    # an older record isn't gone on from, where the newest one can't be
+    os.remove(newest)
+    server, _ = started(PROGRAM, config, "--records", records)
+    _, complaints = killed(server)
+    assert complaints.startswith(f"sipd: {later} isn't resumed: another start went on from it;"), complaints
+
+
+def clock_behind(folder):
+    """A record whose last moment is ahead of the clock: the server says by how much, goes on from that moment, and time passes."""
+    config = office(folder, free_port())
+    path, ahead = os.path.join(folder, "clock"), os.path.join(folder, "ahead")
+    server, port = started(PROGRAM, config, "--record", path)
+    alice, bob = phones(port)
+    assert alice.register() == [401, 200] and bob.register() == [401, 200]
+    killed(server)
+    day = 86_400_000
+    with open(path) as source, open(ahead, "w") as made:
+        for line in source:
+            words = line.rstrip("\n").split(" ")
+            if words[0] != "record" and len(words) > 1 and words[1].isdigit():
+                words[1] = str(int(words[1]) + day)
+            made.write(" ".join(words) + "\n")
+    server, _ = started(PROGRAM, config, "--record", os.path.join(folder, "behind_clock"), "--resume", ahead)
+    alice.invite(bob.address)
+    first, then = bob.hear(), time.monotonic()
+    second, now = bob.hear(), time.monotonic()
+    assert first.start == second.start and 0.4 < now - then < 0.6, now - then
+    printed, complaints = killed(server)
+    found = re.fullmatch(r"sipd: goes on behind \d+ lines of .*/ahead\nsipd: the clock is (\d+) ms behind the record; moments go on from the record's last one\n", complaints)
+    assert found and day - 60_000 < int(found[1]) <= day, complaints
+    assert int(printed.splitlines()[-1].split(" ")[0]) > time.time() * 1000 + day - 60_000, printed
+
+
+def small_stack(folder):
+    """A stack that is too small is said at the start."""
+    config = office(folder, free_port())
+    done = subprocess.run(["prlimit", "--stack=400000", "--", PROGRAM, "serve", "--config", config, "--turns", "0"], stdin=subprocess.DEVNULL, capture_output=True, timeout=10)
+    assert done.returncode == 5 and done.stdout == b"" and done.stderr.endswith(b"\nsipd: memory\n"), done
 
 
 def guard(folder):
@@ -339,7 +511,7 @@ def guard(folder):
     assert 40 <= len(scanned) <= 40 + 20 * 6, len(scanned)
 
 
-TRIALS = (call, timer_a, stop_and_continue, turns, bad_starts, closed_output, record, restart, no_count_twice, not_resumed, full_device, guard)
+TRIALS = (call, timer_a, stop_and_continue, turns, bad_starts, closed_output, record, restart, no_count_twice, not_resumed, full_device, full_start, lost_record, folder_of_records, clock_behind, small_stack, guard)
 
 
 def main():

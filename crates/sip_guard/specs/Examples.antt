@@ -1,5 +1,6 @@
 -- What the worked examples are about.
 use Rattle.std.specs.Prelude.{ℕ, List, [], ◌∷◌, replicate}
+use Rattle.sip_guard.specs.Guard.{AllowanceState, allowances_of}
 use Rattle.sip_guard.specs.Sources.{SourceTable, half}
 use Rattle.sip_guard.specs.declared.limit.Limit.{Limit}
 
@@ -21,3 +22,9 @@ scanner = 198 ∷ 51 ∷ 100 ∷ 7 ∷ []
 -- two full tables, of which no number is past 7
 abbrev pub full : SourceTable
 full = record { recent = replicate half (desk, 7); earlier = replicate half (desk, 7); recent_until = 7; earlier_until = 7 }
+
+-- two sources that used up their allowance, of which one is heard always
+abbrev pub desk_always : AllowanceState
+desk_always = record (allowances_of (desk ∷ []) one_a_second) {
+  sources = record { recent = (desk, 2000) ∷ (scanner, 2000) ∷ []; earlier = []; recent_until = 2000; earlier_until = 0 };
+}

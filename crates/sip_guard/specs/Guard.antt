@@ -1,19 +1,21 @@
 -- A link that hears no more of a source than its allowance.
-use Rattle.std.specs.Prelude.{◌≡◌, ◌≤◌, ℕ, zero, suc, Bool, true, not, max, List, [], ◌∷◌, length, Option, Some, None, Result, Ok, Err, ◌⊎◌}
-use Rattle.std.specs.List.{list_all}
+use Rattle.std.specs.Prelude.{◌≡◌, ◌≤◌, ℕ, zero, suc, Bool, true, false, not, ◌||◌, max, List, [], ◌∷◌, length, Option, Some, None, Result, Ok, Err, ◌⊎◌}
+use Rattle.std.specs.List.{list_all, list_any}
 use Rattle.sip_loop_link.specs.Told.{counted, heard_of, and_then, and_counted}
 use Rattle.sip_loop_link.specs.declared.datagram.Given.{Given}
 use Rattle.sip_loop_link.specs.declared.datagram.Heard.{Heard}
 use Rattle.sip_loop_link.specs.declared.datagram.LinkFault.{LinkFault}
 use Rattle.sip_uri.specs.declared.addr.Addr.{Addr}
 use Rattle.sip_guard.specs.Allowance.{admits}
-use Rattle.sip_guard.specs.Sources.{SourceTable, AreFew, used_of, IsCharged}
+use Rattle.sip_guard.specs.Sources.{SourceTable, AreFew, same_ip, used_of, IsCharged}
 use Rattle.sip_guard.specs.Unheard.{UnheardCounts, most_sources, none_unheard, noted}
 use Rattle.sip_guard.specs.declared.limit.Limit.{Limit}
 
--- what is kept of the sources: their limit, the latest moment that is known, their numbers, and how much of whom wasn't handed on
+-- what is kept of the sources: their limit, the IP addresses that are heard always, the latest moment that is known, their numbers,
+-- and how much of whom wasn't handed on
 pub record AllowanceState : Type 0 where
   pub limit : Limit
+  pub always : List (List ℕ)
   pub present : ℕ
   pub sources : SourceTable
   pub unheard : UnheardCounts
@@ -41,8 +43,8 @@ abbrev pub IsBounded : AllowanceState → Type 0
 IsBounded allowances = AreFew allowances.sources × (length allowances.unheard.sources ≤ most_sources)
 
 -- what is kept at first
-abbrev pub allowances_of : Limit → AllowanceState
-allowances_of limit = record { limit = limit; present = 0; sources = record { recent = []; earlier = []; recent_until = 0; earlier_until = 0 }; unheard = none_unheard }
+abbrev pub allowances_of : List (List ℕ) → Limit → AllowanceState
+allowances_of always limit = record { limit = limit; always = always; present = 0; sources = record { recent = []; earlier = []; recent_until = 0; earlier_until = 0 }; unheard = none_unheard }
 
 -- the same with nothing unheard
 abbrev pub told_all : AllowanceState → AllowanceState
@@ -52,13 +54,18 @@ told_all allowances = record allowances { unheard = none_unheard }
 abbrev pub reached : AllowanceState → ℕ → AllowanceState
 reached allowances reading = record allowances { present = max allowances.present reading }
 
--- whether a datagram of a source is within its allowance at the latest moment
-abbrev pub is_within : AllowanceState → List ℕ → Bool
-is_within allowances ip = admits allowances.limit (used_of ip allowances.sources) allowances.present
+-- whether an IP address is among these
+abbrev pub is_among : List (List ℕ) → List ℕ → Bool
+is_among always ip = list_any (λ other. same_ip other ip) always
 
--- a datagram of a source was handed on
+-- whether a datagram of a source is handed on at the latest moment: the source is heard always, or it is within its allowance
+abbrev pub is_within : AllowanceState → List ℕ → Bool
+is_within allowances ip = is_among allowances.always ip || admits allowances.limit (used_of ip allowances.sources) allowances.present
+
+-- a datagram of a source was handed on: nothing changes where that is heard always, else it is charged
 abbrev pub IsAdmitted : AllowanceState → List ℕ → AllowanceState → Type 0
-IsAdmitted old ip new = (new ≡ record old { sources = new.sources }) × IsCharged old.limit old.present ip old.sources new.sources
+IsAdmitted old ip new = (is_among old.always ip ≡ true → new ≡ old)
+    × (is_among old.always ip ≡ false → (new ≡ record old { sources = new.sources }) × IsCharged old.limit old.present ip old.sources new.sources)
 
 -- what a link tells when it heard these datagrams too, the newest first
 abbrev pub and_passed : Option (List (Option Heard)) → List Heard → Option (List (Option Heard))
@@ -75,7 +82,7 @@ abbrev pub counted_times : ℕ → ℕ → ℕ
 counted_times zero number = number
 counted_times (suc n) number = counted (counted_times n number)
 
--- the link heard so many datagrams, each beyond the allowance of its source; they were counted and not handed on. The newest first
+-- the link heard so many datagrams, each beyond the allowance of its source, which isn't heard always; they were counted and not handed on. The newest first
 pub record PassesOver (old new : AllowanceState) (before after : LinkState) (count : ℕ) : Type 0 where
   pub passed : List Heard
   pub number : length passed ≡ count
@@ -97,7 +104,7 @@ Receives before after (Err fault) = (after.heard ≡ before.heard) × (after.giv
 abbrev pub most_passed : ℕ
 most_passed = 64
 
--- what becomes of the allowances behind what a receive answers: a datagram was within the allowance of its source
+-- what becomes of the allowances behind what a receive answers: a datagram's source is heard always, or it was within its allowance
 abbrev pub Answers : AllowanceState → AllowanceState → Result (Option Addr) LinkFault → Type 0
 Answers old new (Ok (Some from)) = (is_within old from.ip ≡ true) × IsAdmitted old from.ip new
 Answers old new (Ok None) = new ≡ old

@@ -1,5 +1,5 @@
 ghost use Rattle.std.specs.Prelude.{◌≡◌, true, false, IfOk};
-ghost use Rattle.sip_guard.specs.Guard.{allowances_of, reached, told_all, IsBounded, is_within, IsAdmitted};
+ghost use Rattle.sip_guard.specs.Guard.{allowances_of, is_among, reached, told_all, IsBounded, is_within, IsAdmitted};
 ghost use Rattle.sip_guard.specs.Unheard.{noted};
 
 use crate::limit::Limit;
@@ -12,6 +12,8 @@ use std::marker::Model;
 #[derive(Drop)]
 pub(crate) struct Allowances {
     limit: Limit,
+    /// The IP addresses that are heard always: few, since they are gone through for each datagram.
+    always: Vec<[u8; 4]>,
     /// The latest moment that is known, in milliseconds.
     present: u64,
     sources: Sources,
@@ -23,18 +25,31 @@ impl Model for Allowances {
 
     ghost Value = { AllowanceState };
 
-    ghost view = { λ a. record { limit = a.limit; present = a.present; sources = a.sources; unheard = a.unheard } };
+    ghost view = { λ a. record { limit = a.limit; always = a.always.items; present = a.present; sources = a.sources; unheard = a.unheard } };
 
-    ghost invariant = { λ a. IsBounded (record { limit = a.limit; present = a.present; sources = a.sources; unheard = a.unheard }) };
+    ghost invariant = { λ a. IsBounded (record { limit = a.limit; always = a.always.items; present = a.present; sources = a.sources; unheard = a.unheard }) };
+}
+
+/// Whether an IP address is among these.
+fn is_among(always: &[[u8; 4]], ip: [u8; 4]) -> bool
+    ensures { result ≡ is_among always.now ip }
+{
+    always.iter().any(|other| *other == ip)
 }
 
 impl Allowances {
     /// No source yet. Makes room for all. `AllocError` is the only refusal.
-    pub(crate) fn new(alloc: Global, keys: u128, limit: Limit) -> Result<Allowances, AllocError>
-        ensures { IfOk result (λ allowances. allowances ≡ allowances_of limit) }
+    pub(crate) fn new(
+        alloc: Global,
+        keys: u128,
+        limit: Limit,
+        always: Vec<[u8; 4]>,
+    ) -> Result<Allowances, AllocError>
+        ensures { IfOk result (λ allowances. allowances ≡ allowances_of always.items limit) }
     {
         Ok(Allowances {
             limit,
+            always,
             present: 0,
             sources: Sources::new(alloc, keys)?,
             unheard: Unheard::new(alloc)?,
@@ -49,13 +64,17 @@ impl Allowances {
         self.present = self.present.max(reading);
     }
 
-    /// Whether a datagram of a source is handed on now. One that isn't is counted as unheard.
+    /// Whether a datagram of a source is handed on now: one that is heard always isn't charged. One that isn't handed on is counted as
+    /// unheard.
     pub(crate) fn admit(&mut self, ip: [u8; 4]) -> bool
         ensures bounded { IsBounded self.new }
         ensures within { result ≡ is_within self.old ip }
         ensures beyond { result ≡ false → self.new ≡ record self.old { unheard = noted self.old.unheard ip } }
         ensures admitted { result ≡ true → IsAdmitted self.old ip self.new }
     {
+        if is_among(self.always.as_slice(), ip) {
+            return true;
+        }
         let is_within = self.sources.admit(self.limit, ip, self.present);
         if !is_within {
             self.unheard.note(ip);

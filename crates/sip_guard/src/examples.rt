@@ -4,7 +4,8 @@ ghost use Rattle.sip_guard.specs.Limits.{limit_of};
 ghost use Rattle.sip_guard.specs.Rates.{handed_on, used_by};
 ghost use Rattle.sip_guard.specs.Sources.{finds_room, used_of};
 ghost use Rattle.sip_guard.specs.Unheard.{none_unheard, noted};
-ghost use Rattle.sip_guard.specs.Examples.{one_a_second, six_moments, desk, scanner, full};
+ghost use Rattle.sip_guard.specs.Guard.{is_within};
+ghost use Rattle.sip_guard.specs.Examples.{one_a_second, six_moments, desk, scanner, full, desk_always};
 
 /// Twenty a second, and forty at once; neither none nor more than a million a second.
 pub fn limit_example()
@@ -42,4 +43,10 @@ pub fn full_table_example()
 pub fn unheard_example()
     ensures { noted (noted (noted none_unheard scanner) desk) scanner
         ≡ record { total = 3; sources = record { ip = scanner; count = 2 } ∷ record { ip = desk; count = 1 } ∷ [] } }
+{}
+
+/// Of two sources that used up their allowance, the one that is heard always is heard.
+pub fn always_example()
+    ensures desk { is_within desk_always desk ≡ true }
+    ensures scanner { is_within desk_always scanner ≡ false }
 {}

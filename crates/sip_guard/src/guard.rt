@@ -1,7 +1,7 @@
 ghost use Rattle.std.specs.Prelude.{◌≡◌, None, IfOk, IfSome, OnOk, OnErr, option_map};
 ghost use Rattle.std.specs.Borrow.{Lends, sem};
 ghost use Rattle.sip_guard.specs.contracts.guard.Guard.{the_row};
-ghost use Rattle.sip_loop_link.specs.Told.{counted, and_then};
+ghost use Rattle.sip_loop_link.specs.Told.{counted, and_then, IsWritable};
 ghost use Rattle.sip_guard.specs.Guard.{allowances_of, told_all, IsBounded, Hears, Guards};
 
 use crate::allowances::Allowances;
@@ -15,8 +15,9 @@ use std::marker::Model;
 /// How many datagrams in a row are passed over at most.
 const MOST_PASSED: u64 = 64;
 
-/// A link over a link, which hands on what comes within the allowance of its source, an IP address, and counts the rest. It keeps
-/// 4,096 sources at most; a datagram of one that finds no room is handed on. Phones behind one address share its allowance.
+/// A link over a link, which hands on what comes within the allowance of its source, an IP address, or from one of those that are
+/// heard always, and counts the rest. It keeps 4,096 sources at most, none of those that are heard always; a datagram of one that
+/// finds no room is handed on. Phones behind one address share its allowance.
 #[derive(Drop)]
 pub struct Guard<L: Link, C: Clock> {
     link: L,
@@ -58,6 +59,7 @@ fn hear_within<L: Link>(
         (record { heard = L.heard link.old; given = L.given link.old; held = L.held link.old; receives = L.receives link.old; failures = L.failures link.old })
         (record { heard = L.heard link.new; given = L.given link.new; held = L.held link.new; receives = L.receives link.new; failures = L.failures link.new })
         result }
+    ensures writable { IfOk result (λ from. IfSome from (λ source. IsWritable source (L.held link.new))) }
 {
     let mut passed = 0;
     while passed < MOST_PASSED {
@@ -73,8 +75,8 @@ fn hear_within<L: Link>(
 }
 
 impl<L: Link, C: Clock> Guard<L, C> {
-    /// A guard of a link, which reads the moment from a clock. Without a limit it hands on all that the link hears. The keys are a
-    /// secret, since who sends may choose the addresses that it sends from. `AllocError` is the only refusal; no other call
+    /// A guard of a link, which reads the moment from a clock. Without a limit it hands on all that the link hears. Of some IP addresses
+    /// it hears always all, at whatever port. The keys are a secret, since who sends may choose the addresses that it sends from. `AllocError` is the only refusal; no other call
     /// takes memory.
     pub fn new(
         alloc: Global,
@@ -82,9 +84,10 @@ impl<L: Link, C: Clock> Guard<L, C> {
         link: L,
         clock: C,
         limit: Option<Limit>,
+        always: Vec<[u8; 4]>,
     ) -> Result<Guard<L, C>, AllocError>
         ensures { IfOk result (λ guard. guard ≡ record {
-          allowances = option_map allowances_of limit;
+          allowances = option_map (allowances_of always.items) limit;
           link = record { heard = L.heard link; given = L.given link; held = L.held link; receives = L.receives link; failures = L.failures link };
           readings = C.readings clock;
           receives = 0;
@@ -92,7 +95,7 @@ impl<L: Link, C: Clock> Guard<L, C> {
         }) }
     {
         let allowances = match limit {
-            Some(limit) => Some(Allowances::new(alloc, keys, limit)?),
+            Some(limit) => Some(Allowances::new(alloc, keys, limit, always)?),
             None => None,
         };
         Ok(Guard {
@@ -145,6 +148,7 @@ impl<L: Link, C: Clock> Guard<L, C> {
         ensures failures { self.new.failures ≡ self.old.failures }
         ensures bounded { IfSome self.new.allowances IsBounded }
         ensures guards { Guards self.old.allowances self.old self.new result }
+        ensures writable { IfOk result (λ from. IfSome from (λ source. IsWritable source self.new.link.held)) }
     {
         match &mut self.allowances {
             None => self.link.receive(),
@@ -173,6 +177,7 @@ impl<L: Link, C: Clock> Link for Guard<L, C> {
         ensures err { OnErr result (self.new.failures ≡ counted self.old.failures) }
         ensures bounded { IfSome self.new.allowances IsBounded }
         ensures guards { Guards self.old.allowances self.old self.new result }
+        ensures writable { IfOk result (λ from. IfSome from (λ source. IsWritable source self.new.link.held)) }
     {
         self.receives = self.receives.saturating_add(1);
         let found = self.hear();

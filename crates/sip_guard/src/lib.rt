@@ -1,12 +1,12 @@
 //! A link over a link, which hears at most so many datagrams a second from one IP address: who sends more isn't heard beyond
-//! that, and takes nothing from the others.
+//! that, and takes nothing from the others. Some IP addresses, as those of gateways, are heard always.
 //!
 //! - Used: `sipd_command` puts it over the socket, where a limit is asked for.
 //! - Not here: the links themselves (`sip_loop_link`).
 //! - Tried: worked examples in `src/examples.rt`, as contracts that compute.
 //!
 //! ```text
-//! let mut link = Guard::new(alloc, keys, link, clock, Limit::of_rate(20))?;
+//! let mut link = Guard::new(alloc, keys, link, clock, Limit::of_rate(20), gateways)?;
 //! link.link_mut().wait(1000);
 //! let found = link.receive()?;
 //! ```

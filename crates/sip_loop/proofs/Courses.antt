@@ -1,337 +1,258 @@
--- What is done while serving, piece behind piece.
-use Rattle.std.proofs.Common.{◌≡◌, ◌⊎◌, inl, inr, ℕ, ◌≤◌, List, [], ◌∷◌, ◌++◌, reverse, Option, None, Some, refl, sym, ◌∙◌, ap, ap₂, subst, arith, append-nil, append_assoc}
-use Rattle.std.proofs.lemmas.List.{reverse-append}
-use Rattle.std.proofs.lemmas.Grind.{flat_map-append}
+-- Pieces of serving, and one behind the other.
+use Rattle.std.specs.List.{AllByRecursion}
+use Rattle.sip_replay_script.specs.EventText.{is_sayable}
+use Rattle.std.proofs.Common.{◌≡◌, true, ℕ, ◌+◌, List, [], ◌∷◌, ◌++◌, length, length-append, Option, None, Some, refl, sym, ◌∙◌, ap, ap₂, subst, append-nil, append_assoc}
+use Rattle.rand_core.specs.Stream.{Stream}
 use Rattle.sip_loop_link.specs.declared.datagram.Given.{Given}
+use Rattle.sip_loop_link.specs.declared.datagram.Heard.{Heard}
 use Rattle.sip_loop_link.specs.declared.datagram.Sending.{Sending}
-use Rattle.sip_loop_link.specs.declared.datagram.Sending.TheVariants.{Went, Failed}
-use Rattle.sip_loop_link.specs.Told.{and_then}
 use Rattle.sip_event.specs.declared.event.Event.{Event}
-use Rattle.sip_event.specs.declared.event.Event.TheVariants.{Fault}
 use Rattle.sip_event.specs.declared.event.StepOut.{StepOut}
 use Rattle.sip_event.specs.declared.packet.Packet.{Packet}
 use Rattle.sip_audit.specs.declared.record.Record.{Record}
 use Rattle.sip_record.specs.Record.{Notes}
-use Rattle.sip_loop.proofs.Noted.{notes_nothing, notes_same, notes_both}
 use Rattle.model_bounds.specs.state.declared.server.Server.{Server}
 use Rattle.model_bounds.specs.state.declared.proxy_state.ProxyState.{ProxyState}
-use Rattle.model_bounds.specs.steps_model.Step.{Given as ForEvent, Passing, IsStep, moment_of}
-use Rattle.model_bounds.specs.model.Run.{Link, IsRun, event_moment, events_of, steps_of}
-use Rattle.sip_loop.specs.Serving.{Turn, Doing, Sent, Fires, Takes, Sends, Faults, IsWaiting, turns_in, events_in, steps_in, given_in, event_of_turn, reading_of, last_moment, records_of, told_more}
-use Rattle.sip_loop.specs.Courses.{HasRunOf, Leads, Hands, Course}
-use Rattle.sip_run.proofs.RunOn.{run_on}
+use Rattle.model_bounds.specs.model.Run.{Link, IsRun}
+use Rattle.sip_loop.specs.Printing.{Prints}
+use Rattle.sip_loop.specs.Serving.{AreDrawn, AreInTurn, AreTold, Asked, Asks, Cause, Clear, FallsDue, Fires, IsToldMore, Logs, MayCome, MayFallDue, Point, Reads, Sends, Stage, Stopped, Takes, Tells, Told, Turn, Unlogged, Untold}
+use Rattle.sip_loop.specs.Serving.{ahead, between_turns, event_for, event_taken, event_told, failing, gathered, heard_of_turn, moment_read, packets_of, reading_of, records_logged, records_of, steps_taken, told_by, told_more, turn_asked, turn_behind, untold_in}
+use Rattle.sip_loop.specs.Courses.{Course, IsThrough, waiting_at}
+use Rattle.sip_loop.proofs.Gathering.{ahead_behind, gathered_behind, path_on, records_both, told_if_none, told_none, told_nothing, told_on}
+use Rattle.sip_loop.proofs.Noted.{notes_nothing}
+use Rattle.sip_loop.proofs.Printed.{prints_nothing}
+use Rattle.sip_loop.proofs.Runs.{in_turn_on, run_nothing, run_on}
 
--- ---- lists
+-- a point at which a turn's event is asked for, or a packet failed, or an event was taken and isn't told
+abbrev pub asked_at : ℕ → Turn → ℕ → Point
+asked_at reading turn at = record { turn = Some reading; stage = Asked turn; failed = None; waiting = []; at = at }
 
-pub turns_behind : (more done : List Doing) → turns_in (more ++ done) ≡ turns_in more ++ turns_in done
-turns_behind [] done = refl
-turns_behind (Fires out ∷ more) done = turns_behind more done
-turns_behind (Takes turn out ∷ more) done = ap (λ (l : List Turn). turn ∷ l) (turns_behind more done)
-turns_behind (Sends p sending ∷ more) done = turns_behind more done
-turns_behind (Faults at p out ∷ more) done = turns_behind more done
+abbrev pub sent_at : Option ℕ → Option Packet → List Packet → ℕ → Point
+sent_at turn failed waiting at = record { turn = turn; stage = Clear; failed = failed; waiting = waiting; at = at }
 
-steps_behind : (more done : List Doing) → steps_in (more ++ done) ≡ steps_in more ++ steps_in done
-steps_behind [] done = refl
-steps_behind (Fires out ∷ more) done = ap (λ (l : List StepOut). out ∷ l) (steps_behind more done)
-steps_behind (Takes turn out ∷ more) done = ap (λ (l : List StepOut). out ∷ l) (steps_behind more done)
-steps_behind (Sends p sending ∷ more) done = steps_behind more done
-steps_behind (Faults at p out ∷ more) done = ap (λ (l : List StepOut). out ∷ l) (steps_behind more done)
+abbrev pub taken_at : Point → Cause → List StepOut → StepOut → Point
+taken_at p cause outs own = record {
+  turn = turn_behind cause p.turn;
+  stage = Untold cause own.records;
+  failed = None;
+  waiting = p.waiting ++ packets_of (outs ++ own ∷ []);
+  at = own.at;
+}
 
-pub given_behind : (more done : List Doing) → given_in (more ++ done) ≡ given_in more ++ given_in done
-given_behind [] done = refl
-given_behind (Fires out ∷ more) done = given_behind more done
-given_behind (Takes turn out ∷ more) done = given_behind more done
-given_behind (Sends p sending ∷ more) done = ap (λ (l : List Given). record { to = p.to; bytes = p.bytes; sending = sending } ∷ l) (given_behind more done)
-given_behind (Faults at p out ∷ more) done = given_behind more done
+abbrev pub unlogged_at : Point → Cause → List StepOut → StepOut → Point
+unlogged_at p cause outs own = record (taken_at p cause outs own) { stage = Unlogged own.records }
 
-events_behind : (more done : List Doing) → events_in (more ++ done) ≡ events_in more ++ events_in done
-events_behind [] done = refl
-events_behind (Fires out ∷ more) done = events_behind more done
-events_behind (Takes turn out ∷ more) done = ap (λ (l : List Event). event_of_turn turn ∷ l) (events_behind more done)
-events_behind (Sends p sending ∷ more) done = events_behind more done
-events_behind (Faults at p out ∷ more) done = ap (λ (l : List Event). Fault at p.ticket ∷ l) (events_behind more done)
+abbrev pub stopped_at : Point → Cause → List StepOut → Point
+stopped_at p cause outs = record p { stage = Stopped cause; waiting = p.waiting ++ packets_of outs }
 
--- what is told in two parts
-pub told_both : {A : Type 0} (o : Option (List A)) (first second : List A) → told_more (told_more o first) second ≡ told_more o (first ++ second)
-told_both None first second = refl
-told_both (Some l) first second = ap Some (append_assoc l first second)
+all_on : (xs ys : List Event) → AllByRecursion (λ (event : Event). is_sayable event ≡ true) xs → AllByRecursion (λ (event : Event). is_sayable event ≡ true) ys
+    → AllByRecursion (λ (event : Event). is_sayable event ≡ true) (xs ++ ys)
+all_on [] ys h k = k
+all_on (x ∷ xs) ys h k = (h.0, all_on xs ys h.1 k)
 
-pub told_none : {A : Type 0} (o : Option (List A)) → o ≡ told_more o []
-told_none None = refl
-told_none (Some l) = ap Some (sym (append-nil l))
+none_untold : (stage : Stage) → IsThrough stage → untold_in stage ≡ []
+none_untold Clear h = refl
+none_untold (Asked turn) h = refl
+none_untold (Stopped cause) h = refl
+none_untold (Untold cause records) h = absurd h
+none_untold (Unlogged records) h = refl
 
--- what is told of one call
-pub told_one : {A : Type 0} (o : Option (List A)) (x : A) → and_then o x ≡ told_more o (x ∷ [])
-told_one None x = refl
-told_one (Some l) x = refl
-
--- what was given in two parts, newest first
-pub given_both : (before middle after : Option (List Given)) (first second : List Doing) → middle ≡ told_more before (reverse (given_in first)) → after ≡ told_more middle (reverse (given_in second))
-    → after ≡ told_more before (reverse (given_in (second ++ first)))
-given_both before middle after first second h1 h2 =
-    h2 ∙ ap (λ (o : Option (List Given)). told_more o (reverse (given_in second))) h1 ∙ told_both before (reverse (given_in first)) (reverse (given_in second))
-    ∙ ap (told_more before) (sym (ap reverse (given_behind second first) ∙ reverse-append (given_in second) (given_in first)))
-
--- what was noted in two parts, newest first
-pub noted_both : (before middle after : Option (Option (List ℕ))) (first second : List Doing) → Notes before middle (reverse (events_in first)) → Notes middle after (reverse (events_in second))
-    → Notes before after (reverse (events_in (second ++ first)))
-noted_both before middle after first second h1 h2 =
-    subst (Notes before after) (sym (ap reverse (events_behind second first) ∙ reverse-append (events_in second) (events_in first)))
-    (notes_both before middle after (reverse (events_in first)) (reverse (events_in second)) h1 h2)
-
--- records of two parts
-pub records_both : (first second : List Doing) → records_of (reverse (steps_in (second ++ first))) ≡ records_of (reverse (steps_in first)) ++ records_of (reverse (steps_in second))
-records_both first second =
-    ap records_of (ap reverse (steps_behind second first) ∙ reverse-append (steps_in second) (steps_in first))
-    ∙ flat_map-append (λ (out : StepOut). out.records) (reverse (steps_in first)) (reverse (steps_in second))
-
-records_one : (out : StepOut) (more : List Doing) → records_of (reverse (out ∷ steps_in more)) ≡ records_of (reverse (steps_in more)) ++ out.records
-records_one out more =
-    ap records_of (reverse-append (out ∷ []) (steps_in more)) ∙ flat_map-append (λ (o : StepOut). o.records) (reverse (steps_in more)) (out ∷ [])
-    ∙ ap (λ (l : List Record). records_of (reverse (steps_in more)) ++ l) (append-nil out.records)
-
--- ---- runs
-
-module _ (server : Server) (start : ProxyState) where
-  -- no step yet
-  pub leads_nothing : Leads server start None [] start
-  leads_nothing = record { history = []; is_run = record { chain = refl; paced = tt; of_events = refl; of_steps = refl } }
-
-  -- an event's own step, behind time that passed up to its moment
-  run_event : (done : List Doing) (old new : ProxyState) (event : Event) (out : StepOut) → HasRunOf server start done (Some (event_moment event)) old → IsStep server old (ForEvent event) out new
-      → (history : List Link) × IsRun server start (reverse (event ∷ events_in done)) None (reverse (out ∷ steps_in done)) history new
-  run_event done old new event out h step = (
-    record { before = old; act = ForEvent event; out = out; after = new } ∷ h.history,
-    record {
-      chain = (refl, step, h.is_run.chain);
-      paced = (tt, h.is_run.paced);
-      of_events = reverse-append (event ∷ []) (events_of h.history) ∙ ap (λ (l : List Event). l ++ event ∷ []) h.is_run.of_events ∙ sym (reverse-append (event ∷ []) (events_in done));
-      of_steps = reverse-append (out ∷ []) (steps_of h.history) ∙ ap (λ (l : List StepOut). l ++ out ∷ []) h.is_run.of_steps ∙ sym (reverse-append (out ∷ []) (steps_in done));
-    },
-  )
-
-  -- something that is due happens
-  run_fires : (done : List Doing) (old new : ProxyState) (moment : ℕ) (out : StepOut) → HasRunOf server start done (Some moment) old → IsStep server old (Passing moment) out new → HasRunOf server start (Fires out ∷ done) (Some moment) new
-  run_fires done old new moment out h step = record {
-    history = record { before = old; act = Passing moment; out = out; after = new } ∷ h.history;
-    is_run = record {
-      chain = (refl, step, h.is_run.chain);
-      paced = (refl, h.is_run.paced);
-      of_events = h.is_run.of_events;
-      of_steps = reverse-append (out ∷ []) (steps_of h.history) ∙ ap (λ (l : List StepOut). l ++ out ∷ []) h.is_run.of_steps ∙ sym (reverse-append (out ∷ []) (steps_in done));
-    };
-  }
-
-  -- what leads to a state leads there up to any reading
-  pub leads_on : (done : List Doing) (state : ProxyState) (at : ℕ) → Leads server start None done state → Leads server start (Some at) done state
-  leads_on done state at h = λ moment ok. record { history = h.history; is_run = run_on server start state (reverse (events_in done)) (Some moment) (reverse (steps_in done)) h.history h.is_run }
-
-  -- a run up to a moment that isn't before the state's
-  up_to : (until : Option ℕ) (done : List Doing) (state : ProxyState) (moment : ℕ) → state.moment ≤ moment → Leads server start until done state → HasRunOf server start done (Some moment) state
-  up_to None done state moment le h = leads_on done state moment h moment (inr le)
-  up_to (Some at) done state moment le h = h moment (inr le)
-
-  -- a packet that is given changes nothing of it
-  given_leads : (until : Option ℕ) (done : List Doing) (state : ProxyState) (p : Packet) (sending : Sending) → Leads server start until done state → Leads server start until (Sends p sending ∷ done) state
-  given_leads None done state p sending h = record { history = h.history; is_run = h.is_run }
-  given_leads (Some at) done state p sending h = λ moment ok. let r = h moment ok in record { history = r.history; is_run = r.is_run }
-
-  -- the fault of a packet
-  fault_ends : (until : Option ℕ) (done : List Doing) (old new : ProxyState) (p : Packet) (out : StepOut) → IsStep server old (ForEvent (Fault old.moment p.ticket)) out new → Leads server start until done old
-      → Leads server start None (Faults old.moment p out ∷ done) new
-  fault_ends until done old new p out step h =
-      let le : old.moment ≤ old.moment = omega arith in
-      let r = run_event done old new (Fault old.moment p.ticket) out (up_to until done old old.moment le h) step in
-      record { history = r.0; is_run = r.1 }
-
-  fault_leads : (until : Option ℕ) (done : List Doing) (old new : ProxyState) (p : Packet) (out : StepOut) → IsStep server old (ForEvent (Fault old.moment p.ticket)) out new → Leads server start until done old
-      → Leads server start until (Faults old.moment p out ∷ done) new
-  fault_leads None done old new p out step h = fault_ends None done old new p out step h
-  fault_leads (Some at) done old new p out step h = leads_on (Faults old.moment p out ∷ done) new at (fault_ends (Some at) done old new p out step h)
-
-  -- the event of a turn
-  pub turn_leads : (done : List Doing) (old new : ProxyState) (turn : Turn) (out : StepOut) → IsStep server old (ForEvent (event_of_turn turn)) out new → event_moment (event_of_turn turn) ≡ reading_of turn
-      → Leads server start (Some (reading_of turn)) done old → Leads server start None (Takes turn out ∷ done) new
-  turn_leads done old new turn out step is h =
-      let r = run_event done old new (event_of_turn turn) out (subst (λ (n : ℕ). HasRunOf server start done (Some n) old) (sym is) (h (reading_of turn) (inl refl))) step in
-      record { history = r.0; is_run = r.1 }
-
--- a step of time up to a moment is one up to another by which it stands, too
-passes_by : (server : Server) (old new : ProxyState) (at moment : ℕ) (out : StepOut) → out.at ≤ moment_of old moment → IsStep server old (Passing at) out new → IsStep server old (Passing moment) out new
-passes_by server old new at moment out le (inl quiet) =
-    inl (record { no_earlier = quiet.no_earlier; no_later = le; none_passed = quiet.none_passed; none_again_passed = quiet.none_again_passed; does = quiet.does })
-passes_by server old new at moment out le (inr (inl due)) =
-    inr
-    (inl
-    record {
-      request = due.request;
-      change = due.change;
-      is_open = due.is_open;
-      passes = due.passes;
-      is_due = le;
-      is_first = due.is_first;
-      none_again = due.none_again;
-      does = due.does;
-    })
-passes_by server old new at moment out le (inr (inr goes)) =
-    inr
-    (inr
-    record {
-      request = goes.request;
-      packets = goes.packets;
-      next = goes.next;
-      is_open = goes.is_open;
-      goes = goes.goes;
-      is_due = le;
-      is_first = goes.is_first;
-      none_again = goes.none_again;
-      does = goes.does;
-    })
-
--- it stands by the moment up to which it is
-passes_within : (server : Server) (old new : ProxyState) (at : ℕ) (out : StepOut) → IsStep server old (Passing at) out new → (out.at ≤ moment_of old at)
-passes_within server old new at out (inl quiet) = quiet.no_later
-passes_within server old new at out (inr (inl due)) = due.is_due
-passes_within server old new at out (inr (inr goes)) = goes.is_due
-
-fires_leads : (server : Server) (start old new : ProxyState) (at : ℕ) (done : List Doing) (out : StepOut) → old.moment ≤ new.moment → new.moment ≡ out.at → IsStep server old (Passing at) out new
-    → Leads server start (Some at) done old → Leads server start (Some at) (Fires out ∷ done) new
-fires_leads server start old new at done out rises stands step h = λ moment ok. by_case moment ok where
-  by_case : (moment : ℕ) → (moment ≡ at) ⊎ (new.moment ≤ moment) → HasRunOf server start (Fires out ∷ done) (Some moment) new
-  by_case moment (inl same) =
-      run_fires server start done old new moment out (h moment (inl same)) (subst (λ (n : ℕ). IsStep server old (Passing n) out new) (sym same) step)
-  by_case moment (inr le) =
-      let early : old.moment ≤ moment = omega (arith, rises, le) in
-      let by : out.at ≤ moment_of old moment = omega (arith, stands, le) in
-      run_fires server start done old new moment out (h moment (inr early)) (passes_by server old new at moment out by step)
-
--- ---- packets
+twice_nil : {A : Type 0} (xs : List A) → (xs ++ []) ++ [] ≡ xs
+twice_nil xs = append-nil (xs ++ []) ∙ append-nil xs
 
 module _ (server : Server) where
-  pub hands_nothing : (state : ProxyState) (packets : List Packet) (before after : Sent) → after.given ≡ before.given → after.written ≡ before.written → Hands server state state packets None packets before after
-  hands_nothing state packets before after g w = record {
-    more = [];
-    no_turns = refl;
-    no_records = refl;
-    leads = λ start until done h. h;
-    waits = λ done h last. h;
-    last = λ done h. h;
-    given = g ∙ told_none before.given;
-    noted = notes_same before.written after.written w;
-  }
-
-  pub hands_went : (state : ProxyState) (p : Packet) (packets : List Packet) (before after : Sent) → after.given ≡ told_more before.given (record { to = p.to; bytes = p.bytes; sending = Went } ∷ [])
-      → after.written ≡ before.written → Hands server state state (p ∷ packets) None packets before after
-  hands_went state p packets before after g w = record {
-    more = Sends p Went ∷ [];
-    no_turns = refl;
-    no_records = refl;
-    leads = λ start until done h. given_leads server start until done state p Went h;
-    waits = λ done h last. (h, refl);
-    last = λ done h. h;
-    given = g;
-    noted = notes_same before.written after.written w;
-  }
-
-  pub hands_failed : (state : ProxyState) (p : Packet) (packets : List Packet) (before after : Sent) → after.given ≡ told_more before.given (record { to = p.to; bytes = p.bytes; sending = Failed } ∷ [])
-      → after.written ≡ before.written → Hands server state state (p ∷ packets) (Some p) packets before after
-  hands_failed state p packets before after g w = record {
-    more = Sends p Failed ∷ [];
-    no_turns = refl;
-    no_records = refl;
-    leads = λ start until done h. given_leads server start until done state p Failed h;
-    waits = λ done h last. (h, refl);
-    last = λ done h. h;
-    given = g;
-    noted = notes_same before.written after.written w;
-  }
-
-  pub hands_fault : (old new : ProxyState) (p : Packet) (packets : List Packet) (out : StepOut) (before after : Sent) → after.given ≡ told_more before.given (record { to = p.to; bytes = p.bytes; sending = Failed } ∷ [])
-      → IsStep server old (ForEvent (Fault old.moment p.ticket)) out new → new.moment ≡ out.at → out.records ≡ []
-      → Notes before.written after.written (Fault old.moment p.ticket ∷ []) → Hands server old new (p ∷ packets) None (packets ++ out.packets) before after
-  hands_fault old new p packets out before after g step stands none noted = record {
-    more = Faults old.moment p out ∷ Sends p Failed ∷ [];
-    no_turns = refl;
-    no_records = ap (λ (l : List Record). l ++ []) none;
-    leads = λ start until done h. fault_leads server start until (Sends p Failed ∷ done) old new p out step (given_leads server start until done old p Failed h);
-    waits = λ done h last. (packets, (h, refl), sym last, refl, refl);
-    last = λ done h. sym stands;
-    given = g;
-    noted = noted;
-  }
-
-  pub hands_on : (old middle new : ProxyState) (packets rest : List Packet) (failed : Option Packet) (waiting : List Packet) (before between after : Sent) → Hands server old middle packets None rest before between
-      → Hands server middle new rest failed waiting between after → Hands server old new packets failed waiting before after
-  hands_on old middle new packets rest failed waiting before between after first second = record {
-    more = second.more ++ first.more;
-    no_turns = turns_behind second.more first.more ∙ ap₂ (λ (a b : List Turn). a ++ b) second.no_turns first.no_turns;
-    no_records = records_both first.more second.more ∙ ap₂ (λ (a b : List Record). a ++ b) first.no_records second.no_records;
-    leads = λ start until done h.
-        subst (λ (l : List Doing). Leads server start until l new) (sym (append_assoc second.more first.more done)) (second.leads start until (first.more ++ done) (first.leads start until done h));
-    waits = λ done h last.
-        subst (λ (l : List Doing). IsWaiting l failed waiting) (sym (append_assoc second.more first.more done)) (second.waits (first.more ++ done) (first.waits done h last) (first.last done last));
-    last = λ done last.
-        subst (λ (l : List Doing). last_moment l ≡ new.moment) (sym (append_assoc second.more first.more done)) (second.last (first.more ++ done) (first.last done last));
-    given = given_both before.given between.given after.given first.more second.more first.given second.given;
-    noted = noted_both before.written between.written after.written first.more second.more first.noted second.noted;
-  }
-
-  -- ---- steps
-
-  pub course_nothing : (state : ProxyState) (entry : Option ℕ) (g : Sent) → Course server state state entry entry [] [] None [] g g
-  course_nothing state entry g = record {
-    more = [];
-    turns_are = refl;
+  pub course_nothing : (state : ProxyState) (p : Point) (t : Told) → IsThrough p.stage → Course server state state p p t t [] 0 0
+  course_nothing state p t is = record {
+    done = [];
+    path = refl;
+    history = [];
+    is_run = run_nothing server state None;
+    turns = tt;
+    sayable = tt;
+    told = told_nothing t;
     recorded = refl;
-    leads = λ start done h. h;
-    waits = λ done h. h;
-    given = told_none g.given;
-    noted = notes_nothing g.written;
+    told_but_last = sym (none_untold p.stage is);
+    through = λ h. (refl, refl);
+    read = refl;
+    asked = refl;
   }
 
-  -- what is due happens, and its packets are given to the link
-  pub course_fires : (old middle new : ProxyState) (at : ℕ) (out : StepOut) (failed : Option Packet) (waiting : List Packet) (before after : Sent) → old.moment ≤ middle.moment → middle.moment ≡ out.at
-      → out.records ≡ [] → IsStep server old (Passing at) out middle → Hands server middle new out.packets failed waiting before after → Course server old new (Some at) (Some at) [] [] failed waiting before after
-  course_fires old middle new at out failed waiting before after rises stands none step hands = record {
-    more = hands.more ++ Fires out ∷ [];
-    turns_are = turns_behind hands.more (Fires out ∷ []) ∙ ap (λ (l : List Turn). l ++ []) hands.no_turns;
-    recorded = records_both (Fires out ∷ []) hands.more ∙ ap₂ (λ (a b : List Record). (a ++ []) ++ b) none hands.no_records;
-    leads = λ start done h.
-        subst (λ (l : List Doing). Leads server start (Some at) l new) (sym (append_assoc hands.more (Fires out ∷ []) done))
-        (hands.leads start (Some at) (Fires out ∷ done) (fires_leads server start old middle at done out rises stands step h));
-    waits = λ done h.
-        subst (λ (l : List Doing). IsWaiting l failed waiting) (sym (append_assoc hands.more (Fires out ∷ []) done)) (hands.waits (Fires out ∷ done) (h, refl, refl) (sym stands));
-    given = given_both before.given before.given after.given (Fires out ∷ []) hands.more (told_none before.given) hands.given;
-    noted = noted_both before.written before.written after.written (Fires out ∷ []) hands.more (notes_nothing before.written) hands.noted;
+  pub course_on : (old middle new : ProxyState) (from mid to : Point) (before half after : Told) (records more : List Record) (reads asks more_reads more_asks : ℕ) → IsThrough mid.stage
+      → Course server old middle from mid before half records reads asks → Course server middle new mid to half after more more_reads more_asks
+      → Course server old new from to before after (records ++ more) (reads + more_reads) (asks + more_asks)
+  course_on old middle new from mid to before half after records more reads asks more_reads more_asks is first second =
+      let none : ahead first.done ≡ None = (first.through is).0 in
+      let logged : gathered records_logged first.done ≡ records = (first.through is).1 in
+      let until : ahead (second.done ++ first.done) ≡ ahead second.done = ahead_behind second.done first.done none in
+      record {
+        done = second.done ++ first.done;
+        path = path_on from mid to first.done second.done first.path second.path;
+        history = second.history ++ first.history;
+        is_run =
+            subst (λ (es : List Event). IsRun server old es (ahead (second.done ++ first.done)) (gathered steps_taken (second.done ++ first.done)) (second.history ++ first.history) new) (sym (gathered_behind event_taken second.done first.done))
+            (subst (λ (o : Option ℕ). IsRun server old (gathered event_taken first.done ++ gathered event_taken second.done) o (gathered steps_taken (second.done ++ first.done)) (second.history ++ first.history) new) (sym until)
+            (subst (λ (ss : List StepOut). IsRun server old (gathered event_taken first.done ++ gathered event_taken second.done) (ahead second.done) ss (second.history ++ first.history) new) (sym (gathered_behind steps_taken second.done first.done))
+            (run_on server old middle new (gathered event_taken first.done) (gathered event_taken second.done) (ahead second.done) (gathered steps_taken first.done) (gathered steps_taken second.done) first.history second.history
+            (subst (λ (o : Option ℕ). IsRun server old (gathered event_taken first.done) o (gathered steps_taken first.done) first.history middle) none first.is_run) second.is_run)));
+        turns = in_turn_on server first.history second.history first.turns second.turns;
+        sayable =
+            subst (λ (es : List Event). AllByRecursion (λ (event : Event). is_sayable event ≡ true) es) (sym (gathered_behind event_taken second.done first.done))
+            (all_on (gathered event_taken first.done) (gathered event_taken second.done) first.sayable second.sayable);
+        told = told_on before half after first.done second.done first.told second.told;
+        recorded =
+            ap records_of (gathered_behind steps_taken second.done first.done) ∙ records_both (gathered steps_taken first.done) (gathered steps_taken second.done)
+            ∙ ap₂ (λ (a b : List Record). a ++ b) first.recorded second.recorded;
+        told_but_last =
+            gathered_behind event_taken second.done first.done
+            ∙ ap₂ (λ (a b : List Event). a ++ b) (first.told_but_last ∙ ap (λ (l : List Event). gathered event_told first.done ++ l) (none_untold mid.stage is) ∙ append-nil (gathered event_told first.done)) second.told_but_last
+            ∙ sym (append_assoc (gathered event_told first.done) (gathered event_told second.done) (untold_in to.stage))
+            ∙ ap (λ (l : List Event). l ++ untold_in to.stage) (sym (gathered_behind event_told second.done first.done));
+        through = λ s. (
+          until ∙ (second.through s).0,
+          gathered_behind records_logged second.done first.done ∙ ap₂ (λ (a b : List Record). a ++ b) logged (second.through s).1,
+        );
+        read =
+            ap length (gathered_behind moment_read second.done first.done) ∙ length-append (gathered moment_read first.done) (gathered moment_read second.done)
+            ∙ ap₂ (λ (a b : ℕ). a + b) first.read second.read;
+        asked =
+            ap length (gathered_behind turn_asked second.done first.done) ∙ length-append (gathered turn_asked first.done) (gathered turn_asked second.done)
+            ∙ ap₂ (λ (a b : ℕ). a + b) first.asked second.asked;
+      }
+
+  -- ---- one doing
+
+  -- the clock is read
+  pub course_reads : (state : ProxyState) (m at : ℕ) (h : Option (List (Option Heard))) (g : Option (List Given)) (r r2 : Option (List ℕ)) (w p : Option (Option (List ℕ))) (ws : Stream) → IsToldMore r (at ∷ []) r2
+      → Course server state state (between_turns m) (waiting_at (Some at) [] m) (told_by h g r w p ws) (told_by h g r2 w p ws) [] 1 0
+  course_reads state m at h g r r2 w p ws told = record {
+    done = Reads at ∷ [];
+    path = (between_turns m, refl, record { idle = record { clear = refl; whole = refl; all_sent = refl }; none_open = refl; leads = refl });
+    history = [];
+    is_run = run_nothing server state None;
+    turns = tt;
+    sayable = tt;
+    told = record { heard = told_none h; given = told_none g; readings = told; words = refl; noted = notes_nothing w; printed = prints_nothing p };
+    recorded = refl;
+    told_but_last = refl;
+    through = λ h. (refl, refl);
+    read = refl;
+    asked = refl;
   }
 
-  -- the event of a turn is taken and noted, and its packets are given to the link
-  pub course_takes : (old middle new : ProxyState) (turn : Turn) (out : StepOut) (failed : Option Packet) (waiting : List Packet) (before half after : Sent) → middle.moment ≡ out.at
-      → event_moment (event_of_turn turn) ≡ reading_of turn → IsStep server old (ForEvent (event_of_turn turn)) out middle → half.given ≡ before.given
-      → Notes before.written half.written (event_of_turn turn ∷ []) → Hands server middle new out.packets failed waiting half after
-      → Course server old new (Some (reading_of turn)) None (turn ∷ []) out.records failed waiting before after
-  course_takes old middle new turn out failed waiting before half after stands is step g noted hands = record {
-    more = hands.more ++ Takes turn out ∷ [];
-    turns_are = turns_behind hands.more (Takes turn out ∷ []) ∙ ap (λ (l : List Turn). l ++ turn ∷ []) hands.no_turns;
-    recorded = records_both (Takes turn out ∷ []) hands.more ∙ ap (λ (b : List Record). (out.records ++ []) ++ b) hands.no_records ∙ append-nil (out.records ++ []) ∙ append-nil out.records;
-    leads = λ start done h.
-        subst (λ (l : List Doing). Leads server start None l new) (sym (append_assoc hands.more (Takes turn out ∷ []) done))
-        (hands.leads start None (Takes turn out ∷ done) (turn_leads server start done old middle turn out step is h));
-    waits = λ done h.
-        subst (λ (l : List Doing). IsWaiting l failed waiting) (sym (append_assoc hands.more (Takes turn out ∷ []) done)) (hands.waits (Takes turn out ∷ done) (h, refl, refl) (sym stands));
-    given = given_both before.given half.given after.given (Takes turn out ∷ []) hands.more (g ∙ told_none before.given) hands.given;
-    noted = noted_both before.written half.written after.written (Takes turn out ∷ []) hands.more noted hands.noted;
+  -- the link is asked
+  pub course_asks : (state : ProxyState) (m at : ℕ) (turn : Turn) (h h2 : Option (List (Option Heard))) (g : Option (List Given)) (r : Option (List ℕ)) (w p : Option (Option (List ℕ))) (ws ws2 : Stream) → reading_of turn ≡ at
+      → h2 ≡ told_more h (heard_of_turn turn ∷ []) → AreDrawn ws (turn ∷ []) ws2
+      → Course server state state (waiting_at (Some at) [] m) (asked_at at turn m) (told_by h g r w p ws) (told_by h2 g r w p ws2) [] 0 1
+  course_asks state m at turn h h2 g r w p ws ws2 is heard drawn = record {
+    done = Asks turn ∷ [];
+    path = (waiting_at (Some at) [] m, refl, record { idle = record { clear = refl; whole = refl; all_sent = refl }; is_open = ap Some (sym is); leads = refl });
+    history = [];
+    is_run = run_nothing server state None;
+    turns = tt;
+    sayable = tt;
+    told = record { heard = heard; given = told_none g; readings = told_if_none r; words = drawn; noted = notes_nothing w; printed = prints_nothing p };
+    recorded = refl;
+    told_but_last = refl;
+    through = λ h. (refl, refl);
+    read = refl;
+    asked = refl;
   }
 
-  pub course_on : (old middle new : ProxyState) (entry between exit : Option ℕ) (turns more_turns : List Turn) (records more_records : List Record) (failed : Option Packet) (waiting : List Packet) (before half after : Sent)
-      → Course server old middle entry between turns records None [] before half → Course server middle new between exit more_turns more_records failed waiting half after
-      → Course server old new entry exit (more_turns ++ turns) (records ++ more_records) failed waiting before after
-  course_on old middle new entry between exit turns more_turns records more_records failed waiting before half after first second = record {
-    more = second.more ++ first.more;
-    turns_are = turns_behind second.more first.more ∙ ap₂ (λ (a b : List Turn). a ++ b) second.turns_are first.turns_are;
-    recorded = records_both first.more second.more ∙ ap₂ (λ (a b : List Record). a ++ b) first.recorded second.recorded;
-    leads = λ start done h. subst (λ (l : List Doing). Leads server start exit l new) (sym (append_assoc second.more first.more done)) (second.leads start (first.more ++ done) (first.leads start done h));
-    waits = λ done h. subst (λ (l : List Doing). IsWaiting l failed waiting) (sym (append_assoc second.more first.more done)) (second.waits (first.more ++ done) (first.waits done h));
-    given = given_both before.given half.given after.given first.more second.more first.given second.given;
-    noted = noted_both before.written half.written after.written first.more second.more first.noted second.noted;
+  -- a packet is given to the link
+  pub course_sends : (state : ProxyState) (turn : Option ℕ) (p : Packet) (sending : Sending) (rest : List Packet) (m : ℕ) (h : Option (List (Option Heard))) (g g2 : Option (List Given)) (r : Option (List ℕ)) (w l : Option (Option (List ℕ))) (ws : Stream)
+      → g2 ≡ told_more g (record { to = p.to; bytes = p.bytes; sending = sending } ∷ [])
+      → Course server state state (waiting_at turn (p ∷ rest) m) (sent_at turn (failing p sending) rest m) (told_by h g r w l ws) (told_by h g2 r w l ws) [] 0 0
+  course_sends state turn p sending rest m h g g2 r w l ws given = record {
+    done = Sends p sending ∷ [];
+    path = (waiting_at turn (p ∷ rest) m, refl, record { clear = refl; whole = refl; rest = rest; first = refl; leads = refl });
+    history = [];
+    is_run = run_nothing server state None;
+    turns = tt;
+    sayable = tt;
+    told = record { heard = told_none h; given = given; readings = told_if_none r; words = refl; noted = notes_nothing w; printed = prints_nothing l };
+    recorded = refl;
+    told_but_last = refl;
+    through = λ h. (refl, refl);
+    read = refl;
+    asked = refl;
   }
+
+  -- what is due happens, and the event behind it isn't taken
+  pub course_fires : (old new : ProxyState) (p : Point) (at : ℕ) (outs : List StepOut) (history : List Link) (t : Told) → MayFallDue at p → IsRun server old [] (Some at) outs history new → AreInTurn server history
+      → records_of outs ≡ [] → Course server old new p (stopped_at p (FallsDue at) outs) t t [] 0 0
+  course_fires old new p at outs history t comes run turns none = record {
+    done = Fires (FallsDue at) outs ∷ [];
+    path = (p, refl, record { comes = comes; leads = refl });
+    history = history;
+    is_run = run;
+    turns = turns;
+    sayable = tt;
+    told = let told = told_nothing t in record { heard = told.heard; given = told.given; readings = told.readings; words = told.words; noted = told.noted; printed = told.printed };
+    recorded = none;
+    told_but_last = refl;
+    through = λ h. absurd h;
+    read = refl;
+    asked = refl;
+  }
+
+  -- ---- an event
+
+  module _ (old new : ProxyState) (p : Point) (cause : Cause) (outs : List StepOut) (own : StepOut) (history : List Link) (comes : MayCome cause p)
+      (run : IsRun server old (event_for cause ∷ []) None (outs ++ own ∷ []) history new) (turns : AreInTurn server history) (recorded : records_of (outs ++ own ∷ []) ≡ own.records) (says : is_sayable (event_for cause) ≡ true) where
+    -- it was taken, and isn't told
+    pub course_takes : (t t2 : Told) → AreTold t t2 [] → Course server old new p (taken_at p cause outs own) t t2 own.records 0 0
+    course_takes t t2 told = record {
+      done = Takes cause outs own ∷ [];
+      path = (p, refl, record { comes = comes; leads = refl });
+      history = history;
+      is_run = run;
+      turns = turns;
+      sayable = (says, tt);
+      told = record { heard = told.heard; given = told.given; readings = told.readings; words = told.words; noted = told.noted; printed = told.printed };
+      recorded = recorded;
+      told_but_last = refl;
+      through = λ h. absurd h;
+      read = refl;
+      asked = refl;
+    }
+
+    -- it was told, and its lines aren't printed
+    pub course_tells : (h : Option (List (Option Heard))) (g : Option (List Given)) (r : Option (List ℕ)) (w w2 l l2 : Option (Option (List ℕ))) (ws : Stream) → Notes w w2 (event_for cause ∷ []) → Prints l l2 []
+        → Course server old new p (unlogged_at p cause outs own) (told_by h g r w l ws) (told_by h g r w2 l2 ws) own.records 0 0
+    course_tells h g r w w2 l l2 ws noted printed = record {
+      done = Tells (event_for cause) ∷ Takes cause outs own ∷ [];
+      path = (taken_at p cause outs own, (p, refl, record { comes = comes; leads = refl }), record { cause = cause; records = own.records; untold = refl; same = refl; leads = refl });
+      history = history;
+      is_run = subst (λ (ss : List StepOut). IsRun server old (event_for cause ∷ []) None ss history new) (sym (append-nil (outs ++ own ∷ []))) run;
+      turns = turns;
+      sayable = (says, tt);
+      told = record { heard = told_none h; given = told_none g; readings = told_if_none r; words = refl; noted = noted; printed = printed };
+      recorded = ap records_of (append-nil (outs ++ own ∷ [])) ∙ recorded;
+      told_but_last = refl;
+      through = λ h. absurd h;
+      read = refl;
+      asked = refl;
+    }
+
+    -- and they are
+    pub course_event : (waiting : List Packet) (m : ℕ) (h : Option (List (Option Heard))) (g : Option (List Given)) (r : Option (List ℕ)) (w w2 l l2 : Option (Option (List ℕ))) (ws : Stream)
+        → waiting ≡ p.waiting ++ packets_of (outs ++ own ∷ []) → m ≡ own.at → Notes w w2 (event_for cause ∷ []) → Prints l l2 own.records
+        → Course server old new p (waiting_at (turn_behind cause p.turn) waiting m) (told_by h g r w l ws) (told_by h g r w2 l2 ws) own.records 0 0
+    course_event waiting m h g r w w2 l l2 ws waits stands noted printed = record {
+      done = Logs own.records ∷ Tells (event_for cause) ∷ Takes cause outs own ∷ [];
+      path = (
+        unlogged_at p cause outs own,
+        (taken_at p cause outs own, (p, refl, record { comes = comes; leads = refl }), record { cause = cause; records = own.records; untold = refl; same = refl; leads = refl }),
+        record { unlogged = refl; leads = ap₂ (λ (l : List Packet) (n : ℕ). waiting_at (turn_behind cause p.turn) l n) waits stands },
+      );
+      history = history;
+      is_run = subst (λ (ss : List StepOut). IsRun server old (event_for cause ∷ []) None ss history new) (sym (twice_nil (outs ++ own ∷ []))) run;
+      turns = turns;
+      sayable = (says, tt);
+      told = record { heard = told_none h; given = told_none g; readings = told_if_none r; words = refl; noted = noted; printed = printed };
+      recorded = ap records_of (twice_nil (outs ++ own ∷ [])) ∙ recorded;
+      told_but_last = refl;
+      through = λ h. (refl, refl);
+      read = refl;
+      asked = refl;
+    }

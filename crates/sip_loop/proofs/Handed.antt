@@ -1,23 +1,32 @@
 -- What is handed out, and the faults of it.
-use Rattle.std.proofs.Common.{◌≡◌, ℕ, ◌+◌, ◌≤◌, ◌<◌, List, [], ◌∷◌, ◌++◌, length, drop, zero, suc, Option, None, Some, Result, Ok, Err, OnErr, refl, sym, ◌∙◌, ap, subst, arith}
+use Rattle.std.proofs.Common.{◌≡◌, ℕ, ◌+◌, ◌≤◌, ◌<◌, ◌^◌, true, List, [], ◌∷◌, ◌++◌, length, drop, zero, suc, Option, None, Some, Result, Ok, Err, OnErr, refl, sym, ◌∙◌, ap, subst, arith, append-nil}
 use Rattle.std.specs.Prelude.{find, get_or, ◌==◌}
 use Rattle.std.proofs.lemmas.List.{drop_more}
+use Rattle.sip_loop_link.specs.declared.datagram.Given.{Given}
+use Rattle.sip_loop_link.specs.declared.datagram.Sending.TheVariants.{Went, Failed}
+use Rattle.sip_loop_link.specs.Told.{and_then}
 use Rattle.sip_event.specs.declared.event.Event.TheVariants.{Fault}
 use Rattle.sip_event.specs.declared.event.StepOut.{StepOut}
 use Rattle.sip_event.specs.declared.packet.Packet.{Packet}
 use Rattle.sip_event.specs.declared.packet.Ticket.{Ticket}
+use Rattle.sip_audit.specs.declared.record.Record.{Record}
+use Rattle.sip_record.specs.Record.{Notes}
 use Rattle.model_bounds.specs.state.declared.branch.Branch.{Branch}
 use Rattle.model_bounds.specs.state.declared.open_request.OpenRequest.{OpenRequest}
 use Rattle.model_bounds.specs.state.declared.proxy_state.ProxyState.{ProxyState}
 use Rattle.model_bounds.specs.state.declared.server.Server.{Server}
 use Rattle.model_bounds.specs.steps_model.Step.{Given as ForEvent, IsFault, IsStep, failed_branch, failed_request, fault_effect, is_failed, moment_of}
 use Rattle.model_bounds.specs.model.Ends.{sends_left}
-use Rattle.sip_loop_link.specs.declared.datagram.Sending.TheVariants.{Went, Failed}
-use Rattle.sip_loop_link.specs.Told.{and_then}
-use Rattle.sip_record.specs.Record.{Notes}
-use Rattle.sip_loop.specs.Serving.{Sent}
-use Rattle.sip_loop.specs.Courses.{Hands, HandsSome, IsNoFurther, TakesFault}
-use Rattle.sip_loop.proofs.Courses.{hands_failed, hands_fault, hands_nothing, hands_on, hands_went, told_one}
+use Rattle.sip_loop.specs.Printing.{Prints}
+use Rattle.sip_loop.specs.Serving.{IsWhy, MayFail, Point, Told, Unsent}
+use Rattle.sip_loop.specs.Courses.{Breaks, Course, IsNoFurther, IsThrough, Others, TakesFault, told_with, waiting_at}
+use Rattle.sip_loop.specs.declared.served.ServeError.{ServeError}
+use Rattle.sip_loop.specs.declared.served.ServeError.TheVariants as refusals
+use Rattle.sip_loop.proofs.Courses.{course_event, course_nothing, course_on, course_sends, course_takes, sent_at, taken_at}
+use Rattle.sip_loop.proofs.Gathering.{told_failed, told_one}
+use Rattle.sip_loop.proofs.Printed.{prints_nothing}
+use Rattle.sip_loop.proofs.Sayable.{is_small}
+use Rattle.sip_replay_script.specs.EventText.{is_moment}
 
 -- ---- faults
 
@@ -34,13 +43,14 @@ module _ (server : Server) (now : ℕ) (ticket : Ticket) (state : ProxyState) wh
   fault_records : (fault_effect server now ticket state).records ≡ []
   fault_records = request_records (find (λ (r : OpenRequest). r.number == ticket.datagram) state.requests)
 
-pub takes_fault : (server : Server) (old new : ProxyState) (at : ℕ) (ticket : Ticket) (out : StepOut) → at ≡ old.moment → IsStep server old (ForEvent (Fault at ticket)) out new → new.moment ≡ out.at
+pub takes_fault : (server : Server) (old new : ProxyState) (at : ℕ) (ticket : Ticket) (out : StepOut) → at ≡ old.moment → at < 2 ^ 62 → IsStep server old (ForEvent (Fault at ticket)) out new → new.moment ≡ out.at
     → length out.packets + sends_left new ≤ sends_left old → (IsFault server old old.moment ticket out new → IsNoFurther old new) → TakesFault server old ticket out new
-takes_fault server old new at ticket out is step stands fewer further =
+takes_fault server old new at ticket out is small step stands fewer further =
     let then : IsStep server old (ForEvent (Fault old.moment ticket)) out new = subst (λ (n : ℕ). IsStep server old (ForEvent (Fault n ticket)) out new) is step in
     record {
       step = then;
       stands = stands;
+      sayable = subst (λ (n : ℕ). is_moment n ≡ true) is (is_small at small);
       no_records = then.does.records ∙ fault_records server (moment_of old old.moment) ticket (record old { moment = moment_of old old.moment });
       fewer = fewer;
       no_further = further then;
@@ -49,12 +59,6 @@ takes_fault server old new at ticket out is step stands fewer further =
 -- a moment that counts as the state's is that
 pub counts_as : (state : ProxyState) (at : ℕ) → at ≡ state.moment → state.moment ≡ moment_of state at
 counts_as state at is = omega (arith, is)
-
-pub no_further_on : (a b c : ProxyState) → IsNoFurther a b → IsNoFurther b c → IsNoFurther a c
-no_further_on a b c first second at = omega (arith, first at, second at)
-
-pub no_further_same : (a : ProxyState) → IsNoFurther a a
-no_further_same a at = omega arith
 
 -- ---- what waits
 
@@ -70,57 +74,114 @@ behind_more (x ∷ xs) more (suc n) lt =
     let next : suc (n + 1) ≡ suc n + 1 = omega arith in
     subst (λ (m : ℕ). drop m (x ∷ (xs ++ more)) ≡ drop m (x ∷ xs) ++ more) next (behind_more xs more n (omega (arith, lt)))
 
--- ---- the link
-
 -- what holds in any case
 pub on_err_of : {X E : Type 0} {P : Type 0} (r : Result X E) → P → OnErr r P
 on_err_of (Ok x) h = tt
 on_err_of (Err e) h = h
 
-module _ (server : Server) (state : ProxyState) (packets : List Packet) (place : ℕ) (p : Packet) (lt : place < length packets) (is : p ≡ get_or packets place p) (before after : Sent) where
-  pub went : after.given ≡ and_then before.given (record { to = p.to; bytes = p.bytes; sending = Went }) → after.written ≡ before.written → Hands server state state (drop place packets) None (drop (place + 1) packets) before after
-  went g w =
-      subst (λ (l : List Packet). Hands server state state l None (drop (place + 1) packets) before after) (sym (at_place packets place p lt is))
-      (hands_went server state p (drop (place + 1) packets) before after (g ∙ told_one before.given (record { to = p.to; bytes = p.bytes; sending = Went })) w)
+-- ---- a piece that breaks off behind another
 
-  pub unfaulted : (new : ProxyState) → new ≡ state → after.given ≡ and_then before.given (record { to = p.to; bytes = p.bytes; sending = Failed }) → after.written ≡ before.written
-      → HandsSome server state new (drop place packets) before after
-  unfaulted new same g w = record {
-    failed = Some p;
-    waiting = drop (place + 1) packets;
-    hands =
-        subst (λ (s : ProxyState). Hands server state s (drop place packets) (Some p) (drop (place + 1) packets) before after) (sym same)
-        (subst (λ (l : List Packet). Hands server state state l (Some p) (drop (place + 1) packets) before after) (sym (at_place packets place p lt is))
-        (hands_failed server state p (drop (place + 1) packets) before after (g ∙ told_one before.given (record { to = p.to; bytes = p.bytes; sending = Failed })) w));
-  }
-
-  faulted : (new : ProxyState) (out : StepOut) → after.given ≡ and_then before.given (record { to = p.to; bytes = p.bytes; sending = Failed }) → TakesFault server state p.ticket out new → Notes before.written after.written (Fault state.moment p.ticket ∷ [])
-      → Hands server state new (drop place packets) None (drop (place + 1) packets ++ out.packets) before after
-  faulted new out g fault noted =
-      subst (λ (l : List Packet). Hands server state new l None (drop (place + 1) packets ++ out.packets) before after) (sym (at_place packets place p lt is))
-      (hands_fault server state new p (drop (place + 1) packets) out before after (g ∙ told_one before.given (record { to = p.to; bytes = p.bytes; sending = Failed })) fault.step fault.stands fault.no_records noted)
-
-  pub faulted_all : (new : ProxyState) (out : StepOut) (more : List Packet) → after.given ≡ and_then before.given (record { to = p.to; bytes = p.bytes; sending = Failed }) → TakesFault server state p.ticket out new → Notes before.written after.written (Fault state.moment p.ticket ∷ []) → more ≡ packets ++ out.packets
-      → Hands server state new (drop place packets) None (drop (place + 1) more) before after
-  faulted_all new out more g fault noted same =
-      subst (λ (l : List Packet). Hands server state new (drop place packets) None l before after) (sym (ap (drop (place + 1)) same ∙ behind_more packets out.packets place lt)) (faulted new out g fault noted)
-
-  pub faulted_some : (new : ProxyState) (out : StepOut) → after.given ≡ and_then before.given (record { to = p.to; bytes = p.bytes; sending = Failed }) → TakesFault server state p.ticket out new → Notes before.written after.written (Fault state.moment p.ticket ∷ [])
-      → HandsSome server state new (drop place packets) before after
-  faulted_some new out g fault noted = record { failed = None; waiting = drop (place + 1) packets ++ out.packets; hands = faulted new out g fault noted }
-
-pub unsent : (server : Server) (state : ProxyState) (packets : List Packet) (before after : Sent) → after.given ≡ before.given → after.written ≡ before.written → HandsSome server state state packets before after
-unsent server state packets before after g w = record { failed = None; waiting = packets; hands = hands_nothing server state packets before after g w }
-
-pub hands_then : (server then_server : Server) (old middle new : ProxyState) (packets rest waiting : List Packet) (before half after : Sent) → then_server ≡ server → Hands server old middle packets None rest before half
-    → Hands then_server middle new rest None waiting half after → Hands server old new packets None waiting before after
-hands_then server then_server old middle new packets rest waiting before half after same first second =
-    hands_on server old middle new packets rest None waiting before half after first (subst (λ (s : Server). Hands s middle new rest None waiting half after) same second)
-
-pub hands_some : (server then_server : Server) (old middle new : ProxyState) (packets rest : List Packet) (before half after : Sent) → then_server ≡ server → Hands server old middle packets None rest before half
-    → HandsSome then_server middle new rest half after → HandsSome server old new packets before after
-hands_some server then_server old middle new packets rest before half after same first second = record {
-  failed = second.failed;
-  waiting = second.waiting;
-  hands = hands_on server old middle new packets rest second.failed second.waiting before half after first (subst (λ (s : Server). Hands s middle new rest second.failed second.waiting half after) same second.hands);
+pub breaks_on : (server : Server) (old middle new : ProxyState) (from mid : Point) (before half after : Told) (records : List Record) (reads asks more_reads : ℕ) (e : ServeError) → IsThrough mid.stage
+    → Course server old middle from mid before half records reads asks → Breaks server middle new mid half after more_reads e → Breaks server old new from before after (reads + more_reads) e
+breaks_on server old middle new from mid before half after records reads asks more_reads e is first second = record {
+  to = second.to;
+  records = records ++ second.records;
+  asks = asks + second.asks;
+  course = course_on server old middle new from mid second.to before half after records second.records reads asks more_reads second.asks is first second.course;
+  why = second.why;
 }
+
+-- memory ran out, whatever was done
+pub breaks_memory : (server : Server) (old new : ProxyState) (from to : Point) (before after : Told) (records : List Record) (reads asks : ℕ) (e : ServeError) → e ≡ refusals.NoMemory
+    → Course server old new from to before after records reads asks → Breaks server old new from before after reads e
+breaks_memory server old new from to before after records reads asks e is course = record {
+  to = to;
+  records = records;
+  asks = asks;
+  course = course;
+  why = subst (λ (x : ServeError). IsWhy x to new) (sym is) tt;
+}
+
+-- ---- one packet
+
+module _ (server : Server) (old : ProxyState) (packets : List Packet) (place : ℕ) (p : Packet) (lt : place < length packets) (is : p ≡ get_or packets place p) (others : Others) (turn : Option ℕ)
+    (g g2 : Option (List Given)) (w : Option (Option (List ℕ))) where
+  -- a point of which so much is known
+  from_place : (T : Point → Type 0) → T (waiting_at turn (p ∷ drop (place + 1) packets) old.moment) → T (waiting_at turn (drop place packets) old.moment)
+  from_place T h = subst (λ (l : List Packet). T (waiting_at turn l old.moment)) (sym (at_place packets place p lt is)) h
+
+  -- it went out
+  pub went : g2 ≡ and_then g (record { to = p.to; bytes = p.bytes; sending = Went })
+      → Course server old old (waiting_at turn (drop place packets) old.moment) (waiting_at turn (drop (place + 1) packets) old.moment) (told_with others g w) (told_with others g2 w) [] 0 0
+  went given =
+      from_place (λ from. Course server old old from (waiting_at turn (drop (place + 1) packets) old.moment) (told_with others g w) (told_with others g2 w) [] 0 0)
+      (course_sends server old turn p Went (drop (place + 1) packets) old.moment others.heard g g2 others.readings w others.printed others.words (given ∙ told_one g _))
+
+  -- it failed
+  failed : g2 ≡ and_then g (record { to = p.to; bytes = p.bytes; sending = Failed })
+      → Course server old old (waiting_at turn (drop place packets) old.moment) (sent_at turn (Some p) (drop (place + 1) packets) old.moment) (told_with others g w) (told_with others g2 w) [] 0 0
+  failed given =
+      from_place (λ from. Course server old old from (sent_at turn (Some p) (drop (place + 1) packets) old.moment) (told_with others g w) (told_with others g2 w) [] 0 0)
+      (course_sends server old turn p Failed (drop (place + 1) packets) old.moment others.heard g g2 others.readings w others.printed others.words (given ∙ told_one g _))
+
+  -- and its fault wasn't taken
+  pub unfaulted : (e : ServeError) → e ≡ refusals.NoMemory → g2 ≡ and_then g (record { to = p.to; bytes = p.bytes; sending = Failed })
+      → Breaks server old old (waiting_at turn (drop place packets) old.moment) (told_with others g w) (told_with others g2 w) 0 e
+  unfaulted e lack given =
+      breaks_memory server old old (waiting_at turn (drop place packets) old.moment) (sent_at turn (Some p) (drop (place + 1) packets) old.moment) (told_with others g w) (told_with others g2 w) [] 0 0 e lack (failed given)
+
+  -- it was
+  module _ (new : ProxyState) (out : StepOut) (given : g2 ≡ and_then g (record { to = p.to; bytes = p.bytes; sending = Failed })) (taken : TakesFault server old p.ticket out new) where
+    comes : MayFail old.moment p (sent_at turn (Some p) (drop (place + 1) packets) old.moment)
+    comes = record { clear = refl; failed = refl; same = refl }
+
+    fault_event : (w2 : Option (Option (List ℕ))) (waiting : List Packet) → waiting ≡ drop (place + 1) packets ++ out.packets → Notes w w2 (Fault old.moment p.ticket ∷ [])
+        → Course server old new (sent_at turn (Some p) (drop (place + 1) packets) old.moment) (waiting_at turn waiting new.moment) (told_with others g2 w) (told_with others g2 w2) [] 0 0
+    fault_event w2 waiting waits noted =
+        subst (λ (rs : List Record). Course server old new (sent_at turn (Some p) (drop (place + 1) packets) old.moment) (waiting_at turn waiting new.moment) (told_with others g2 w) (told_with others g2 w2) rs 0 0) taken.no_records
+        (course_event server old new (sent_at turn (Some p) (drop (place + 1) packets) old.moment) (Unsent old.moment p) [] out (record { before = old; act = ForEvent (Fault old.moment p.ticket); out = out; after = new } ∷ []) comes
+        (record { chain = (refl, taken.step, refl); paced = (tt, tt); of_events = refl; of_steps = refl }) (refl, tt) (append-nil out.records) taken.sayable
+        waiting new.moment others.heard g2 others.readings w w2 others.printed others.printed others.words
+        (waits ∙ ap (λ (l : List Packet). drop (place + 1) packets ++ l) (sym (append-nil out.packets))) taken.stands noted
+        (subst (λ (rs : List Record). Prints others.printed others.printed rs) (sym taken.no_records) (prints_nothing others.printed)))
+
+    -- and told
+    pub faulted : (w2 : Option (Option (List ℕ))) (after : List Packet) → after ≡ packets ++ out.packets → Notes w w2 (Fault old.moment p.ticket ∷ [])
+        → Course server old new (waiting_at turn (drop place packets) old.moment) (waiting_at turn (drop (place + 1) after) new.moment) (told_with others g w) (told_with others g2 w2) [] 0 0
+    faulted w2 after added noted =
+        course_on server old old new (waiting_at turn (drop place packets) old.moment) (sent_at turn (Some p) (drop (place + 1) packets) old.moment) (waiting_at turn (drop (place + 1) after) new.moment)
+        (told_with others g w) (told_with others g2 w) (told_with others g2 w2) [] [] 0 0 0 0 tt (failed given)
+        (fault_event w2 (drop (place + 1) after) (ap (drop (place + 1)) added ∙ behind_more packets out.packets place lt) noted)
+
+    -- and told, and memory ran out
+    pub faulted_some : (w2 : Option (Option (List ℕ))) (e : ServeError) → e ≡ refusals.NoMemory → Notes w w2 (Fault old.moment p.ticket ∷ [])
+        → Breaks server old new (waiting_at turn (drop place packets) old.moment) (told_with others g w) (told_with others g2 w2) 0 e
+    faulted_some w2 e lack noted =
+        breaks_memory server old new (waiting_at turn (drop place packets) old.moment) (waiting_at turn (drop (place + 1) packets ++ out.packets) new.moment) (told_with others g w) (told_with others g2 w2) [] 0 0 e lack
+        (course_on server old old new (waiting_at turn (drop place packets) old.moment) (sent_at turn (Some p) (drop (place + 1) packets) old.moment) (waiting_at turn (drop (place + 1) packets ++ out.packets) new.moment)
+        (told_with others g w) (told_with others g2 w) (told_with others g2 w2) [] [] 0 0 0 0 tt (failed given)
+        (fault_event w2 (drop (place + 1) packets ++ out.packets) refl noted))
+
+    -- and the journal failed
+    pub untold : (w2 : Option (Option (List ℕ))) → w2 ≡ None
+        → Breaks server old new (waiting_at turn (drop place packets) old.moment) (told_with others g w) (told_with others g2 w2) 0 refusals.Journal
+    untold w2 none = record {
+      to = taken_at (sent_at turn (Some p) (drop (place + 1) packets) old.moment) (Unsent old.moment p) [] out;
+      records = [] ++ out.records;
+      asks = 0;
+      course = course_on server old old new (waiting_at turn (drop place packets) old.moment) (sent_at turn (Some p) (drop (place + 1) packets) old.moment)
+          (taken_at (sent_at turn (Some p) (drop (place + 1) packets) old.moment) (Unsent old.moment p) [] out)
+          (told_with others g w) (told_with others g2 w) (told_with others g2 w2) [] out.records 0 0 0 0 tt (failed given)
+          (course_takes server old new (sent_at turn (Some p) (drop (place + 1) packets) old.moment) (Unsent old.moment p) [] out (record { before = old; act = ForEvent (Fault old.moment p.ticket); out = out; after = new } ∷ []) comes
+          (record { chain = (refl, taken.step, refl); paced = (tt, tt); of_events = refl; of_steps = refl }) (refl, tt) (append-nil out.records) taken.sayable
+          (told_with others g2 w) (told_with others g2 w2) (told_failed others.heard g2 others.readings w w2 others.printed others.words none));
+      why = record { cause = Unsent old.moment p; records = out.records; untold = refl };
+    }
+
+-- nothing was given
+pub unsent : (server : Server) (state : ProxyState) (waiting : List Packet) (others : Others) (turn : Option ℕ) (g g2 : Option (List Given)) (w : Option (Option (List ℕ))) (e : ServeError) → g2 ≡ g → e ≡ refusals.NoMemory
+    → Breaks server state state (waiting_at turn waiting state.moment) (told_with others g w) (told_with others g2 w) 0 e
+unsent server state waiting others turn g g2 w e same lack =
+    subst (λ (x : Option (List Given)). Breaks server state state (waiting_at turn waiting state.moment) (told_with others g w) (told_with others x w) 0 e) (sym same)
+    (breaks_memory server state state (waiting_at turn waiting state.moment) (waiting_at turn waiting state.moment) (told_with others g w) (told_with others g w) [] 0 0 e lack
+    (course_nothing server state (waiting_at turn waiting state.moment) (told_with others g w) tt))

@@ -1,5 +1,10 @@
 pub mod Courses
+pub mod WhatIsDue
+pub mod Gathering
 pub mod Handed
 pub mod Noted
+pub mod Printed
+pub mod Replaying
+pub mod Runs
+pub mod Sayable
 pub mod Turning
-pub mod Turns

@@ -1,32 +1,41 @@
--- A turn, of its pieces.
-use Rattle.std.proofs.Common.{◌≡◌, ◌⊎◌, inl, inr, ℕ, ◌+◌, ◌≤◌, ◌<◌, List, [], ◌∷◌, ◌++◌, map, reverse, Option, None, Some, Result, Ok, Err, IfErr, OnErr, refl, sym, ◌∙◌, ap, subst, arith, append-nil, append_assoc}
-use Rattle.std.specs.Prelude.{IfSome, IsSome}
+-- A turn, of its pieces, and turns, one behind the other.
+use Rattle.std.proofs.Common.{◌≡◌, ◌⊎◌, inl, inr, ℕ, ◌+◌, ◌≤◌, ◌<◌, zero, suc, List, [], ◌∷◌, ◌++◌, Option, None, Some, refl, sym, ◌∙◌, ap, subst, arith, append-nil, append_assoc}
+use Rattle.std.specs.Prelude.{IsSome}
 use Rattle.rand_core.specs.Stream.{Stream}
+use Rattle.sip_loop_link.specs.declared.datagram.Given.{Given}
 use Rattle.sip_loop_link.specs.declared.datagram.Heard.{Heard}
-use Rattle.sip_loop_link.specs.Told.{and_then}
+use Rattle.sip_loop_link.specs.Told.{IsWritable, and_then, counted}
 use Rattle.sip_event.specs.declared.event.Event.TheVariants.{Datagram, Time}
 use Rattle.sip_event.specs.declared.event.StepOut.{StepOut}
-use Rattle.sip_event.specs.declared.packet.Packet.{Packet}
 use Rattle.sip_uri.specs.declared.addr.Addr.{Addr}
 use Rattle.sip_audit.specs.declared.record.Record.{Record}
+use Rattle.sip_record.specs.Record.{Notes}
 use Rattle.model_bounds.specs.state.declared.server.Server.{Server}
 use Rattle.model_bounds.specs.state.declared.proxy_state.ProxyState.{ProxyState}
 use Rattle.model_bounds.specs.state.State.{first_state}
-use Rattle.model_bounds.specs.steps_model.Step.{Act, Given as ForEvent, Passing, IsDeadline, IsResend, IsStep, moment_of}
 use Rattle.model_bounds.specs.model.Run.{Link, IsChain, event_moment}
+use Rattle.model_bounds.specs.model.Access.{Access}
+use Rattle.model_bounds.specs.Bounds.{IsBounded}
+use Rattle.model_bounds.specs.steps_model.Step.{Given as ForEvent, IsStep, moment_of}
 use Rattle.sip_run.specs.engine.declared.error.StepError.{StepError}
 use Rattle.sip_run.specs.engine.declared.error.StepError.TheVariants as steps
-use Rattle.sip_run.specs.engine.StepError.{refusal_at}
-use Rattle.sip_run.specs.Due.{Fires, NothingDueBy}
+use Rattle.sip_run.specs.engine.StepError.{refusal_at, refusal_of}
+use Rattle.sip_run.specs.Due.{NothingDueBy}
 use Rattle.sip_run.specs.Refusals.{refusal_of_event}
-use Rattle.sip_record.specs.Record.{Notes}
+use Rattle.sip_loop.specs.Counts.{counted_times, IsAskedWithin}
+use Rattle.sip_loop.specs.Printing.{Prints}
 use Rattle.sip_loop.specs.ServeErrors.{IsOfHanding, refusal_of_step}
-use Rattle.sip_loop.specs.Serving.{Turn, Silence, Arrival, Sent, Told, Progress, Whole, Read, Begun, AreDrawn, IsToldMore, IsWhy, begun, behind_word, event_of_turn, heard_in, passed_to, reading_of, sent_of, told_more, word_from}
-use Rattle.sip_loop.specs.Courses.{Breaks, BreaksFiring, BreaksOff, BreaksTurn, Course, Goes, GoesOn, Hands, HandsSome, IsProgressAt, TakesDue, TakesTurn}
+use Rattle.sip_loop.specs.Serving.{AreInTurn, Arrival, Brought, IsServed, IsToldMore, IsTurnOf, IsUnserved, IsWhy, MayBring, Point, Serves, Silence, Told, Turn}
+use Rattle.sip_loop.specs.Serving.{behind_word, between_turns, event_of_turn, reading_of, told_by, word_from}
+use Rattle.sip_loop.specs.Courses.{Breaks, BreaksOff, Course, Goes, IsWhyStep, LinkFails, StepFails, TakesTurn, TurnBreaks, TurnGoes, waiting_at}
 use Rattle.sip_loop.specs.declared.served.ServeError.{ServeError}
 use Rattle.sip_loop.specs.declared.served.ServeError.TheVariants as refusals
-use Rattle.sip_loop.proofs.Courses.{course_fires, course_nothing, course_on, course_takes, told_none, told_one}
-use Rattle.sip_loop.proofs.Turns.{turn_of, turns_nothing, turns_on}
+use Rattle.sip_loop.proofs.Courses.{asked_at, course_asks, course_event, course_nothing, course_on, course_reads, course_takes, course_tells, taken_at, unlogged_at}
+use Rattle.sip_loop.proofs.Gathering.{told_failed, told_one}
+use Rattle.sip_loop.proofs.Handed.{breaks_memory, breaks_on}
+use Rattle.sip_loop.proofs.Printed.{prints_untold}
+use Rattle.sip_loop.proofs.Runs.{chain_on}
+use Rattle.sip_loop.proofs.Sayable.{datagram_says, small_moment}
 
 -- ---- refusals
 
@@ -35,32 +44,22 @@ is_some None h = absurd (h refl)
 is_some (Some x) h = refl
 
 -- a step that isn't refused for want of memory is refused as the server says
-why_read : (at : ℕ) (state : ProxyState) (e : StepError) → (refusal_at at ≡ None → e ≡ steps.NoMemory) → IsWhy (refusal_of_step e) (Read at) None [] state
-why_read at state steps.NoMemory h = tt
-why_read at state steps.MomentTooLarge h = (refl, refl, is_some (refusal_at at) (λ none. let e = h none in cc))
-why_read at state steps.Worn h = (refl, refl, is_some (refusal_at at) (λ none. let e = h none in cc))
+why_step : (turn : Turn) (state : ProxyState) (e : StepError) → (refusal_of_event state (event_of_turn turn) ≡ None → e ≡ steps.NoMemory) → IsWhyStep (refusal_of_step e) state turn
+why_step turn state steps.NoMemory h = tt
+why_step turn state steps.MomentTooLarge h = is_some (refusal_of_event state (event_of_turn turn)) (λ none. let e = h none in cc)
+why_step turn state steps.Worn h = is_some (refusal_of_event state (event_of_turn turn)) (λ none. let e = h none in cc)
 
-why_begun : (turn : Turn) (state : ProxyState) (e : StepError) → (refusal_of_event state (event_of_turn turn) ≡ None → e ≡ steps.NoMemory) → IsWhy (refusal_of_step e) (Begun turn) None [] state
-why_begun turn state steps.NoMemory h = tt
-why_begun turn state steps.MomentTooLarge h = (refl, refl, is_some (refusal_of_event state (event_of_turn turn)) (λ none. let e = h none in cc))
-why_begun turn state steps.Worn h = (refl, refl, is_some (refusal_of_event state (event_of_turn turn)) (λ none. let e = h none in cc))
-
--- why handing out is refused
-pub why_handing : (e : ServeError) (written : Option (Option (List ℕ))) (progress : Progress) (failed : Option Packet) (waiting : List Packet) (state : ProxyState) → IsOfHanding e written → IsWhy e progress failed waiting state
-why_handing refusals.NoMemory written progress failed waiting state h = tt
-why_handing refusals.Journal written progress failed waiting state h = tt
-why_handing refusals.Link written progress failed waiting state h = absurd h
-why_handing refusals.Step written progress failed waiting state h = absurd h
-
-pub handing_no_link : (e : ServeError) (written : Option (Option (List ℕ))) → IsOfHanding e written → e ≡ refusals.Link → ⊥
-handing_no_link refusals.NoMemory written h is = cc
-handing_no_link refusals.Journal written h is = cc
-handing_no_link refusals.Link written h is = h
-handing_no_link refusals.Step written h is = h
+pub handing_not_link : (e : ServeError) (written : Option (Option (List ℕ))) → IsOfHanding e written → e ≡ refusals.Link → ⊥
+handing_not_link refusals.NoMemory written h is = cc
+handing_not_link refusals.Journal written h is = cc
+handing_not_link refusals.Audit written h is = h
+handing_not_link refusals.Link written h is = h
+handing_not_link refusals.Step written h is = h
 
 pub handing_journal : (e : ServeError) (written : Option (Option (List ℕ))) → IsOfHanding e written → e ≡ refusals.Journal → written ≡ None
 handing_journal refusals.NoMemory written h is = absurd (cc)
 handing_journal refusals.Journal written h is = h
+handing_journal refusals.Audit written h is = absurd h
 handing_journal refusals.Link written h is = absurd h
 handing_journal refusals.Step written h is = absurd h
 
@@ -75,234 +74,285 @@ not_journal steps.NoMemory e = cc
 not_journal steps.MomentTooLarge e = cc
 not_journal steps.Worn e = cc
 
--- ---- what is due
+-- ---- a turn's event
 
-pub takes_due : (server : Server) (old new : ProxyState) (at first : ℕ) (history : List Link) (out : StepOut) → ((link : Link) (last : ProxyState) → IsChain server (first_state first) (link ∷ history) last → link.before.moment ≤ last.moment)
-    → IsChain server (first_state first) history old → new.moment ≡ out.at → IsDeadline server old at out new ⊎ IsResend server old at out new → TakesDue server old at out new
-takes_due server old new at first history out rises chain stands (inl d) = record {
-  step = inr (inl d);
-  rises = rises (record { before = old; act = Passing at; out = out; after = new }) new (refl, inr (inl d), chain);
-  stands = stands;
-  no_records = d.does.records;
-}
-takes_due server old new at first history out rises chain stands (inr d) = record {
-  step = inr (inr d);
-  rises = rises (record { before = old; act = Passing at; out = out; after = new }) new (refl, inr (inr d), chain);
-  stands = stands;
-  no_records = d.does.records;
+pub takes_arrival : (server : Server) (old new : ProxyState) (at word : ℕ) (from : Addr) (bytes held : List ℕ) (heard heard_now : Option (List (Option Heard))) (words left : Stream) (out : StepOut) → bytes ≡ held
+    → heard_now ≡ and_then heard (Some (record { from = from; bytes = held })) → word ≡ word_from words → left ≡ behind_word words → refusal_of old at ≡ None → IsWritable from held
+    → IsStep server old (ForEvent (Datagram at word from bytes)) out new → TakesTurn server old at heard heard_now words left (Arrival at (record { from = from; bytes = held }) word) out new
+takes_arrival server old new at word from bytes held heard heard_now words left out same told drawn behind none writable step = record {
+  is_at = refl;
+  step = subst (λ (l : List ℕ). IsStep server old (ForEvent (Datagram at word from l)) out new) same step;
+  not_refused = none;
+  sayable = datagram_says old at word from held none writable;
+  hears = told ∙ told_one heard (Some (record { from = from; bytes = held }));
+  draws = (drawn, behind);
 }
 
-pub fired_due : (server : Server) (old new : ProxyState) (at first : ℕ) (history : List Link) (fired : Option StepOut) → ((first : ℕ) (link : Link) (history : List Link) (last : ProxyState) → IsChain server (first_state first) (link ∷ history) last → link.before.moment ≤ last.moment)
-    → ((act : Act) (out : StepOut) → IsStep server old act out new → new.moment ≡ out.at) → IsChain server (first_state first) history old → IfSome fired (λ out. Fires server old at out new) → IfSome fired (λ out. TakesDue server old at out new)
-fired_due server old new at first history None rises stands chain h = tt
-fired_due server old new at first history (Some out) rises stands chain h =
-    takes_due server old new at first history out (λ link last. rises first link history last) chain (stands (Passing at) out (inr h.happens)) h.happens
+pub takes_silence : (server : Server) (old new : ProxyState) (at : ℕ) (heard heard_now : Option (List (Option Heard))) (words : Stream) (out : StepOut) → heard_now ≡ and_then heard None → refusal_at at ≡ None
+    → IsStep server old (ForEvent (Time at)) out new → TakesTurn server old at heard heard_now words words (Silence at) out new
+takes_silence server old new at heard heard_now words out told none step = record { is_at = refl; step = step; not_refused = none; sayable = small_moment at none; hears = told ∙ told_one heard None; draws = refl }
+
+pub fails_arrival : (old : ProxyState) (at word : ℕ) (from : Addr) (held : List ℕ) (heard heard_now : Option (List (Option Heard))) (words left : Stream) (e : StepError)
+    → heard_now ≡ and_then heard (Some (record { from = from; bytes = held })) → word ≡ word_from words → left ≡ behind_word words → (refusal_of old at ≡ None → e ≡ steps.NoMemory)
+    → StepFails old at heard heard_now words left (refusal_of_step e)
+fails_arrival old at word from held heard heard_now words left e told drawn behind refused = record {
+  turn = Arrival at (record { from = from; bytes = held }) word;
+  is_at = refl;
+  hears = told ∙ told_one heard (Some (record { from = from; bytes = held }));
+  draws = (drawn, behind);
+  why = why_step (Arrival at (record { from = from; bytes = held }) word) old e refused;
+}
+
+pub fails_silence : (old : ProxyState) (at : ℕ) (heard heard_now : Option (List (Option Heard))) (words : Stream) (e : StepError) → heard_now ≡ and_then heard None → (refusal_at at ≡ None → e ≡ steps.NoMemory)
+    → StepFails old at heard heard_now words words (refusal_of_step e)
+fails_silence old at heard heard_now words e told refused = record {
+  turn = Silence at;
+  is_at = refl;
+  hears = told ∙ told_one heard None;
+  draws = refl;
+  why = why_step (Silence at) old e refused;
+}
+
+moment_is : (turn : Turn) → event_moment (event_of_turn turn) ≡ reading_of turn
+moment_is (Silence at) = refl
+moment_is (Arrival at heard word) = refl
+
+in_turn : (server : Server) (old new : ProxyState) (turn : Turn) (out : StepOut) → NothingDueBy (moment_of old (event_moment (event_of_turn turn))) old → refusal_of_event old (event_of_turn turn) ≡ None
+    → IsTurnOf server old (ForEvent (event_of_turn turn)) out new
+in_turn server old new (Silence at) out none not_refused = record { none_due = none; not_refused = not_refused }
+in_turn server old new (Arrival at heard word) out none not_refused = record { none_due = none; not_refused = not_refused }
+
+-- ---- the rest of a turn
+
+module _ (server : Server) (old : ProxyState) (at : ℕ) (none_due : NothingDueBy (moment_of old at) old) (h h2 : Option (List (Option Heard))) (g : Option (List Given)) (r : Option (List ℕ)) (w l : Option (Option (List ℕ))) (ws ws2 : Stream) where
+  -- the link failed
+  pub turn_unheard : (new : ProxyState) (e : ServeError) → new ≡ old → LinkFails h h2 ws ws2 e → TurnBreaks server old new at (told_by h g r w l ws) (told_by h2 g r w l ws2) e
+  turn_unheard new e same fails =
+      subst (λ (x : ServeError). TurnBreaks server old new at (told_by h g r w l ws) (told_by h2 g r w l ws2) x) (sym fails.failed)
+      (subst (λ (s : ProxyState). TurnBreaks server old s at (told_by h g r w l ws) (told_by h2 g r w l ws2) refusals.Link) (sym same)
+      (subst (λ (o : Option (List (Option Heard))). TurnBreaks server old old at (told_by h g r w l ws) (told_by o g r w l ws2) refusals.Link) (sym fails.hears)
+      (subst (λ (s : Stream). TurnBreaks server old old at (told_by h g r w l ws) (told_by h g r w l s) refusals.Link) (sym fails.draws)
+      (record {
+        to = waiting_at (Some at) [] old.moment;
+        records = [];
+        asks = 0;
+        course = course_nothing server old (waiting_at (Some at) [] old.moment) (told_by h g r w l ws) tt;
+        why = record { idle = record { clear = refl; whole = refl; all_sent = refl }; reading = at; is_open = refl; none_due = none_due };
+      }))))
+
+  why_not : (turn : Turn) (e : ServeError) → IsWhyStep e old turn → IsWhy e (asked_at at turn old.moment) old
+  why_not turn refusals.NoMemory why = tt
+  why_not turn refusals.Journal why = absurd why
+  why_not turn refusals.Audit why = absurd why
+  why_not turn refusals.Link why = absurd why
+  why_not turn refusals.Step why = record { cause = Brought turn; comes = record { asked = refl; whole = refl; all_sent = refl }; refused = why }
+
+  -- the step wasn't taken
+  pub turn_untaken : (new : ProxyState) (e : ServeError) → new ≡ old → StepFails old at h h2 ws ws2 e → TurnBreaks server old new at (told_by h g r w l ws) (told_by h2 g r w l ws2) e
+  turn_untaken new e same fails =
+      subst (λ (s : ProxyState). TurnBreaks server old s at (told_by h g r w l ws) (told_by h2 g r w l ws2) e) (sym same)
+      (record {
+        to = asked_at at fails.turn old.moment;
+        records = [];
+        asks = 1;
+        course = course_asks server old old.moment at fails.turn h h2 g r w l ws ws2 fails.is_at fails.hears fails.draws;
+        why = why_not fails.turn e fails.why;
+      })
+
+  pub turn_broken : (new : ProxyState) (e : ServeError) → new ≡ old → (LinkFails h h2 ws ws2 e ⊎ StepFails old at h h2 ws ws2 e) → TurnBreaks server old new at (told_by h g r w l ws) (told_by h2 g r w l ws2) e
+  turn_broken new e same (inl fails) = turn_unheard new e same fails
+  turn_broken new e same (inr fails) = turn_untaken new e same fails
+
+  -- the event was taken
+  module _ (middle : ProxyState) (turn : Turn) (out : StepOut) (takes : TakesTurn server old at h h2 ws ws2 turn out middle) (stands : middle.moment ≡ out.at) where
+    asks : Course server old old (waiting_at (Some at) [] old.moment) (asked_at at turn old.moment) (told_by h g r w l ws) (told_by h2 g r w l ws2) [] 0 1
+    asks = course_asks server old old.moment at turn h h2 g r w l ws ws2 takes.is_at takes.hears takes.draws
+
+    turns : AreInTurn server (record { before = old; act = ForEvent (event_of_turn turn); out = out; after = middle } ∷ [])
+    turns =
+        (in_turn server old middle turn out (subst (λ (n : ℕ). NothingDueBy (moment_of old n) old) (sym (moment_is turn ∙ takes.is_at)) none_due) takes.not_refused, tt)
+
+    comes : MayBring turn (asked_at at turn old.moment)
+    comes = record { asked = refl; whole = refl; all_sent = refl }
+
+    -- and the journal failed
+    pub turn_untold : (w2 : Option (Option (List ℕ))) → w2 ≡ None → TurnBreaks server old middle at (told_by h g r w l ws) (told_by h2 g r w2 l ws2) refusals.Journal
+    turn_untold w2 none = record {
+      to = taken_at (asked_at at turn old.moment) (Brought turn) [] out;
+      records = [] ++ out.records;
+      asks = 1 + 0;
+      course = course_on server old old middle (waiting_at (Some at) [] old.moment) (asked_at at turn old.moment) (taken_at (asked_at at turn old.moment) (Brought turn) [] out)
+          (told_by h g r w l ws) (told_by h2 g r w l ws2) (told_by h2 g r w2 l ws2) [] out.records 0 1 0 0 tt asks
+          (course_takes server old middle (asked_at at turn old.moment) (Brought turn) [] out (record { before = old; act = ForEvent (event_of_turn turn); out = out; after = middle } ∷ []) comes
+          (record { chain = (refl, takes.step, refl); paced = (tt, tt); of_events = refl; of_steps = refl }) turns (append-nil out.records) takes.sayable
+          (told_by h2 g r w l ws2) (told_by h2 g r w2 l ws2) (told_failed h2 g r w w2 l ws2 none));
+      why = record { cause = Brought turn; records = out.records; untold = refl };
+    }
+
+    -- it was told, and its lines weren't printed
+    pub turn_unlogged : (w2 l2 : Option (Option (List ℕ))) (e : ServeError) → Notes w w2 (event_of_turn turn ∷ []) → l2 ≡ None → ((e ≡ refusals.NoMemory) ⊎ (e ≡ refusals.Audit))
+        → TurnBreaks server old middle at (told_by h g r w l ws) (told_by h2 g r w2 l2 ws2) e
+    turn_unlogged w2 l2 e noted none why = record {
+      to = unlogged_at (asked_at at turn old.moment) (Brought turn) [] out;
+      records = [] ++ out.records;
+      asks = 1 + 0;
+      course = course_on server old old middle (waiting_at (Some at) [] old.moment) (asked_at at turn old.moment) (unlogged_at (asked_at at turn old.moment) (Brought turn) [] out)
+          (told_by h g r w l ws) (told_by h2 g r w l ws2) (told_by h2 g r w2 l2 ws2) [] out.records 0 1 0 0 tt asks
+          (course_tells server old middle (asked_at at turn old.moment) (Brought turn) [] out (record { before = old; act = ForEvent (event_of_turn turn); out = out; after = middle } ∷ []) comes
+          (record { chain = (refl, takes.step, refl); paced = (tt, tt); of_events = refl; of_steps = refl }) turns (append-nil out.records) takes.sayable h2 g r w w2 l l2 ws2 noted (prints_untold l l2 [] none));
+      why = by_case why;
+    } where
+      by_case : ((e ≡ refusals.NoMemory) ⊎ (e ≡ refusals.Audit)) → IsWhy e (unlogged_at (asked_at at turn old.moment) (Brought turn) [] out) middle
+      by_case (inl is) = subst (λ (x : ServeError). IsWhy x (unlogged_at (asked_at at turn old.moment) (Brought turn) [] out) middle) (sym is) tt
+      by_case (inr is) = subst (λ (x : ServeError). IsWhy x (unlogged_at (asked_at at turn old.moment) (Brought turn) [] out) middle) (sym is) (record { records = out.records; unlogged = refl })
+
+    -- and they were
+    pub turn_logged : (w2 l2 : Option (Option (List ℕ))) → Notes w w2 (event_of_turn turn ∷ []) → Prints l l2 out.records
+        → Course server old middle (waiting_at (Some at) [] old.moment) (waiting_at None out.packets middle.moment) (told_by h g r w l ws) (told_by h2 g r w2 l2 ws2) out.records 0 1
+    turn_logged w2 l2 noted printed =
+        course_on server old old middle (waiting_at (Some at) [] old.moment) (asked_at at turn old.moment) (waiting_at None out.packets middle.moment)
+        (told_by h g r w l ws) (told_by h2 g r w l ws2) (told_by h2 g r w2 l2 ws2) [] out.records 0 1 0 0 tt asks
+        (course_event server old middle (asked_at at turn old.moment) (Brought turn) [] out (record { before = old; act = ForEvent (event_of_turn turn); out = out; after = middle } ∷ []) comes
+        (record { chain = (refl, takes.step, refl); paced = (tt, tt); of_events = refl; of_steps = refl }) turns (append-nil out.records) takes.sayable
+        out.packets middle.moment h2 g r w w2 l l2 ws2 (sym (append-nil out.packets)) stands noted printed)
+
+    -- memory ran out then
+    pub turn_unlisted : (w2 l2 : Option (Option (List ℕ))) (e : ServeError) → e ≡ refusals.NoMemory → Notes w w2 (event_of_turn turn ∷ []) → Prints l l2 out.records
+        → TurnBreaks server old middle at (told_by h g r w l ws) (told_by h2 g r w2 l2 ws2) e
+    turn_unlisted w2 l2 e lack noted printed =
+        breaks_memory server old middle (waiting_at (Some at) [] old.moment) (waiting_at None out.packets middle.moment) (told_by h g r w l ws) (told_by h2 g r w2 l2 ws2) out.records 0 1 e lack
+        (turn_logged w2 l2 noted printed)
+
+    -- its packets were given to the link
+    pub turn_goes : (new : ProxyState) (g2 : Option (List Given)) (w2 w3 l2 : Option (Option (List ℕ))) (records more : List Record) → Notes w w2 (event_of_turn turn ∷ []) → Prints l l2 out.records
+        → Course server middle new (waiting_at None out.packets middle.moment) (waiting_at None [] new.moment) (told_by h2 g r w2 l2 ws2) (told_by h2 g2 r w3 l2 ws2) [] 0 0 → more ≡ records ++ out.records
+        → TurnGoes server old new at (told_by h g r w l ws) (told_by h2 g2 r w3 l2 ws2) records more
+    turn_goes new g2 w2 w3 l2 records more noted printed hands listed = record {
+      listed = out.records;
+      course =
+          subst (λ (rs : List Record). Course server old new (waiting_at (Some at) [] old.moment) (between_turns new.moment) (told_by h g r w l ws) (told_by h2 g2 r w3 l2 ws2) rs 0 1) (append-nil out.records)
+          (course_on server old middle new (waiting_at (Some at) [] old.moment) (waiting_at None out.packets middle.moment) (between_turns new.moment)
+          (told_by h g r w l ws) (told_by h2 g r w2 l2 ws2) (told_by h2 g2 r w3 l2 ws2) out.records [] 0 1 0 0 tt (turn_logged w2 l2 noted printed) hands);
+      recorded = listed;
+    }
+
+    -- not all of them
+    pub turn_unsent : (new : ProxyState) (g2 : Option (List Given)) (w2 w3 l2 : Option (Option (List ℕ))) (e : ServeError) → Notes w w2 (event_of_turn turn ∷ []) → Prints l l2 out.records
+        → Breaks server middle new (waiting_at None out.packets middle.moment) (told_by h2 g r w2 l2 ws2) (told_by h2 g2 r w3 l2 ws2) 0 e
+        → TurnBreaks server old new at (told_by h g r w l ws) (told_by h2 g2 r w3 l2 ws2) e
+    turn_unsent new g2 w2 w3 l2 e noted printed breaks =
+        breaks_on server old middle new (waiting_at (Some at) [] old.moment) (waiting_at None out.packets middle.moment) (told_by h g r w l ws) (told_by h2 g r w2 l2 ws2) (told_by h2 g2 r w3 l2 ws2)
+        out.records 0 1 0 e tt (turn_logged w2 l2 noted printed) breaks
+
+-- ---- a turn
 
 module _ (server : Server) where
-  -- one step more of what is due, and its packets
-  pub fires_on : (old middle next new : ProxyState) (at : ℕ) (out : StepOut) (failed : Option Packet) (waiting : List Packet) (before half after : Sent) → Course server old middle (Some at) (Some at) [] [] None [] before half
-      → TakesDue server middle at out next → Hands server next new out.packets failed waiting half after → Course server old new (Some at) (Some at) [] [] failed waiting before after
-  fires_on old middle next new at out failed waiting before half after course due hands =
-      course_on server old middle new (Some at) (Some at) (Some at) [] [] [] [] failed waiting before half after course
-      (course_fires server middle next new at out failed waiting half after due.rises due.stands due.no_records due.step hands)
+  -- the clock was read, and what was due by then happened
+  pub turn_begun : (old middle : ProxyState) (at : ℕ) (h : Option (List (Option Heard))) (g g2 : Option (List Given)) (r r2 : Option (List ℕ)) (w w2 l : Option (Option (List ℕ))) (ws : Stream) → IsToldMore r (at ∷ []) r2
+      → Course server old middle (waiting_at (Some at) [] old.moment) (waiting_at (Some at) [] middle.moment) (told_by h g r2 w l ws) (told_by h g2 r2 w2 l ws) [] 0 0
+      → Course server old middle (between_turns old.moment) (waiting_at (Some at) [] middle.moment) (told_by h g r w l ws) (told_by h g2 r2 w2 l ws) [] 1 0
+  turn_begun old middle at h g g2 r r2 w w2 l ws read course =
+      course_on server old old middle (between_turns old.moment) (waiting_at (Some at) [] old.moment) (waiting_at (Some at) [] middle.moment)
+      (told_by h g r w l ws) (told_by h g r2 w l ws) (told_by h g2 r2 w2 l ws) [] [] 1 0 0 0 tt (course_reads server old old.moment at h g r r2 w l ws read) course
 
-  pub fires_some : (old middle next new : ProxyState) (at : ℕ) (out : StepOut) (before half after : Sent) (e : ServeError) → Course server old middle (Some at) (Some at) [] [] None [] before half → TakesDue server middle at out next
-      → HandsSome server next new out.packets half after → IsOfHanding e after.written → BreaksFiring server old new at before after e
-  fires_some old middle next new at out before half after e course due some is = record {
-    failed = some.failed;
-    waiting = some.waiting;
-    course = fires_on old middle next new at out some.failed some.waiting before half after course due some.hands;
-    why = why_handing e after.written (Read at) some.failed some.waiting new is;
+  -- not all of it
+  pub turn_undue : (old new : ProxyState) (at : ℕ) (h : Option (List (Option Heard))) (g g2 : Option (List Given)) (r r2 : Option (List ℕ)) (w w2 l : Option (Option (List ℕ))) (ws : Stream) (e : ServeError) → IsToldMore r (at ∷ []) r2
+      → Breaks server old new (waiting_at (Some at) [] old.moment) (told_by h g r2 w l ws) (told_by h g2 r2 w2 l ws) 0 e
+      → Breaks server old new (between_turns old.moment) (told_by h g r w l ws) (told_by h g2 r2 w2 l ws) 1 e
+  turn_undue old new at h g g2 r r2 w w2 l ws e read breaks =
+      breaks_on server old old new (between_turns old.moment) (waiting_at (Some at) [] old.moment)
+      (told_by h g r w l ws) (told_by h g r2 w l ws) (told_by h g2 r2 w2 l ws) [] 1 0 0 e tt (course_reads server old old.moment at h g r r2 w l ws read) breaks
+
+  pub turn_whole : (old middle new : ProxyState) (at : ℕ) (before half after : Told) (records more : List Record) → Course server old middle (between_turns old.moment) (waiting_at (Some at) [] middle.moment) before half [] 1 0
+      → TurnGoes server middle new at half after records more → Goes server old new before after 1 records more
+  turn_whole old middle new at before half after records more first second = record {
+    listed = second.listed;
+    course = course_on server old middle new (between_turns old.moment) (waiting_at (Some at) [] middle.moment) (between_turns new.moment) before half after [] second.listed 1 0 0 1 tt first second.course;
+    recorded = second.recorded;
   }
 
-  pub fires_no_more : (old middle : ProxyState) (at : ℕ) (before after : Sent) (e : ServeError) → Course server old middle (Some at) (Some at) [] [] None [] before after → IsWhy e (Read at) None [] middle
-      → BreaksFiring server old middle at before after e
-  fires_no_more old middle at before after e course why = record { failed = None; waiting = []; course = course; why = why }
-
-  -- ---- the event of a turn
-
-  moment_is : (turn : Turn) → event_moment (event_of_turn turn) ≡ reading_of turn
-  moment_is (Silence at) = refl
-  moment_is (Arrival at heard word) = refl
-
-  pub takes_arrival : (old new : ProxyState) (at word : ℕ) (from : Addr) (bytes held : List ℕ) (heard heard_then : Option (List (Option Heard))) (words left : Stream) (out : StepOut) → bytes ≡ held
-      → heard_then ≡ and_then heard (Some (record { from = from; bytes = held })) → word ≡ word_from words → left ≡ behind_word words → IsStep server old (ForEvent (Datagram at word from bytes)) out new
-      → TakesTurn server old at heard heard_then words left (Arrival at (record { from = from; bytes = held }) word) out new
-  takes_arrival old new at word from bytes held heard heard_then words left out same told drawn behind step = record {
-    is_at = refl;
-    step = subst (λ (l : List ℕ). IsStep server old (ForEvent (Datagram at word from l)) out new) same step;
-    hears = told ∙ told_one heard (Some (record { from = from; bytes = held }));
-    draws = (words, refl, drawn, behind);
-  }
-
-  pub takes_silence : (old new : ProxyState) (at : ℕ) (heard heard_then : Option (List (Option Heard))) (words : Stream) (out : StepOut) → heard_then ≡ and_then heard None → IsStep server old (ForEvent (Time at)) out new
-      → TakesTurn server old at heard heard_then words words (Silence at) out new
-  takes_silence old new at heard heard_then words out told step = record { is_at = refl; step = step; hears = told ∙ told_one heard None; draws = refl }
-
-  -- what the link heard is told, whether its event is taken or not
-  pub breaks_arrival : (state : ProxyState) (at word : ℕ) (from : Addr) (held : List ℕ) (heard heard_then : Option (List (Option Heard))) (words left : Stream) (e : StepError)
-      → heard_then ≡ and_then heard (Some (record { from = from; bytes = held })) → word ≡ word_from words → left ≡ behind_word words
-      → (refusal_of_event state (Datagram at word from held) ≡ None → e ≡ steps.NoMemory) → BreaksTurn state at heard heard_then words left (refusal_of_step e)
-  breaks_arrival state at word from held heard heard_then words left e told drawn behind refused =
-      let turn : Turn = Arrival at (record { from = from; bytes = held }) word in
-      record { progress = Begun turn; is_at = refl; hears = told ∙ told_one heard (Some (record { from = from; bytes = held })); draws = (words, refl, drawn, behind); why = why_begun turn state e refused }
-
-  pub breaks_silence : (state : ProxyState) (at : ℕ) (heard heard_then : Option (List (Option Heard))) (words : Stream) (e : StepError) → heard_then ≡ and_then heard None → (refusal_at at ≡ None → e ≡ steps.NoMemory)
-      → BreaksTurn state at heard heard_then words words (refusal_of_step e)
-  breaks_silence state at heard heard_then words e told refused =
-      record { progress = Begun (Silence at); is_at = refl; hears = told ∙ told_one heard None; draws = refl; why = why_begun (Silence at) state e refused }
-
-  pub breaks_link : (state : ProxyState) (at : ℕ) (heard heard_then : Option (List (Option Heard))) (words : Stream) → heard_then ≡ heard → NothingDueBy (moment_of state at) state → BreaksTurn state at heard heard_then words words refusals.Link
-  breaks_link state at heard heard_then words told none = record { progress = Read at; is_at = refl; hears = told ∙ told_none heard; draws = refl; why = (refl, refl, none) }
-
-  -- ---- the rest of a turn
-
-  course_of : (old next new : ProxyState) (at : ℕ) (turn : Turn) (out : StepOut) (failed : Option Packet) (waiting : List Packet) (given half given_then : Sent) → reading_of turn ≡ at → next.moment ≡ out.at
-      → IsStep server old (ForEvent (event_of_turn turn)) out next → half.given ≡ given.given → Notes given.written half.written (event_of_turn turn ∷ []) → Hands server next new out.packets failed waiting half given_then → Course server old new (Some at) None (turn ∷ []) out.records failed waiting given given_then
-  course_of old next new at turn out failed waiting given half given_then is stands step same noted hands =
-      subst (λ (n : ℕ). Course server old new (Some n) None (turn ∷ []) out.records failed waiting given given_then) is
-      (course_takes server old next new turn out failed waiting given half given_then stands (moment_is turn) step same noted hands)
-
-  pub goes_on : (old next new : ProxyState) (at : ℕ) (heard heard_then : Option (List (Option Heard))) (given half given_then : Sent) (words left : Stream) (turn : Turn) (out : StepOut) (records more : List Record)
-      → TakesTurn server old at heard heard_then words left turn out next → next.moment ≡ out.at → half.given ≡ given.given → Notes given.written half.written (event_of_turn turn ∷ [])
-      → Hands server next new out.packets None [] half given_then → more ≡ records ++ out.records
-      → GoesOn server old new at heard heard_then given given_then words left records more
-  goes_on old next new at heard heard_then given half given_then words left turn out records more takes stands same noted hands listed = record {
-    turn = turn;
-    is_at = takes.is_at;
-    listed = out.records;
-    course = course_of old next new at turn out None [] given half given_then takes.is_at stands takes.step same noted hands;
-    hears = takes.hears;
-    draws = takes.draws;
-    recorded = listed;
-  }
-
-  pub breaks_behind : (old next new : ProxyState) (at : ℕ) (heard heard_then : Option (List (Option Heard))) (given half given_then : Sent) (words left : Stream) (turn : Turn) (out : StepOut) (e : ServeError)
-      → TakesTurn server old at heard heard_then words left turn out next → next.moment ≡ out.at → half.given ≡ given.given → Notes given.written half.written (event_of_turn turn ∷ [])
-      → HandsSome server next new out.packets half given_then → IsOfHanding e given_then.written → BreaksOff server old new at heard heard_then given given_then words left e
-  breaks_behind old next new at heard heard_then given half given_then words left turn out e takes stands same noted some is = record {
-    progress = Whole;
-    turns = turn ∷ [];
-    records = out.records;
-    failed = some.failed;
-    waiting = some.waiting;
-    course = course_of old next new at turn out some.failed some.waiting given half given_then takes.is_at stands takes.step same noted some.hands;
-    is_one = ap (λ (n : ℕ). n ∷ []) takes.is_at;
-    hears = takes.hears;
-    draws = takes.draws;
-    why = why_handing e given_then.written Whole some.failed some.waiting new is;
-  }
-
-  pub breaks_before : (old : ProxyState) (at : ℕ) (heard heard_then : Option (List (Option Heard))) (given : Sent) (words left : Stream) (e : ServeError) → BreaksTurn old at heard heard_then words left e
-      → BreaksOff server old old at heard heard_then given given words left e
-  breaks_before old at heard heard_then given words left e h = by_progress h.progress h.is_at h.hears h.draws h.why where
-    by_progress : (progress : Progress) → IsProgressAt at progress → heard_then ≡ told_more heard (reverse (map heard_in (begun progress []))) → AreDrawn words (begun progress []) left → IsWhy e progress None [] old
-        → BreaksOff server old old at heard heard_then given given words left e
-    by_progress Whole is hears draws why = absurd is
-    by_progress (Read moment) is hears draws why = record {
-      progress = Read moment;
-      turns = [];
-      records = [];
-      failed = None;
-      waiting = [];
-      course = subst (λ (n : ℕ). Course server old old (Some at) (Some n) [] [] None [] given given) (sym is) (course_nothing server old (Some at) given);
-      is_one = ap (λ (n : ℕ). n ∷ []) is;
-      hears = hears;
-      draws = draws;
-      why = why;
-    }
-    by_progress (Begun turn) is hears draws why = record {
-      progress = Begun turn;
-      turns = [];
-      records = [];
-      failed = None;
-      waiting = [];
-      course = subst (λ (n : ℕ). Course server old old (Some at) (Some n) [] [] None [] given given) (sym is) (course_nothing server old (Some at) given);
-      is_one = ap (λ (n : ℕ). n ∷ []) is;
-      hears = hears;
-      draws = draws;
-      why = why;
-    }
-
-  -- ---- a turn
-
-  -- a turn that was served whole
-  pub turn_goes : (old middle new : ProxyState) (before after : Told) (at : ℕ) (half : Sent) (records more : List Record) → Course server old middle (Some at) (Some at) [] [] None [] (sent_of before) half
-      → GoesOn server middle new at before.heard after.heard half (sent_of after) before.words after.words records more → IsToldMore before.readings (at ∷ []) after.readings → Goes server old new before after 1 records more
-  turn_goes old middle new before after at half records more course rest read = record {
-    listed = rest.listed;
-    turns =
-        turn_of server old new before after at Whole (rest.turn ∷ []) rest.listed None []
-        (course_on server old middle new (Some at) (Some at) None [] (rest.turn ∷ []) [] rest.listed None [] (sent_of before) half (sent_of after) course rest.course) (ap (λ (n : ℕ). n ∷ []) rest.is_at) rest.hears rest.draws read;
-    recorded = rest.recorded;
-  }
-
-  -- one that was refused as what was due happened
-  pub turn_unfired : (old new : ProxyState) (before after : Told) (at : ℕ) (e : ServeError) → BreaksFiring server old new at (sent_of before) (sent_of after) e → after.heard ≡ before.heard → after.words ≡ before.words
-      → IsToldMore before.readings (at ∷ []) after.readings → Breaks server old new before after 1 e
-  turn_unfired old new before after at e h heard words read = record {
-    progress = Read at;
-    count = 1;
-    within = omega arith;
-    records = [];
-    failed = h.failed;
-    waiting = h.waiting;
-    turns = turn_of server old new before after at (Read at) [] [] h.failed h.waiting h.course refl (heard ∙ told_none before.heard) words read;
-    why = h.why;
-  }
-
-  -- one that was refused then
-  pub turn_broken : (old middle new : ProxyState) (before after : Told) (at : ℕ) (half : Sent) (e : ServeError) → Course server old middle (Some at) (Some at) [] [] None [] (sent_of before) half
-      → BreaksOff server middle new at before.heard after.heard half (sent_of after) before.words after.words e → IsToldMore before.readings (at ∷ []) after.readings → Breaks server old new before after 1 e
-  turn_broken old middle new before after at half e course h read = record {
-    progress = h.progress;
-    count = 1;
-    within = omega arith;
-    records = h.records;
-    failed = h.failed;
-    waiting = h.waiting;
-    turns =
-        turn_of server old new before after at h.progress h.turns h.records h.failed h.waiting
-        (subst (λ (l : List Turn). Course server old new (Some at) (passed_to h.progress) l h.records h.failed h.waiting (sent_of before) (sent_of after)) (append-nil h.turns)
-        (course_on server old middle new (Some at) (Some at) (passed_to h.progress) [] h.turns [] h.records h.failed h.waiting (sent_of before) half (sent_of after) course h.course)) h.is_one h.hears h.draws read;
-    why = h.why;
-  }
+  pub turn_part : (old middle new : ProxyState) (at : ℕ) (before half after : Told) (e : ServeError) → Course server old middle (between_turns old.moment) (waiting_at (Some at) [] middle.moment) before half [] 1 0
+      → TurnBreaks server middle new at half after e → Breaks server old new (between_turns old.moment) before after 1 e
+  turn_part old middle new at before half after e first second =
+      breaks_on server old middle new (between_turns old.moment) (waiting_at (Some at) [] middle.moment) before half after [] 1 0 0 e tt first second
 
   -- ---- turns
 
-  pub goes_nothing : (state : ProxyState) (told : Told) (records : List Record) → Goes server state state told told 0 records records
-  goes_nothing state told records = record { listed = []; turns = turns_nothing server state told; recorded = sym (append-nil records) }
+  pub goes_nothing : (state : ProxyState) (t : Told) (records : List Record) → Goes server state state t t 0 records records
+  goes_nothing state t records = record { listed = []; course = course_nothing server state (between_turns state.moment) t tt; recorded = sym (append-nil records) }
 
-  pub goes_further : (old middle new : ProxyState) (before between after : Told) (count : ℕ) (records half more : List Record) → Goes server old middle before between count records half → Goes server middle new between after 1 half more
+  pub goes_further : (old middle new : ProxyState) (before half after : Told) (count : ℕ) (records some more : List Record) → Goes server old middle before half count records some → Goes server middle new half after 1 some more
       → Goes server old new before after (count + 1) records more
-  goes_further old middle new before between after count records half more first second = record {
+  goes_further old middle new before half after count records some more first second = record {
     listed = first.listed ++ second.listed;
-    turns = turns_on server old middle new before between after Whole count 1 first.listed second.listed None [] first.turns second.turns;
+    course = course_on server old middle new (between_turns old.moment) (between_turns middle.moment) (between_turns new.moment) before half after first.listed second.listed count count 1 1 tt first.course second.course;
     recorded = second.recorded ∙ ap (λ (l : List Record). l ++ second.listed) first.recorded ∙ append_assoc records first.listed second.listed;
   }
 
-  pub breaks_further : (old middle new : ProxyState) (before between after : Told) (count most : ℕ) (records half : List Record) (e : ServeError) → Goes server old middle before between count records half → Breaks server middle new between after 1 e
-      → count < most → Breaks server old new before after most e
-  breaks_further old middle new before between after count most records half e first second lt = record {
-    progress = second.progress;
-    count = count + second.count;
-    within = omega (arith, second.within, lt);
-    records = first.listed ++ second.records;
-    failed = second.failed;
-    waiting = second.waiting;
-    turns = turns_on server old middle new before between after second.progress count second.count first.listed second.records second.failed second.waiting first.turns second.turns;
-    why = second.why;
+  pub breaks_further : (old middle new : ProxyState) (before half after : Told) (count most : ℕ) (records some : List Record) (e : ServeError) → Goes server old middle before half count records some
+      → Breaks server middle new (between_turns middle.moment) half after 1 e → count < most → BreaksOff server old new before after most e
+  breaks_further old middle new before half after count most records some e first second lt = record {
+    count = count + 1;
+    within = omega (arith, lt);
+    breaks = breaks_on server old middle new (between_turns old.moment) (between_turns middle.moment) before half after first.listed count count 1 e tt first.course second;
   }
 
-  -- ---- what a call gives
+-- ---- all of it
 
-  pub at_once : (old new : ProxyState) (at : ℕ) (heard heard_then : Option (List (Option Heard))) (given given_then : Sent) (words left : Stream) (e : ServeError) → new ≡ old → given_then ≡ given
-      → BreaksTurn old at heard heard_then words left e → BreaksOff server old new at heard heard_then given given_then words left e
-  at_once old new at heard heard_then given given_then words left e same told h =
-      subst (λ (s : ProxyState). BreaksOff server old s at heard heard_then given given_then words left e) (sym same)
-      (subst (λ (g : Sent). BreaksOff server old old at heard heard_then given g words left e) (sym told) (breaks_before old at heard heard_then given words left e h))
+-- every history has access
+abbrev pub HistoriesHaveAccess : Type 0
+HistoriesHaveAccess = (server : Server) (first : ℕ) (history : List Link) (last : ProxyState) → IsChain server (first_state first) history last → Access server history
 
--- a refusal of handing out
-pub of_handing : {X : Type 0} {S : Type 0} (r : Result X ServeError) (written : Option (Option (List ℕ))) (P : ServeError → Type 0) → IfErr r (λ e. IsOfHanding e written) → OnErr r S → (S → (e : ServeError) → IsOfHanding e written → P e) → IfErr r P
-of_handing (Ok x) written P is h f = tt
-of_handing (Err e) written P is h f = f h e is
+-- and is bounded
+abbrev pub HistoriesAreBounded : Type 0
+HistoriesAreBounded = (server : Server) (first : ℕ) (history : List Link) (last : ProxyState) → IsChain server (first_state first) history last → IsBounded server history
+
+module _ (lawful : HistoriesHaveAccess) (bounded : HistoriesAreBounded) (server : Server) (old new : ProxyState) (before after : Told) where
+  serves : (from to : Point) (records : List Record) (reads questions : ℕ) → (h : Course server old new from to before after records reads questions) → Serves server old new before after h.done
+  serves from to records reads questions h = record {
+    history = h.history;
+    is_run = h.is_run;
+    turns = h.turns;
+    sayable = h.sayable;
+    access = λ first past chain. lawful server first (h.history ++ past) new (chain_on server (first_state first) old new past h.history chain h.is_run.chain);
+    bounded = λ first past chain. bounded server first (h.history ++ past) new (chain_on server (first_state first) old new past h.history chain h.is_run.chain);
+    told = h.told;
+  }
+
+  pub served : (count : ℕ) (records more : List Record) → records ≡ [] → Goes server old new before after count records more → IsServed count server old new before after more
+  served count records more none h =
+      let all : more ≡ h.listed = h.recorded ∙ ap (λ (l : List Record). l ++ h.listed) none in
+      record {
+        done = h.course.done;
+        serves = serves (between_turns old.moment) (between_turns new.moment) h.listed count count h.course;
+        counted = h.course.asked;
+        in_order = h.course.path;
+        all_told = h.course.told_but_last ∙ append-nil _;
+        recorded = all ∙ sym h.course.recorded;
+        logged = all ∙ sym (h.course.through tt).1;
+      }
+
+  pub unserved : (most : ℕ) (e : ServeError) → BreaksOff server old new before after most e → IsUnserved most server old new before after e
+  unserved most e h = record {
+    done = h.breaks.course.done;
+    serves = serves (between_turns old.moment) h.breaks.to h.breaks.records h.count h.breaks.asks h.breaks.course;
+    within = (let read = h.breaks.course.read in omega (arith, read, h.within));
+    point = h.breaks.to;
+    in_order = h.breaks.course.path;
+    told_but_last = h.breaks.course.told_but_last;
+    why = h.breaks.why;
+  }
+
+-- ---- counts
+
+-- asked once more than so often
+pub asked_once_more : (times old middle new : ℕ) → middle ≡ counted_times times old → new ≡ counted middle → new ≡ counted_times (times + 1) old
+asked_once_more times old middle new h e = let more : times + 1 ≡ suc times = omega arith in e ∙ ap counted h ∙ ap (λ (n : ℕ). counted_times n old) (sym more)
+
+-- asked once more at most, behind so often
+pub asked_within : (times most old middle new : ℕ) → middle ≡ counted_times times old → IsAskedWithin 1 middle new → times < most → IsAskedWithin most old new
+asked_within times most old middle new h more lt = by_times more.times more.within more.is where
+  by_times : (n : ℕ) → n ≤ 1 → new ≡ counted_times n middle → IsAskedWithin most old new
+  by_times zero le is = record { times = times; within = omega (arith, lt); is = is ∙ h }
+  by_times (suc zero) le is = record { times = times + 1; within = omega (arith, lt); is = asked_once_more times old middle new h is }
+  by_times (suc (suc n)) le is = absurd (omega (arith, le))

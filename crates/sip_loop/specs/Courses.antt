@@ -1,148 +1,189 @@
--- How serving goes on, piece by piece: what each piece does leads on from whatever was done before it.
-use Rattle.std.specs.Prelude.{ℕ, ◌≡◌, ◌≤◌, ◌+◌, ◌⊎◌, List, [], ◌∷◌, ◌++◌, map, reverse, length, Option, Some, None}
+-- How serving goes on, piece by piece: what each piece does leads on from what was done before it.
+use Rattle.std.specs.Prelude.{ℕ, ◌≡◌, ◌≤◌, ◌+◌, ◌⊎◌, ⊤, true, List, [], ◌∷◌, ◌++◌, length, Option, Some, None, IsSome}
 use Rattle.rand_core.specs.Stream.{Stream}
+use Rattle.sip_loop_link.specs.declared.datagram.Given.{Given}
 use Rattle.sip_loop_link.specs.declared.datagram.Heard.{Heard}
+use Rattle.std.specs.List.{AllByRecursion}
+use Rattle.sip_replay_script.specs.EventText.{is_sayable}
+use Rattle.sip_event.specs.declared.event.Event.{Event}
+use Rattle.sip_event.specs.declared.event.Event.TheVariants.{Time, Fault}
 use Rattle.sip_event.specs.declared.event.StepOut.{StepOut}
 use Rattle.sip_event.specs.declared.packet.Packet.{Packet}
+use Rattle.sip_event.specs.declared.packet.Ticket.{Ticket}
 use Rattle.sip_audit.specs.declared.record.Record.{Record}
-use Rattle.sip_record.specs.Record.{Notes}
 use Rattle.model_bounds.specs.state.declared.server.Server.{Server}
 use Rattle.model_bounds.specs.state.declared.proxy_state.ProxyState.{ProxyState}
 use Rattle.model_bounds.specs.model.Run.{Link, IsRun}
-use Rattle.model_bounds.specs.steps_model.Step.{Given as ForEvent, Passing, IsStep}
 use Rattle.model_bounds.specs.model.Ends.{sends_left, steps_left}
-use Rattle.sip_event.specs.declared.event.Event.TheVariants.{Fault}
-use Rattle.sip_event.specs.declared.packet.Ticket.{Ticket}
-use Rattle.sip_loop.specs.Serving.{Turn, Doing, Sent, Told, Progress, Whole, Read, Begun, AreDrawn, AreTold, IsWaiting, IsWhy, begun}
-use Rattle.sip_loop.specs.Serving.{event_of_turn, events_in, given_in, heard_in, last_moment, passed_to, reading_of, readings_in}
-use Rattle.sip_loop.specs.Serving.{records_of, steps_in, told_more, turns_in}
+use Rattle.model_bounds.specs.steps_model.Step.{Given as ForEvent, IsStep, IsDeadline, IsResend, moment_of}
+use Rattle.sip_run.specs.engine.StepError.{refusal_at}
+use Rattle.sip_run.specs.Refusals.{refusal_of_event}
+use Rattle.sip_loop.specs.Serving.{AreDrawn, AreInTurn, AreTold, Asked, Clear, Doing, IsPath, IsWhy, Point, Stage, Stopped, Told, Turn, Unlogged, Untold}
+use Rattle.sip_loop.specs.Serving.{ahead, between_turns, event_of_turn, event_taken, event_told, gathered, heard_of_turn, moment_read, packets_of, reading_of, records_logged, records_of, steps_taken, told_more, turn_asked, untold_in}
 use Rattle.sip_loop.specs.declared.served.ServeError.{ServeError}
+use Rattle.sip_loop.specs.declared.served.ServeError.TheVariants.{NoMemory, Journal, Audit, Link as LinkFailed, Step}
 
--- what was done, newest first, has a run, in which time passed up to a moment behind the last event
-pub record HasRunOf (server : Server) (start : ProxyState) (done : List Doing) (until : Option ℕ) (state : ProxyState) : Type 0 where
+-- ---- pieces
+
+-- nothing but what waits to be sent is under way: each event was taken, told and printed
+abbrev pub IsThrough : Stage → Type 0
+IsThrough Clear = ⊤
+IsThrough (Asked turn) = ⊤
+IsThrough (Stopped cause) = ⊥
+IsThrough (Untold cause records) = ⊥
+IsThrough (Unlogged records) = ⊥
+
+-- Something was done, and led from one point to another: its steps are a run over the events that were taken, each in its turn; the devices
+-- told it; these are the records of its steps, which were printed once it was through; and so many readings and questions are in it.
+pub record Course (server : Server) (old new : ProxyState) (from to : Point) (before after : Told) (records : List Record) (reads asks : ℕ) : Type 0 where
+  pub done : List Doing
+  pub path : IsPath from done to
   pub history : List Link
-  pub is_run : IsRun server start (reverse (events_in done)) until (reverse (steps_in done)) history state
+  pub is_run : IsRun server old (gathered event_taken done) (ahead done) (gathered steps_taken done) history new
+  pub turns : AreInTurn server history
+  pub sayable : AllByRecursion (λ (event : Event). is_sayable event ≡ true) (gathered event_taken done)
+  pub told : AreTold before after done
+  pub recorded : records_of (gathered steps_taken done) ≡ records
+  pub told_but_last : gathered event_taken done ≡ gathered event_told done ++ untold_in to.stage
+  pub through : IsThrough to.stage → (ahead done ≡ None) × (gathered records_logged done ≡ records)
+  pub read : length (gathered moment_read done) ≡ reads
+  pub asked : length (gathered turn_asked done) ≡ asks
 
--- What was done leads to a state: up to its last event; or up to a reading behind it, and then also up to any moment that isn't
--- before the state's, as a fault may come at that.
-abbrev pub Leads : Server → ProxyState → Option ℕ → List Doing → ProxyState → Type 0
-Leads server start None done state = HasRunOf server start done None state
-Leads server start (Some at) done state = (moment : ℕ) → (moment ≡ at) ⊎ (state.moment ≤ moment) → HasRunOf server start done (Some moment) state
-
--- Packets are given to the link: of those that waited these still wait, and perhaps one failed whose fault wasn't taken.
-pub record Hands (server : Server) (old new : ProxyState) (packets : List Packet) (failed : Option Packet) (waiting : List Packet)
-    (before after : Sent) : Type 0 where
-  pub more : List Doing
-  pub no_turns : turns_in more ≡ []
-  pub no_records : records_of (reverse (steps_in more)) ≡ []
-  pub leads : (start : ProxyState) (until : Option ℕ) (done : List Doing) → Leads server start until done old
-      → Leads server start until (more ++ done) new
-  pub waits : (done : List Doing) → IsWaiting done None packets → last_moment done ≡ old.moment → IsWaiting (more ++ done) failed waiting
-  pub last : (done : List Doing) → last_moment done ≡ old.moment → last_moment (more ++ done) ≡ new.moment
-  pub given : after.given ≡ told_more before.given (reverse (given_in more))
-  pub noted : Notes before.written after.written (reverse (events_in more))
-
--- Some packets were given so, and some may wait.
-pub record HandsSome (server : Server) (old new : ProxyState) (packets : List Packet) (before after : Sent) : Type 0 where
-  pub failed : Option Packet
-  pub waiting : List Packet
-  pub hands : Hands server old new packets failed waiting before after
-
--- Steps are taken and what they hand out is given to the link, behind what was done when nothing waited.
-pub record Course (server : Server) (old new : ProxyState) (entry exit : Option ℕ) (turns : List Turn) (records : List Record)
-    (failed : Option Packet) (waiting : List Packet) (before after : Sent) : Type 0 where
-  pub more : List Doing
-  pub turns_are : turns_in more ≡ turns
-  pub recorded : records_of (reverse (steps_in more)) ≡ records
-  pub leads : (start : ProxyState) (done : List Doing) → Leads server start entry done old → Leads server start exit (more ++ done) new
-  pub waits : (done : List Doing) → IsWaiting done None [] → IsWaiting (more ++ done) failed waiting
-  pub given : after.given ≡ told_more before.given (reverse (given_in more))
-  pub noted : Notes before.written after.written (reverse (events_in more))
-
--- The same of whole turns and perhaps one that was begun, with all that the devices tell.
-pub record Turns (server : Server) (old new : ProxyState) (before after : Told) (progress : Progress) (count : ℕ) (records : List Record)
-    (failed : Option Packet) (waiting : List Packet) : Type 0 where
-  pub more : List Doing
-  pub leads : (start : ProxyState) (done : List Doing) → Leads server start None done old → Leads server start (passed_to progress) (more ++ done) new
-  pub waits : (done : List Doing) → IsWaiting done None [] → IsWaiting (more ++ done) failed waiting
-  pub recorded : records_of (reverse (steps_in more)) ≡ records
-  pub told : AreTold before after progress (turns_in more) (given_in more)
-  pub noted : Notes before.written after.written (reverse (events_in more))
-  pub counted : length (readings_in progress (turns_in more)) ≡ count
-
--- ---- pieces of a turn
-
--- A turn's event was taken: the link heard it, its word was drawn, and the step is its own.
-pub record TakesTurn (server : Server) (old : ProxyState) (at : ℕ) (heard heard_then : Option (List (Option Heard))) (words left : Stream)
-    (turn : Turn) (out : StepOut) (new : ProxyState) : Type 0 where
-  pub is_at : reading_of turn ≡ at
-  pub step : IsStep server old (ForEvent (event_of_turn turn)) out new
-  pub hears : heard_then ≡ told_more heard (heard_in turn ∷ [])
-  pub draws : AreDrawn words (turn ∷ []) left
-
--- how far a turn came that was refused, whose clock was read
-abbrev pub IsProgressAt : ℕ → Progress → Type 0
-IsProgressAt at Whole = ⊥
-IsProgressAt at (Read moment) = moment ≡ at
-IsProgressAt at (Begun turn) = reading_of turn ≡ at
-
--- A turn's event wasn't taken: the link failed, or the server refused the step.
-pub record BreaksTurn (state : ProxyState) (at : ℕ) (heard heard_then : Option (List (Option Heard))) (words left : Stream) (e : ServeError)
-    : Type 0 where
-  pub progress : Progress
-  pub is_at : IsProgressAt at progress
-  pub hears : heard_then ≡ told_more heard (reverse (map heard_in (begun progress [])))
-  pub draws : AreDrawn words (begun progress []) left
-  pub why : IsWhy e progress None [] state
-
--- What is due by a moment happens, up to a refusal.
-pub record BreaksFiring (server : Server) (old new : ProxyState) (at : ℕ) (before after : Sent) (e : ServeError) : Type 0 where
-  pub failed : Option Packet
-  pub waiting : List Packet
-  pub course : Course server old new (Some at) (Some at) [] [] failed waiting before after
-  pub why : IsWhy e (Read at) failed waiting new
-
--- The rest of a turn, once what was due by its reading has happened.
-pub record GoesOn (server : Server) (old new : ProxyState) (at : ℕ) (heard heard_then : Option (List (Option Heard)))
-    (given given_then : Sent) (words left : Stream) (records more : List Record) : Type 0 where
-  pub turn : Turn
-  pub is_at : reading_of turn ≡ at
-  pub listed : List Record
-  pub course : Course server old new (Some at) None (turn ∷ []) listed None [] given given_then
-  pub hears : heard_then ≡ told_more heard (heard_in turn ∷ [])
-  pub draws : AreDrawn words (turn ∷ []) left
-  pub recorded : more ≡ records ++ listed
-
--- The same, refused: before the turn's event was taken, or behind it.
-pub record BreaksOff (server : Server) (old new : ProxyState) (at : ℕ) (heard heard_then : Option (List (Option Heard)))
-    (given given_then : Sent) (words left : Stream) (e : ServeError) : Type 0 where
-  pub progress : Progress
-  pub turns : List Turn
+-- Something was done up to a refusal.
+pub record Breaks (server : Server) (old new : ProxyState) (from : Point) (before after : Told) (reads : ℕ) (e : ServeError) : Type 0 where
+  pub to : Point
   pub records : List Record
-  pub failed : Option Packet
-  pub waiting : List Packet
-  pub course : Course server old new (Some at) (passed_to progress) turns records failed waiting given given_then
-  pub is_one : readings_in progress turns ≡ at ∷ []
-  pub hears : heard_then ≡ told_more heard (reverse (map heard_in (begun progress turns)))
-  pub draws : AreDrawn words (begun progress turns) left
-  pub why : IsWhy e progress failed waiting new
-
--- Turns were served up to a refusal.
-pub record Breaks (server : Server) (old new : ProxyState) (before after : Told) (most : ℕ) (e : ServeError) : Type 0 where
-  pub progress : Progress
-  pub count : ℕ
-  pub within : count ≤ most
-  pub records : List Record
-  pub failed : Option Packet
-  pub waiting : List Packet
-  pub turns : Turns server old new before after progress count records failed waiting
-  pub why : IsWhy e progress failed waiting new
+  pub asks : ℕ
+  pub course : Course server old new from to before after records reads asks
+  pub why : IsWhy e to new
 
 -- Turns were served whole, and these records added.
 pub record Goes (server : Server) (old new : ProxyState) (before after : Told) (count : ℕ) (records more : List Record) : Type 0 where
   pub listed : List Record
-  pub turns : Turns server old new before after Whole count listed None []
+  pub course : Course server old new (between_turns old.moment) (between_turns new.moment) before after listed count count
   pub recorded : more ≡ records ++ listed
+
+-- Turns were served up to a refusal.
+pub record BreaksOff (server : Server) (old new : ProxyState) (before after : Told) (most : ℕ) (e : ServeError) : Type 0 where
+  pub count : ℕ
+  pub within : count ≤ most
+  pub breaks : Breaks server old new (between_turns old.moment) before after count e
+
+-- nothing is under way, and so much waits to be sent, in a turn that is open or between two, behind a step at a moment
+abbrev pub waiting_at : Option ℕ → List Packet → ℕ → Point
+waiting_at turn waiting at = record { turn = turn; stage = Clear; failed = None; waiting = waiting; at = at }
+
+-- The rest of a turn was served, once what was due by its reading had happened, and these records added.
+pub record TurnGoes (server : Server) (old new : ProxyState) (at : ℕ) (before after : Told) (records more : List Record) : Type 0 where
+  pub listed : List Record
+  pub course : Course server old new (waiting_at (Some at) [] old.moment) (between_turns new.moment) before after listed 0 1
+  pub recorded : more ≡ records ++ listed
+
+-- The same, refused.
+abbrev pub TurnBreaks : Server → ProxyState → ProxyState → ℕ → Told → Told → ServeError → Type 0
+TurnBreaks server old new at before after e = Breaks server old new (waiting_at (Some at) [] old.moment) before after 0 e
+
+-- what the devices tell that have no part in sending
+pub record Others : Type 0 where
+  pub heard : Option (List (Option Heard))
+  pub readings : Option (List ℕ)
+  pub printed : Option (Option (List ℕ))
+  pub words : Stream
+
+-- with what was given to the link, and the bytes of the journal
+abbrev pub told_with : Others → Option (List Given) → Option (Option (List ℕ)) → Told
+told_with others given written = record {
+  heard = others.heard;
+  given = given;
+  readings = others.readings;
+  written = written;
+  printed = others.printed;
+  words = others.words;
+}
+
+-- ---- a turn's event
+
+-- It was asked for and taken: the link heard it, its word was drawn, and the step is its own.
+pub record TakesTurn (server : Server) (old : ProxyState) (at : ℕ) (heard heard_now : Option (List (Option Heard))) (words left : Stream)
+    (turn : Turn) (out : StepOut) (new : ProxyState) : Type 0 where
+  pub is_at : reading_of turn ≡ at
+  pub step : IsStep server old (ForEvent (event_of_turn turn)) out new
+  pub not_refused : refusal_of_event old (event_of_turn turn) ≡ None
+  pub sayable : is_sayable (event_of_turn turn) ≡ true
+  pub hears : heard_now ≡ told_more heard (heard_of_turn turn ∷ [])
+  pub draws : AreDrawn words (turn ∷ []) left
+
+-- The link failed, and no word was drawn.
+pub record LinkFails (heard heard_now : Option (List (Option Heard))) (words left : Stream) (e : ServeError) : Type 0 where
+  pub failed : e ≡ LinkFailed
+  pub hears : heard_now ≡ heard
+  pub draws : left ≡ words
+
+-- why a turn's step isn't taken: memory ran out, or the server refuses it
+abbrev pub IsWhyStep : ServeError → ProxyState → Turn → Type 0
+IsWhyStep NoMemory old turn = ⊤
+IsWhyStep Journal old turn = ⊥
+IsWhyStep Audit old turn = ⊥
+IsWhyStep LinkFailed old turn = ⊥
+IsWhyStep Step old turn = IsSome (refusal_of_event old (event_of_turn turn))
+
+-- The link heard this, and its word was drawn, and the step wasn't taken.
+pub record StepFails (old : ProxyState) (at : ℕ) (heard heard_now : Option (List (Option Heard))) (words left : Stream) (e : ServeError) : Type 0 where
+  pub turn : Turn
+  pub is_at : reading_of turn ≡ at
+  pub hears : heard_now ≡ told_more heard (heard_of_turn turn ∷ [])
+  pub draws : AreDrawn words (turn ∷ []) left
+  pub why : IsWhyStep e old turn
+
+-- ---- what is due
+
+-- What is due by a moment happened: these steps, oldest first, each at its own moment, and nothing is recorded.
+pub record Happens (server : Server) (old new : ProxyState) (at : ℕ) (outs : List StepOut) : Type 0 where
+  pub history : List Link
+  pub is_run : IsRun server old [] (Some at) outs history new
+  pub turns : AreInTurn server history
+  pub no_records : records_of outs ≡ []
+
+-- and what it hands out was added to what waits
+pub record HappensAll (server : Server) (old new : ProxyState) (at : ℕ) (before after : List Packet) : Type 0 where
+  pub outs : List StepOut
+  pub happens : Happens server old new at outs
+  pub added : after ≡ before ++ packets_of outs
+
+-- why what is due isn't done: memory ran out, or the moment is too large
+abbrev pub IsWhyDue : ServeError → ℕ → Type 0
+IsWhyDue NoMemory at = ⊤
+IsWhyDue Journal at = ⊥
+IsWhyDue Audit at = ⊥
+IsWhyDue LinkFailed at = ⊥
+IsWhyDue Step at = IsSome (refusal_at at)
+
+-- or some of it happened
+pub record HappensTo (server : Server) (old new : ProxyState) (at : ℕ) : Type 0 where
+  pub outs : List StepOut
+  pub happens : Happens server old new at outs
+
+-- nothing happened, and why
+pub record HappensNot (old new : ProxyState) (at : ℕ) (e : ServeError) : Type 0 where
+  pub same : new ≡ old
+  pub why : IsWhyDue e at
+
+-- Not all of it happened: memory ran out behind some of it; or nothing did.
+abbrev pub HappensSome : Server → ProxyState → ProxyState → ℕ → ServeError → Type 0
+HappensSome server old new at e = ((e ≡ NoMemory) × HappensTo server old new at) ⊎ HappensNot old new at e
+
+-- what is due at a moment happened, and the moment was taken, in its turn
+pub record TakesDue (server : Server) (old new : ProxyState) (at : ℕ) (before after : List Packet) : Type 0 where
+  pub outs : List StepOut
+  pub own : StepOut
+  pub history : List Link
+  pub is_run : IsRun server old (Time at ∷ []) None (outs ++ own ∷ []) history new
+  pub turns : AreInTurn server history
+  pub no_records : records_of (outs ++ own ∷ []) ≡ []
+  pub none_recorded : own.records ≡ []
+  pub stands : new.moment ≡ own.at
+  pub sayable : is_sayable (Time at) ≡ true
+  pub added : after ≡ before ++ packets_of (outs ++ own ∷ [])
 
 -- ---- steps
 
@@ -150,17 +191,24 @@ pub record Goes (server : Server) (old new : ProxyState) (before after : Told) (
 abbrev pub IsNoFurther : ProxyState → ProxyState → Type 0
 IsNoFurther old new = (at : ℕ) → steps_left at new ≤ steps_left at old
 
+-- less is left of what is due by any moment that isn't before one
+abbrev pub LeavesFewer : ℕ → ProxyState → ProxyState → Type 0
+LeavesFewer at old new = (by : ℕ) → moment_of old at ≤ moment_of old by → steps_left by new + 1 ≤ steps_left by old
+
 -- The fault of a packet was taken at the state's moment: nothing is recorded, and each packet that it hands out leaves one less that a fault can.
 pub record TakesFault (server : Server) (old : ProxyState) (ticket : Ticket) (out : StepOut) (new : ProxyState) : Type 0 where
   pub step : IsStep server old (ForEvent (Fault old.moment ticket)) out new
   pub stands : new.moment ≡ out.at
+  pub sayable : is_sayable (Fault old.moment ticket) ≡ true
   pub no_records : out.records ≡ []
   pub fewer : length out.packets + sends_left new ≤ sends_left old
   pub no_further : IsNoFurther old new
 
--- Something that was due happened.
-pub record TakesDue (server : Server) (old : ProxyState) (at : ℕ) (out : StepOut) (new : ProxyState) : Type 0 where
-  pub step : IsStep server old (Passing at) out new
+-- Something that was due by a moment happened.
+pub record FiresOne (server : Server) (old : ProxyState) (at : ℕ) (out : StepOut) (new : ProxyState) : Type 0 where
+  pub happens : (IsDeadline server old at out new) ⊎ (IsResend server old at out new)
   pub rises : old.moment ≤ new.moment
   pub stands : new.moment ≡ out.at
+  pub in_time : out.at ≤ moment_of old at
   pub no_records : out.records ≡ []
+  pub fewer : LeavesFewer at old new

@@ -1,4 +1,6 @@
 pub mod Counts
 pub mod Courses
+pub mod Printing
+pub mod Replays
 pub mod ServeErrors
 pub mod Serving

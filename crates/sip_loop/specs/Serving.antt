@@ -1,7 +1,7 @@
--- What serving is: turn by turn a clock is read, what is due happens, a datagram is taken or none was heard, and what the steps hand
--- out is given to a link.
-use Rattle.std.specs.Prelude.{ℕ, ◌≡◌, ◌≤◌, ◌+◌, ◌*◌, ◌^◌, ⊤, List, [], ◌∷◌, ◌++◌, map, reverse, length, Option, Some, None, IsSome}
-use Rattle.std.specs.List.{flat_map}
+-- What serving is: turn by turn a clock is read, what is due happens, a datagram is taken or none was heard; each event that was taken is
+-- told to a journal, what it records is printed, and then what it hands out is given to a link.
+use Rattle.std.specs.Prelude.{ℕ, ◌≡◌, ◌≤◌, ◌⊎◌, ◌+◌, ◌*◌, ◌^◌, max, ⊤, true, List, [], ◌∷◌, ◌++◌, length, Option, Some, None, IsSome}
+use Rattle.std.specs.List.{flat_map, AllByRecursion}
 use Rattle.rand_core.specs.Stream.{Stream, next_u64}
 use Rattle.sip_loop_link.specs.declared.datagram.Given.{Given}
 use Rattle.sip_loop_link.specs.declared.datagram.Heard.{Heard}
@@ -12,20 +12,22 @@ use Rattle.sip_event.specs.declared.event.Event.TheVariants.{Datagram, Time, Fau
 use Rattle.sip_event.specs.declared.event.StepOut.{StepOut}
 use Rattle.sip_event.specs.declared.packet.Packet.{Packet}
 use Rattle.sip_audit.specs.declared.record.Record.{Record}
+use Rattle.sip_replay_script.specs.EventText.{is_sayable}
 use Rattle.sip_record.specs.Record.{Notes}
 use Rattle.model_bounds.specs.state.declared.server.Server.{Server}
 use Rattle.model_bounds.specs.state.declared.proxy_state.ProxyState.{ProxyState}
 use Rattle.model_bounds.specs.state.State.{first_state}
-use Rattle.model_bounds.specs.steps_model.Step.{moment_of}
-use Rattle.model_bounds.specs.model.Run.{Link, IsChain, IsRun}
+use Rattle.model_bounds.specs.steps_model.Step.{Act, Given as ForEvent, Passing, IsDeadline, IsResend, moment_of}
+use Rattle.model_bounds.specs.model.Run.{Link, IsChain, IsRun, event_moment}
 use Rattle.model_bounds.specs.model.Access.{Access}
 use Rattle.model_bounds.specs.Bounds.{IsBounded}
-use Rattle.sip_run.specs.engine.StepError.{refusal_at}
 use Rattle.sip_run.specs.Due.{NothingDueBy}
 use Rattle.sip_run.specs.Refusals.{refusal_of_event}
+use Rattle.sip_run.specs.Runs.{IsInTurn}
+use Rattle.sip_loop.specs.Printing.{Prints}
 use Rattle.sip_loop.specs.declared.serving.Arrived.{Arrived}
 use Rattle.sip_loop.specs.declared.served.ServeError.{ServeError}
-use Rattle.sip_loop.specs.declared.served.ServeError.TheVariants.{NoMemory, Journal, Link as LinkFailed, Step}
+use Rattle.sip_loop.specs.declared.served.ServeError.TheVariants.{NoMemory, Journal, Audit, Link as LinkFailed, Step}
 
 -- ---- turns
 
@@ -40,9 +42,9 @@ reading_of (Silence at) = at
 reading_of (Arrival at heard word) = at
 
 -- what the link heard
-abbrev pub heard_in : Turn → Option Heard
-heard_in (Silence at) = None
-heard_in (Arrival at heard word) = Some heard
+abbrev pub heard_of_turn : Turn → Option Heard
+heard_of_turn (Silence at) = None
+heard_of_turn (Arrival at heard word) = Some heard
 
 -- its event: the datagram at that reading, or the reading alone
 abbrev pub event_of_turn : Turn → Event
@@ -62,105 +64,298 @@ word_from words = (next_u64 words).0 * 2 ^ 64 + (next_u64 (next_u64 words).1).0
 abbrev pub behind_word : Stream → Stream
 behind_word words = (next_u64 (next_u64 words).1).1
 
--- Turns, newest first, drew their words from a source, each datagram the next one, and left this of it.
+-- Turns drew their words from a source, each datagram the next one, and left this of it.
 abbrev pub AreDrawn : Stream → List Turn → Stream → Type 0
 AreDrawn words [] left = left ≡ words
 AreDrawn words (Silence at ∷ turns) left = AreDrawn words turns left
-AreDrawn words (Arrival at heard word ∷ turns) left = (before : Stream) × AreDrawn words turns before × (word ≡ word_from before)
-    × (left ≡ behind_word before)
+AreDrawn words (Arrival at heard word ∷ turns) left = (word ≡ word_from words) × AreDrawn (behind_word words) turns left
 
 -- ---- what is done in them
 
--- What is done: the first that is due happens; the event of a turn is taken; a packet is given to the link, and went out or failed;
--- the fault of a packet that failed is taken, at a moment.
+-- What an event is taken for: something falls due at a moment; a turn brings it; a packet couldn't be sent, which is taken at a moment.
+pub data Cause : Type 0 where
+  FallsDue : ℕ → Cause
+  Brought : Turn → Cause
+  Unsent : ℕ → Packet → Cause
+
+abbrev pub event_for : Cause → Event
+event_for (FallsDue at) = Time at
+event_for (Brought turn) = event_of_turn turn
+event_for (Unsent at p) = Fault at p.ticket
+
+-- What is done, each with the device that it is done by: the clock is read; the link is asked, which makes a turn; what is due by an event's
+-- moment happens, and the event is taken; or what is due happened, and the event wasn't taken; the journal is told an event; the lines of
+-- records are printed; a packet is given to the link, and went out or failed.
 pub data Doing : Type 0 where
-  Fires : StepOut → Doing
-  Takes : Turn → StepOut → Doing
+  Reads : ℕ → Doing
+  Asks : Turn → Doing
+  Takes : Cause → List StepOut → StepOut → Doing
+  Fires : Cause → List StepOut → Doing
+  Tells : Event → Doing
+  Logs : List Record → Doing
   Sends : Packet → Sending → Doing
-  Faults : ℕ → Packet → StepOut → Doing
 
--- the turns whose events were taken, newest first, as all that follows
-abbrev pub turns_in : List Doing → List Turn
-turns_in [] = []
-turns_in (Fires out ∷ done) = turns_in done
-turns_in (Takes turn out ∷ done) = turn ∷ turns_in done
-turns_in (Sends p sending ∷ done) = turns_in done
-turns_in (Faults at p out ∷ done) = turns_in done
+-- what steps hand out, and what they record
+abbrev pub packets_of : List StepOut → List Packet
+packets_of steps = flat_map (λ (out : StepOut). out.packets) steps
 
--- the events that were taken: those of turns, and faults
-abbrev pub events_in : List Doing → List Event
-events_in [] = []
-events_in (Fires out ∷ done) = events_in done
-events_in (Takes turn out ∷ done) = event_of_turn turn ∷ events_in done
-events_in (Sends p sending ∷ done) = events_in done
-events_in (Faults at p out ∷ done) = Fault at p.ticket ∷ events_in done
-
--- the steps
-abbrev pub steps_in : List Doing → List StepOut
-steps_in [] = []
-steps_in (Fires out ∷ done) = out ∷ steps_in done
-steps_in (Takes turn out ∷ done) = out ∷ steps_in done
-steps_in (Sends p sending ∷ done) = steps_in done
-steps_in (Faults at p out ∷ done) = out ∷ steps_in done
-
--- what was given to the link
-abbrev pub given_in : List Doing → List Given
-given_in [] = []
-given_in (Fires out ∷ done) = given_in done
-given_in (Takes turn out ∷ done) = given_in done
-given_in (Sends p sending ∷ done) = record { to = p.to; bytes = p.bytes; sending = sending } ∷ given_in done
-given_in (Faults at p out ∷ done) = given_in done
-
--- the moment of the last step, at first 0
-abbrev pub last_moment : List Doing → ℕ
-last_moment [] = 0
-last_moment (Fires out ∷ done) = out.at
-last_moment (Takes turn out ∷ done) = out.at
-last_moment (Sends p sending ∷ done) = last_moment done
-last_moment (Faults at p out ∷ done) = out.at
-
--- What still waits behind doings, newest first: the packet that failed and whose fault comes next, if one did, and packets in the
--- order in which they are to be sent. Something that is due, and
--- the event of a turn, come once nothing waits. A packet that failed is followed by its fault at once, at the moment of the last
--- step, and the packets of that go behind those that wait.
-abbrev pub IsWaiting : List Doing → Option Packet → List Packet → Type 0
-IsWaiting [] failed waiting = (failed ≡ None) × (waiting ≡ [])
-IsWaiting (Fires out ∷ done) failed waiting = IsWaiting done None [] × (failed ≡ None) × (waiting ≡ out.packets)
-IsWaiting (Takes turn out ∷ done) failed waiting = IsWaiting done None [] × (failed ≡ None) × (waiting ≡ out.packets)
-IsWaiting (Sends p Went ∷ done) failed waiting = IsWaiting done None (p ∷ waiting) × (failed ≡ None)
-IsWaiting (Sends p Failed ∷ done) failed waiting = IsWaiting done None (p ∷ waiting) × (failed ≡ Some p)
-IsWaiting (Faults at p out ∷ done) failed waiting = (others : List Packet) × IsWaiting done (Some p) others × (at ≡ last_moment done)
-    × (failed ≡ None) × (waiting ≡ others ++ out.packets)
-
--- what is recorded of steps, oldest first
 abbrev pub records_of : List StepOut → List Record
 records_of steps = flat_map (λ (out : StepOut). out.records) steps
+
+-- what each of them adds, of doings the newest of which stands first, oldest first
+abbrev pub gathered : {A : Type 0} → (Doing → List A) → List Doing → List A
+gathered adds [] = []
+gathered adds (doing ∷ done) = gathered adds done ++ adds doing
+
+-- the event that is taken
+abbrev pub event_taken : Doing → List Event
+event_taken (Reads at) = []
+event_taken (Asks turn) = []
+event_taken (Takes cause due own) = event_for cause ∷ []
+event_taken (Fires cause due) = []
+event_taken (Tells event) = []
+event_taken (Logs records) = []
+event_taken (Sends p sending) = []
+
+-- the steps
+abbrev pub steps_taken : Doing → List StepOut
+steps_taken (Reads at) = []
+steps_taken (Asks turn) = []
+steps_taken (Takes cause due own) = due ++ own ∷ []
+steps_taken (Fires cause due) = due
+steps_taken (Tells event) = []
+steps_taken (Logs records) = []
+steps_taken (Sends p sending) = []
+
+-- the clock's reading
+abbrev pub moment_read : Doing → List ℕ
+moment_read (Reads at) = at ∷ []
+moment_read (Asks turn) = []
+moment_read (Takes cause due own) = []
+moment_read (Fires cause due) = []
+moment_read (Tells event) = []
+moment_read (Logs records) = []
+moment_read (Sends p sending) = []
+
+-- the turn that the link was asked in
+abbrev pub turn_asked : Doing → List Turn
+turn_asked (Reads at) = []
+turn_asked (Asks turn) = turn ∷ []
+turn_asked (Takes cause due own) = []
+turn_asked (Fires cause due) = []
+turn_asked (Tells event) = []
+turn_asked (Logs records) = []
+turn_asked (Sends p sending) = []
+
+-- what it heard then
+abbrev pub heard_then : Doing → List (Option Heard)
+heard_then (Reads at) = []
+heard_then (Asks turn) = heard_of_turn turn ∷ []
+heard_then (Takes cause due own) = []
+heard_then (Fires cause due) = []
+heard_then (Tells event) = []
+heard_then (Logs records) = []
+heard_then (Sends p sending) = []
+
+-- the event that the journal was told
+abbrev pub event_told : Doing → List Event
+event_told (Reads at) = []
+event_told (Asks turn) = []
+event_told (Takes cause due own) = []
+event_told (Fires cause due) = []
+event_told (Tells event) = event ∷ []
+event_told (Logs records) = []
+event_told (Sends p sending) = []
+
+-- the records whose lines were printed
+abbrev pub records_logged : Doing → List Record
+records_logged (Reads at) = []
+records_logged (Asks turn) = []
+records_logged (Takes cause due own) = []
+records_logged (Fires cause due) = []
+records_logged (Tells event) = []
+records_logged (Logs records) = records
+records_logged (Sends p sending) = []
+
+-- what was given to the link
+abbrev pub packet_given : Doing → List Given
+packet_given (Reads at) = []
+packet_given (Asks turn) = []
+packet_given (Takes cause due own) = []
+packet_given (Fires cause due) = []
+packet_given (Tells event) = []
+packet_given (Logs records) = []
+packet_given (Sends p sending) = record { to = p.to; bytes = p.bytes; sending = sending } ∷ []
+
+-- ---- their order
+
+-- What is under way: nothing but what waits to be sent; the link was asked; what is due before an event happened, which isn't taken; an
+-- event was taken, with these records, and the journal isn't told it; it was told, and the lines of its records aren't printed.
+pub data Stage : Type 0 where
+  Clear : Stage
+  Asked : Turn → Stage
+  Stopped : Cause → Stage
+  Untold : Cause → List Record → Stage
+  Unlogged : List Record → Stage
+
+-- Where serving stands between two doings: the reading of the turn that is open, if one is; what is under way; the packet that failed and
+-- whose fault comes next, if one did; the packets that wait to be sent, in their order; and the moment of the last step.
+pub record Point : Type 0 where
+  pub turn : Option ℕ
+  pub stage : Stage
+  pub failed : Option Packet
+  pub waiting : List Packet
+  pub at : ℕ
+
+-- between two turns nothing waits
+abbrev pub between_turns : ℕ → Point
+between_turns at = record { turn = None; stage = Clear; failed = None; waiting = []; at = at }
+
+-- nothing is under way, and nothing waits to be sent
+pub record IsIdle (point : Point) : Type 0 where
+  pub clear : point.stage ≡ Clear
+  pub whole : point.failed ≡ None
+  pub all_sent : point.waiting ≡ []
+
+-- something may fall due in an open turn, once nothing waits, no later than the turn's reading; that goes back where the clock does
+pub record MayFallDue (at : ℕ) (point : Point) : Type 0 where
+  pub idle : IsIdle point
+  pub reading : ℕ
+  pub is_open : point.turn ≡ Some reading
+  pub in_time : at ≤ max reading point.at
+
+-- what a turn brings comes once the link was asked
+pub record MayBring (turn : Turn) (point : Point) : Type 0 where
+  pub asked : point.stage ≡ Asked turn
+  pub whole : point.failed ≡ None
+  pub all_sent : point.waiting ≡ []
+
+-- the fault of a packet comes as soon as that failed, at the moment of the last step
+pub record MayFail (at : ℕ) (p : Packet) (point : Point) : Type 0 where
+  pub clear : point.stage ≡ Clear
+  pub failed : point.failed ≡ Some p
+  pub same : at ≡ point.at
+
+-- an event may come
+abbrev pub MayCome : Cause → Point → Type 0
+MayCome (FallsDue at) point = MayFallDue at point
+MayCome (Brought turn) point = MayBring turn point
+MayCome (Unsent at p) point = MayFail at p point
+
+-- a turn is over once its event was taken
+abbrev pub turn_behind : Cause → Option ℕ → Option ℕ
+turn_behind (FallsDue at) turn = turn
+turn_behind (Brought turn) open_turn = None
+turn_behind (Unsent at p) turn = turn
+
+-- an event is taken: what is due before it, and it, hand out what waits from then on
+pub record TakesAt (before : Point) (cause : Cause) (due : List StepOut) (own : StepOut) (after : Point) : Type 0 where
+  pub comes : MayCome cause before
+  pub leads : after ≡ record {
+    turn = turn_behind cause before.turn;
+    stage = Untold cause own.records;
+    failed = None;
+    waiting = before.waiting ++ packets_of (due ++ own ∷ []);
+    at = own.at;
+  }
+
+-- or it isn't taken
+pub record FiresAt (before : Point) (cause : Cause) (due : List StepOut) (after : Point) : Type 0 where
+  pub comes : MayCome cause before
+  pub leads : after ≡ record before { stage = Stopped cause; waiting = before.waiting ++ packets_of due }
+
+-- the clock is read once, when a turn begins
+pub record ReadsAt (before : Point) (at : ℕ) (after : Point) : Type 0 where
+  pub idle : IsIdle before
+  pub none_open : before.turn ≡ None
+  pub leads : after ≡ record before { turn = Some at }
+
+-- and the link asked once behind that
+pub record AsksAt (before : Point) (turn : Turn) (after : Point) : Type 0 where
+  pub idle : IsIdle before
+  pub is_open : before.turn ≡ Some (reading_of turn)
+  pub leads : after ≡ record before { stage = Asked turn }
+
+-- the journal is told the event that was taken last
+pub record TellsAt (before : Point) (event : Event) (after : Point) : Type 0 where
+  pub cause : Cause
+  pub records : List Record
+  pub untold : before.stage ≡ Untold cause records
+  pub same : event ≡ event_for cause
+  pub leads : after ≡ record before { stage = Unlogged records }
+
+-- then the lines of its records are printed
+pub record LogsAt (before : Point) (records : List Record) (after : Point) : Type 0 where
+  pub unlogged : before.stage ≡ Unlogged records
+  pub leads : after ≡ record before { stage = Clear }
+
+-- a packet that failed
+abbrev pub failing : Packet → Sending → Option Packet
+failing p Went = None
+failing p Failed = Some p
+
+-- then the packet that waits first is given to the link
+pub record SendsAt (before : Point) (p : Packet) (sending : Sending) (after : Point) : Type 0 where
+  pub clear : before.stage ≡ Clear
+  pub whole : before.failed ≡ None
+  pub rest : List Packet
+  pub first : before.waiting ≡ p ∷ rest
+  pub leads : after ≡ record before { failed = failing p sending; waiting = rest }
+
+-- what a doing leads to from where serving stands
+abbrev pub Leads : Point → Doing → Point → Type 0
+Leads before (Reads at) after = ReadsAt before at after
+Leads before (Asks turn) after = AsksAt before turn after
+Leads before (Takes cause due own) after = TakesAt before cause due own after
+Leads before (Fires cause due) after = FiresAt before cause due after
+Leads before (Tells event) after = TellsAt before event after
+Leads before (Logs records) after = LogsAt before records after
+Leads before (Sends p sending) after = SendsAt before p sending after
+
+-- doings, newest first, lead from one point to another
+abbrev pub IsPath : Point → List Doing → Point → Type 0
+IsPath first [] last = last ≡ first
+IsPath first (doing ∷ done) last = (before : Point) × IsPath first done before × Leads before doing last
+
+-- up to which moment time passed behind the last event: that of an event which wasn't taken
+abbrev pub moment_ahead : Doing → Option ℕ
+moment_ahead (Reads at) = None
+moment_ahead (Asks turn) = None
+moment_ahead (Takes cause due own) = None
+moment_ahead (Fires cause due) = Some (event_moment (event_for cause))
+moment_ahead (Tells event) = None
+moment_ahead (Logs records) = None
+moment_ahead (Sends p sending) = None
+
+abbrev pub ahead : List Doing → Option ℕ
+ahead [] = None
+ahead (doing ∷ done) = moment_ahead doing
+
+-- the event that was taken and that the journal isn't told yet
+abbrev pub untold_in : Stage → List Event
+untold_in Clear = []
+untold_in (Asked turn) = []
+untold_in (Stopped cause) = []
+untold_in (Untold cause records) = event_for cause ∷ []
+untold_in (Unlogged records) = []
 
 -- ---- what the devices tell
 
 -- What devices tell: what the link heard, call by call, and was given, and what the clock showed, oldest first, where they tell it;
--- the bytes of the journal, where it tells them and hasn't failed; and what a source of words will give.
+-- the bytes of the journal, and those that were printed, where these are told and it hasn't failed; and what a source of words will give.
 pub record Told : Type 0 where
   pub heard : Option (List (Option Heard))
   pub given : Option (List Given)
   pub readings : Option (List ℕ)
   pub written : Option (Option (List ℕ))
+  pub printed : Option (Option (List ℕ))
   pub words : Stream
 
--- what went out of a server: what its link was given, and the bytes of its journal, where these tell it
-pub record Sent : Type 0 where
-  pub given : Option (List Given)
-  pub written : Option (Option (List ℕ))
-
 -- by what each device tells of itself
-abbrev pub told_by : Option (List (Option Heard)) → Option (List Given) → Option (List ℕ) → Option (Option (List ℕ)) → Stream → Told
-told_by heard given readings written words = record { heard = heard; given = given; readings = readings; written = written; words = words }
-
-abbrev pub sent_by : Option (List Given) → Option (Option (List ℕ)) → Sent
-sent_by given written = record { given = given; written = written }
-
-abbrev pub sent_of : Told → Sent
-sent_of told = record { given = told.given; written = told.written }
+abbrev pub told_by : Option (List (Option Heard)) → Option (List Given) → Option (List ℕ) → Option (Option (List ℕ)) → Option (Option (List ℕ))
+    → Stream → Told
+told_by heard given readings written printed words =
+    record { heard = heard; given = given; readings = readings; written = written; printed = printed; words = words }
 
 -- a list that is told, with others at its end
 abbrev pub told_more : {A : Type 0} → Option (List A) → List A → Option (List A)
@@ -173,80 +368,90 @@ IsToldMore old more None = ⊤
 IsToldMore None more (Some all) = ⊥
 IsToldMore (Some list) more (Some all) = all ≡ list ++ more
 
--- How far the last turn came: its event was taken; or the clock was read, and no more; or the link heard something or nothing, too.
-pub data Progress : Type 0 where
-  Whole : Progress
-  Read : ℕ → Progress
-  Begun : Turn → Progress
-
--- the turns that were begun, newest first
-abbrev pub begun : Progress → List Turn → List Turn
-begun Whole turns = turns
-begun (Read at) turns = turns
-begun (Begun turn) turns = turn ∷ turns
-
--- the readings, newest first
-abbrev pub readings_in : Progress → List Turn → List ℕ
-readings_in Whole turns = map reading_of turns
-readings_in (Read at) turns = at ∷ map reading_of turns
-readings_in (Begun turn) turns = reading_of turn ∷ map reading_of turns
-
--- up to which moment time passed behind the last event
-abbrev pub passed_to : Progress → Option ℕ
-passed_to Whole = None
-passed_to (Read at) = Some at
-passed_to (Begun turn) = Some (reading_of turn)
-
--- Devices told exactly these turns and what was given to the link.
-pub record AreTold (before after : Told) (progress : Progress) (turns : List Turn) (sent : List Given) : Type 0 where
-  pub heard : after.heard ≡ told_more before.heard (reverse (map heard_in (begun progress turns)))
-  pub given : after.given ≡ told_more before.given (reverse sent)
-  pub readings : IsToldMore before.readings (reverse (readings_in progress turns)) after.readings
-  pub words : AreDrawn before.words (begun progress turns) after.words
+-- Devices told exactly what was done by them.
+pub record AreTold (before after : Told) (done : List Doing) : Type 0 where
+  pub heard : after.heard ≡ told_more before.heard (gathered heard_then done)
+  pub given : after.given ≡ told_more before.given (gathered packet_given done)
+  pub readings : IsToldMore before.readings (gathered moment_read done) after.readings
+  pub words : AreDrawn before.words (gathered turn_asked done) after.words
+  pub noted : Notes before.written after.written (gathered event_told done)
+  pub printed : Prints before.printed after.printed (gathered records_logged done)
 
 -- ---- serving
 
--- A server did these, newest first: its steps are a run of the model over the events of its turns and the faults of packets that
--- failed, from the state in which it was, and each step of that
--- run is lawful by its history, whatever history led to that state, as `Access` says, and the whole history is bounded, as
--- `IsBounded` says; the devices told these turns, and that the link was
--- given these packets; and where the journal tells its bytes in the end, what was written says exactly these events, in their order.
-pub record Serves (server : Server) (old new : ProxyState) (before after : Told) (progress : Progress) (done : List Doing) : Type 0 where
+-- An event comes in its turn: all that was due by its moment has happened; the fault of a packet comes at the moment of the step before it. And time
+-- passes only where a deadline does, or something goes again.
+abbrev pub IsTurnOf : Server → ProxyState → Act → StepOut → ProxyState → Type 0
+IsTurnOf server before (ForEvent (Datagram at word from bytes)) out after = IsInTurn before (Datagram at word from bytes)
+IsTurnOf server before (ForEvent (Time at)) out after = IsInTurn before (Time at)
+IsTurnOf server before (ForEvent (Fault at ticket)) out after = at ≡ before.moment
+IsTurnOf server before (Passing at) out after = IsDeadline server before at out after ⊎ IsResend server before at out after
+
+abbrev pub AreInTurn : Server → List Link → Type 0
+AreInTurn server history = AllByRecursion (λ (link : Link). IsTurnOf server link.before link.act link.out link.after) history
+
+-- A server did these, newest first, in their order: its steps are a run of the model over the events that were taken, each in its turn, from the
+-- state in which it was; a script can say each of these events; each step of that run is lawful by its history, whatever history led to that state, as `Access` says, and the
+-- whole history is bounded, as `IsBounded` says; and the devices told what was done by them.
+pub record Serves (server : Server) (old new : ProxyState) (before after : Told) (done : List Doing) : Type 0 where
   pub history : List Link
-  pub is_run : IsRun server old (reverse (events_in done)) (passed_to progress) (reverse (steps_in done)) history new
+  pub is_run : IsRun server old (gathered event_taken done) (ahead done) (gathered steps_taken done) history new
+  pub turns : AreInTurn server history
+  pub sayable : AllByRecursion (λ (event : Event). is_sayable event ≡ true) (gathered event_taken done)
   pub access : (first : ℕ) (past : List Link) → IsChain server (first_state first) past old → Access server (history ++ past)
   pub bounded : (first : ℕ) (past : List Link) → IsChain server (first_state first) past old → IsBounded server (history ++ past)
-  pub told : AreTold before after progress (turns_in done) (given_in done)
-  pub noted : Notes before.written after.written (reverse (events_in done))
+  pub told : AreTold before after done
 
--- So many turns were served whole: all that they hand out was given to the link, and these are the records of their steps.
+-- So many turns were served whole: each event was told to the journal, and all that they hand out was given to the link; these are the records of their steps, and the lines of
+-- these were printed.
 pub record IsServed (turns : ℕ) (server : Server) (old new : ProxyState) (before after : Told) (records : List Record) : Type 0 where
   pub done : List Doing
-  pub serves : Serves server old new before after Whole done
-  pub counted : length (turns_in done) ≡ turns
-  pub all_sent : IsWaiting done None []
-  pub recorded : records ≡ records_of (reverse (steps_in done))
+  pub serves : Serves server old new before after done
+  pub counted : length (gathered turn_asked done) ≡ turns
+  pub in_order : IsPath (between_turns old.moment) done (between_turns new.moment)
+  pub all_told : gathered event_taken done ≡ gathered event_told done
+  pub recorded : records ≡ records_of (gathered steps_taken done)
+  pub logged : records ≡ gathered records_logged done
 
--- Why serving ended: for want of memory at any call, or since the journal failed, what was given being a front of what the steps hand
--- out; or, once all that was handed out was given and nothing was due, since the link
--- failed as it was asked; or since the server refuses a step at that reading.
-abbrev pub IsWhy : ServeError → Progress → Option Packet → List Packet → ProxyState → Type 0
-IsWhy NoMemory progress failed waiting last = ⊤
-IsWhy Journal progress failed waiting last = ⊤
-IsWhy LinkFailed Whole failed waiting last = ⊥
-IsWhy LinkFailed (Read at) failed waiting last = (failed ≡ None) × (waiting ≡ []) × NothingDueBy (moment_of last at) last
-IsWhy LinkFailed (Begun turn) failed waiting last = ⊥
-IsWhy Step Whole failed waiting last = ⊥
-IsWhy Step (Read at) failed waiting last = (failed ≡ None) × (waiting ≡ []) × IsSome (refusal_at at)
-IsWhy Step (Begun turn) failed waiting last = (failed ≡ None) × (waiting ≡ []) × IsSome (refusal_of_event last (event_of_turn turn))
+-- the journal failed: the event that it wasn't told was taken last, and nothing that it hands out was given
+pub record IsUntold (point : Point) : Type 0 where
+  pub cause : Cause
+  pub records : List Record
+  pub untold : point.stage ≡ Untold cause records
 
--- Serving was refused within so many turns: a packet that failed may be the last that was given, its fault not being taken.
+-- printing failed: the event whose lines weren't printed was told to the journal, and nothing that it hands out was given
+pub record IsUnlogged (point : Point) : Type 0 where
+  pub records : List Record
+  pub unlogged : point.stage ≡ Unlogged records
+
+-- the link failed as it was asked, once all that was due by the reading had happened, and all that was handed out was given
+pub record IsUnheard (point : Point) (last : ProxyState) : Type 0 where
+  pub idle : IsIdle point
+  pub reading : ℕ
+  pub is_open : point.turn ≡ Some reading
+  pub none_due : NothingDueBy (moment_of last reading) last
+
+-- the server refuses the step of an event that comes next
+pub record IsRefused (point : Point) (last : ProxyState) : Type 0 where
+  pub cause : Cause
+  pub comes : MayCome cause point
+  pub refused : IsSome (refusal_of_event last (event_for cause))
+
+-- Why serving ended: for want of memory at any call, what was given being a front of what the steps hand out; or since the journal, or
+-- printing, or the link failed; or since the server refuses a step.
+abbrev pub IsWhy : ServeError → Point → ProxyState → Type 0
+IsWhy NoMemory point last = ⊤
+IsWhy Journal point last = IsUntold point
+IsWhy Audit point last = IsUnlogged point
+IsWhy LinkFailed point last = IsUnheard point last
+IsWhy Step point last = IsRefused point last
+
+-- Serving was refused within so many turns: each event was told to the journal, but for the last one where that failed.
 pub record IsUnserved (turns : ℕ) (server : Server) (old new : ProxyState) (before after : Told) (e : ServeError) : Type 0 where
   pub done : List Doing
-  pub progress : Progress
-  pub serves : Serves server old new before after progress done
-  pub within : length (readings_in progress (turns_in done)) ≤ turns
-  pub failed : Option Packet
-  pub waiting : List Packet
-  pub waits : IsWaiting done failed waiting
-  pub why : IsWhy e progress failed waiting new
+  pub serves : Serves server old new before after done
+  pub within : length (gathered moment_read done) ≤ turns
+  pub point : Point
+  pub in_order : IsPath (between_turns old.moment) done point
+  pub told_but_last : gathered event_taken done ≡ gathered event_told done ++ untold_in point.stage
+  pub why : IsWhy e point new

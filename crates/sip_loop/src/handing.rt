@@ -1,8 +1,7 @@
-ghost use Rattle.std.specs.Prelude.{◌≡◌, ◌<◌, ◌≤◌, ◌+◌, ◌++◌, [], ◌∷◌, drop, length, None, IfOk, IfErr, OnOk, OnErr};
+ghost use Rattle.std.specs.Prelude.{◌≡◌, ◌<◌, ◌≤◌, ◌+◌, ◌++◌, ℕ, Option, [], drop, length, IfOk, IfErr, OnOk, OnErr};
 ghost use Rattle.model_bounds.specs.model.Ends.{sends_left};
-ghost use Rattle.sip_loop.specs.Courses.{Hands, HandsSome, IsNoFurther, TakesFault};
+ghost use Rattle.sip_loop.specs.Courses.{Breaks, Course, IsNoFurther, Others, TakesFault, told_with, waiting_at};
 ghost use Rattle.sip_loop.specs.ServeErrors.{IsOfHanding};
-ghost use Rattle.sip_loop.specs.Serving.{sent_by};
 ghost use Rattle.sip_loop.specs.declared.served.ServeError.TheVariants.{NoMemory};
 
 use crate::served::ServeError;
@@ -17,6 +16,7 @@ use sip_run::engine::Engine;
 use sip_text::Items;
 use sip_timers::Timers;
 use std::alloc::AllocError;
+use std::mem::swap;
 
 /// A copy of a packet.
 fn copy_of(packet: &Packet) -> Result<Packet, AllocError>
@@ -42,6 +42,21 @@ fn add_packets(packets: &mut Items<Packet>, more: &[Packet]) -> Result<(), Serve
     Ok(())
 }
 
+/// Puts what a step hands out behind what waits. Where nothing does, the step's own list is taken, so that nothing is copied.
+pub(crate) fn wait_for(
+    waiting: &mut Items<Packet>,
+    packets: &mut Items<Packet>,
+) -> Result<(), ServeError>
+    ensures added { OnOk result (waiting.new ≡ waiting.old ++ packets.old) }
+    ensures refused { IfErr result (λ e. e ≡ NoMemory) }
+{
+    if waiting.as_slice().is_empty() {
+        swap(waiting, packets);
+        return Ok(());
+    }
+    add_packets(waiting, packets.as_slice())
+}
+
 /// Takes the fault of a packet that could not be sent, at the moment of the step that handed it out.
 fn take_fault<T: Timers, R: Rules>(
     engine: &mut Engine<T, R>,
@@ -61,8 +76,8 @@ fn take_fault<T: Timers, R: Rules>(
     Ok(out)
 }
 
-/// Gives the packet at a place to the link. If it fails, its fault is taken at once and noted, and the packets of that go behind
-/// those that still wait.
+/// Gives the packet at a place to the link. If it fails, its fault is taken at once and told to the journal, and the packets of that
+/// go behind those that still wait.
 fn hand_one<T: Timers, R: Rules, L: Link, J: Journal>(
     engine: &mut Engine<T, R>,
     link: &mut L,
@@ -75,16 +90,16 @@ fn hand_one<T: Timers, R: Rules, L: Link, J: Journal>(
     ensures receives { L.receives link.new ≡ L.receives link.old }
     ensures failures { L.failures link.new ≡ L.failures link.old }
     ensures heard { L.heard link.new ≡ L.heard link.old }
-    ensures handed { OnOk result (Hands engine.old.server engine.old.state engine.new.state (drop place packets.old) None
-        (drop (place + 1) packets.new) (sent_by (L.given link.old) (J.written journal.old))
-        (sent_by (L.given link.new) (J.written journal.new))) }
+    ensures handed { OnOk result ((others : Others) (turn : Option ℕ) → Course engine.old.server engine.old.state engine.new.state
+        (waiting_at turn (drop place packets.old) engine.old.state.moment) (waiting_at turn (drop (place + 1) packets.new) engine.new.state.moment)
+        (told_with others (L.given link.old) (J.written journal.old)) (told_with others (L.given link.new) (J.written journal.new)) [] 0 0) }
     ensures more { OnOk result (place + 1 ≤ length packets.new) }
     ensures fewer { OnOk result (length packets.new + sends_left engine.new.state ≤ length packets.old + sends_left engine.old.state) }
     ensures no_further { OnOk result (IsNoFurther engine.old.state engine.new.state) }
     ensures refused { IfErr result (λ e. IsOfHanding e (J.written journal.new)) }
-    ensures broken { OnErr result (HandsSome engine.old.server engine.old.state engine.new.state (drop place packets.old)
-        (sent_by (L.given link.old) (J.written journal.old))
-        (sent_by (L.given link.new) (J.written journal.new))) }
+    ensures broken { IfErr result (λ e. (others : Others) (turn : Option ℕ) → Breaks engine.old.server engine.old.state engine.new.state
+        (waiting_at turn (drop place packets.old) engine.old.state.moment)
+        (told_with others (L.given link.old) (J.written journal.old)) (told_with others (L.given link.new) (J.written journal.new)) 0 e) }
 {
     let packet = &packets.as_slice()[place];
     let ticket = packet.ticket;
@@ -99,30 +114,30 @@ fn hand_one<T: Timers, R: Rules, L: Link, J: Journal>(
     }
 }
 
-/// Gives all packets of a step to the link, in their order, and what faults of theirs hand out behind them. Refused with
-/// `NoMemory`, and with `Journal` where a fault can't be noted; the packets that were given then are a front.
+/// Gives all packets that wait to the link, in their order, and what faults of theirs hand out behind them. Refused with
+/// `NoMemory`, and with `Journal` where a fault can't be told to it; the packets that were given then are a front.
 pub(crate) fn hand_out<T: Timers, R: Rules, L: Link, J: Journal>(
     engine: &mut Engine<T, R>,
     link: &mut L,
     journal: &mut J,
-    mut out: StepOut,
+    packets: &mut Items<Packet>,
 ) -> Result<(), ServeError>
     ensures server { engine.new.server ≡ engine.old.server }
     ensures receives { L.receives link.new ≡ L.receives link.old }
     ensures failures { L.failures link.new ≡ L.failures link.old }
     ensures heard { L.heard link.new ≡ L.heard link.old }
-    ensures handed { OnOk result (Hands engine.old.server engine.old.state engine.new.state out.packets None []
-        (sent_by (L.given link.old) (J.written journal.old))
-        (sent_by (L.given link.new) (J.written journal.new))) }
+    ensures handed { OnOk result ((others : Others) (turn : Option ℕ) → Course engine.old.server engine.old.state engine.new.state
+        (waiting_at turn packets.old engine.old.state.moment) (waiting_at turn [] engine.new.state.moment)
+        (told_with others (L.given link.old) (J.written journal.old)) (told_with others (L.given link.new) (J.written journal.new)) [] 0 0) }
     ensures no_further { OnOk result (IsNoFurther engine.old.state engine.new.state) }
     ensures refused { IfErr result (λ e. IsOfHanding e (J.written journal.new)) }
-    ensures broken { OnErr result (HandsSome engine.old.server engine.old.state engine.new.state out.packets
-        (sent_by (L.given link.old) (J.written journal.old))
-        (sent_by (L.given link.new) (J.written journal.new))) }
+    ensures broken { IfErr result (λ e. (others : Others) (turn : Option ℕ) → Breaks engine.old.server engine.old.state engine.new.state
+        (waiting_at turn packets.old engine.old.state.moment)
+        (told_with others (L.given link.old) (J.written journal.old)) (told_with others (L.given link.new) (J.written journal.new)) 0 e) }
 {
     let mut place = 0;
-    while place < out.packets.as_slice().len() {
-        hand_one(engine, link, journal, &mut out.packets, place)?;
+    while place < packets.as_slice().len() {
+        hand_one(engine, link, journal, packets, place)?;
         place += 1;
     }
     Ok(())

@@ -1,20 +1,26 @@
-//! What drives the server on a link: a link and a clock are asked turn by turn, what comes is handed to the engine, and the
-//! packets that it hands out are given to the link.
+//! What drives the server on a link: a link and a clock are asked turn by turn, what comes is handed to the engine, told to a journal
+//! and printed, and then the packets that the engine hands out are given to the link.
 //!
 //! - Used: `sipd_command`, turn by turn.
-//! - Not here: the socket itself (`sip_loop_link`), and what a journal writes (`sip_record`).
+//! - Not here: the socket itself (`sip_loop_link`), what a journal writes (`sip_record`), and what lines are printed on.
 //! - Tried: `test_serve`, and over sockets `tests/serve.py`.
 //!
 //! ```text
-//! let served = serve(alloc, &mut engine, &mut link, &mut journal, &mut clock, &mut words, turns)?;
+//! let served = serve(alloc, &mut engine, &mut link, &mut journal, &mut audit, &mut clock, &mut words, turns)?;
 //! ```
 #![tactic(auto)]
 
+mod audit_log;
+mod due;
 mod handing;
+pub mod laws;
+mod no_audit;
 mod records;
 mod served;
 mod serving;
 
+pub use audit_log::{AuditFault, AuditLog};
+pub use no_audit::NoAudit;
 pub use served::{ServeError, Served};
 pub use serving::serve;
 

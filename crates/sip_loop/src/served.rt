@@ -1,7 +1,8 @@
 ghost use Rattle.std.specs.Prelude.{◌≡◌};
-ghost use Rattle.sip_loop.specs.ServeErrors.{number_of_refusal, refusal_of_step};
+ghost use Rattle.sip_loop.specs.ServeErrors.{number_of_refusal, refusal_of_audit, refusal_of_step};
 ghost use Rattle.sip_loop.specs.declared.served.ServeError.TheVariants.{NoMemory, Journal, Link};
 
+use crate::audit_log::AuditFault;
 use sip_audit::Record;
 use sip_loop_link::LinkFault;
 use sip_record::JournalFault;
@@ -28,6 +29,8 @@ pub enum ServeError {
     Step = 6,
     /// The journal failed.
     Journal = 7,
+    /// The lines of decisions couldn't be printed.
+    Audit = 8,
 }
 
 impl ServeError {
@@ -40,6 +43,7 @@ impl ServeError {
             ServeError::Link => 5,
             ServeError::Step => 6,
             ServeError::Journal => 7,
+            ServeError::Audit => 8,
         }
     }
 }
@@ -51,6 +55,7 @@ impl fmt::Display for ServeError {
             ServeError::Link => write!(f, "the link failed"),
             ServeError::Step => write!(f, "moments or numbers are worn out"),
             ServeError::Journal => write!(f, "the journal failed"),
+            ServeError::Audit => write!(f, "the lines of decisions could not be printed"),
         }
     }
 }
@@ -86,6 +91,17 @@ impl From<JournalFault> for ServeError {
 
     fn from(_e: JournalFault) -> ServeError {
         ServeError::Journal
+    }
+}
+
+impl From<AuditFault> for ServeError {
+    ghost from_gives = { λ fault e. e ≡ refusal_of_audit fault };
+
+    fn from(e: AuditFault) -> ServeError {
+        match e {
+            AuditFault::NoMemory => ServeError::NoMemory,
+            AuditFault::Device => ServeError::Audit,
+        }
     }
 }
 

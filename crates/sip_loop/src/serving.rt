@@ -1,20 +1,21 @@
-ghost use Rattle.std.specs.Prelude.{◌≡◌, ◌≤◌, ◌+◌, ◌∷◌, [], None, Some, Err, IfOk, IfErr, IfSome, IfNone, OnOk, OnErr};
+ghost use Rattle.std.specs.Prelude.{◌≡◌, ◌⊎◌, ◌≤◌, ℕ, ◌∷◌, [], List, Option, None, Some, Err, IfOk, IfErr, OnOk, OnErr};
 ghost use Rattle.sip_loop_link.specs.Told.{counted};
 ghost use Rattle.sip_loop.specs.Counts.{counted_times, IsAskedWithin};
-ghost use Rattle.model_bounds.specs.model.Ends.{steps_left};
 ghost use Rattle.model_bounds.specs.steps_model.Step.{moment_of};
 ghost use Rattle.sip_run.specs.Due.{NothingDueBy};
-ghost use Rattle.sip_loop.specs.Courses.{Breaks, BreaksFiring, BreaksOff, BreaksTurn, Course, Goes, GoesOn, TakesDue, TakesTurn};
+ghost use Rattle.sip_loop.specs.Courses.{Breaks, BreaksOff, Goes, LinkFails, StepFails, TakesTurn, TurnBreaks, TurnGoes, waiting_at};
+ghost use Rattle.sip_loop.specs.Printing.{Prints};
 ghost use Rattle.sip_record.specs.Record.{Notes};
-ghost use Rattle.sip_loop.specs.ServeErrors.{IsOfHanding};
-ghost use Rattle.sip_loop.specs.Serving.{IsServed, IsUnserved, IsWhy, Read, behind_word, event_of_turn, sent_by, told_by, turn_at, word_from};
+ghost use Rattle.sip_loop.specs.Serving.{IsServed, IsUnserved, behind_word, between_turns, event_of_turn, told_by, turn_at, word_from};
 ghost use Rattle.sip_loop.specs.declared.served.ServeError.TheVariants as Refusal;
 
+use crate::audit_log::AuditLog;
+use crate::due::pass_due;
 use crate::handing::hand_out;
 use crate::records::list_records;
 use crate::served::{ServeError, Served};
 use model_bounds::bounds::every_history_is_bounded;
-use model_bounds::model::histories::{moment_rises, steps_stand_at_their_moments};
+use model_bounds::model::histories::steps_stand_at_their_moments;
 use model_bounds::model::laws::every_history_has_access;
 use rand_core::Rng;
 use sip_audit::Record;
@@ -23,7 +24,6 @@ use sip_loop_link::{Clock, Link};
 use sip_policy::Rules;
 use sip_record::Journal;
 use sip_run::engine::Engine;
-use sip_run::fire_next;
 use sip_text::Items;
 use sip_timers::Timers;
 use sip_uri::Addr;
@@ -55,55 +55,6 @@ fn next_word<W: Rng>(words: &mut W) -> u128
     u128::from(high) * HALF + u128::from(low)
 }
 
-/// What is due first by a moment happens, if something is.
-fn fire_one<T: Timers, R: Rules>(
-    engine: &mut Engine<T, R>,
-    at: u64,
-) -> Result<Option<StepOut>, ServeError>
-    ensures server { engine.new.server ≡ engine.old.server }
-    ensures fired { IfOk result (λ fired. IfSome fired (λ out. TakesDue engine.old.server engine.old.state at out engine.new.state)) }
-    ensures fewer { IfOk result (λ fired. IfSome fired (λ out. steps_left at engine.new.state + 1 ≤ steps_left at engine.old.state)) }
-    ensures none { IfOk result (λ fired. IfNone fired (NothingDueBy (moment_of engine.old.state at) engine.old.state)) }
-    ensures waits { IfOk result (λ fired. IfNone fired (engine.new ≡ engine.old)) }
-    ensures refused { IfErr result (λ e. IsWhy e (Read at) None [] engine.old.state) }
-    ensures not_link { IfErr result (λ e. ¬ (e ≡ Refusal.Link)) }
-    ensures not_journal { IfErr result (λ e. ¬ (e ≡ Refusal.Journal)) }
-    ensures unchanged { OnErr result (engine.new ≡ engine.old) }
-{
-    moment_rises();
-    steps_stand_at_their_moments();
-    engine.is_reached();
-    let fired = fire_next(engine, at)?;
-    Ok(fired)
-}
-
-/// All that is due by a moment happens, each in a step at its own moment, and its packets are given to the link.
-fn fire_due<T: Timers, R: Rules, L: Link, J: Journal>(
-    engine: &mut Engine<T, R>,
-    link: &mut L,
-    journal: &mut J,
-    at: u64,
-) -> Result<(), ServeError>
-    ensures server { engine.new.server ≡ engine.old.server }
-    ensures receives { L.receives link.new ≡ L.receives link.old }
-    ensures failures { L.failures link.new ≡ L.failures link.old }
-    ensures heard { L.heard link.new ≡ L.heard link.old }
-    ensures fired { OnOk result (Course engine.old.server engine.old.state engine.new.state (Some at) (Some at) [] [] None []
-        (sent_by (L.given link.old) (J.written journal.old))
-        (sent_by (L.given link.new) (J.written journal.new))) }
-    ensures none_due { OnOk result (NothingDueBy (moment_of engine.new.state at) engine.new.state) }
-    ensures broken { IfErr result (BreaksFiring engine.old.server engine.old.state engine.new.state at
-        (sent_by (L.given link.old) (J.written journal.old))
-        (sent_by (L.given link.new) (J.written journal.new))) }
-    ensures not_link { IfErr result (λ e. ¬ (e ≡ Refusal.Link)) }
-    ensures journal_failed { IfErr result (λ e. e ≡ Refusal.Journal → J.written journal.new ≡ None) }
-{
-    while let Some(out) = fire_one(engine, at)? {
-        hand_out(engine, link, journal, out)?;
-    }
-    Ok(())
-}
-
 /// Asks the link once, and takes the datagram that it heard at a moment, with the next word, or that moment alone.
 fn take_event<T: Timers, R: Rules, L: Link, W: Rng>(
     engine: &mut Engine<T, R>,
@@ -120,7 +71,8 @@ fn take_event<T: Timers, R: Rules, L: Link, W: Rng>(
     ensures given { L.given link.new ≡ L.given link.old }
     ensures taken { IfOk result (λ taken. TakesTurn engine.old.server engine.old.state at (L.heard link.old) (L.heard link.new)
         (W.stream words.old) (W.stream words.new) (turn_at at taken.arrived (L.held link.new)) taken.out engine.new.state) }
-    ensures broken { IfErr result (BreaksTurn engine.old.state at (L.heard link.old) (L.heard link.new) (W.stream words.old) (W.stream words.new)) }
+    ensures broken { IfErr result (λ e. LinkFails (L.heard link.old) (L.heard link.new) (W.stream words.old) (W.stream words.new) e
+        ⊎ StepFails engine.old.state at (L.heard link.old) (L.heard link.new) (W.stream words.old) (W.stream words.new) e) }
     ensures unchanged { OnErr result (engine.new ≡ engine.old) }
 {
     match link.receive()? {
@@ -137,7 +89,7 @@ fn take_event<T: Timers, R: Rules, L: Link, W: Rng>(
     }
 }
 
-/// Notes the event of a turn.
+/// Tells the journal the event of a turn.
 fn note_turn<J: Journal>(
     journal: &mut J,
     at: u64,
@@ -154,12 +106,26 @@ fn note_turn<J: Journal>(
     }
 }
 
-/// The rest of a turn, once all that was due by its reading has happened: its event is taken and noted, what that records is
-/// listed, and its packets are given to the link.
-fn take_turn<T: Timers, R: Rules, L: Link, J: Journal, W: Rng>(
+/// Prints the lines of records, where there are any.
+fn log_records<A: AuditLog>(audit: &mut A, records: &[Record]) -> Result<(), ServeError>
+    ensures printed { OnOk result (Prints (A.printed audit.old) (A.printed audit.new) records.now) }
+    ensures refused { IfErr result (λ e. (e ≡ Refusal.NoMemory) ⊎ (e ≡ Refusal.Audit)) }
+    ensures told { OnErr result (A.printed audit.new ≡ None) }
+{
+    if records.is_empty() {
+        return Ok(());
+    }
+    audit.print(records)?;
+    Ok(())
+}
+
+/// The rest of a turn, once all that was due by its reading has happened: its event is taken and told to the journal, what it records
+/// is printed and listed, and then its packets are given to the link.
+fn take_turn<T: Timers, R: Rules, L: Link, J: Journal, A: AuditLog, W: Rng>(
     engine: &mut Engine<T, R>,
     link: &mut L,
     journal: &mut J,
+    audit: &mut A,
     words: &mut W,
     at: u64,
     records: &mut Items<Record>,
@@ -170,26 +136,30 @@ fn take_turn<T: Timers, R: Rules, L: Link, J: Journal, W: Rng>(
     ensures link_failed { result ≡ Err Refusal.Link → L.failures link.new ≡ counted (L.failures link.old) }
     ensures link_held { ¬ (result ≡ Err Refusal.Link) → L.failures link.new ≡ L.failures link.old }
     ensures journal_failed { result ≡ Err Refusal.Journal → J.written journal.new ≡ None }
-    ensures goes { OnOk result (GoesOn engine.old.server engine.old.state engine.new.state at (L.heard link.old) (L.heard link.new)
-        (sent_by (L.given link.old) (J.written journal.old)) (sent_by (L.given link.new) (J.written journal.new))
-        (W.stream words.old) (W.stream words.new) records.old records.new) }
-    ensures broken { IfErr result (BreaksOff engine.old.server engine.old.state engine.new.state at (L.heard link.old) (L.heard link.new)
-        (sent_by (L.given link.old) (J.written journal.old)) (sent_by (L.given link.new) (J.written journal.new))
-        (W.stream words.old) (W.stream words.new)) }
+    ensures goes { OnOk result ((readings : Option (List ℕ)) → TurnGoes engine.old.server engine.old.state engine.new.state at
+        (told_by (L.heard link.old) (L.given link.old) readings (J.written journal.old) (A.printed audit.old) (W.stream words.old))
+        (told_by (L.heard link.new) (L.given link.new) readings (J.written journal.new) (A.printed audit.new) (W.stream words.new))
+        records.old records.new) }
+    ensures broken { IfErr result (λ e. (readings : Option (List ℕ)) → TurnBreaks engine.old.server engine.old.state engine.new.state at
+        (told_by (L.heard link.old) (L.given link.old) readings (J.written journal.old) (A.printed audit.old) (W.stream words.old))
+        (told_by (L.heard link.new) (L.given link.new) readings (J.written journal.new) (A.printed audit.new) (W.stream words.new)) e) }
 {
     steps_stand_at_their_moments();
     let taken = take_event(engine, link, words, at)?;
     let Taken { mut out, arrived } = taken;
     note_turn(journal, at, arrived, link.bytes())?;
+    log_records(audit, out.records.as_slice())?;
     list_records(records, &mut out.records)?;
-    hand_out(engine, link, journal, out)
+    hand_out(engine, link, journal, &mut out.packets)
 }
 
 /// One turn: the clock is read once, all that is due by then happens, and the link is asked once.
-fn turn<T: Timers, R: Rules, L: Link, J: Journal, C: Clock, W: Rng>(
+fn turn<T: Timers, R: Rules, L: Link, J: Journal, A: AuditLog, C: Clock, W: Rng>(
+    alloc: Global,
     engine: &mut Engine<T, R>,
     link: &mut L,
     journal: &mut J,
+    audit: &mut A,
     clock: &mut C,
     words: &mut W,
     records: &mut Items<Record>,
@@ -201,45 +171,47 @@ fn turn<T: Timers, R: Rules, L: Link, J: Journal, C: Clock, W: Rng>(
     ensures link_held { ¬ (result ≡ Err Refusal.Link) → L.failures link.new ≡ L.failures link.old }
     ensures journal_failed { result ≡ Err Refusal.Journal → J.written journal.new ≡ None }
     ensures goes { OnOk result (Goes engine.old.server engine.old.state engine.new.state
-        (told_by (L.heard link.old) (L.given link.old) (C.readings clock.old) (J.written journal.old) (W.stream words.old))
-        (told_by (L.heard link.new) (L.given link.new) (C.readings clock.new) (J.written journal.new) (W.stream words.new)) 1
+        (told_by (L.heard link.old) (L.given link.old) (C.readings clock.old) (J.written journal.old) (A.printed audit.old) (W.stream words.old))
+        (told_by (L.heard link.new) (L.given link.new) (C.readings clock.new) (J.written journal.new) (A.printed audit.new) (W.stream words.new)) 1
         records.old records.new) }
-    ensures broken { IfErr result (Breaks engine.old.server engine.old.state engine.new.state
-        (told_by (L.heard link.old) (L.given link.old) (C.readings clock.old) (J.written journal.old) (W.stream words.old))
-        (told_by (L.heard link.new) (L.given link.new) (C.readings clock.new) (J.written journal.new) (W.stream words.new)) 1) }
+    ensures broken { IfErr result (Breaks engine.old.server engine.old.state engine.new.state (between_turns engine.old.state.moment)
+        (told_by (L.heard link.old) (L.given link.old) (C.readings clock.old) (J.written journal.old) (A.printed audit.old) (W.stream words.old))
+        (told_by (L.heard link.new) (L.given link.new) (C.readings clock.new) (J.written journal.new) (A.printed audit.new) (W.stream words.new)) 1) }
 {
     let at = clock.now();
-    fire_due(engine, link, journal, at)?;
-    take_turn(engine, link, journal, words, at, records)
+    pass_due(alloc, engine, link, journal, at)?;
+    take_turn(engine, link, journal, audit, words, at, records)
 }
 
-/// Serves for some turns. In each the clock is read once, in milliseconds; all that is due by then happens, each at its own moment;
-/// and the link is asked once: the datagram that it heard, with the next two numbers of `words` as its word, or the moment alone,
-/// is taken at that reading. Each event that was taken, a fault too, is told to the journal before anything is sent behind it. What
-/// each step hands out is given to the link at once, in its order; where a packet fails, its fault is taken before any other packet
-/// is given, and the packets of that go behind those that still wait. Each valid new request outside a dialog is sent to exactly the
-/// unexpired bindings or the configured hop that the first matching rule gives its proven user; bindings change or are listed exactly
-/// as an allowed REGISTER says; every policy denial is a 403 whose Warning names that rule; all else sent belongs to an open request
-/// or a known dialog (`access` in `Serves`). Where the journal tells what it holds, that says exactly the events that were taken
-/// (`noted` there). Refusals, behind which what was sent stays sent and the engine goes on from where it is: `NoMemory`; `Journal`,
-/// where an event couldn't be noted, which was taken; `Link`, where `receive` failed; `Step`, where a moment is 2^62 ms or more, or a
-/// datagram's number would be.
-pub fn serve<T: Timers, R: Rules, L: Link, J: Journal, C: Clock, W: Rng>(
+/// Serves for some turns. In each the clock is read once, in milliseconds; all that is due by then happens, moment by moment: what is due at
+/// one happens whole, and the moment is an event; and the link is asked once: the datagram that it heard, with the next two numbers of
+/// `words` as its word, or the reading alone, is the turn's event. Each event that was taken, a fault too, is told to the journal, then the
+/// lines of what it records are printed, and only then what it and what was due by it hand out is given to the link, in its order; where a
+/// packet fails, its fault is taken before any other packet is given, and the packets of that go behind those that still wait
+/// (`in_order`). Each valid new request outside a dialog is sent to exactly the unexpired bindings or the configured hop that the
+/// first matching rule gives its proven user; bindings change or are listed exactly as an allowed REGISTER says; every policy denial is a
+/// 403 whose Warning names that rule; all else sent belongs to an open request or a known dialog (`access` in `Serves`). Where the
+/// journal tells what it holds, that says exactly the events that were taken (`noted` there). Refusals, behind which what was sent stays
+/// sent and the engine goes on from where it is: `NoMemory`; `Journal`, where an event couldn't be told, which was taken, and of which nothing
+/// was given to the link; `Audit`, where the lines of one couldn't be printed, likewise; `Link`, where `receive` failed; `Step`, where a
+/// moment is 2^62 ms or more, or a datagram's number would be.
+pub fn serve<T: Timers, R: Rules, L: Link, J: Journal, A: AuditLog, C: Clock, W: Rng>(
     alloc: Global,
     engine: &mut Engine<T, R>,
     link: &mut L,
     journal: &mut J,
+    audit: &mut A,
     clock: &mut C,
     words: &mut W,
     turns: u32,
 ) -> Result<Served, ServeError>
     ensures server { engine.new.server ≡ engine.old.server }
     ensures served { IfOk result (λ served. IsServed turns engine.old.server engine.old.state engine.new.state
-        (told_by (L.heard link.old) (L.given link.old) (C.readings clock.old) (J.written journal.old) (W.stream words.old))
-        (told_by (L.heard link.new) (L.given link.new) (C.readings clock.new) (J.written journal.new) (W.stream words.new)) served.records) }
+        (told_by (L.heard link.old) (L.given link.old) (C.readings clock.old) (J.written journal.old) (A.printed audit.old) (W.stream words.old))
+        (told_by (L.heard link.new) (L.given link.new) (C.readings clock.new) (J.written journal.new) (A.printed audit.new) (W.stream words.new)) served.records) }
     ensures refused { IfErr result (IsUnserved turns engine.old.server engine.old.state engine.new.state
-        (told_by (L.heard link.old) (L.given link.old) (C.readings clock.old) (J.written journal.old) (W.stream words.old))
-        (told_by (L.heard link.new) (L.given link.new) (C.readings clock.new) (J.written journal.new) (W.stream words.new))) }
+        (told_by (L.heard link.old) (L.given link.old) (C.readings clock.old) (J.written journal.old) (A.printed audit.old) (W.stream words.old))
+        (told_by (L.heard link.new) (L.given link.new) (C.readings clock.new) (J.written journal.new) (A.printed audit.new) (W.stream words.new))) }
     ensures asked_all { OnOk result (L.receives link.new ≡ counted_times turns (L.receives link.old)) }
     ensures asked { IsAskedWithin turns (L.receives link.old) (L.receives link.new) }
     ensures link_failed { result ≡ Err Refusal.Link → L.failures link.new ≡ counted (L.failures link.old) }
@@ -250,7 +222,16 @@ pub fn serve<T: Timers, R: Rules, L: Link, J: Journal, C: Clock, W: Rng>(
     every_history_is_bounded();
     let mut records = Items::new(alloc);
     for _ in 0..turns {
-        turn(engine, link, journal, clock, words, &mut records)?;
+        turn(
+            alloc,
+            engine,
+            link,
+            journal,
+            audit,
+            clock,
+            words,
+            &mut records,
+        )?;
     }
     Ok(Served { records })
 }

@@ -1,9 +1,32 @@
 -- What a link over memory heard, turn by turn.
 use Rattle.std.proofs.Common.{◌≡◌, ℕ, zero, suc, ◌+◌, ◌<◌, ◌≤◌, List, [], ◌∷◌, ◌++◌, Option, None, Some, length, map, take, drop, slice_set, slice_index_or, refl, sym, ◌∙◌, ap, arith}
+use Rattle.std.proofs.Math.Bridge.{le_prop}
 use Rattle.std.proofs.lemmas.List.{append_assoc, append-nil}
+use Rattle.sip_loop_link.specs.Told.{IsWritable}
+use Rattle.sip_loop_link.specs.Examples.{here}
 use Rattle.sip_loop_link.specs.MemoryLink.{MemoryState, heard_by, nothings, datagram_of, last_bytes, hearing, first_from}
 use Rattle.sip_loop_link.specs.declared.datagram.Heard.{Heard}
 use Rattle.sip_loop_link.specs.declared.posted.Posted.{Posted}
+use Rattle.sip_uri.specs.declared.addr.Addr.{Addr}
+
+-- a datagram that can be written
+pub some_posted : Posted
+some_posted = record { silent = 0; datagram = record { from = here; bytes = [] }; writable = (λ e. omega (arith, e), omega arith) }
+
+writable_is_prop : (from : Addr) (bytes : List ℕ) → IsProp (IsWritable from bytes)
+writable_is_prop from bytes = hlevel (le_prop)
+
+-- a datagram before which so much silence is noted
+pub silenced : (silent : ℕ) (p q : Posted) (writable : IsWritable p.datagram.from p.datagram.bytes) → p ≡ q
+    → record { silent = silent; datagram = p.datagram; writable = writable } ≡ record q { silent = silent }
+silenced silent p q writable e =
+    let one : Posted = record { silent = silent; datagram = p.datagram; writable = writable } in
+    let other : Posted = record p { silent = silent } in
+    let same : one ≡ other =
+    ap (λ (w : IsWritable p.datagram.from p.datagram.bytes). let posted : Posted = record { silent = silent; datagram = p.datagram; writable = w } in posted)
+    (writable_is_prop p.datagram.from p.datagram.bytes writable p.writable)
+    in
+    same ∙ ap (λ (posted : Posted). record posted { silent = silent }) e
 
 next : (n : ℕ) → nothings (suc n) ≡ nothings n ++ None ∷ []
 next zero = refl
@@ -66,6 +89,13 @@ first_none list n e = rw (waiting_none list n e) refl
 
 pub first_some : (list : List Posted) (n : ℕ) (d : Posted) → n < length list → Some (slice_index_or list n d).datagram.from ≡ first_from (map datagram_of (drop n list))
 first_some list n d h = rw (waiting_some list n 0 d h) refl
+
+-- what is heard next can be written
+pub writable_next : (list : List Posted) (n silent : ℕ) (d : Posted) (from : Addr) → n < length list → from ≡ (slice_index_or list n d).datagram.from
+    → IsWritable from (last_bytes [] (take (n + 1) (noted list n silent d)))
+writable_next list n silent d from h e =
+    let e' : n + 1 ≡ suc n = omega arith in
+    rw (e, e', held_some [] list n silent d h) ((slice_index_or list n d).writable)
 
 nothing_heard : (waiting : List Heard) (link : MemoryState) → waiting ≡ [] → hearing waiting link ≡ record link { heard = link.heard ++ None ∷ [] }
 nothing_heard waiting link e = rw e refl

@@ -1,5 +1,5 @@
 -- What a link and a clock count, and what they tell, where they tell it.
-use Rattle.std.specs.Prelude.{ℕ, ◌+◌, ◌-◌, ◌^◌, nat_lt, List, [], ◌∷◌, ◌++◌, length, Option, None, Some, if◌then◌else◌}
+use Rattle.std.specs.Prelude.{◌≢◌, ◌≤◌, ℕ, ◌+◌, ◌-◌, ◌^◌, nat_lt, List, [], ◌∷◌, ◌++◌, length, Option, None, Some, if◌then◌else◌}
 use Rattle.sip_loop_link.specs.declared.datagram.Heard.{Heard}
 use Rattle.sip_uri.specs.declared.addr.Addr.{Addr}
 
@@ -10,6 +10,14 @@ most = 2 ^ 64 - 1
 -- one more, up to the greatest count
 abbrev pub counted : ℕ → ℕ
 counted n = if nat_lt n most then n + 1 else most
+
+-- the most bytes of a datagram that a line of a record says: one more than the longest one over IPv4 has
+abbrev pub most_bytes : ℕ
+most_bytes = 65508
+
+-- a datagram that a record can hold: its source can be answered, since its port isn't 0 (RFC 768), and it isn't longer than a line says
+abbrev pub IsWritable : Addr → List ℕ → Type 0
+IsWritable from bytes = (from.port ≢ 0) × (length bytes ≤ most_bytes)
 
 -- what a `receive` heard that answered this source, with the bytes that are held then
 abbrev pub heard_of : Option Addr → List ℕ → Option Heard

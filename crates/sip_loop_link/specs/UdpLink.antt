@@ -1,5 +1,5 @@
 -- A link over a UDP socket.
-use Rattle.std.specs.Prelude.{ℕ, List, Option, Result}
+use Rattle.std.specs.Prelude.{◌≢◌, ℕ, List, Option, Result, IfOk, IfSome}
 use Rattle.sip_loop_link.specs.declared.datagram.LinkFault.{LinkFault}
 use Rattle.sip_uri.specs.declared.addr.Addr.{Addr}
 
@@ -10,3 +10,7 @@ pub record UdpState : Type 0 where
   pub held : List ℕ
   pub receives : ℕ
   pub failures : ℕ
+
+-- where waiting came to a datagram, its source can be answered
+abbrev pub IsAnswerable : Option (Result (Option Addr) LinkFault) → Type 0
+IsAnswerable kept = IfSome kept (λ found. IfOk found (λ from. IfSome from (λ source. source.port ≢ 0)))

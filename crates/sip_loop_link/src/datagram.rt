@@ -1,6 +1,10 @@
 use sip_text::Bytes;
 use sip_uri::Addr;
 
+/// The most bytes of a datagram that is heard: one more than the longest one over IPv4 has, so that a longer one is seen to be too
+/// long.
+pub(crate) const MOST_BYTES: usize = 65_508;
+
 /// A `receive` that failed.
 #[derive(Clone, Copy, Debug, PartialEq, Eq)]
 pub struct LinkFault;

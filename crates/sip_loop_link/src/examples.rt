@@ -1,7 +1,8 @@
-ghost use Rattle.std.specs.Prelude.{◌≡◌, ◌-◌, ◌^◌, [], ◌∷◌, Some, None};
-ghost use Rattle.sip_loop_link.specs.Told.{counted, most};
+ghost use Rattle.std.specs.Prelude.{◌≡◌, ◌-◌, ◌^◌, ℕ, List, [], ◌∷◌, length, Some, None};
+ghost use Rattle.sip_loop_link.specs.Told.{counted, most, IsWritable};
 ghost use Rattle.sip_loop_link.specs.MemoryLink.{next_answer, next_sending, received};
 ghost use Rattle.sip_loop_link.specs.MemoryClock.{reading_at, readings_of};
+ghost use Rattle.sip_loop_link.specs.SteadyClock.{moment_after, behind_by};
 ghost use Rattle.sip_loop_link.specs.Examples.{heard, here, two_datagrams, behind_four};
 ghost use Rattle.sip_loop_link.specs.declared.datagram.Sending.TheVariants.{Failed};
 
@@ -25,4 +26,25 @@ pub fn memory_clock_example()
     ensures first { reading_at 0 (5 ∷ 7 ∷ []) 0 ≡ 5 }
     ensures last { reading_at 0 (5 ∷ 7 ∷ []) 3 ≡ 7 }
     ensures none { reading_at 0 [] 1 ≡ 0 }
+{}
+
+/// A datagram from any port but 0, and of at most 65,508 bytes, is one that a record can hold.
+pub fn writable_example()
+    ensures first_port { IsWritable (record here { port = 1 }) (1 ∷ []) }
+    ensures nobody { ¬ IsWritable (record here { port = 0 }) (1 ∷ []) }
+    ensures longest { (bytes : List ℕ) → length bytes ≡ 65508 → IsWritable here bytes }
+    ensures longer { (bytes : List ℕ) → length bytes ≡ 65509 → ¬ IsWritable here bytes }
+{}
+
+/// A clock whose wall clock said 100 and whose least moment is 70 says 105 when 5 ms have passed. Where the wall clock said 70 and the
+/// least moment is 100, or where it said nothing, that is the same, and it was 30 ms behind or nothing is known of that. Moments end
+/// at 2^64 - 1.
+pub fn steady_clock_example()
+    ensures ahead { moment_after (Some 100) 70 5 ≡ 105 }
+    ensures behind { moment_after (Some 70) 100 5 ≡ 105 }
+    ensures unread { moment_after None 100 5 ≡ 105 }
+    ensures last { moment_after (Some (2 ^ 64 - 3)) 0 5 ≡ 2 ^ 64 - 1 }
+    ensures by_none { behind_by (Some 100) 70 ≡ 0 }
+    ensures by { behind_by (Some 70) 100 ≡ 30 }
+    ensures unknown { behind_by None 100 ≡ 0 }
 {}

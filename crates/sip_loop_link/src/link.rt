@@ -1,5 +1,5 @@
-ghost use Rattle.std.specs.Prelude.{◌≡◌, ℕ, IfOk, OnOk, OnErr, Option, List};
-ghost use Rattle.sip_loop_link.specs.Told.{counted, heard_of, and_then};
+ghost use Rattle.std.specs.Prelude.{◌≡◌, ℕ, IfOk, IfSome, OnOk, OnErr, Option, List};
+ghost use Rattle.sip_loop_link.specs.Told.{counted, heard_of, and_then, IsWritable};
 ghost use Rattle.sip_loop_link.specs.declared.datagram.Heard.{Heard};
 ghost use Rattle.sip_loop_link.specs.declared.datagram.Given.{Given};
 
@@ -20,13 +20,15 @@ pub trait Link: Drop {
 
     ghost held: { Self → List ℕ };
 
-    /// The source of the next datagram, or nothing where there is none now. Doesn't wait.
+    /// The source of the next datagram, or nothing where there is none now. Doesn't wait. What nobody can be answered for (port 0,
+    /// RFC 768) or is too long for a line of a record, it doesn't hear.
     fn receive(&mut self) -> Result<Option<Addr>, LinkFault>
         ensures counted { receives self.new ≡ counted (receives self.old) }
         ensures ok { OnOk result (failures self.new ≡ failures self.old) }
         ensures err { OnErr result (failures self.new ≡ counted (failures self.old)) }
         ensures tells { IfOk result (λ from. heard self.new ≡ and_then (heard self.old) (heard_of from (held self.new))) }
         ensures silent { OnErr result (heard self.new ≡ heard self.old) }
+        ensures writable { IfOk result (λ from. IfSome from (λ source. IsWritable source (held self.new))) }
         ensures given { given self.new ≡ given self.old };
 
     /// The bytes of the datagram that it heard last.

@@ -1,10 +1,10 @@
-ghost use Rattle.std.specs.Prelude.{◌≡◌, ◌+◌, ◌<◌, ◌∷◌, ◌++◌, [], length, slice_set, slice_index_or, nat_eq, IfOk, OnOk, OnErr, Some};
+ghost use Rattle.std.specs.Prelude.{◌≡◌, ◌+◌, ◌<◌, ◌∷◌, ◌++◌, [], length, slice_set, slice_index_or, nat_eq, ◌↔◌, IsTrue, IfOk, IfSome, OnOk, OnErr, Some};
 ghost use Rattle.std.specs.List.{list_any};
-ghost use Rattle.sip_loop_link.specs.Told.{most, counted, heard_of, and_then};
+ghost use Rattle.sip_loop_link.specs.Told.{most, counted, heard_of, and_then, IsWritable};
 ghost use Rattle.sip_loop_link.specs.declared.posted.Posted.{Posted};
 ghost use Rattle.sip_loop_link.specs.MemoryLink.{first_from, hearing, next_answer, next_sending, received};
 
-use crate::datagram::{Given, Heard, LinkFault, Sending};
+use crate::datagram::{Given, Heard, LinkFault, MOST_BYTES, Sending};
 use crate::link::Link;
 use crate::posted::Posted;
 use sip_text::Bytes;
@@ -56,6 +56,13 @@ fn is_among(numbers: &[u64], number: u64) -> bool
     numbers.contains(&number)
 }
 
+/// Whether a datagram can be written as a line of a record.
+fn is_writable(from: Addr, bytes: &[u8]) -> bool
+    ensures { IsTrue result ↔ IsWritable from bytes.now }
+{
+    from.port != 0 && bytes.len() <= MOST_BYTES
+}
+
 /// Notes before one of the datagrams how many receives heard nothing, and answers its source.
 fn note_silence(inbox: &mut Vec<Posted>, place: usize, silent: u64) -> Addr
     requires { place < length inbox.old.items }
@@ -95,11 +102,17 @@ impl MemoryLink {
         }
     }
 
-    /// Lets it hear a datagram behind those that it is yet to hear. Refused for want of memory alone.
+    /// Lets it hear a datagram behind those that it is yet to hear. One from port 0, or of more than 65,508 bytes, is passed over as
+    /// if it had never come. Refused for want of memory alone.
     pub fn hear(&mut self, from: Addr, bytes: &[u8]) -> Result<(), AllocError>
-        ensures ok { OnOk result (self.new ≡ record self.old { waiting = self.old.waiting ++ record { from = from; bytes = bytes.now } ∷ [] }) }
+        ensures posted { OnOk result (IsWritable from bytes.now
+            → self.new ≡ record self.old { waiting = self.old.waiting ++ record { from = from; bytes = bytes.now } ∷ [] }) }
+        ensures passed { OnOk result (¬ IsWritable from bytes.now → self.new ≡ self.old) }
         ensures err { OnErr result (self.new ≡ self.old) }
     {
+        if !is_writable(from, bytes) {
+            return Ok(());
+        }
         let bytes = Bytes::copy(self.alloc, bytes)?;
         let datagram = Heard { from, bytes };
         self.inbox.push(Posted {
@@ -121,6 +134,7 @@ impl MemoryLink {
     fn hear_next(&mut self) -> Option<Addr>
         requires { self.old.receives < most }
         ensures from { result ≡ first_from self.old.waiting }
+        ensures writable { IfSome result (λ source. IsWritable source self.new.held) }
         ensures heard { self.new ≡ record (hearing self.old.waiting self.old) { receives = self.old.receives + 1 } }
     {
         self.receives += 1;
@@ -152,6 +166,7 @@ impl Link for MemoryLink {
         ensures err { OnErr result (self.new.failures ≡ counted self.old.failures) }
         ensures tells { IfOk result (λ from. Some self.new.heard ≡ and_then (Some self.old.heard) (heard_of from self.new.held)) }
         ensures silent { OnErr result (Some self.new.heard ≡ Some self.old.heard) }
+        ensures writable { IfOk result (λ from. IfSome from (λ source. IsWritable source self.new.held)) }
         ensures given { Some self.new.given ≡ Some self.old.given }
         ensures answer { result ≡ next_answer self.old }
         ensures behind { self.new ≡ received self.old }

@@ -1,3 +1,5 @@
+ghost use Rattle.sip_loop_link.specs.Told.{IsWritable};
+
 use crate::datagram::Heard;
 
 /// A datagram that a link over memory hears, and before which so many receives heard nothing.
@@ -5,4 +7,5 @@ use crate::datagram::Heard;
 pub(crate) struct Posted {
     pub(crate) silent: u64,
     pub(crate) datagram: Heard,
+    ghost writable: { IsWritable datagram.from datagram.bytes },
 }

@@ -1,62 +1,91 @@
 ghost use Rattle.std.specs.Prelude.{◌≡◌, ◌≤◌, None};
+ghost use Rattle.sip_loop_link.specs.SteadyClock.{start_moment, moment_after, reading_of, behind_by};
 
 use crate::clock::Clock;
 use std::marker::Model;
 use std::rt;
 use std::time::{Instant, SystemTime, UNIX_EPOCH};
 
-/// The runtime's clock, in milliseconds of UTC since 1970: what its wall clock said once, at the start, and what its monotonic
-/// clock says has passed since, so that it neither goes back nor jumps where the wall clock is set. Where it can't be read it
-/// gives its last reading, at first 0. It tells nothing of its readings.
+/// The runtime's clock, in milliseconds of UTC since 1970. It starts at what its wall clock says once, at the start, or at the least
+/// moment that it was told, where that is later or the wall clock can't be read. It goes on by what its monotonic clock says has
+/// passed since, so that it neither goes back nor jumps where the wall clock is set; where the monotonic clock can't be read it gives
+/// its last reading, at first its start. It tells nothing of its readings.
 #[derive(Drop)]
 pub struct SteadyClock<'a, R> {
     rt: &'a R,
-    start: Option<Start>,
-    last: u64,
-}
-
-/// One moment by both clocks.
-#[derive(Clone, Copy)]
-struct Start {
-    instant: Instant,
-    milliseconds: u64,
+    /// What the wall clock said at the start, where it could be read.
+    wall: Option<u64>,
+    /// The least moment.
+    least: u64,
+    /// The monotonic clock's moment at the start, once it can be read.
+    start: Option<Instant>,
+    /// The most milliseconds that it said have passed since.
+    passed: u64,
 }
 
 impl<'a, R> Model for SteadyClock<'a, R> {
-    ghost use Rattle.std.specs.Prelude.{ℕ};
+    ghost use Rattle.sip_loop_link.specs.SteadyClock.{SteadyState};
 
-    ghost Value = { ℕ };
+    ghost Value = { SteadyState };
 
-    ghost view = { λ c. c.last };
+    ghost view = { λ c. record { wall = c.wall; least = c.least; passed = c.passed } };
 }
 
-/// The moment by both clocks, where they can be read.
-fn start_of<R: rt::Clock>(rt: &R) -> Option<Start> {
+/// What the wall clock says, where it can be read.
+fn wall_reading<R: rt::Clock>(rt: &R) -> Option<u64> {
     let since = SystemTime::now(rt).ok()?.duration_since(UNIX_EPOCH).ok()?;
-    let milliseconds = u64::try_from(since.as_millis()).ok()?;
-    let instant = Instant::now(rt).ok()?;
-    Some(Start {
-        instant,
-        milliseconds,
-    })
+    u64::try_from(since.as_millis()).ok()
 }
 
-/// The milliseconds that have passed since the start, behind those of the start.
-fn milliseconds_at<R: rt::Clock>(rt: &R, start: Start) -> Option<u64> {
-    let passed = start.instant.elapsed(rt).ok()?;
-    let passed = u64::try_from(passed.as_millis()).ok()?;
-    start.milliseconds.checked_add(passed)
+/// How many milliseconds have passed since a moment of the monotonic clock, where it can be read.
+fn passed_since<R: rt::Clock>(rt: &R, start: Instant) -> Option<u64> {
+    let passed = start.elapsed(rt).ok()?;
+    u64::try_from(passed.as_millis()).ok()
+}
+
+/// The moment at which a clock starts, whose wall clock says this and whose least moment is that.
+fn start_moment(wall: Option<u64>, least: u64) -> u64
+    ensures { result ≡ start_moment wall least }
+{
+    wall.unwrap_or(least).max(least)
+}
+
+/// The moment when so many milliseconds have passed since such a start; 2^64 - 1 is the last one.
+fn moment_after(wall: Option<u64>, least: u64, passed: u64) -> u64
+    ensures after { result ≡ moment_after wall least passed }
+    ensures least { least ≤ result }
+{
+    start_moment(wall, least).saturating_add(passed)
 }
 
 impl<'a, R: rt::Clock> SteadyClock<'a, R> {
     /// A clock that starts now.
     pub fn new(rt: &'a R) -> Self
-        ensures { result ≡ 0 }
+        ensures { result ≡ record { wall = result.wall; least = 0; passed = 0 } }
+    {
+        SteadyClock::from(rt, 0)
+    }
+
+    /// A clock that starts now, none of whose readings is earlier than the least moment.
+    pub fn from(rt: &'a R, least: u64) -> Self
+        ensures { result ≡ record { wall = result.wall; least = least; passed = 0 } }
     {
         SteadyClock {
             rt,
-            start: start_of(rt),
-            last: 0,
+            wall: wall_reading(rt),
+            least,
+            start: Instant::now(rt).ok(),
+            passed: 0,
+        }
+    }
+
+    /// By how many milliseconds the wall clock was behind the least moment at the start: 0 where it wasn't, or couldn't be read.
+    pub fn behind(&self) -> u64
+        ensures { result ≡ behind_by self.now.wall self.now.least }
+    {
+        match self.wall {
+            Some(wall) => self.least.saturating_sub(wall),
+            None => 0,
         }
     }
 }
@@ -65,17 +94,20 @@ impl<'a, R: rt::Clock> Clock for SteadyClock<'a, R> {
     ghost readings = { λ _. None };
 
     fn now(&mut self) -> u64
-        ensures forward { self.old ≤ result }
-        ensures last { self.new ≡ result }
+        ensures reading { result ≡ reading_of self.new }
+        ensures start { self.new ≡ record self.old { passed = self.new.passed } }
+        ensures grows { self.old.passed ≤ self.new.passed }
+        ensures forward { reading_of self.old ≤ result }
+        ensures least { self.old.least ≤ result }
     {
         if self.start.is_none() {
-            self.start = start_of(self.rt);
+            self.start = Instant::now(self.rt).ok();
         }
         if let Some(start) = self.start
-            && let Some(reading) = milliseconds_at(self.rt, start)
+            && let Some(passed) = passed_since(self.rt, start)
         {
-            self.last = self.last.max(reading);
+            self.passed = self.passed.max(passed);
         }
-        self.last
+        moment_after(self.wall, self.least, self.passed)
     }
 }

@@ -1,7 +1,7 @@
 ghost use Rattle.std.specs.Prelude.{◌≡◌, ◌≤◌, [], length, IfOk, IfSome, IsSome, OnOk, OnErr, None};
-ghost use Rattle.sip_loop_link.specs.Told.{counted};
+ghost use Rattle.sip_loop_link.specs.Told.{counted, most_bytes, IsWritable};
 
-use crate::datagram::{LinkFault, Sending};
+use crate::datagram::{LinkFault, MOST_BYTES, Sending};
 use crate::link::Link;
 use sip_uri::Addr;
 use std::alloc::{AllocError, Global};
@@ -11,10 +11,11 @@ use std::marker::Model;
 use std::net::{IpAddr, Ipv4Addr, Net, SocketAddr, UdpSocket};
 use std::time::Duration;
 
-/// One byte more than the longest datagram over IPv4 has, so that a longer one is seen to be too long.
-const ROOM: usize = 65_508;
+/// How many datagrams from port 0 in a row are passed over at most. Where more come, the next receive goes on behind them.
+const MOST_PASSED: u32 = 64;
 
-/// A link over a UDP socket of IPv4. It tells nothing of what it hears and is given.
+/// A link over a UDP socket of IPv4. What comes from port 0 is passed over, since nobody there can be answered (RFC 768). It tells
+/// nothing of what it hears and is given.
 #[derive(Drop)]
 pub struct UdpLink {
     socket: UdpSocket,
@@ -33,13 +34,14 @@ pub struct UdpLink {
 
 impl Model for UdpLink {
     ghost use Rattle.std.specs.Prelude.{◌≤◌, take, length};
-    ghost use Rattle.sip_loop_link.specs.UdpLink.{UdpState};
+    ghost use Rattle.sip_loop_link.specs.Told.{most_bytes};
+    ghost use Rattle.sip_loop_link.specs.UdpLink.{UdpState, IsAnswerable};
 
     ghost Value = { UdpState };
 
     ghost view = { λ l. record { kept = l.kept; held = take l.held l.buffer.items; receives = l.receives; failures = l.failures } };
 
-    ghost invariant = { λ l. l.held ≤ length l.buffer.items };
+    ghost invariant = { λ l. (l.held ≤ length l.buffer.items) × (length l.buffer.items ≤ most_bytes) × IsAnswerable l.kept };
 }
 
 /// That many zeros.
@@ -84,7 +86,7 @@ impl UdpLink {
     pub fn bind<R: Net>(rt: &R, alloc: Global, addr: Addr) -> io::Result<UdpLink>
         ensures { IfOk result (λ link. link ≡ record { kept = None; held = []; receives = 0; failures = 0 }) }
     {
-        let buffer = zeros(alloc, ROOM)?;
+        let buffer = zeros(alloc, MOST_BYTES)?;
         let socket = UdpSocket::bind(rt, socket_address(addr))?;
         Ok(UdpLink {
             socket,
@@ -119,9 +121,10 @@ impl UdpLink {
         self.kept = Some(found);
     }
 
-    /// The next datagram, waited for so many milliseconds at most.
+    /// The next datagram, waited for so many milliseconds at most. One from port 0 ends the wait: what is there behind it is heard.
     fn hear_within(&mut self, milliseconds: u64) -> Result<Option<Addr>, LinkFault>
         ensures same { (self.new.receives ≡ self.old.receives) × (self.new.failures ≡ self.old.failures) × (self.new.kept ≡ self.old.kept) }
+        ensures writable { IfOk result (λ from. IfSome from (λ source. IsWritable source self.new.held)) }
     {
         if self.at_once {
             self.set_at_once(false)?;
@@ -133,17 +136,27 @@ impl UdpLink {
                 Err(_) => return Err(LinkFault),
             }
         }
-        self.hear()
+        match self.hear()? {
+            Some(Addr { port: 0, .. }) => self.hear_at_once(),
+            found => Ok(found),
+        }
     }
 
     /// The next datagram, where one is there.
     fn hear_at_once(&mut self) -> Result<Option<Addr>, LinkFault>
         ensures same { (self.new.receives ≡ self.old.receives) × (self.new.failures ≡ self.old.failures) × (self.new.kept ≡ self.old.kept) }
+        ensures writable { IfOk result (λ from. IfSome from (λ source. IsWritable source self.new.held)) }
     {
         if !self.at_once {
             self.set_at_once(true)?;
         }
-        self.hear()
+        for _ in 0..MOST_PASSED {
+            match self.hear()? {
+                Some(Addr { port: 0, .. }) => {}
+                found => return Ok(found),
+            }
+        }
+        Ok(None)
     }
 
     /// Lets the socket answer at once, or wait.
@@ -159,9 +172,10 @@ impl UdpLink {
         }
     }
 
-    /// The next datagram as the socket has it, held from here on.
+    /// The next datagram as the socket has it, from port 0 too, held from here on.
     fn hear(&mut self) -> Result<Option<Addr>, LinkFault>
         ensures same { (self.new.receives ≡ self.old.receives) × (self.new.failures ≡ self.old.failures) × (self.new.kept ≡ self.old.kept) }
+        ensures few { length self.new.held ≤ most_bytes }
     {
         self.held = 0;
         let Some((length, from)) = hear(&self.socket, self.buffer.as_mut_slice())? else {
@@ -176,6 +190,7 @@ impl UdpLink {
         ensures same { (self.new.receives ≡ self.old.receives) × (self.new.failures ≡ self.old.failures) }
         ensures kept { IfSome self.old.kept (λ found. (result ≡ found) × (self.new.held ≡ self.old.held)) }
         ensures none { self.new.kept ≡ None }
+        ensures writable { IfOk result (λ from. IfSome from (λ source. IsWritable source self.new.held)) }
     {
         match self.kept.take() {
             None => self.hear_at_once(),
@@ -201,6 +216,7 @@ impl Link for UdpLink {
         ensures err { OnErr result (self.new.failures ≡ counted self.old.failures) }
         ensures kept { IfSome self.old.kept (λ found. (result ≡ found) × (self.new.held ≡ self.old.held)) }
         ensures none { self.new.kept ≡ None }
+        ensures writable { IfOk result (λ from. IfSome from (λ source. IsWritable source self.new.held)) }
     {
         self.receives = self.receives.saturating_add(1);
         let found = self.take_kept();

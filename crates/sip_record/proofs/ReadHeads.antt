@@ -1,6 +1,6 @@
 -- A first line that was written is read back.
 use Rattle.std.proofs.Common.{◌≡◌, ℕ, zero, suc, ◌<◌, ◌≤◌, ◌+◌, ◌*◌, ◌^◌, true, List, [], ◌∷◌, ◌++◌, length, decimal, Option, Some, refl, sym, ap, ◌∙◌, arith, length-append, append_assoc}
-use Rattle.std.specs.Prelude.{codes, Ok, option_map}
+use Rattle.std.specs.Prelude.{Ok, option_map}
 use Rattle.std.specs.Int.{byte_at, bytes_high_first, to_be_bytes, from_be_bytes, w64}
 use Rattle.std.specs.List.{list_all}
 use Rattle.std.specs.Result.{result_ok}
@@ -14,7 +14,9 @@ use Rattle.sip_uri.proofs.Tests.{all_join, split_again}
 use Rattle.sip_replay_script.specs.Lines.{IsLine}
 use Rattle.sip_replay_script.proofs.WrittenEvents.{no_end, number_others, encoded_others, number_short}
 use Rattle.sip_record.specs.declared.record_head.RecordHead.{RecordHead}
-use Rattle.sip_record.specs.RecordHead.{head_line, head_text, head_of, word_in, digest_in, HasHeadTypes}
+use Rattle.sip_record.specs.declared.record_mark.RecordMark.{RecordMark}
+use Rattle.sip_record.specs.declared.record_mark.RecordMark.TheVariants.{Whole, Broken, Left}
+use Rattle.sip_record.specs.RecordHead.{head_line, head_text, head_of, mark_front, mark_in, word_in, digest_in, HasHeadTypes}
 
 byte_small : (k n : ℕ) → byte_at k n < 256
 byte_small zero n = omega arith
@@ -41,13 +43,30 @@ digest_again bytes long are = ap result_ok (sized_again bytes 32 long are)
 
 pub head_joined : (head : RecordHead) → head_text head ≡ head_line head ++ 10 ∷ []
 head_joined head =
-    ap (λ (l : List ℕ). codes "record " ++ (hex_text head.word ++ 32 ∷ l)) (sym (append_assoc (decimal head.first) (32 ∷ encode_lower head.digest) (10 ∷ [])))
-    ∙ ap (λ (l : List ℕ). codes "record " ++ l) (sym (append_assoc (hex_text head.word) (32 ∷ (decimal head.first ++ 32 ∷ encode_lower head.digest)) (10 ∷ [])))
+    ap (λ (l : List ℕ). mark_front head.mark ++ (hex_text head.word ++ 32 ∷ l)) (sym (append_assoc (decimal head.first) (32 ∷ encode_lower head.digest) (10 ∷ [])))
+    ∙ ap (λ (l : List ℕ). mark_front head.mark ++ l) (sym (append_assoc (hex_text head.word) (32 ∷ (decimal head.first ++ 32 ∷ encode_lower head.digest)) (10 ∷ [])))
+    ∙ sym (append_assoc (mark_front head.mark) (hex_text head.word ++ 32 ∷ (decimal head.first ++ 32 ∷ encode_lower head.digest)) (10 ∷ []))
+
+mark_again : (mark : RecordMark) (rest : List ℕ) → mark_in (mark_front mark ++ rest) ≡ Some (mark, rest)
+mark_again Whole rest = refl
+mark_again Broken rest = refl
+mark_again Left rest = refl
+
+mark_single : (mark : RecordMark) → list_all (is_not 10) (mark_front mark) ≡ true
+mark_single Whole = refl
+mark_single Broken = refl
+mark_single Left = refl
+
+mark_long : (mark : RecordMark) → length (mark_front mark) ≡ 7
+mark_long Whole = refl
+mark_long Broken = refl
+mark_long Left = refl
 
 module _ (head : RecordHead) (is : HasHeadTypes head) where
   pub head_read : head_of (head_line head) ≡ Some head
   head_read =
       rw (
+        mark_again head.mark (hex_text head.word ++ 32 ∷ (decimal head.first ++ 32 ∷ encode_lower head.digest)),
         split_again 32 (hex_text head.word) (decimal head.first ++ 32 ∷ encode_lower head.digest) (encoded_others 32 refl refl (to_be_bytes w64 head.word)) refl,
         split_again 32 (decimal head.first) (encode_lower head.digest) (number_others 32 refl head.first is.first) refl,
         word_again head.word is.word,
@@ -69,6 +88,9 @@ module _ (head : RecordHead) (is : HasHeadTypes head) where
         let whole : length (hex_text head.word ++ 32 ∷ (decimal head.first ++ 32 ∷ encode_lower head.digest)) ≡ length (hex_text head.word) + length (32 ∷ (decimal head.first ++ 32 ∷ encode_lower head.digest)) =
         length-append (hex_text head.word) (32 ∷ (decimal head.first ++ 32 ∷ encode_lower head.digest)) in
         let rest : length (decimal head.first ++ 32 ∷ encode_lower head.digest) ≡ length (decimal head.first) + length (32 ∷ encode_lower head.digest) = length-append (decimal head.first) (32 ∷ encode_lower head.digest) in
-        omega (arith, word, first, digest, whole, rest);
-    single = no_end (head_line head) line_single;
+        let front : length (mark_front head.mark) ≡ 7 = mark_long head.mark in
+        let line : length (head_line head) ≡ length (mark_front head.mark) + length (hex_text head.word ++ 32 ∷ (decimal head.first ++ 32 ∷ encode_lower head.digest)) =
+        length-append (mark_front head.mark) (hex_text head.word ++ 32 ∷ (decimal head.first ++ 32 ∷ encode_lower head.digest)) in
+        omega (arith, word, first, digest, whole, rest, front, line);
+    single = no_end (head_line head) (all_join (is_not 10) (mark_front head.mark) (hex_text head.word ++ 32 ∷ (decimal head.first ++ 32 ∷ encode_lower head.digest)) (mark_single head.mark) line_single);
   }

@@ -2,17 +2,19 @@ ghost use Rattle.std.specs.Prelude.{◌≡◌, IfOk, Some, None};
 ghost use Rattle.hex.specs.Hex.{encode_lower};
 ghost use Rattle.sip_record.specs.RecordHead.{digest_in, head_of, head_text, word_in};
 
+use crate::record_mark::{RecordMark, mark_in};
 use hex::{decode_to_slice, encode_to_slice};
-use sip_text::{Buffer, hex_text, plain_decimal, same_bytes, split_once};
+use sip_text::{Buffer, hex_text, plain_decimal, split_once};
 use std::alloc::{AllocError, Global};
 
 /// The room for the longest first line.
 const ROOM: usize = 110;
 
-/// What the first line of a record says: the word and the first number that the server started with, and the digest of its
-/// configuration (SHA-256).
+/// What the first line of a record says: what became of it, the word and the first number that the server started with, and the
+/// digest of its configuration (SHA-256).
 #[derive(Clone, Copy)]
 pub struct RecordHead {
+    pub mark: RecordMark,
     pub word: u64,
     pub first: u64,
     pub digest: [u8; 32],
@@ -50,13 +52,13 @@ fn digest_in(digits: &[u8]) -> Option<[u8; 32]>
     }
 }
 
-/// The first line of a record: `record WORD FIRST DIGEST` and LF, the word in 16 hexadecimal digits in lower case, the digest in
-/// 64. `AllocError` is the only refusal.
+/// The first line of a record: `MARK WORD FIRST DIGEST` and LF, the mark in six bytes (`record` of a whole one), the word in 16
+/// hexadecimal digits in lower case, the digest in 64. `AllocError` is the only refusal.
 pub fn head_text(alloc: Global, head: &RecordHead) -> Result<Buffer, AllocError>
     ensures { IfOk result (λ text. text ≡ head_text head.now) }
 {
     let mut text = Buffer::with_room(alloc, ROOM)?;
-    text.extend(b"record ")?;
+    text.extend(&head.mark.front())?;
     text.extend(&hex_text(head.word))?;
     text.extend(b" ")?;
     text.push_decimal(head.first)?;
@@ -70,16 +72,14 @@ pub fn head_text(alloc: Global, head: &RecordHead) -> Result<Buffer, AllocError>
 pub fn read_head(line: &[u8]) -> Option<RecordHead>
     ensures { result ≡ head_of line.now }
 {
-    let (kind, rest) = split_once(line, b' ')?;
+    let (mark, rest) = mark_in(line)?;
     let (word, rest) = split_once(rest, b' ')?;
     let (first, digest) = split_once(rest, b' ')?;
-    if !same_bytes(kind, b"record") {
-        return None;
-    }
     let word = word_in(word)?;
     let first = plain_decimal(first)?;
     let digest = digest_in(digest)?;
     Some(RecordHead {
+        mark,
         word,
         first,
         digest,

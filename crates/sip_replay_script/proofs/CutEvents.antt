@@ -11,23 +11,23 @@ use Rattle.sip_replay_script.proofs.LineEnds.{ends_add}
 
 -- ---- where a text is cut that has two parts
 
-head_is : (a b : ℕ) (xs ys : List ℕ) → a ∷ xs ≡ b ∷ ys → a ≡ b
+pub head_is : (a b : ℕ) (xs ys : List ℕ) → a ∷ xs ≡ b ∷ ys → a ≡ b
 head_is a b xs ys e = ap (λ (l : List ℕ). get_or l 0 0) e
 
-tail_is : (a b : ℕ) (xs ys : List ℕ) → a ∷ xs ≡ b ∷ ys → xs ≡ ys
+pub tail_is : (a b : ℕ) (xs ys : List ℕ) → a ∷ xs ≡ b ∷ ys → xs ≡ ys
 tail_is a b xs ys e = ap (λ (l : List ℕ). drop 1 l) e
 
 -- within the first of them
-record CutsFirst (first front : List ℕ) : Type 0 where
-  more : List ℕ
-  some : more ≢ []
-  is : first ≡ front ++ more
+pub record CutsFirst (first front : List ℕ) : Type 0 where
+  pub more : List ℕ
+  pub some : more ≢ []
+  pub is : first ≡ front ++ more
 
 -- or behind it
-record CutsSecond (first second front rest : List ℕ) : Type 0 where
-  more : List ℕ
-  is : front ≡ first ++ more
-  left : second ≡ more ++ rest
+pub record CutsSecond (first second front rest : List ℕ) : Type 0 where
+  pub more : List ℕ
+  pub is : front ≡ first ++ more
+  pub left : second ≡ more ++ rest
 
 one_first : (b c : ℕ) (first front : List ℕ) → b ≡ c → CutsFirst first front → CutsFirst (b ∷ first) (c ∷ front)
 one_first b c first front e h = record { more = h.more; some = h.some; is = ap (λ (k : ℕ). k ∷ first) e ∙ ap (λ (l : List ℕ). c ∷ l) h.is }
@@ -35,10 +35,10 @@ one_first b c first front e h = record { more = h.more; some = h.some; is = ap (
 one_second : (b c : ℕ) (first second front rest : List ℕ) → b ≡ c → CutsSecond first second front rest → CutsSecond (b ∷ first) second (c ∷ front) rest
 one_second b c first second front rest e h = record { more = h.more; is = ap (λ (k : ℕ). k ∷ front) (sym e) ∙ ap (λ (l : List ℕ). b ∷ l) h.is; left = h.left }
 
-not_nil : (b : ℕ) (bs : List ℕ) → b ∷ bs ≢ []
+pub not_nil : (b : ℕ) (bs : List ℕ) → b ∷ bs ≢ []
 not_nil b bs e = absurd (let none : length (b ∷ bs) ≡ 0 = ap length e in omega (arith, none))
 
-cut_at : (first second front rest : List ℕ) → first ++ second ≡ front ++ rest → CutsFirst first front ⊎ CutsSecond first second front rest
+pub cut_at : (first second front rest : List ℕ) → first ++ second ≡ front ++ rest → CutsFirst first front ⊎ CutsSecond first second front rest
 cut_at [] second front rest e = inr (record { more = front; is = refl; left = e })
 cut_at (b ∷ first) second [] rest e = inl (record { more = b ∷ first; some = not_nil b first; is = refl })
 cut_at (b ∷ first) second (c ∷ front) rest e =
@@ -66,7 +66,7 @@ cut_line (a ∷ line) (b ∷ front) rest single e some =
     let sum : count_by is_end (b ∷ front) ≡ count_by is_end (b ∷ []) + count_by is_end front = ends_add (b ∷ []) front in
     omega (arith, one, later, first, sum)
 
-no_line : (text : List ℕ) → count_by is_end text ≡ 0 → HasNoLine text
+pub no_line : (text : List ℕ) → count_by is_end text ≡ 0 → HasNoLine text
 no_line text none =
     let sum : count_by is_end (take 200001 text ++ drop 200001 text) ≡ count_by is_end (take 200001 text) + count_by is_end (drop 200001 text) = ends_add (take 200001 text) (drop 200001 text) in
     let same : count_by is_end (take 200001 text ++ drop 200001 text) ≡ count_by is_end text = ap (count_by is_end) (take-append-drop 200001 text) in

@@ -14,14 +14,14 @@ use Rattle.sip_replay_script.specs.declared.script.DatagramHead.{DatagramHead}
 use Rattle.sip_replay_script.specs.declared.script.Line.{Line}
 use Rattle.sip_replay_script.specs.declared.script.Line.TheVariants.{Head, Whole}
 use Rattle.sip_replay_script.specs.Script.{line_of, datagram_at, event_of, unstuffed, SaysAtOnce}
-use Rattle.sip_replay_script.specs.Lines.{Reading, BeginsWith, PassesLine, IsLine, IsUnended, is_end, pending, left, GivesLine, IsOver, LineStops}
-use Rattle.sip_replay_script.specs.declared.stop.Stop.{Stop}
-use Rattle.sip_replay_script.specs.declared.stop.Stop.TheVariants as stops
+use Rattle.sip_replay_script.specs.Lines.{Reading, BeginsWith, PassesLine, IsLine, IsLong, IsUnfinished, is_end, pending, left, GivesLine, IsOver, LineStops}
+use Rattle.sip_replay_script.specs.declared.read_stop.ReadStop.{ReadStop}
+use Rattle.sip_replay_script.specs.declared.read_stop.ReadStop.TheVariants as stops
 use Rattle.sip_replay_script.specs.Gathered.{AddsLines}
 use Rattle.std.proofs.lemmas.List.{take_all, drop_all, drop-append-le}
 use Rattle.sip_replay_script.proofs.Keeping.{front_of_both}
 use Rattle.sip_replay_script.proofs.LineEnds.{ends_add, one_end}
-use Rattle.sip_replay_script.specs.Events.{BeginsOther, ended, is_dot, said, SaysBytes, KeepsAll, KeepsLine, KeepsLines, GivesDatagram, GivesEvent, GivesSaid, IsNoDatagram, IsNoEvent, DatagramStops, EventStops}
+use Rattle.sip_replay_script.specs.Events.{BeginsOther, ended, is_dot, said, SaysBytes, KeepsAll, KeepsLine, KeepsLines, GivesDatagram, GivesEvent, GivesSaid, IsCutDatagram, IsLongDatagram, DatagramStops}
 
 -- the lines so far, and the bytes that are kept of what they say
 pub record Gathers (old new : Reading) (before after : Option (List ℕ)) (bytes : List ℕ) : Type 0 where
@@ -248,12 +248,12 @@ gives_whole old new before after line event given says = record {
 -- ---- where no event stands
 
 -- what is left behind a text that was read
-behind : (a b : Option (List ℕ)) (text : List ℕ) {P Q : List ℕ → Type 0} → Consumes a b text → IfSome b P → ((xs ys : List ℕ) → xs ≡ text ++ ys → P ys → Q xs) → IfSome a Q
+pub behind : (a b : Option (List ℕ)) (text : List ℕ) {P Q : List ℕ → Type 0} → Consumes a b text → IfSome b P → ((xs ys : List ℕ) → xs ≡ text ++ ys → P ys → Q xs) → IfSome a Q
 behind None b text h p f = tt
 behind (Some xs) None text h p f = absurd h
 behind (Some xs) (Some ys) text h p f = f xs ys h p
 
-behind_any : (a b : Option (List ℕ)) (text : List ℕ) {Q : List ℕ → Type 0} → Consumes a b text → ((xs ys : List ℕ) → xs ≡ text ++ ys → Q xs) → IfSome a Q
+pub behind_any : (a b : Option (List ℕ)) (text : List ℕ) {Q : List ℕ → Type 0} → Consumes a b text → ((xs ys : List ℕ) → xs ≡ text ++ ys → Q xs) → IfSome a Q
 behind_any None b text h f = tt
 behind_any (Some xs) None text h f = absurd h
 behind_any (Some xs) (Some ys) text h f = f xs ys h
@@ -264,41 +264,24 @@ nothing_left (Some ys) None k e = absurd k
 nothing_left (Some ys) (Some zs) k e = sym k ∙ e
 
 -- the lines of a datagram stop
-pub datagram_stops : (F : Type 0) (old mid : Reading) (before middle : Option (List ℕ)) (bytes : List ℕ) (stop : Stop) → Gathers old mid before middle bytes → LineStops F (pending mid middle) stop → DatagramStops F (pending old before) stop
-datagram_stops F old mid before middle bytes stops.NoMemory g h = tt
-datagram_stops F old mid before middle bytes stops.Script g h =
-    behind (pending old before) (pending mid middle) g.text {P = IsUnended} {Q = IsNoDatagram} g.consumes h (λ xs ys cut p. record { front = g.text; bytes = g.whole; more = ys; cut = cut; says = g.says; unended = p.1 })
-datagram_stops F old mid before middle bytes stops.Read g h = h
-datagram_stops F old mid before middle bytes stops.Write g h = h
+pub datagram_stops : (F : Type 0) (old mid : Reading) (before middle : Option (List ℕ)) (bytes seen : List ℕ) (stop : ReadStop) → Gathers old mid before middle bytes → LineStops F (pending mid middle) seen stop
+    → DatagramStops F (pending old before) stop
+datagram_stops F old mid before middle bytes seen stops.NoMemory g h = tt
+datagram_stops F old mid before middle bytes seen stops.Damaged g h =
+    behind (pending old before) (pending mid middle) g.text {P = IsLong} {Q = IsLongDatagram} g.consumes h (λ xs ys cut p. record { front = g.text; bytes = g.whole; more = ys; cut = cut; says = g.says; long = p })
+datagram_stops F old mid before middle bytes seen stops.Cut g h =
+    behind (pending old before) (pending mid middle) g.text {P = IsUnfinished seen} {Q = IsCutDatagram} g.consumes h
+    (λ xs ys cut p. record { front = g.text; bytes = g.whole; more = ys; cut = cut; says = g.says; is_line = subst IsLine (sym p.all) p.is_line })
+datagram_stops F old mid before middle bytes seen stops.Read g h = h
+
+no_line_yet : IsLine []
+no_line_yet = record { short = omega arith; single = refl }
 
 -- the script ends inside one
-pub datagram_over : (old mid new : Reading) (before middle after : Option (List ℕ)) (bytes : List ℕ) → Gathers old mid before middle bytes → IsOver mid new middle after → IfSome (pending old before) IsNoDatagram
+pub datagram_over : (old mid new : Reading) (before middle after : Option (List ℕ)) (bytes : List ℕ) → Gathers old mid before middle bytes → IsOver mid new middle after → IfSome (pending old before) IsCutDatagram
 datagram_over old mid new before middle after bytes g over =
-    behind (pending old before) (pending mid middle) g.text {P = λ ys. ys ≡ []} {Q = IsNoDatagram} g.consumes (nothing_left (pending mid middle) (pending new after) over.kept over.at_end)
-    (λ xs ys cut p. record { front = g.text; bytes = g.whole; more = ys; cut = cut; says = g.says; unended = ap (λ l. count_by is_end (take 200001 l)) p })
-
--- a line that begins no event
-pub other_line : (old new : Reading) (before after : Option (List ℕ)) (line : List ℕ) → GivesLine old new before after line → line_of line ≡ None → IfSome (pending old before) IsNoEvent
-other_line old new before after line given says =
-    behind_any (pending old before) (pending new after) (ended line) {Q = IsNoEvent} given.consumes (λ xs ys cut. inr (inl (record { line = line; more = ys; is_line = given.is_line; cut = cut; says = says })))
-
--- a datagram that doesn't end
-pub head_stops : (F : Type 0) (old mid : Reading) (before middle : Option (List ℕ)) (line : List ℕ) (head : DatagramHead) (stop : Stop) → GivesLine old mid before middle line → line_of line ≡ Some (Head head)
-    → DatagramStops F (pending mid middle) stop → EventStops F (pending old before) stop
-head_stops F old mid before middle line head stops.NoMemory given says h = tt
-head_stops F old mid before middle line head stops.Script given says h =
-    behind (pending old before) (pending mid middle) (ended line) {P = IsNoDatagram} {Q = IsNoEvent} given.consumes h
-    (λ xs ys cut p. inr (inr (record { line = line; head = head; more = ys; is_line = given.is_line; cut = cut; says = says; lines = p })))
-head_stops F old mid before middle line head stops.Read given says h = h
-head_stops F old mid before middle line head stops.Write given says h = h
-
--- no line at all
-pub line_stops : (F : Type 0) (script : Option (List ℕ)) (stop : Stop) → LineStops F script stop → EventStops F script stop
-line_stops F script stops.NoMemory h = tt
-line_stops F None stops.Script h = tt
-line_stops F (Some xs) stops.Script h = inl h
-line_stops F script stops.Read h = h
-line_stops F script stops.Write h = h
+    behind (pending old before) (pending mid middle) g.text {P = λ ys. ys ≡ []} {Q = IsCutDatagram} g.consumes (nothing_left (pending mid middle) (pending new after) over.kept over.at_end)
+    (λ xs ys cut p. record { front = g.text; bytes = g.whole; more = ys; cut = cut; says = g.says; is_line = subst IsLine (sym p) no_line_yet })
 
 -- ---- what the first line of an event says
 
@@ -318,19 +301,12 @@ at_once_passed old new rest seen said count found same unread number asks =
     said_passed old new rest found.line (Some said)
     (passes_line old new found.line (subst (λ l. BeginsWith l found.line) same found.begins) (unread ∙ ap (λ n. drop (n + 1) old.unread) (sym found.size)) number asks) found.says
 
-pub said_other : (old new : Reading) (before after : Option (List ℕ)) → GivesSaid old new before after None → IfSome (pending old before) IsNoEvent
-said_other old new before after s = other_line old new before after s.line s.given s.says
-
 pub said_whole : (old new : Reading) (before after : Option (List ℕ)) (event : Event) → GivesSaid old new before after (Some (Whole event)) → GivesEvent old new before after event
 said_whole old new before after event s = gives_whole old new before after s.line event s.given s.says
 
 pub said_head : (old mid new : Reading) (before middle after : Option (List ℕ)) (bytes : List ℕ) (head : DatagramHead) (event : Event) → GivesSaid old mid before middle (Some (Head head)) → GivesDatagram mid new middle after bytes
     → left new ≤ left mid → event ≡ datagram_at head bytes → GivesEvent old new before after event
 said_head old mid new before middle after bytes head event s d le is = gives_head old mid new before middle after s.line bytes head event s.given s.says d le is
-
-pub said_head_stops : (F : Type 0) (old mid : Reading) (before middle : Option (List ℕ)) (head : DatagramHead) (stop : Stop) → GivesSaid old mid before middle (Some (Head head)) → DatagramStops F (pending mid middle) stop
-    → EventStops F (pending old before) stop
-said_head_stops F old mid before middle head stop s h = head_stops F old mid before middle s.line head stop s.given s.says h
 
 -- ---- a line that begins with no dot
 

@@ -1,5 +1,7 @@
 pub mod Calls
 pub mod CutEvents
+pub mod CutLines
+pub mod Damaged
 pub mod DatagramWord
 pub mod Datagrams
 pub mod Fronts
@@ -9,6 +11,7 @@ pub mod HeadLines
 pub mod Keeping
 pub mod LineEnds
 pub mod OneReading
+pub mod Samples
 pub mod Saying
 pub mod Written
 pub mod WrittenEvents

@@ -8,9 +8,9 @@ use Rattle.std.proofs.lemmas.List.{take_all, drop-take, drop-drop, length-take, 
 use Rattle.std.proofs.lemmas.List.Sums.{count_by_more_no, sum_by-append, sum_by-take-le}
 use Rattle.std.proofs.Math.Seq.{drop-cons}
 use Rattle.memchr.specs.Find.{IsFirstByte, NoneBefore, Nowhere, Passes, TakesFirst, is_byte, places, places_from}
-use Rattle.sip_replay_script.specs.Lines.{Reading, is_end, pending, EndsAt, EndsLine, IsLine, IsUnended, IsTooLong, LineStops, PartStops, PutStops}
-use Rattle.sip_replay_script.specs.declared.stop.Stop.{Stop}
-use Rattle.sip_replay_script.specs.declared.stop.Stop.TheVariants as stops
+use Rattle.sip_replay_script.specs.Lines.{Reading, is_end, pending, EndsAt, EndsLine, IsLine, IsLong, IsUnfinished, IsTooLong, LineStops, PartStops, PutStops}
+use Rattle.sip_replay_script.specs.declared.read_stop.ReadStop.{ReadStop}
+use Rattle.sip_replay_script.specs.declared.read_stop.ReadStop.TheVariants as stops
 
 not_true : (b : Bool) → (b ≡ true → ⊥) → b ≡ false
 not_true true h = absurd (h refl)
@@ -140,59 +140,50 @@ none_in_front n front more le none =
     let least : count_by is_end (take n front) ≤ count_by is_end front = sum_by-take-le (λ b. cond (is_end b) 1 0) front n in
     ap (count_by is_end) (take-append-le n front more le) ∙ omega (arith, least, none)
 
--- none in all that is left
-pub no_line_in : (n : ℕ) (text : List ℕ) → count_by is_end text ≡ 0 → count_by is_end (take n text) ≡ 0
-no_line_in n text none =
-    let least : count_by is_end (take n text) ≤ count_by is_end text = sum_by-take-le (λ b. cond (is_end b) 1 0) text n in
-    omega (arith, least, none)
-
 -- the script ends where a line has begun
-pub unended_at_end : (a b c : Option (List ℕ)) (line : List ℕ) → Consumes a b line → Keeps b c → IsAtEnd c → line ≢ [] → count_by is_end line ≡ 0 → IfSome a IsUnended
-unended_at_end None b c line h k e begun none = tt
-unended_at_end (Some xs) None c line h k e begun none = absurd h
-unended_at_end (Some xs) (Some ys) None line h k e begun none = absurd k
-unended_at_end (Some xs) (Some ys) (Some zs) line h k e begun none =
-    let all : xs ≡ line = h ∙ ap (λ l. line ++ l) (sym k ∙ e) ∙ append-nil line in
-    (λ is. begun (sym all ∙ is), ap (λ l. count_by is_end (take 200001 l)) all ∙ no_line_in 200001 line none)
+pub unended_at_end : (a b c : Option (List ℕ)) (line : List ℕ) → Consumes a b line → Keeps b c → IsAtEnd c → line ≢ [] → IsLine line → IfSome a (IsUnfinished line)
+unended_at_end None b c line h k e begun is_line = tt
+unended_at_end (Some xs) None c line h k e begun is_line = absurd h
+unended_at_end (Some xs) (Some ys) None line h k e begun is_line = absurd k
+unended_at_end (Some xs) (Some ys) (Some zs) line h k e begun is_line =
+    record { all = h ∙ ap (λ l. line ++ l) (sym k ∙ e) ∙ append-nil line; begun = begun; is_line = is_line }
 
 -- a line is too long
-not_empty : (xs : List ℕ) (n : ℕ) → n < length xs → xs ≢ []
-not_empty xs n lt is = absurd (omega (arith, lt, ap length is))
-
-unended_long : (xs line part rest : List ℕ) → xs ≡ line ++ (part ++ rest) → count_by is_end line ≡ 0 → count_by is_end part ≡ 0 → 200000 < length line + length part → IsUnended xs
-unended_long xs line part rest is none none_more long =
+long_front : (xs line part rest : List ℕ) → xs ≡ line ++ (part ++ rest) → count_by is_end line ≡ 0 → count_by is_end part ≡ 0 → 200000 < length line + length part → IsLong xs
+long_front xs line part rest is none none_more long =
     let front : xs ≡ (line ++ part) ++ rest = is ∙ sym (append_assoc line part rest) in
     let size : length (line ++ part) ≡ length line + length part = length-append line part in
     let total : length ((line ++ part) ++ rest) ≡ length (line ++ part) + length rest = length-append (line ++ part) rest in
-    let sum : count_by is_end (line ++ part) ≡ count_by is_end line + count_by is_end part = ends_add line part in (
-      not_empty xs 0 (omega (arith, ap length front, size, total, long)),
-      ap (λ l. count_by is_end (take 200001 l)) front ∙ none_in_front 200001 (line ++ part) rest (omega (arith, size, long)) (omega (arith, sum, none, none_more)),
-    )
+    let sum : count_by is_end (line ++ part) ≡ count_by is_end line + count_by is_end part = ends_add line part in
+    record {
+      long = omega (arith, ap length front, size, total, long);
+      unended = ap (λ l. count_by is_end (take 200001 l)) front ∙ none_in_front 200001 (line ++ part) rest (omega (arith, size, long)) (omega (arith, sum, none, none_more));
+    }
 
-pub too_long : (a b : Option (List ℕ)) (r : Reading) (c : Option (List ℕ)) (line : List ℕ) → Consumes a b line → Keeps b (pending r c) → count_by is_end line ≡ 0 → IsTooLong r.unread line → IfSome a IsUnended
+pub too_long : (a b : Option (List ℕ)) (r : Reading) (c : Option (List ℕ)) (line : List ℕ) → Consumes a b line → Keeps b (pending r c) → count_by is_end line ≡ 0 → IsTooLong r.unread line → IfSome a IsLong
 too_long None b r c line h k none long = tt
 too_long (Some xs) None r c line h k none long = absurd h
 too_long (Some xs) (Some ys) r None line h k none long = absurd k
 too_long (Some xs) (Some ys) r (Some zs) line h k none long =
-    unended_long xs line long.part (long.rest ++ zs)
+    long_front xs line long.part (long.rest ++ zs)
     (h ∙ ap (λ l. line ++ l) (sym k ∙ ap (λ l. l ++ zs) long.cut ∙ append_assoc long.part long.rest zs)) none long.single long.long
 
 -- a part that isn't added
-pub part_stops : (unread before part rest : List ℕ) (stop : Stop) → unread ≡ part ++ rest → count_by is_end part ≡ 0 → PutStops part before stop → PartStops unread before stop
+pub part_stops : (unread before part rest : List ℕ) (stop : ReadStop) → unread ≡ part ++ rest → count_by is_end part ≡ 0 → PutStops part before stop → PartStops unread before stop
 part_stops unread before part rest stops.NoMemory cut none h = tt
-part_stops unread before part rest stops.Script cut none h = record { part = part; rest = rest; cut = cut; single = none; long = h }
+part_stops unread before part rest stops.Damaged cut none h = record { part = part; rest = rest; cut = cut; single = none; long = h }
+part_stops unread before part rest stops.Cut cut none h = h
 part_stops unread before part rest stops.Read cut none h = h
-part_stops unread before part rest stops.Write cut none h = h
 
 -- why no line is given, at the end and where one is too long
-pub over_stops : (F : Type 0) (a b c : Option (List ℕ)) (line seen : List ℕ) (r : Result Bool Stop) → Consumes a b line → Keeps b c → IsAtEnd c → IsLine line → seen ≡ line
-    → IfErr r (λ stop. (stop ≡ stops.Script) × (seen ≢ [])) → IfErr r (LineStops F a)
+pub over_stops : (F : Type 0) (a b c : Option (List ℕ)) (line seen : List ℕ) (r : Result Bool ReadStop) → Consumes a b line → Keeps b c → IsAtEnd c → IsLine line → seen ≡ line
+    → IfErr r (λ stop. (stop ≡ stops.Cut) × (seen ≢ [])) → IfErr r (LineStops F a line)
 over_stops F a b c line seen (Ok more) h k e is_line same s = tt
 over_stops F a b c line seen (Err stop) h k e is_line same s =
-    subst (λ x. LineStops F a x) (sym s.0) (unended_at_end a b c line h k e (λ is. s.1 (same ∙ is)) is_line.single)
+    subst (λ x. LineStops F a line x) (sym s.0) (unended_at_end a b c line h k e (λ is. s.1 (same ∙ is)) is_line)
 
-pub part_stops_line : (F : Type 0) (a b : Option (List ℕ)) (r : Reading) (c : Option (List ℕ)) (line : List ℕ) (stop : Stop) → Consumes a b line → Keeps b (pending r c) → IsLine line → PartStops r.unread line stop → LineStops F a stop
-part_stops_line F a b r c line stops.NoMemory h k is_line s = tt
-part_stops_line F a b r c line stops.Script h k is_line s = too_long a b r c line h k is_line.single s
-part_stops_line F a b r c line stops.Read h k is_line s = absurd s
-part_stops_line F a b r c line stops.Write h k is_line s = s
+pub part_stops_line : (F : Type 0) (a b : Option (List ℕ)) (r : Reading) (c : Option (List ℕ)) (line seen : List ℕ) (stop : ReadStop) → Consumes a b line → Keeps b (pending r c) → IsLine line → PartStops r.unread line stop → LineStops F a seen stop
+part_stops_line F a b r c line seen stops.NoMemory h k is_line s = tt
+part_stops_line F a b r c line seen stops.Damaged h k is_line s = too_long a b r c line h k is_line.single s
+part_stops_line F a b r c line seen stops.Cut h k is_line s = absurd s
+part_stops_line F a b r c line seen stops.Read h k is_line s = absurd s

@@ -49,7 +49,7 @@ encoded_others mark default digits (b ∷ rest) =
     and_is _ _ (all_there (is_not mark) lower_digits (b / 16) default digits)
     (and_is _ _ (all_there (is_not mark) lower_digits (b % 16) default digits) (encoded_others mark default digits rest))
 
-word_others : (mark : ℕ) → is_not mark 0 ≡ true → list_all (is_not mark) lower_digits ≡ true → (word : ℕ) → list_all (is_not mark) (nonce_text word) ≡ true
+pub word_others : (mark : ℕ) → is_not mark 0 ≡ true → list_all (is_not mark) lower_digits ≡ true → (word : ℕ) → list_all (is_not mark) (nonce_text word) ≡ true
 unfolding nonce_text
 word_others mark default digits word = encoded_others mark default digits _
 
@@ -104,14 +104,14 @@ module _ (mark : ℕ) (digit : is_ascii_digit mark ≡ false) (dot : is_not mark
       joined (decimal (slice_index ip 0)) (decimal (slice_index ip 1)) (decimal (slice_index ip 2)) (decimal (slice_index ip 3))
       (octet_others ip 0 e) (octet_others ip 1 e) (octet_others ip 2 e) (octet_others ip 3 e)
 
-  source_others : (colon : is_not mark 58 ≡ true) (a : Addr) → IsSource a → list_all (is_not mark) (addr_text a) ≡ true
+  pub source_others : (colon : is_not mark 58 ≡ true) (a : Addr) → IsSource a → list_all (is_not mark) (addr_text a) ≡ true
   source_others colon a is =
       all_join (is_not mark) (ip_text a.ip ++ codes ":") (decimal a.port) (all_join (is_not mark) (ip_text a.ip) (codes ":") (ip_others a.ip is.octets) (and_is _ _ colon refl))
       (let lt : a.port < 65536 = is.small in number_others mark digit a.port (omega (arith, lt)))
 
 -- ---- words that say what was written
 
-below_again : (limit n : ℕ) → n < limit → n < 2 ^ 64 → plain_decimal_below limit (decimal n) ≡ Some n
+pub below_again : (limit n : ℕ) → n < limit → n < 2 ^ 64 → plain_decimal_below limit (decimal n) ≡ Some n
 below_again limit n lt small =
     let test : nat_lt n limit ≡ true = lt-ltb n limit lt in
     ap (option_and_then (under limit)) (plain_read n small) ∙ rw test refl
@@ -121,7 +121,7 @@ port_again port some small =
     let test : (port == 0) ≡ false = ne_eqb port 0 (λ e. omega (arith, e, some)) in
     rw (below_again 65536 port small (omega (arith, small)), test) refl
 
-source_again : (a : Addr) → IsSource a → addr_of (addr_text a) ≡ Some a
+pub source_again : (a : Addr) → IsSource a → addr_of (addr_text a) ≡ Some a
 source_again a is =
     let cut : addr_text a ≡ ip_text a.ip ++ 58 ∷ decimal a.port = append_assoc (ip_text a.ip) (codes ":") (decimal a.port) in
     let four : ip_of (ip_text a.ip) ≡ Some a.ip = text_read a.ip is.four is.octets in
@@ -199,6 +199,16 @@ module _ (moment : ℕ) (t : Ticket) (lt : moment < 2 ^ 62) (datagram : t.datagr
   })
 
 -- ---- datagrams
+
+-- a dot alone says no bytes
+pub no_bytes : SaysDatagram (46 ∷ 10 ∷ []) []
+no_bytes = record {
+  before = [];
+  whole = [];
+  says = record { lines = []; text_is = refl; are_lines = λ k d none. absurd (omega (arith, none)); no_dot = refl; bytes_are = refl };
+  text_is = refl;
+  kept = refl;
+}
 
 pub head_more : (moment word : ℕ) (source : Addr) (rest more : List ℕ) → head_before moment word source rest ++ more ≡ head_before moment word source (rest ++ more)
 head_more moment word source rest more =
@@ -287,15 +297,6 @@ module _ (moment word : ℕ) (source : Addr) (lt : moment < 2 ^ 62) (fits : word
     text_is = ap (λ (l : List ℕ). codes "hex " ++ l) (sym (head_more moment word source (32 ∷ encode_lower (b ∷ bytes)) (10 ∷ [])));
     says = hex_says b bytes are;
   })
-
-  no_bytes : SaysDatagram (46 ∷ 10 ∷ []) []
-  no_bytes = record {
-    before = [];
-    whole = [];
-    says = record { lines = []; text_is = refl; are_lines = λ k d none. absurd (omega (arith, none)); no_dot = refl; bytes_are = refl };
-    text_is = refl;
-    kept = refl;
-  }
 
   written_empty : SaysEvent (event_text (Datagram moment word source [])) (Datagram moment word source [])
   written_empty = inr (record {

@@ -1,5 +1,5 @@
 -- The events that the text of a script says.
-use Rattle.std.specs.Prelude.{◌≡◌, ◌+◌, ◌<◌, ◌⊎◌, ⊤, ℕ, Bool, false, List, [], ◌∷◌, ◌++◌, take, count_by, Option, Some, None, All, IfSome}
+use Rattle.std.specs.Prelude.{◌≡◌, ◌≢◌, ◌+◌, ◌<◌, ◌≤◌, ◌⊎◌, ⊤, ℕ, Bool, false, List, [], ◌∷◌, ◌++◌, length, take, count_by, Option, Some, None, All, IfSome, IsSome}
 use Rattle.std.specs.List.{flat_map, list_any}
 use Rattle.std.specs.Str.{bytes_eq}
 use Rattle.std.specs.Io.KnownBytes.{Consumes}
@@ -11,7 +11,9 @@ use Rattle.sip_replay_script.specs.declared.event.First.{First}
 use Rattle.sip_replay_script.specs.declared.event.First.TheVariants.{Over, Says}
 use Rattle.sip_replay_script.specs.declared.event.Next.{Next}
 use Rattle.sip_replay_script.specs.declared.event.Next.TheVariants.{Kept, Dot, Unended}
-use Rattle.sip_replay_script.specs.Lines.{Reading, BeginsWith, IsLine, IsUnended, HasNoLine, GivesLine, IsOver, PassesLine, is_end, pending, left}
+use Rattle.sip_replay_script.specs.declared.read_stop.ReadStop.{ReadStop}
+use Rattle.sip_replay_script.specs.declared.read_stop.ReadStop.TheVariants.{NoMemory, Damaged, Cut, Read}
+use Rattle.sip_replay_script.specs.Lines.{Reading, BeginsWith, IsLine, IsLong, IsUnended, HasNoLine, GivesLine, IsOver, PassesLine, is_end, pending, left}
 use Rattle.sip_replay_script.specs.declared.stop.Stop.{Stop}
 use Rattle.sip_replay_script.specs.declared.stop.Stop.TheVariants as stops
 use Rattle.sip_replay_script.specs.Script.{line_of, unstuffed, datagram_at}
@@ -112,6 +114,38 @@ pub record IsCutShort (rest : List ℕ) : Type 0 where
 abbrev pub IsNoEvent : List ℕ → Type 0
 IsNoEvent rest = IsUnended rest ⊎ (IsOtherLine rest ⊎ IsCutShort rest)
 
+-- ---- where a text that says an event was cut
+
+-- what is left is the front of a text that says an event, and not the whole of it
+pub record IsCutEvent (rest : List ℕ) : Type 0 where
+  pub more : List ℕ
+  pub event : Event
+  pub begun : rest ≢ []
+  pub cut : more ≢ []
+  pub says : SaysEvent (rest ++ more) event
+
+-- what is left begins with no event, and is no front of one's text
+pub record IsDamaged (rest : List ℕ) : Type 0 where
+  pub none : IsNoEvent rest
+  pub no_front : IsCutEvent rest → ⊥
+
+-- a line that begins an event
+pub record BeginsEvent (line : List ℕ) : Type 0 where
+  pub short : length line ≤ 200000
+  pub says : IsSome (line_of line)
+
+-- a text is the front of such a line, or one
+pub record BeginsLine (text : List ℕ) : Type 0 where
+  pub more : List ℕ
+  pub begins : BeginsEvent (text ++ more)
+
+-- and goes on as an end of a given one does
+pub record EndsAs (text sample : List ℕ) : Type 0 where
+  pub front : List ℕ
+  pub tail : List ℕ
+  pub cut : sample ≡ front ++ tail
+  pub begins : BeginsEvent (text ++ tail)
+
 -- ---- what is read
 
 -- the next text of the script says that event
@@ -175,16 +209,61 @@ abbrev pub GivesFirst : First → Reading → Reading → Option (List ℕ) → 
 GivesFirst Over old new before after = IsOver old new before after
 GivesFirst (Says said) old new before after = GivesSaid old new before after said
 
--- why no datagram is given of what is still to come
-abbrev pub DatagramStops : Type 0 → Option (List ℕ) → Stop → Type 0
-DatagramStops spent script stops.NoMemory = ⊤
-DatagramStops spent script stops.Script = IfSome script IsNoDatagram
-DatagramStops spent script stops.Read = spent
-DatagramStops spent script stops.Write = ⊥
+-- why no event is read where the script ends within a line
+abbrev pub StopsIn : List ℕ → ReadStop → Type 0
+StopsIn line NoMemory = ⊤
+StopsIn line Damaged = BeginsLine line → ⊥
+StopsIn line Cut = BeginsLine line
+StopsIn line Read = ⊥
 
--- and why no event
+-- and why where no line is read
+abbrev pub StopsAt : List ℕ → ReadStop → ReadStop → Type 0
+StopsAt line NoMemory stop = stop ≡ NoMemory
+StopsAt line Damaged stop = stop ≡ Damaged
+StopsAt line Cut stop = StopsIn line stop
+StopsAt line Read stop = stop ≡ Read
+
+-- lines, none of which is a dot, and a line too long behind them
+pub record IsLongDatagram (rest : List ℕ) : Type 0 where
+  pub front : List ℕ
+  pub bytes : List ℕ
+  pub more : List ℕ
+  pub cut : rest ≡ front ++ more
+  pub says : SaysBytes front bytes
+  pub long : IsLong more
+
+-- and a line without its LF behind them, of which some or nothing has come
+pub record IsCutDatagram (rest : List ℕ) : Type 0 where
+  pub front : List ℕ
+  pub bytes : List ℕ
+  pub more : List ℕ
+  pub cut : rest ≡ front ++ more
+  pub says : SaysBytes front bytes
+  pub is_line : IsLine more
+
+-- why no datagram is given of what is still to come
+abbrev pub DatagramStops : Type 0 → Option (List ℕ) → ReadStop → Type 0
+DatagramStops spent script NoMemory = ⊤
+DatagramStops spent script Damaged = IfSome script IsLongDatagram
+DatagramStops spent script Cut = IfSome script IsCutDatagram
+DatagramStops spent script Read = spent
+
+-- why no event: what is left is damaged, or is an event's text that was cut; or memory ran out, or the reader stopped
+abbrev pub ReadStops : Type 0 → Option (List ℕ) → ReadStop → Type 0
+ReadStops spent script NoMemory = ⊤
+ReadStops spent script Damaged = IfSome script IsDamaged
+ReadStops spent script Cut = IfSome script IsCutEvent
+ReadStops spent script Read = spent
+
+-- the same where both of these are the script's fault
 abbrev pub EventStops : Type 0 → Option (List ℕ) → Stop → Type 0
 EventStops spent script stops.NoMemory = ⊤
 EventStops spent script stops.Script = IfSome script IsNoEvent
 EventStops spent script stops.Read = spent
 EventStops spent script stops.Write = ⊥
+
+abbrev pub stop_of : ReadStop → Stop
+stop_of NoMemory = stops.NoMemory
+stop_of Damaged = stops.Script
+stop_of Cut = stops.Script
+stop_of Read = stops.Read

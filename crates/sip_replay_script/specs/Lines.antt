@@ -1,8 +1,8 @@
 -- The lines of a script, and what was read and not given yet.
 use Rattle.std.specs.Prelude.{◌≡◌, ◌≢◌, ◌≤◌, ◌<◌, ◌+◌, ◌*◌, ◌==◌, ◌⊎◌, ⊤, ℕ, Bool, List, [], ◌∷◌, ◌++◌, length, take, drop, count_by, Option, IfSome}
 use Rattle.std.specs.Io.KnownBytes.{prepend_known, Consumes, Keeps, IsAtEnd}
-use Rattle.sip_replay_script.specs.declared.stop.Stop.{Stop}
-use Rattle.sip_replay_script.specs.declared.stop.Stop.TheVariants.{NoMemory, Script, Read, Write}
+use Rattle.sip_replay_script.specs.declared.read_stop.ReadStop.{ReadStop}
+use Rattle.sip_replay_script.specs.declared.read_stop.ReadStop.TheVariants.{NoMemory, Damaged, Cut, Read}
 
 -- LF
 abbrev pub is_end : ℕ → Bool
@@ -88,30 +88,41 @@ pub record IsTooLong (unread before : List ℕ) : Type 0 where
   pub long : 200000 < length before + length part
 
 -- why a part isn't added to a line
-abbrev pub PutStops : List ℕ → List ℕ → Stop → Type 0
+abbrev pub PutStops : List ℕ → List ℕ → ReadStop → Type 0
 PutStops part before NoMemory = ⊤
-PutStops part before Script = 200000 < length before + length part
+PutStops part before Damaged = 200000 < length before + length part
+PutStops part before Cut = ⊥
 PutStops part before Read = ⊥
-PutStops part before Write = ⊥
 
 -- and why those up to the first LF aren't
-abbrev pub PartStops : List ℕ → List ℕ → Stop → Type 0
+abbrev pub PartStops : List ℕ → List ℕ → ReadStop → Type 0
 PartStops unread before NoMemory = ⊤
-PartStops unread before Script = IsTooLong unread before
+PartStops unread before Damaged = IsTooLong unread before
+PartStops unread before Cut = ⊥
 PartStops unread before Read = ⊥
-PartStops unread before Write = ⊥
 
 -- something is left, and no line stands there
 abbrev pub IsUnended : List ℕ → Type 0
 IsUnended rest = (rest ≢ []) × HasNoLine rest
 
+-- what is left is a line too long
+pub record IsLong (rest : List ℕ) : Type 0 where
+  pub long : 200000 < length rest
+  pub unended : HasNoLine rest
+
+-- what is left is these bytes, a line without its LF, of which some have come
+pub record IsUnfinished (seen rest : List ℕ) : Type 0 where
+  pub all : rest ≡ seen
+  pub begun : seen ≢ []
+  pub is_line : IsLine seen
+
 -- the reader failed, or may not be asked any more
 abbrev pub IsSpent : Type 0 → ℕ → Type 0
 IsSpent has_failed asks = has_failed ⊎ (asks ≡ 0)
 
--- why no line is given of what is still to come
-abbrev pub LineStops : Type 0 → Option (List ℕ) → Stop → Type 0
-LineStops spent script NoMemory = ⊤
-LineStops spent script Script = IfSome script IsUnended
-LineStops spent script Read = spent
-LineStops spent script Write = ⊥
+-- why no line is given of what is still to come, and the bytes of one that was cut
+abbrev pub LineStops : Type 0 → Option (List ℕ) → List ℕ → ReadStop → Type 0
+LineStops spent script seen NoMemory = ⊤
+LineStops spent script seen Damaged = IfSome script IsLong
+LineStops spent script seen Cut = IfSome script (IsUnfinished seen)
+LineStops spent script seen Read = spent

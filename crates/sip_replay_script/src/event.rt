@@ -2,15 +2,17 @@ ghost use Rattle.std.specs.Prelude.{◌≡◌, ◌≤◌, ◌++◌, ◌∷◌, [
 ghost use Rattle.sip_replay_script.specs.Devices.{later};
 ghost use Rattle.sip_replay_script.specs.Events;
 ghost use Rattle.sip_replay_script.specs.Events.{BeginsOther, GivesEvent, GivesDatagram, GivesFirst, GivesSaid, GoesOnBy, KeepsAll, KeepsLines, EventStops};
-ghost use Rattle.sip_replay_script.specs.Events.{DatagramStops};
-ghost use Rattle.sip_replay_script.specs.Lines.{left, pending, IsOver, IsSpent, LineStops, PassesLine};
+ghost use Rattle.sip_replay_script.specs.Events.{DatagramStops, ReadStops};
+ghost use Rattle.sip_replay_script.specs.Lines.{left, pending, IsOver, IsSpent, PassesLine};
 ghost use Rattle.sip_replay_script.specs.Script;
 ghost use Rattle.sip_replay_script.specs.declared.script.Line.TheVariants.{Head};
-ghost use Rattle.sip_replay_script.specs.declared.stop.Stop.TheVariants.{NoMemory};
+ghost use Rattle.sip_replay_script.specs.declared.read_stop.ReadStop.TheVariants.{NoMemory};
 
+use crate::cut_line::stop_at;
 use crate::device::TellingReader;
 use crate::gathered::{Gathered, KEPT};
 use crate::lines::Lines;
+use crate::read_stop::ReadStop;
 use crate::script::{DatagramHead, Line, head_at_once, line_of, time_at_once, unstuffed};
 use crate::stop::Stop;
 use sip_event::Event;
@@ -18,23 +20,25 @@ use sip_text::{Bytes, same_bytes};
 use std::alloc::{AllocError, Global};
 use std::mem;
 
-/// The next event of a script; `None` at its end. What it is gathered in may be kept for the next.
+/// The next event of a script; `None` at its end. What it is gathered in may be kept for the next. Refusals: `NoMemory`; `Cut`, where
+/// what is left is the front of a text that says an event, and not the whole of it; `Damaged`, where it begins with no event and is no
+/// such front; `Read`, where the reader failed or was asked 4,294,967,295 times.
 #[tactic(auto, using(crate::proofs::Datagrams::event_gathered))]
 pub fn next_event<R: TellingReader>(
     alloc: Global,
     lines: &mut Lines,
     reader: &mut R,
     room: &mut Vec<u8>,
-) -> Result<Option<Event>, Stop>
+) -> Result<Option<Event>, ReadStop>
     ensures given { IfOk result
         (λ found. IfSome found (λ event. GivesEvent lines.old lines.new (R.remaining reader.old) (R.remaining reader.new) event)) }
     ensures over { IfOk result (λ found. IfNone found (IsOver lines.old lines.new (R.remaining reader.old) (R.remaining reader.new))) }
-    ensures stopped { IfErr result (EventStops (IsSpent (R.has_failed reader.new) lines.new.asks) (pending lines.old (R.remaining reader.old))) }
+    ensures stopped { IfErr result (ReadStops (IsSpent (R.has_failed reader.new) lines.new.asks) (pending lines.old (R.remaining reader.old))) }
     ensures asked { later lines.new.asks (R.asked reader.new) ≡ later lines.old.asks (R.asked reader.old) }
     ensures less { lines.new.asks ≤ lines.old.asks }
 {
     let mut bytes = Gathered::in_room(mem::replace(room, Vec::new(alloc)));
-    let Some(line) = next_line(alloc, lines, reader, &mut bytes)? else {
+    let Some(line) = read_line(alloc, lines, reader, &mut bytes)? else {
         return Ok(None);
     };
     let event = event_at(alloc, line, bytes.as_slice())?;
@@ -58,8 +62,7 @@ fn event_at(alloc: Global, line: Line, bytes: &[u8]) -> Result<Event, AllocError
 }
 
 /// The line that begins the next event of a script; `None` at its end. Behind the head of a datagram its bytes are gathered, so
-/// that they are used from there. Most lines are such a head or a moment, and are read at once.
-#[tactic(auto, using(crate::proofs::Datagrams::at_once_fits))]
+/// that they are used from there. Refusals are those of `next_event`, of which `Cut` and `Damaged` are the script's fault here.
 pub fn next_line<R: TellingReader>(
     alloc: Global,
     lines: &mut Lines,
@@ -70,6 +73,25 @@ pub fn next_line<R: TellingReader>(
         (λ line. GivesEvent lines.old lines.new (R.remaining reader.old) (R.remaining reader.new) (Script.event_of line bytes.new))) }
     ensures over { IfOk result (λ found. IfNone found (IsOver lines.old lines.new (R.remaining reader.old) (R.remaining reader.new))) }
     ensures stopped { IfErr result (EventStops (IsSpent (R.has_failed reader.new) lines.new.asks) (pending lines.old (R.remaining reader.old))) }
+    ensures asked { later lines.new.asks (R.asked reader.new) ≡ later lines.old.asks (R.asked reader.old) }
+    ensures less { lines.new.asks ≤ lines.old.asks }
+{
+    Ok(read_line(alloc, lines, reader, bytes)?)
+}
+
+/// The same, and whether it was cut. Most lines are such a head or a moment, and are read at once.
+#[inline(always)]
+#[tactic(auto, using(crate::proofs::Datagrams::at_once_fits))]
+fn read_line<R: TellingReader>(
+    alloc: Global,
+    lines: &mut Lines,
+    reader: &mut R,
+    bytes: &mut Gathered,
+) -> Result<Option<Line>, ReadStop>
+    ensures given { IfOk result (λ found. IfSome found
+        (λ line. GivesEvent lines.old lines.new (R.remaining reader.old) (R.remaining reader.new) (Script.event_of line bytes.new))) }
+    ensures over { IfOk result (λ found. IfNone found (IsOver lines.old lines.new (R.remaining reader.old) (R.remaining reader.new))) }
+    ensures stopped { IfErr result (ReadStops (IsSpent (R.has_failed reader.new) lines.new.asks) (pending lines.old (R.remaining reader.old))) }
     ensures asked { later lines.new.asks (R.asked reader.new) ≡ later lines.old.asks (R.asked reader.old) }
     ensures less { lines.new.asks ≤ lines.old.asks }
 {
@@ -106,17 +128,17 @@ fn any_line<R: TellingReader>(
     lines: &mut Lines,
     reader: &mut R,
     bytes: &mut Gathered,
-) -> Result<Option<Line>, Stop>
+) -> Result<Option<Line>, ReadStop>
     ensures given { IfOk result (λ found. IfSome found
         (λ line. GivesEvent lines.old lines.new (R.remaining reader.old) (R.remaining reader.new) (Script.event_of line bytes.new))) }
     ensures over { IfOk result (λ found. IfNone found (IsOver lines.old lines.new (R.remaining reader.old) (R.remaining reader.new))) }
-    ensures stopped { IfErr result (EventStops (IsSpent (R.has_failed reader.new) lines.new.asks) (pending lines.old (R.remaining reader.old))) }
+    ensures stopped { IfErr result (ReadStops (IsSpent (R.has_failed reader.new) lines.new.asks) (pending lines.old (R.remaining reader.old))) }
     ensures asked { later lines.new.asks (R.asked reader.new) ≡ later lines.old.asks (R.asked reader.old) }
     ensures less { lines.new.asks ≤ lines.old.asks }
 {
     match first_line(alloc, lines, reader)? {
         First::Over => Ok(None),
-        First::Says(None) => Err(Stop::Script),
+        First::Says(None) => Err(ReadStop::Damaged),
         First::Says(Some(Line::Whole(event))) => Ok(Some(Line::Whole(event))),
         First::Says(Some(Line::Head(head))) => {
             bytes.clear();
@@ -140,9 +162,9 @@ fn first_line<R: TellingReader>(
     alloc: Global,
     lines: &mut Lines,
     reader: &mut R,
-) -> Result<First, Stop>
+) -> Result<First, ReadStop>
     ensures given { IfOk result (λ first. GivesFirst first lines.old lines.new (R.remaining reader.old) (R.remaining reader.new)) }
-    ensures stopped { IfErr result (LineStops (IsSpent (R.has_failed reader.new) lines.new.asks) (pending lines.old (R.remaining reader.old))) }
+    ensures stopped { IfErr result (ReadStops (IsSpent (R.has_failed reader.new) lines.new.asks) (pending lines.old (R.remaining reader.old))) }
     ensures asked { later lines.new.asks (R.asked reader.new) ≡ later lines.old.asks (R.asked reader.old) }
     ensures less { lines.new.asks ≤ lines.old.asks }
 {
@@ -161,14 +183,18 @@ fn parted_line<R: TellingReader>(
     alloc: Global,
     lines: &mut Lines,
     reader: &mut R,
-) -> Result<First, Stop>
+) -> Result<First, ReadStop>
     ensures given { IfOk result (λ first. GivesFirst first lines.old lines.new (R.remaining reader.old) (R.remaining reader.new)) }
-    ensures stopped { IfErr result (LineStops (IsSpent (R.has_failed reader.new) lines.new.asks) (pending lines.old (R.remaining reader.old))) }
+    ensures stopped { IfErr result (ReadStops (IsSpent (R.has_failed reader.new) lines.new.asks) (pending lines.old (R.remaining reader.old))) }
     ensures asked { later lines.new.asks (R.asked reader.new) ≡ later lines.old.asks (R.asked reader.old) }
     ensures less { lines.new.asks ≤ lines.old.asks }
 {
     let mut line = Vec::new(alloc);
-    if !lines.next(reader, &mut line)? {
+    let more = match lines.next(reader, &mut line) {
+        Ok(more) => more,
+        Err(stop) => return Err(stop_at(alloc, &line, stop)),
+    };
+    if !more {
         return Ok(First::Over);
     }
     Ok(First::Says(line_of(alloc, &line)?))
@@ -181,7 +207,7 @@ fn gather<R: TellingReader>(
     lines: &mut Lines,
     reader: &mut R,
     bytes: &mut Gathered,
-) -> Result<(), Stop>
+) -> Result<(), ReadStop>
     requires { bytes.old ≡ [] }
     ensures given { OnOk result (GivesDatagram lines.old lines.new (R.remaining reader.old) (R.remaining reader.new) bytes.new) }
     ensures fewer { OnOk result (left lines.new ≤ left lines.old) }
@@ -195,7 +221,7 @@ fn gather<R: TellingReader>(
             return Ok(());
         }
         if !lines.next(reader, &mut line)? {
-            return Err(Stop::Script);
+            return Err(ReadStop::Cut);
         }
         if is_dot(&line) {
             return Ok(());
@@ -218,7 +244,7 @@ enum Next {
 /// too; whether there was a dot. Most lines do: only one that reaches past those bytes is gathered first.
 #[inline(always)]
 #[tactic(auto, using(crate::proofs::Datagrams::keeps_less))]
-fn keep_lines(lines: &mut Lines, bytes: &mut Gathered) -> Result<bool, Stop>
+fn keep_lines(lines: &mut Lines, bytes: &mut Gathered) -> Result<bool, ReadStop>
     requires { length bytes.old ≤ KEPT }
     ensures kept { IfOk result (λ ended. ended ≡ false → KeepsLines lines.old lines.new bytes.old bytes.new) }
     ensures all { IfOk result (λ ended. ended ≡ true → KeepsAll lines.old lines.new bytes.old bytes.new) }
@@ -253,7 +279,7 @@ fn keep_plain(lines: &mut Lines, bytes: &mut Gathered)
 
 /// Passes the next line, if it stands whole among the bytes that were read, and adds what it says, unless it is the dot.
 #[inline(always)]
-fn keep_any(lines: &mut Lines, bytes: &mut Gathered) -> Result<Next, Stop>
+fn keep_any(lines: &mut Lines, bytes: &mut Gathered) -> Result<Next, ReadStop>
     requires { length bytes.old ≤ KEPT }
     ensures next { IfOk result (λ next. GoesOnBy next lines.old lines.new bytes.old bytes.new) }
     ensures most { OnOk result (length bytes.new ≤ KEPT) }
@@ -284,7 +310,7 @@ fn pass_dot(lines: &mut Lines) -> bool
 
 /// The same of a next line that isn't the dot.
 #[inline(never)]
-fn keep_other(lines: &mut Lines, bytes: &mut Gathered) -> Result<Next, Stop>
+fn keep_other(lines: &mut Lines, bytes: &mut Gathered) -> Result<Next, ReadStop>
     requires most { length bytes.old ≤ KEPT }
     requires other { BeginsOther lines.old.unread }
     ensures next { IfOk result (λ next. GoesOnBy next lines.old lines.new bytes.old bytes.new) }
@@ -309,7 +335,7 @@ fn is_dot(line: &[u8]) -> bool
 }
 
 /// Adds what a line says to a datagram, as far as it is kept.
-fn keep_line(bytes: &mut Gathered, line: &[u8]) -> Result<(), Stop>
+fn keep_line(bytes: &mut Gathered, line: &[u8]) -> Result<(), ReadStop>
     requires { length bytes.old ≤ KEPT }
     ensures kept { OnOk result (bytes.new ≡ take KEPT (bytes.old ++ Events.said line.now)) }
     ensures most { OnOk result (length bytes.new ≤ KEPT) }
@@ -320,7 +346,7 @@ fn keep_line(bytes: &mut Gathered, line: &[u8]) -> Result<(), Stop>
 }
 
 /// Adds a part to a datagram, as far as it is kept.
-fn keep(bytes: &mut Gathered, part: &[u8]) -> Result<(), Stop>
+fn keep(bytes: &mut Gathered, part: &[u8]) -> Result<(), ReadStop>
     requires { length bytes.old ≤ KEPT }
     ensures kept { OnOk result (bytes.new ≡ take KEPT (bytes.old ++ part.now)) }
     ensures most { OnOk result (length bytes.new ≤ KEPT) }

@@ -6,6 +6,7 @@
 //! - Tried: worked examples in `src/examples.rt`, as contracts that compute; `test_engine`.
 #![tactic(auto)]
 
+mod cut_line;
 mod device;
 mod event;
 mod event_text;
@@ -17,6 +18,7 @@ pub mod laws;
 mod lines;
 mod packet_head;
 mod print;
+mod read_stop;
 mod script;
 mod stop;
 mod writing;
@@ -28,6 +30,7 @@ pub use gathered::Gathered;
 pub use head_line::HeadLine;
 pub use lines::Lines;
 pub use print::{PrintRoom, print_step};
+pub use read_stop::ReadStop;
 pub use script::{DatagramHead, Line, line_of};
 pub use stop::Stop;
 pub use writing::{hand_on, put};

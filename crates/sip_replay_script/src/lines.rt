@@ -4,17 +4,17 @@ ghost use Rattle.std.specs.Io.KnownBytes.{Consumes, Keeps, IsAtEnd};
 ghost use Rattle.sip_replay_script.specs.Devices.{later};
 ghost use Rattle.sip_replay_script.specs.Lines.{is_end, pending, left, BeginsWith, EndsAt, EndsLine, GoesOn, GivesLine, IsOver, IsSpent};
 ghost use Rattle.sip_replay_script.specs.Lines.{LineStops, PartStops, PutStops};
-ghost use Rattle.sip_replay_script.specs.declared.stop.Stop.TheVariants.{Read, Script};
+ghost use Rattle.sip_replay_script.specs.declared.read_stop.ReadStop.TheVariants.{Cut, Read};
 
 use crate::device::TellingReader;
-use crate::stop::Stop;
+use crate::read_stop::ReadStop;
 use memchr::memchr_iter;
 use std::alloc::{AllocError, Global};
 use std::io::ErrorKind;
 use std::marker::Model;
 
 /// The most bytes that a line has, without its LF.
-const LONGEST_LINE: usize = 200_000;
+pub(crate) const LONGEST_LINE: usize = 200_000;
 
 /// How many bytes are asked for at a time.
 const BUFFER: usize = 8192;
@@ -66,17 +66,17 @@ impl Lines {
         self.number
     }
 
-    /// The next line, without its LF, or nothing at the end of the script. A line over 200,000 bytes, and
-    /// a last one without LF, are refused as the script's fault.
+    /// The next line, without its LF, or nothing at the end of the script. Refusals: `NoMemory`; `Damaged`, where no line of at most
+    /// 200,000 bytes stands there; `Cut`, where the script ends within such a line, whose bytes are given all the same; `Read`.
     pub fn next<R: TellingReader>(
         &mut self,
         reader: &mut R,
         line: &mut Vec<u8>,
-    ) -> Result<bool, Stop>
+    ) -> Result<bool, ReadStop>
         ensures given { IfOk result (λ more. more ≡ true → GivesLine self.old self.new (R.remaining reader.old) (R.remaining reader.new)
             line.new.items) }
         ensures over { IfOk result (λ more. more ≡ false → IsOver self.old self.new (R.remaining reader.old) (R.remaining reader.new)) }
-        ensures stopped { IfErr result (LineStops (IsSpent (R.has_failed reader.new) self.new.asks) (pending self.old (R.remaining reader.old))) }
+        ensures stopped { IfErr result (LineStops (IsSpent (R.has_failed reader.new) self.new.asks) (pending self.old (R.remaining reader.old)) line.new.items) }
         ensures asked { later self.new.asks (R.asked reader.new) ≡ later self.old.asks (R.asked reader.old) }
         ensures less { self.new.asks ≤ self.old.asks }
     {
@@ -133,7 +133,7 @@ impl Lines {
     }
 
     /// Whether there is an unread byte; if all were given, the reader is asked.
-    fn fill<R: TellingReader>(&mut self, reader: &mut R) -> Result<bool, Stop>
+    fn fill<R: TellingReader>(&mut self, reader: &mut R) -> Result<bool, ReadStop>
         ensures kept { OnOk result (Keeps (pending self.old (R.remaining reader.old)) (pending self.new (R.remaining reader.new))) }
         ensures some { IfOk result (λ some. some ≡ true → 1 ≤ length self.new.unread) }
         ensures end { IfOk result (λ some. some ≡ false → IsAtEnd (pending self.new (R.remaining reader.new))) }
@@ -153,7 +153,7 @@ impl Lines {
     }
 
     /// Moves the unread bytes up to the first LF to the line, or all of them; whether there was an LF.
-    fn take_part(&mut self, line: &mut Vec<u8>) -> Result<bool, Stop>
+    fn take_part(&mut self, line: &mut Vec<u8>) -> Result<bool, ReadStop>
         requires { length line.old.items ≤ 200000 }
         ensures short { OnOk result (length line.new.items ≤ 200000) }
         ensures ends { IfOk result (λ ended. ended ≡ true → EndsLine self.old self.new line.old.items line.new.items) }
@@ -185,14 +185,14 @@ fn zeros(alloc: Global, count: usize) -> Result<Vec<u8>, AllocError>
 }
 
 /// A script may end here only where no line has begun.
-fn over(line: &[u8]) -> Result<bool, Stop>
+fn over(line: &[u8]) -> Result<bool, ReadStop>
     ensures over { IfOk result (λ more. (more ≡ false) × (line.now ≡ [])) }
-    ensures stopped { IfErr result (λ stop. (stop ≡ Script) × (line.now ≢ [])) }
+    ensures stopped { IfErr result (λ stop. (stop ≡ Cut) × (line.now ≢ [])) }
 {
     if line.is_empty() {
         Ok(false)
     } else {
-        Err(Stop::Script)
+        Err(ReadStop::Cut)
     }
 }
 
@@ -202,7 +202,7 @@ fn read_some<R: TellingReader>(
     reader: &mut R,
     buffer: &mut Vec<u8>,
     asks: &mut u32,
-) -> Result<usize, Stop>
+) -> Result<usize, ReadStop>
     ensures same { vec_len buffer.new ≡ vec_len buffer.old }
     ensures within { IfOk result (λ count. count ≤ vec_len buffer.new) }
     ensures bytes { IfOk result (λ count. Consumes (R.remaining reader.old) (R.remaining reader.new) (take count buffer.new.items)) }
@@ -218,11 +218,11 @@ fn read_some<R: TellingReader>(
             Ok(count) => return Ok(count),
             Err(e) => match e.kind() {
                 ErrorKind::Interrupted => {}
-                _ => return Err(Stop::Read),
+                _ => return Err(ReadStop::Read),
             },
         }
     }
-    Err(Stop::Read)
+    Err(ReadStop::Read)
 }
 
 /// The place of the first LF.
@@ -233,14 +233,14 @@ fn end_of_line(unread: &[u8]) -> Option<usize>
 }
 
 /// Adds a part to a line, if the line isn't too long then.
-fn put_part(line: &mut Vec<u8>, part: &[u8]) -> Result<(), Stop>
+fn put_part(line: &mut Vec<u8>, part: &[u8]) -> Result<(), ReadStop>
     requires { length line.old.items ≤ 200000 }
     ensures grown { OnOk result (line.new.items ≡ line.old.items ++ part.now) }
     ensures short { OnOk result (length line.new.items ≤ 200000) }
     ensures stopped { IfErr result (PutStops part.now line.old.items) }
 {
     if part.len() > LONGEST_LINE - line.len() {
-        return Err(Stop::Script);
+        return Err(ReadStop::Damaged);
     }
     line.extend_from_slice(part)?;
     Ok(())

@@ -1,6 +1,6 @@
 -- Why an event of a record isn't taken.
-use Rattle.std.proofs.Common.{◌≡◌, ℕ, ◌+◌, Bool, true, false, Result, Ok, Err, List, [], ◌∷◌, ◌++◌, Option, None, Some, refl, sym, ◌∙◌, subst}
-use Rattle.std.specs.Prelude.{IfErr, IfSome, IsSome, if◌then◌else◌}
+use Rattle.std.proofs.Common.{◌≡◌, ℕ, Bool, true, false, List, [], ◌∷◌, ◌++◌, Option, None, Some, refl, sym, subst}
+use Rattle.std.specs.Prelude.{IfSome, IsSome, if◌then◌else◌}
 use Rattle.std.specs.Io.KnownBytes.{Consumes}
 use Rattle.sip_event.specs.declared.event.Event.{Event}
 use Rattle.sip_event.specs.declared.event.Event.TheVariants.{Datagram, Time, Fault}
@@ -11,12 +11,10 @@ use Rattle.sip_run.specs.engine.declared.error.StepError.{StepError}
 use Rattle.sip_run.specs.engine.declared.error.StepError.TheVariants as step_errors
 use Rattle.sip_run.specs.engine.StepError.{refusal_at, is_too_large}
 use Rattle.sip_run.specs.Refusals.{RefusesStep, refusal_of_event}
-use Rattle.sip_replay_script.specs.declared.stop.Stop.{Stop}
-use Rattle.sip_replay_script.specs.declared.stop.Stop.TheVariants as stops
-use Rattle.sip_replay_script.specs.Lines.{LineStops, Reading, pending}
-use Rattle.sip_replay_script.specs.Events.{EventStops, GivesEvent, IsNoEvent}
-use Rattle.sip_resume.specs.Errors.{error_at, error_of_step}
-use Rattle.sip_resume.specs.Resumes.{EndStops, IsNext, JournalAt, ResumeStops, Runs, StepStops}
+use Rattle.sip_replay_script.specs.Lines.{Reading, pending}
+use Rattle.sip_replay_script.specs.Events.{GivesEvent}
+use Rattle.sip_resume.specs.Errors.{error_of_step}
+use Rattle.sip_resume.specs.Resumes.{IsNext, JournalAt, ResumeStops, Runs, StepStops, UnreadStops}
 use Rattle.sip_resume.specs.declared.error.ResumeError.{ResumeError}
 use Rattle.sip_resume.specs.declared.error.ResumeError.TheVariants as errors
 use Rattle.sip_resume.proofs.Running.{runs_nothing}
@@ -88,42 +86,20 @@ untold_at old new e is failed = subst (λ (x : ResumeError). JournalAt old new x
 
 -- ---- no event that comes next
 
-pub unread : (F : Type 0) (server : Server) (state : ProxyState) (number first : ℕ) (script : Option (List ℕ)) (written : Option (Option (List ℕ))) (stop : Stop) → first ≡ number + 1 → EventStops F script stop
-    → ResumeStops server state state F script number written (error_at stop first)
-unread F server state number first script written stops.NoMemory is h = (None, runs_nothing server state None)
-unread F server state number first script written stops.Script is h = (refl, h, is)
-unread F server state number first script written stops.Read is h = (refl, h)
-unread F server state number first script written stops.Write is h = absurd h
+pub unread : (F : Type 0) (server : Server) (state : ProxyState) (number : ℕ) (script : Option (List ℕ)) (written : Option (Option (List ℕ))) (e : ResumeError) → UnreadStops F script number e
+    → ResumeStops server state state F script number written e
+unread F server state number script written errors.NoMemory h = (None, runs_nothing server state None)
+unread F server state number script written (errors.Damaged line) h = (refl, h.0, h.1)
+unread F server state number script written errors.Read h = (refl, h)
+unread F server state number script written errors.Step h = absurd h
+unread F server state number script written errors.Journal h = absurd h
 
-pub unread_told : (written : Option (Option (List ℕ))) (first : ℕ) (stop : Stop) → JournalAt written written (error_at stop first)
-unread_told written first stops.NoMemory = refl
-unread_told written first stops.Script = refl
-unread_told written first stops.Read = refl
-unread_told written first stops.Write = refl
-
--- whether the record ends there isn't said
-pub end_stops : (F : Type 0) (first : ℕ) (script : Option (List ℕ)) (stop : Stop) → LineStops F script stop → EndStops F first (error_at stop first)
-end_stops F first script stops.NoMemory h = tt
-end_stops F first script stops.Script h = refl
-end_stops F first script stops.Read h = h
-end_stops F first script stops.Write h = absurd h
-
-pub unended : (F : Type 0) (server : Server) (state : ProxyState) (number first : ℕ) (script : Option (List ℕ)) (written : Option (Option (List ℕ))) (r : Result Bool ResumeError) → first ≡ number + 1 → IfSome script IsNoEvent → IfErr r (EndStops F first)
-    → IfErr r (ResumeStops server state state F script number written)
-unended F server state number first script written (Ok more) is none h = tt
-unended F server state number first script written (Err errors.NoMemory) is none h = (None, runs_nothing server state None)
-unended F server state number first script written (Err (errors.Damaged line)) is none h = (refl, none, h ∙ is)
-unended F server state number first script written (Err errors.Read) is none h = (refl, h)
-unended F server state number first script written (Err errors.Step) is none h = absurd h
-unended F server state number first script written (Err errors.Journal) is none h = absurd h
-
-pub unended_told : (F : Type 0) (first : ℕ) (written : Option (Option (List ℕ))) (r : Result Bool ResumeError) → IfErr r (EndStops F first) → IfErr r (JournalAt written written)
-unended_told F first written (Ok more) h = tt
-unended_told F first written (Err errors.NoMemory) h = refl
-unended_told F first written (Err (errors.Damaged line)) h = refl
-unended_told F first written (Err errors.Read) h = refl
-unended_told F first written (Err errors.Step) h = absurd h
-unended_told F first written (Err errors.Journal) h = absurd h
+pub unread_told : (F : Type 0) (number : ℕ) (script : Option (List ℕ)) (written : Option (Option (List ℕ))) (e : ResumeError) → UnreadStops F script number e → JournalAt written written e
+unread_told F number script written errors.NoMemory h = refl
+unread_told F number script written (errors.Damaged line) h = refl
+unread_told F number script written errors.Read h = refl
+unread_told F number script written errors.Step h = absurd h
+unread_told F number script written errors.Journal h = absurd h
 
 -- why the reader stopped
 pub stopped_so : (F H : Type 0) (server : Server) (old new : ProxyState) (rest : Option (List ℕ)) (number : ℕ) (written : Option (Option (List ℕ))) (e : ResumeError) → (F → H) → ResumeStops server old new F rest number written e → ResumeStops server old new H rest number written e

@@ -1,9 +1,9 @@
 -- Why a server isn't brought to where a record leads.
-use Rattle.std.specs.Prelude.{ℕ}
+use Rattle.std.specs.Prelude.{ℕ, Result, Ok, Err}
 use Rattle.sip_run.specs.engine.declared.error.StepError.{StepError}
 use Rattle.sip_run.specs.engine.declared.error.StepError.TheVariants as steps
-use Rattle.sip_replay_script.specs.declared.stop.Stop.{Stop}
-use Rattle.sip_replay_script.specs.declared.stop.Stop.TheVariants as stops
+use Rattle.sip_replay_script.specs.declared.read_stop.ReadStop.{ReadStop}
+use Rattle.sip_replay_script.specs.declared.read_stop.ReadStop.TheVariants as stops
 use Rattle.sip_resume.specs.declared.error.ResumeError.{ResumeError}
 use Rattle.sip_resume.specs.declared.error.ResumeError.TheVariants.{NoMemory, Damaged, Read, Step, Journal}
 
@@ -21,9 +21,9 @@ error_of_step steps.NoMemory = NoMemory
 error_of_step steps.MomentTooLarge = Step
 error_of_step steps.Worn = Step
 
--- why no event is read that would begin with a line
-abbrev pub error_at : Stop → ℕ → ResumeError
-error_at stops.NoMemory line = NoMemory
-error_at stops.Script line = Damaged line
-error_at stops.Read line = Read
-error_at stops.Write line = Read
+-- whether a record ends where no event is read that would begin with a line, or why it isn't taken further
+abbrev pub end_at : ReadStop → ℕ → Result (Unit {0}) ResumeError
+end_at stops.NoMemory line = Err NoMemory
+end_at stops.Damaged line = Err (Damaged line)
+end_at stops.Cut line = Ok tt
+end_at stops.Read line = Err Read

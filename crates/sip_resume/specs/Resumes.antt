@@ -11,7 +11,7 @@ use Rattle.model_bounds.specs.Bounds.{IsBounded}
 use Rattle.sip_run.specs.engine.declared.error.StepError.{StepError}
 use Rattle.sip_run.specs.engine.declared.error.StepError.TheVariants as step_errors
 use Rattle.sip_run.specs.Refusals.{refusal_of_event}
-use Rattle.sip_replay_script.specs.Events.{SaysEvent, SaysEvents, GivesEvent, IsNoEvent}
+use Rattle.sip_replay_script.specs.Events.{SaysEvent, SaysEvents, GivesEvent, IsCutEvent, IsDamaged}
 use Rattle.sip_replay_script.specs.Lines.{Reading, is_end}
 use Rattle.sip_record.specs.Record.{Notes}
 use Rattle.sip_resume.specs.declared.error.ResumeError.{ResumeError}
@@ -23,23 +23,30 @@ pub record Runs (server : Server) (old new : ProxyState) (events : List Event) (
   pub history : List Link
   pub is_run : IsRun server old events until steps history new
 
--- no whole event stands here: nothing is left, or what begins with none
-abbrev pub HasNoEvent : List ℕ → Type 0
-HasNoEvent rest = (rest ≡ []) ⊎ IsNoEvent rest
+-- a record ends here: nothing is left, or the front of one event's text, of which the rest was cut off
+abbrev pub EndsHere : List ℕ → Type 0
+EndsHere rest = (rest ≡ []) ⊎ IsCutEvent rest
 
--- A record, where its bytes are known, is a text that says events, and what begins with none behind it. The server took these events,
--- in their order, and what was due by the moment of each before it: the state is where their run leads; the journal was told them;
--- and so many lines said them.
-pub record IsResumed (server : Server) (old new : ProxyState) (record_bytes : Option (List ℕ)) (written written_then : Option (Option (List ℕ))) (lines : ℕ) : Type 0 where
+-- what the newest step of a history put out
+abbrev pub newest_step : List Link → Option StepOut
+newest_step [] = None
+newest_step (link ∷ links) = Some link.out
+
+-- A record, where its bytes are known, is a text that says events, and behind it nothing, or the front of one event's text. The server
+-- took these events, in their order, and what was due by the moment of each before it: the state is where their run leads; the journal was told them;
+-- so many lines said them; and that is the last step of the run, which is the last event's own, since time passes only up to that event.
+pub record IsResumed (server : Server) (old new : ProxyState) (record_bytes : Option (List ℕ)) (written written_then : Option (Option (List ℕ)))
+    (lines : ℕ) (last : Option StepOut) : Type 0 where
   pub text : List ℕ
   pub further : List ℕ
   pub events : List Event
   pub whole : IfSome record_bytes (λ bytes. bytes ≡ text ++ further)
   pub says : SaysEvents events text
-  pub ends : HasNoEvent further
+  pub ends : EndsHere further
   pub runs : Runs server old new events None
   pub noted : Notes written written_then events
   pub counted : lines ≡ count_by is_end text
+  pub last_is : newest_step runs.history ≡ last
 
 -- what is still to come begins with an event
 pub record IsNext (rest : Option (List ℕ)) (event : Event) : Type 0 where
@@ -67,11 +74,11 @@ pub record TakesUntold (server : Server) (old new : ProxyState) (rest : Option (
   pub failed : written ≡ None
 
 -- Why an event isn't taken of what is still to come of a record, behind so many lines, and where the server stands then: memory ran
--- out, wherever it was as time passed; or it is as it was, since no event begins with the next line, or the reader stopped; or the
--- server refuses the step; or the journal failed behind it.
+-- out, wherever it was as time passed; or it is as it was, since what is left is damaged from the next line on (it begins with no event,
+-- and is no front of one's text), or the reader stopped; or the server refuses the step; or the journal failed behind it.
 abbrev pub ResumeStops : Server → ProxyState → ProxyState → Type 0 → Option (List ℕ) → ℕ → Option (Option (List ℕ)) → ResumeError → Type 0
 ResumeStops server old new reader_stopped rest lines written NoMemory = PassesTime server old new
-ResumeStops server old new reader_stopped rest lines written (Damaged line) = (new ≡ old) × IfSome rest IsNoEvent × (line ≡ lines + 1)
+ResumeStops server old new reader_stopped rest lines written (Damaged line) = (new ≡ old) × IfSome rest IsDamaged × (line ≡ lines + 1)
 ResumeStops server old new reader_stopped rest lines written Read = (new ≡ old) × reader_stopped
 ResumeStops server old new reader_stopped rest lines written Step = RefusesNext server old new rest
 ResumeStops server old new reader_stopped rest lines written Journal = TakesUntold server old new rest written
@@ -101,12 +108,17 @@ pub record IsOneRun (server : Server) (first : ℕ) (events more : List Event) (
 
 -- ---- inside
 
+-- an event was taken, and that is its own step
+pub record TakesOwn (server : Server) (old new : ProxyState) (event : Event) (out : StepOut) : Type 0 where
+  pub runs : Runs server old new (event ∷ []) None
+  pub last : newest_step runs.history ≡ Some out
+
 -- the next event of the record was taken, and told to the journal
 pub record TakesNext (server : Server) (old new : ProxyState) (part rest : Reading) (middle after : Option (List ℕ))
-    (written written_then : Option (Option (List ℕ))) : Type 0 where
+    (written written_then : Option (Option (List ℕ))) (out : StepOut) : Type 0 where
   pub event : Event
   pub gives : GivesEvent part rest middle after event
-  pub runs : Runs server old new (event ∷ []) None
+  pub takes : TakesOwn server old new event out
   pub noted : Notes written written_then (event ∷ [])
 
 -- a step is refused for want of memory, or as the server says
@@ -115,13 +127,13 @@ StepStops refusal step_errors.NoMemory = ⊤
 StepStops refusal step_errors.MomentTooLarge = IsSome refusal
 StepStops refusal step_errors.Worn = IsSome refusal
 
--- why a record isn't taken to end where no event stands: memory ran out, or the reader stopped; or another line stands behind that one
-abbrev pub EndStops : Type 0 → ℕ → ResumeError → Type 0
-EndStops reader_stopped first NoMemory = ⊤
-EndStops reader_stopped first (Damaged line) = line ≡ first
-EndStops reader_stopped first Read = reader_stopped
-EndStops reader_stopped first Step = ⊥
-EndStops reader_stopped first Journal = ⊥
+-- why no event is read behind so many lines
+abbrev pub UnreadStops : Type 0 → Option (List ℕ) → ℕ → ResumeError → Type 0
+UnreadStops reader_stopped rest lines NoMemory = ⊤
+UnreadStops reader_stopped rest lines (Damaged line) = IfSome rest IsDamaged × (line ≡ lines + 1)
+UnreadStops reader_stopped rest lines Read = reader_stopped
+UnreadStops reader_stopped rest lines Step = ⊥
+UnreadStops reader_stopped rest lines Journal = ⊥
 
 -- where an event isn't taken, the journal is as it was, or has failed
 abbrev pub JournalAt : Option (Option (List ℕ)) → Option (Option (List ℕ)) → ResumeError → Type 0

@@ -1,9 +1,8 @@
 ghost use Rattle.std.specs.Prelude.{◌≡◌};
-ghost use Rattle.sip_resume.specs.Errors.{error_at, error_of_step, number_of_error};
+ghost use Rattle.sip_resume.specs.Errors.{error_of_step, number_of_error};
 ghost use Rattle.sip_resume.specs.declared.error.ResumeError.TheVariants.{NoMemory, Journal};
 
 use sip_record::JournalFault;
-use sip_replay_script::Stop;
 use sip_run::engine::StepError;
 use std::alloc::{AllocError, AllocFailed};
 use std::error::Error;
@@ -14,8 +13,8 @@ use std::fmt;
 pub enum ResumeError {
     /// Memory ran out.
     NoMemory,
-    /// The lines that begin with this one, counted from 1 behind the first line of the record, say no event, and others stand behind
-    /// them.
+    /// The lines that begin with this one, counted from 1 behind the first line of the record, say no event, and aren't the front of
+    /// one event's text.
     Damaged(u64),
     /// The reader failed, or was asked 4,294,967,295 times.
     Read,
@@ -26,17 +25,6 @@ pub enum ResumeError {
 }
 
 impl ResumeError {
-    /// Why no event is read that would begin with this line.
-    pub(crate) fn at_line(stop: Stop, line: u64) -> ResumeError
-        ensures { result ≡ error_at stop line }
-    {
-        match stop {
-            Stop::NoMemory => ResumeError::NoMemory,
-            Stop::Script => ResumeError::Damaged(line),
-            Stop::Read | Stop::Write => ResumeError::Read,
-        }
-    }
-
     /// The number of this refusal.
     pub fn number(&self) -> u8
         ensures { result ≡ number_of_error self.now }

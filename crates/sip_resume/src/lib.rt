@@ -6,7 +6,7 @@
 //! - Tried: `test_serve`, and over sockets `tests/serve.py`.
 //!
 //! ```text
-//! let lines = resume(alloc, &mut engine, &mut reader, &mut journal)?;
+//! let resumed = resume(alloc, &mut engine, &mut reader, &mut journal)?;
 //! ```
 #![tactic(auto)]
 
@@ -15,7 +15,7 @@ pub mod laws;
 mod resuming;
 
 pub use error::ResumeError;
-pub use resuming::resume;
+pub use resuming::{Resumed, resume};
 
 /// Of `sip_engine`.
 pub mod engine {

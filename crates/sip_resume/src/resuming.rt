@@ -1,13 +1,15 @@
-ghost use Rattle.std.specs.Prelude.{◌≡◌, ◌≤◌, ◌⊎◌, [], ◌∷◌, Some, None, true, false, IfOk, IfErr, IfSome, OnOk, OnErr};
+ghost use Rattle.std.specs.Prelude.{◌≡◌, ◌≤◌, ◌⊎◌, [], ◌∷◌, Some, None, true, false, IfOk, IfErr, IfNone, IfSome, OnOk, OnErr};
 ghost use Rattle.model_bounds.specs.model.Run.{event_moment};
 ghost use Rattle.model_bounds.specs.steps_model.Step.{moment_of};
 ghost use Rattle.sip_run.specs.Due.{NothingDueBy};
 ghost use Rattle.sip_run.specs.Refusals.{refusal_of_event};
 ghost use Rattle.sip_run.specs.engine.StepError.{refusal_at};
 ghost use Rattle.sip_replay_script.specs.Devices.{later};
+ghost use Rattle.sip_replay_script.specs.Events.{GivesEvent};
 ghost use Rattle.sip_replay_script.specs.Lines.{pending, IsSpent};
 ghost use Rattle.sip_record.specs.Record.{Notes};
-ghost use Rattle.sip_resume.specs.Resumes.{EndStops, HasNoEvent, IsResumed, IsUnresumed, JournalAt, ResumeStops, Runs, StepStops, TakesNext};
+ghost use Rattle.sip_resume.specs.Errors;
+ghost use Rattle.sip_resume.specs.Resumes.{EndsHere, IsResumed, IsUnresumed, JournalAt, ResumeStops, Runs, StepStops, TakesNext, TakesOwn, UnreadStops};
 ghost use Rattle.sip_resume.specs.declared.error.ResumeError.TheVariants as Refusal;
 
 use crate::error::ResumeError;
@@ -15,27 +17,36 @@ use model_bounds::model::runs::runs_join;
 use sip_event::{Event, StepOut};
 use sip_policy::Rules;
 use sip_record::Journal;
-use sip_replay_script::{Lines, Stop, TellingReader, next_event};
+use sip_replay_script::{Lines, ReadStop, TellingReader, next_event};
 use sip_run::engine::{Engine, StepError};
 use sip_run::{event_moment, fire_next, take_event};
 use sip_timers::Timers;
 use std::alloc::Global;
 
+/// What a record was taken to.
+#[derive(Drop)]
+pub struct Resumed {
+    /// How many of its lines were taken.
+    pub lines: u64,
+    /// The own step of the last event, of which nothing was sent or printed here; none where no event was taken.
+    pub last: Option<StepOut>,
+}
+
 /// Takes the events of a record, which stand behind its first line, so that a server goes on from where they lead: what is due by the
 /// moment of each happens first, nothing that is handed out is sent, and each is told to the journal. A record that was cut in its
-/// last event is taken up to the last whole one. Gives how many lines were taken. Refusals: `NoMemory`; `Damaged` with the line that
-/// begins no event, where others stand behind it; `Read`, where the reader failed or was asked 4,294,967,295 times; `Step`, where the
-/// server refuses the next event: its moment is 2^62 ms or more, or a datagram's number would be; `Journal`. The engine has taken some
-/// of the events then.
+/// last event is taken up to the last whole one: what is left then is the front of a text that says one event. Refusals: `NoMemory`;
+/// `Damaged` with the line from which on what is left begins with no event and is no such front; `Read`, where the reader failed or was
+/// asked 4,294,967,295 times; `Step`, where the server refuses the next event: its moment is 2^62 ms or more, or a datagram's number
+/// would be; `Journal`. The engine has taken some of the events then.
 pub fn resume<T: Timers, R: Rules, I: TellingReader, J: Journal>(
     alloc: Global,
     engine: &mut Engine<T, R>,
     reader: &mut I,
     journal: &mut J,
-) -> Result<u64, ResumeError>
+) -> Result<Resumed, ResumeError>
     ensures server { engine.new.server ≡ engine.old.server }
-    ensures resumed { IfOk result (λ lines. IsResumed engine.old.server engine.old.state engine.new.state (I.remaining reader.old)
-        (J.written journal.old) (J.written journal.new) lines) }
+    ensures resumed { IfOk result (λ resumed. IsResumed engine.old.server engine.old.state engine.new.state (I.remaining reader.old)
+        (J.written journal.old) (J.written journal.new) resumed.lines resumed.last) }
     ensures refused { IfErr result (IsUnresumed engine.old.server engine.old.state engine.new.state
         (I.has_failed reader.new ⊎ (I.asked reader.new ≡ later 4294967295 (I.asked reader.old)))
         (I.remaining reader.old) (J.written journal.old) (J.written journal.new)) }
@@ -44,13 +55,15 @@ pub fn resume<T: Timers, R: Rules, I: TellingReader, J: Journal>(
     let mut lines = Lines::new(alloc)?;
     let mut line = Vec::new(alloc);
     let mut taken = 0;
-    while resume_next(alloc, engine, &mut lines, &mut line, reader, journal)? {
+    let mut last = None;
+    while let Some(out) = resume_next(alloc, engine, &mut lines, &mut line, reader, journal)? {
         taken = lines.number();
+        last = Some(out);
     }
-    Ok(taken)
+    Ok(Resumed { lines: taken, last })
 }
 
-/// Takes the next event of a record, if a whole one stands there.
+/// Takes the next event of a record, if a whole one stands there, and gives its own step.
 fn resume_next<T: Timers, R: Rules, I: TellingReader, J: Journal>(
     alloc: Global,
     engine: &mut Engine<T, R>,
@@ -58,46 +71,59 @@ fn resume_next<T: Timers, R: Rules, I: TellingReader, J: Journal>(
     line: &mut Vec<u8>,
     reader: &mut I,
     journal: &mut J,
-) -> Result<bool, ResumeError>
+) -> Result<Option<StepOut>, ResumeError>
     ensures server { engine.new.server ≡ engine.old.server }
-    ensures taken { IfOk result (λ more. more ≡ true → TakesNext engine.old.server engine.old.state engine.new.state lines.old lines.new
-        (I.remaining reader.old) (I.remaining reader.new) (J.written journal.old) (J.written journal.new)) }
-    ensures over { IfOk result (λ more. more ≡ false → IfSome (pending lines.old (I.remaining reader.old)) HasNoEvent) }
-    ensures waits { IfOk result (λ more. more ≡ false → (engine.new ≡ engine.old) × (J.written journal.new ≡ J.written journal.old)) }
+    ensures taken { IfOk result (λ found. IfSome found (λ out. TakesNext engine.old.server engine.old.state engine.new.state lines.old
+        lines.new (I.remaining reader.old) (I.remaining reader.new) (J.written journal.old) (J.written journal.new) out)) }
+    ensures over { IfOk result (λ found. IfNone found (IfSome (pending lines.old (I.remaining reader.old)) EndsHere)) }
+    ensures waits { IfOk result (λ found. IfNone found ((engine.new ≡ engine.old) × (J.written journal.new ≡ J.written journal.old))) }
     ensures refused { IfErr result (ResumeStops engine.old.server engine.old.state engine.new.state
         (IsSpent (I.has_failed reader.new) lines.new.asks) (pending lines.old (I.remaining reader.old)) lines.old.number
         (J.written journal.new)) }
     ensures told { IfErr result (JournalAt (J.written journal.old) (J.written journal.new)) }
     ensures asked { later lines.new.asks (I.asked reader.new) ≡ later lines.old.asks (I.asked reader.old) }
 {
-    let first = lines.number() + 1;
-    let event = match next_event(alloc, lines, reader, line) {
-        Ok(Some(event)) => event,
-        Ok(None) => return Ok(false),
-        Err(Stop::Script) => return end_at(first, lines, reader, line),
-        Err(stop) => return Err(ResumeError::at_line(stop, first)),
+    let Some(event) = read_next(alloc, lines, line, reader)? else {
+        return Ok(None);
     };
-    take_in_turn(engine, &event)?;
+    let out = take_in_turn(engine, &event)?;
     note(journal, &event)?;
-    Ok(true)
+    Ok(Some(out))
 }
 
-/// Whether a record ends where no event stands: it was cut there; or lines stand behind those that begin with this one, and it is
-/// damaged. A fault of the reader is no end.
-fn end_at<I: TellingReader>(
-    first: u64,
+/// The next event of a record; none where it ends, or was cut in its last one. A fault of the reader is no end.
+fn read_next<I: TellingReader>(
+    alloc: Global,
     lines: &mut Lines,
-    reader: &mut I,
     line: &mut Vec<u8>,
-) -> Result<bool, ResumeError>
-    ensures end { IfOk result (λ more. more ≡ false) }
-    ensures refused { IfErr result (EndStops (IsSpent (I.has_failed reader.new) lines.new.asks) first) }
+    reader: &mut I,
+) -> Result<Option<Event>, ResumeError>
+    ensures given { IfOk result
+        (λ found. IfSome found (λ event. GivesEvent lines.old lines.new (I.remaining reader.old) (I.remaining reader.new) event)) }
+    ensures over { IfOk result (λ found. IfNone found (IfSome (pending lines.old (I.remaining reader.old)) EndsHere)) }
+    ensures refused { IfErr result (UnreadStops (IsSpent (I.has_failed reader.new) lines.new.asks) (pending lines.old (I.remaining reader.old))
+        lines.old.number) }
     ensures asked { later lines.new.asks (I.asked reader.new) ≡ later lines.old.asks (I.asked reader.old) }
 {
-    match lines.next(reader, line) {
-        Ok(true) => Err(ResumeError::Damaged(first)),
-        Ok(false) | Err(Stop::Script) => Ok(false),
-        Err(stop) => Err(ResumeError::at_line(stop, first)),
+    let first = lines.number() + 1;
+    match next_event(alloc, lines, reader, line) {
+        Ok(found) => Ok(found),
+        Err(stop) => {
+            end_at(stop, first)?;
+            Ok(None)
+        }
+    }
+}
+
+/// Whether a record ends where no event is read that would begin with this line.
+fn end_at(stop: ReadStop, first: u64) -> Result<(), ResumeError>
+    ensures { result ≡ Errors.end_at stop first }
+{
+    match stop {
+        ReadStop::NoMemory => Err(ResumeError::NoMemory),
+        ReadStop::Damaged => Err(ResumeError::Damaged(first)),
+        ReadStop::Cut => Ok(()),
+        ReadStop::Read => Err(ResumeError::Read),
     }
 }
 
@@ -107,7 +133,7 @@ fn take_in_turn<T: Timers, R: Rules>(
     event: &Event,
 ) -> Result<StepOut, StepError>
     ensures server { engine.new.server ≡ engine.old.server }
-    ensures taken { OnOk result (Runs engine.old.server engine.old.state engine.new.state (event.now ∷ []) None) }
+    ensures taken { IfOk result (λ out. TakesOwn engine.old.server engine.old.state engine.new.state event.now out) }
     ensures passed { OnErr result (Runs engine.old.server engine.old.state engine.new.state [] (Some (event_moment event.now))) }
     ensures refused { IfErr result (StepStops (refusal_of_event engine.new.state event.now)) }
 {

@@ -1,17 +1,22 @@
 -- How the program ends.
 use Rattle.std.specs.Prelude.{ℕ}
+use Rattle.std.specs.declared.io.ErrorKind.{ErrorKind}
+use Rattle.std.specs.declared.io.ErrorKind.TheVariants.{AddrInUse, AddrNotAvailable, BrokenPipe, NotFound, OutOfMemory, PermissionDenied, QuotaExceeded, StorageFull}
 use Rattle.sip_config.specs.declared.error.ConfigError.{ConfigError}
 use Rattle.sip_config.specs.declared.error.ConfigError.TheVariants as configurations
+use Rattle.sipd_arguments.specs.declared.device_fault.DeviceFault.{DeviceFault}
+use Rattle.sipd_arguments.specs.declared.device_fault.DeviceFault.TheVariants.{PortTaken, NoSuchAddress, NoFile, NoRightToRead, DiskFull, OutputClosed, Other}
 use Rattle.sipd_arguments.specs.declared.exit.Exit.{Exit}
-use Rattle.sipd_arguments.specs.declared.exit.Exit.TheVariants.{Usage, Configuration, Script, Device, Memory, Question, NoRecord, OtherConfiguration, NewRecord, Recording}
+use Rattle.sipd_arguments.specs.declared.exit.Exit.TheVariants.{Usage, Configuration, Script, Device, Memory, Stack, Question, NoRecord, OtherConfiguration, NewRecord, Recording}
 
 -- exit statuses (this project's profile)
 abbrev pub status_of : Exit → ℕ
 status_of (Usage text) = 1
 status_of (Configuration number) = 2
 status_of (Script line) = 3
-status_of Device = 4
+status_of (Device fault) = 4
 status_of Memory = 5
+status_of (Stack bytes) = 5
 status_of (Question text) = 1
 status_of NoRecord = 3
 status_of OtherConfiguration = 3
@@ -28,3 +33,19 @@ exit_of_config configurations.DuplicateRule = Configuration 5
 exit_of_config configurations.UnknownHop = Configuration 6
 exit_of_config configurations.UnknownGroup = Configuration 7
 exit_of_config configurations.TooMany = Configuration 8
+
+-- which fault of the system an error of this kind is
+abbrev pub fault_of : ErrorKind → DeviceFault
+fault_of AddrInUse = PortTaken
+fault_of AddrNotAvailable = NoSuchAddress
+fault_of NotFound = NoFile
+fault_of PermissionDenied = NoRightToRead
+fault_of StorageFull = DiskFull
+fault_of QuotaExceeded = DiskFull
+fault_of BrokenPipe = OutputClosed
+fault_of kind = Other
+
+-- what an error of the system is to the program: want of memory, or a fault
+abbrev pub exit_of_kind : ErrorKind → Exit
+exit_of_kind OutOfMemory = Memory
+exit_of_kind kind = Device (fault_of kind)

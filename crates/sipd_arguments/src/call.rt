@@ -23,7 +23,7 @@ pub struct CheckCall {
 pub struct ReplayCall {
     /// The file of the configuration; the sample where none is named.
     pub config: Option<String>,
-    /// The file of the record.
+    /// The file of the record, which is replayed with the configuration of a file alone.
     pub record: Option<String>,
 }
 
@@ -36,6 +36,18 @@ pub enum RecordFault {
     End,
 }
 
+/// Where the record of a server is made.
+#[derive(Drop)]
+pub enum RecordPlace {
+    /// In a new file, going on from the record of another one where that is named.
+    File {
+        path: String,
+        resume: Option<String>,
+    },
+    /// In a new file of this folder, named by the time, going on from the newest record there.
+    Folder(String),
+}
+
 /// `serve`: phones are served.
 #[derive(Drop)]
 pub struct ServeCall {
@@ -43,11 +55,9 @@ pub struct ServeCall {
     pub config: String,
     /// How many turns; until it is ended, where none is named.
     pub turns: Option<u32>,
-    /// The file of the record that is made.
-    pub record: Option<String>,
+    /// Where what is heard is recorded; nowhere, where no place is named.
+    pub record: Option<RecordPlace>,
     pub record_fault: RecordFault,
-    /// The file of the record from which the server goes on.
-    pub resume: Option<String>,
     /// How many datagrams a second are heard from one address.
     pub per_source: Option<u32>,
 }
@@ -86,5 +96,10 @@ pub struct ReportCall {
 #[derive(Drop)]
 pub struct UserCall {
     pub name: String,
-    pub realm: String,
+    /// The file of the configuration that the user is to be added to.
+    pub config: Option<String>,
+    /// The realm; that of the configuration where none is said.
+    pub realm: Option<String>,
+    /// Whether the digest by SHA-256 is wanted, too; beside a configuration it is never said, since that says it.
+    pub sha256: bool,
 }

@@ -1,9 +1,10 @@
 use crate::call::{
-    Call, CheckCall, DecideCall, RecordFault, ReplayCall, ReportCall, ServeCall, UserCall,
+    Call, CheckCall, DecideCall, RecordFault, RecordPlace, ReplayCall, ReportCall, ServeCall,
+    UserCall,
 };
 use crate::exit::Exit;
 use clap::error::ErrorKind;
-use clap::{Arg, ArgAction, ArgMatches, Command, value_parser};
+use clap::{Arg, ArgAction, ArgGroup, ArgMatches, Command, value_parser};
 use std::alloc::{AllocError, Global};
 
 /// The words of `--record-fault`.
@@ -58,13 +59,13 @@ fn check_command<'a>(alloc: Global) -> Result<Command<'a>, AllocError> {
 }
 
 fn replay_command<'a>(alloc: Global) -> Result<Command<'a>, AllocError> {
-    let record = "Replay this record of a server instead of standard input";
+    let record = "Replay this record of a server instead of standard input, with its configuration";
     Command::new(alloc, "replay")
         .about(
             "Replays a script from standard input, with the sample configuration or that of a file",
         )
         .arg(config_argument(alloc, false))?
-        .arg(option(alloc, "record", "FILE", record))
+        .arg(option(alloc, "record", "FILE", record).requires_arg("config")?)
 }
 
 /// `--turns N`.
@@ -73,18 +74,37 @@ fn turns_argument<'a>(alloc: Global) -> Arg<'a> {
     option(alloc, "turns", "N", help).value_parser(value_parser!(u32))
 }
 
+/// `--record FILE`.
+fn record_argument<'a>(alloc: Global) -> Arg<'a> {
+    let help = "Record what is heard in this new file";
+    option(alloc, "record", "FILE", help)
+}
+
+/// `--records FOLDER`.
+fn records_argument<'a>(alloc: Global) -> Arg<'a> {
+    let help = "Record it in a new file of this folder, and go on from the newest record there";
+    option(alloc, "records", "FOLDER", help)
+}
+
+/// One of these two, which an option on the record needs.
+fn record_group<'a>(alloc: Global) -> Result<ArgGroup<'a>, AllocError> {
+    ArgGroup::new(alloc, "place").arg("record")?.arg("records")
+}
+
 /// `--record-fault WORD`.
 fn record_fault_argument<'a>(alloc: Global) -> Result<Arg<'a>, AllocError> {
     let help = "What to do where it can't be written: go-on without it, or end";
     option(alloc, "record-fault", "WORD", help)
         .value_parser(RECORD_FAULTS)
-        .requires_arg("record")
+        .requires_arg("place")
 }
 
 /// `--resume OLD`.
 fn resume_argument<'a>(alloc: Global) -> Result<Arg<'a>, AllocError> {
     let help = "Go on from where this record leads";
-    option(alloc, "resume", "OLD", help).requires_arg("record")
+    option(alloc, "resume", "OLD", help)
+        .requires_arg("record")?
+        .conflicts_with("records")
 }
 
 /// `--per-source N`.
@@ -94,12 +114,13 @@ fn per_source_argument<'a>(alloc: Global) -> Arg<'a> {
 }
 
 fn serve_command<'a>(alloc: Global) -> Result<Command<'a>, AllocError> {
-    let record = "Record what is heard in this new file";
     Command::new(alloc, "serve")
         .about("Serves at the address of a configuration")
         .arg(config_argument(alloc, true))?
         .arg(turns_argument(alloc))?
-        .arg(option(alloc, "record", "FILE", record))?
+        .arg(record_argument(alloc))?
+        .arg(records_argument(alloc))?
+        .group(record_group(alloc)?)?
         .arg(record_fault_argument(alloc)?)?
         .arg(resume_argument(alloc)?)?
         .arg(per_source_argument(alloc))
@@ -133,12 +154,25 @@ fn report_command<'a>(alloc: Global) -> Result<Command<'a>, AllocError> {
         .arg(flag(alloc, "csv", "Comma-separated values"))
 }
 
+/// `--realm R`.
+fn realm_argument<'a>(alloc: Global) -> Result<Arg<'a>, AllocError> {
+    let help = "The realm of the configuration; needed without --config alone";
+    option(alloc, "realm", "R", help).required_unless_present("config")
+}
+
+/// `--sha256`.
+fn sha256_argument<'a>(alloc: Global) -> Result<Arg<'a>, AllocError> {
+    let help = "The digest by SHA-256, too; with --config its users say whether";
+    flag(alloc, "sha256", help).conflicts_with("config")
+}
+
 fn user_command<'a>(alloc: Global) -> Result<Command<'a>, AllocError> {
-    let realm = option(alloc, "realm", "R", "The realm of the configuration");
     Command::new(alloc, "user")
         .about("Makes a user's table, with the password from standard input")
         .arg(word(alloc, "NAME", 1, "The user"))?
-        .arg(realm.required(true))
+        .arg(config_argument(alloc, false))?
+        .arg(realm_argument(alloc)?)?
+        .arg(sha256_argument(alloc)?)
 }
 
 /// The commands that the program knows.
@@ -197,13 +231,27 @@ fn record_fault_of(matches: &ArgMatches<'_>) -> RecordFault {
     }
 }
 
+/// Where a server is to record; two places at once aren't taken.
+fn record_place(
+    alloc: Global,
+    matches: &ArgMatches<'_>,
+) -> Result<Option<RecordPlace>, AllocError> {
+    if let Some(folder) = text_of(alloc, matches, "records")? {
+        return Ok(Some(RecordPlace::Folder(folder)));
+    }
+    let resume = text_of(alloc, matches, "resume")?;
+    match text_of(alloc, matches, "record")? {
+        Some(path) => Ok(Some(RecordPlace::File { path, resume })),
+        None => Ok(None),
+    }
+}
+
 fn serve_call(alloc: Global, matches: &ArgMatches<'_>) -> Result<ServeCall, AllocError> {
     Ok(ServeCall {
         config: required_text(alloc, matches, "config")?,
         turns: matches.get_one::<u32>("turns"),
-        record: text_of(alloc, matches, "record")?,
+        record: record_place(alloc, matches)?,
         record_fault: record_fault_of(matches),
-        resume: text_of(alloc, matches, "resume")?,
         per_source: matches.get_one::<u32>("per-source"),
     })
 }
@@ -231,7 +279,9 @@ fn report_call(alloc: Global, matches: &ArgMatches<'_>) -> Result<ReportCall, Al
 fn user_call(alloc: Global, matches: &ArgMatches<'_>) -> Result<UserCall, AllocError> {
     Ok(UserCall {
         name: required_text(alloc, matches, "NAME")?,
-        realm: required_text(alloc, matches, "realm")?,
+        config: text_of(alloc, matches, "config")?,
+        realm: text_of(alloc, matches, "realm")?,
+        sha256: matches.get_flag("sha256"),
     })
 }
 

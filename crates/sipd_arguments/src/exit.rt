@@ -1,7 +1,9 @@
 ghost use Rattle.std.specs.Prelude.{◌≡◌, ◌≤◌};
-ghost use Rattle.sipd_arguments.specs.Exits.{status_of, exit_of_config};
+ghost use Rattle.std.specs.IoError.{error_kind};
+ghost use Rattle.sipd_arguments.specs.Exits.{exit_of_config, exit_of_kind, status_of};
 ghost use Rattle.sipd_arguments.specs.declared.exit.Exit.TheVariants.{Memory};
 
+use crate::device_fault::DeviceFault;
 use sip_config::ConfigError;
 use std::alloc::{AllocError, AllocFailed};
 use std::{fmt, io};
@@ -15,8 +17,11 @@ pub enum Exit {
     Configuration(u8),
     /// The event that begins with this line of the script.
     Script(u64),
-    Device,
+    /// A fault of the system.
+    Device(DeviceFault),
     Memory,
+    /// The process may have so many bytes of stack, which are too few.
+    Stack(u64),
     /// What is asked can't be answered; the text says why.
     Question(String),
     /// A file that is to be a record has no first line of one.
@@ -38,21 +43,25 @@ impl Exit {
             Exit::Usage(_) | Exit::Question(_) => 1,
             Exit::Configuration(_) => 2,
             Exit::Script(_) | Exit::NoRecord | Exit::OtherConfiguration => 3,
-            Exit::Device | Exit::NewRecord | Exit::Recording => 4,
-            Exit::Memory => 5,
+            Exit::Device(_) | Exit::NewRecord | Exit::Recording => 4,
+            Exit::Memory | Exit::Stack(_) => 5,
         }
     }
 }
 
-/// What is complained about.
+/// What is complained about. Of a fault of the system with a name two lines: that, and `sipd: device`.
 impl fmt::Display for Exit {
     fn fmt<W: fmt::Write>(&self, f: &mut fmt::Formatter<W>) -> fmt::Result {
         match self {
             Exit::Usage(text) => write!(f, "{}", text.trim_end()),
             Exit::Configuration(number) => write!(f, "sipd: configuration refused {number}"),
             Exit::Script(line) => write!(f, "sipd: script line {line}"),
-            Exit::Device => write!(f, "sipd: device"),
+            Exit::Device(fault) => write!(f, "{fault}sipd: device"),
             Exit::Memory => write!(f, "sipd: memory"),
+            Exit::Stack(bytes) => write!(
+                f,
+                "sipd: the stack may have {bytes} bytes, and 524288 are needed: ulimit -s, or LimitSTACK of the unit\nsipd: memory"
+            ),
             Exit::Question(text) => write!(f, "sipd: {text}"),
             Exit::NoRecord => write!(f, "sipd: no record"),
             Exit::OtherConfiguration => {
@@ -85,10 +94,12 @@ impl<T: Drop> From<AllocFailed<T>> for Exit {
 
 /// A fault of the system, or want of memory.
 impl From<io::Error> for Exit {
+    ghost from_gives = { λ e exit. exit ≡ exit_of_kind (error_kind e) };
+
     fn from(e: io::Error) -> Exit {
         match e.kind() {
             io::ErrorKind::OutOfMemory => Exit::Memory,
-            _ => Exit::Device,
+            kind => Exit::Device(DeviceFault::of_kind(kind)),
         }
     }
 }

@@ -8,14 +8,17 @@
 
 mod call;
 mod commands;
+mod device_fault;
 mod exit;
 mod files;
 mod summary;
 
 pub use call::{
-    Call, CheckCall, DecideCall, RecordFault, ReplayCall, ReportCall, ServeCall, UserCall,
+    Call, CheckCall, DecideCall, RecordFault, RecordPlace, ReplayCall, ReportCall, ServeCall,
+    UserCall,
 };
 pub use commands::{Parsed, parse};
+pub use device_fault::DeviceFault;
 pub use exit::Exit;
 pub use files::{Stated, bytes_in, config_of, config_of_bytes, stated_in};
 pub use summary::summary_of;

@@ -1,69 +1,48 @@
+use crate::making::{Place, make_part, name_part, remove_part};
+use crate::not_resumed::{NotResumed, unread, untaken};
 use crate::old_record::{OldRecord, old_record};
-use crate::recording::{name_record, new_record, remove_part};
+use crate::record_file::RecordFile;
 use rand::rngs::StdRng;
 use rand_core::Rng;
-use sip_event::Boot;
+use sip_event::{Boot, StepOut};
 use sip_policy::Rules;
-use sip_record::{RecordHead, Recorder};
+use sip_record::{NoJournal, RecordHead, RecordMark, Recorder};
 use sip_replay::engine::Engine;
-use sip_resume::{ResumeError, resume};
+use sip_resume::{Resumed, resume};
 use sip_timers::Timers;
 use sipd_arguments::{Exit, RecordFault, Stated, config_of_bytes};
-use std::fmt;
-use std::io::Write;
 use std::rt::Files;
 
 /// The number of the first datagram.
 const FIRST: u64 = 1;
-
-/// A server, and the record into which its events go.
-#[derive(Drop)]
-pub struct Recorded<T: Timers, P: Rules, F: Write + Drop> {
-    pub engine: Engine<T, P>,
-    pub record: Recorder<F>,
-}
-
-/// Why a server doesn't go on from where a record leads.
-#[derive(Clone, Copy)]
-pub enum NotResumed {
-    Unreadable,
-    NoRecord,
-    OtherConfiguration,
-    /// This line of it, the first counted as 1, begins no event, and others stand behind it.
-    Damaged(u64),
-    /// It says events that a server doesn't take.
-    Unlawful,
-}
-
-impl fmt::Display for NotResumed {
-    fn fmt<W: fmt::Write>(&self, f: &mut fmt::Formatter<W>) -> fmt::Result {
-        match self {
-            NotResumed::Unreadable => write!(f, "it can't be read"),
-            NotResumed::NoRecord => write!(f, "it is no record"),
-            NotResumed::OtherConfiguration => write!(f, "it was made with another configuration"),
-            NotResumed::Damaged(line) => write!(f, "its line {line} begins no event"),
-            NotResumed::Unlawful => write!(f, "its events aren't those of a server"),
-        }
-    }
-}
-
-/// What came of going on from a record.
-#[derive(Drop)]
-pub enum Again<T: Timers, P: Rules, F: Write + Drop> {
-    /// The server is where the record leads, by so many of its lines.
-    Resumed(Recorded<T, P, F>, u64),
-    /// The record wasn't taken, and no new one was made.
-    Not(NotResumed),
-}
 
 /// What a server that records is begun with.
 #[derive(Drop)]
 pub struct Beginning<'a, R> {
     pub rt: &'a R,
     pub stated: &'a Stated,
-    /// The file of the new record.
-    pub path: &'a str,
+    /// Where the new record is made.
+    pub place: &'a Place,
     pub fault: RecordFault,
+}
+
+/// A server that is begun.
+#[derive(Drop)]
+pub struct Begun<'a, T: Timers, P: Rules, R: Files> {
+    pub engine: Engine<T, P>,
+    /// The record into which its events go; none where it can't be written and the server goes on without it.
+    pub record: Option<Recorder<RecordFile<'a, R>>>,
+    /// The last step of the record from which it goes on: what it decided may not have been printed.
+    pub last: Option<StepOut>,
+}
+
+/// What came of going on from a record.
+#[derive(Drop)]
+pub enum Again<'a, T: Timers, P: Rules, R: Files> {
+    /// The server is where the record leads, by so many of its lines.
+    Resumed(Begun<'a, T, P, R>, u64),
+    /// The record wasn't taken, and no new one was made.
+    Not(NotResumed),
 }
 
 /// A word that nobody can guess.
@@ -91,92 +70,155 @@ fn boot_again(head: &RecordHead, words: &mut StdRng) -> Boot {
     }
 }
 
-/// A server that has just started, and its record in a file of this path.
-fn start_recorded<T: Timers, P: Rules, R: Files + AllocGlobal>(
+/// A server that has just started.
+fn open<T: Timers, P: Rules, R: AllocGlobal>(
     beginning: &Beginning<'_, R>,
-    path: &str,
     boot: Boot,
-) -> Result<Recorded<T, P, R::File>, Exit> {
+) -> Result<Engine<T, P>, Exit> {
     let alloc = beginning.rt.alloc();
     let config = config_of_bytes(alloc, beginning.stated.bytes.as_slice())?;
+    Ok(Engine::open(alloc, config, boot)?)
+}
+
+/// The new record of a start, which hasn't its name yet.
+fn make<'a, R: Files + AllocGlobal>(
+    beginning: &Beginning<'a, R>,
+    boot: Boot,
+) -> Result<Recorder<RecordFile<'a, R>>, Exit> {
     let head = RecordHead {
+        mark: RecordMark::Whole,
         word: boot.word,
         first: boot.first,
         digest: beginning.stated.digest,
     };
-    let engine = Engine::open(alloc, config, boot)?;
-    let record = new_record(beginning.rt, alloc, path, &head, beginning.fault)?;
-    Ok(Recorded { engine, record })
+    make_part(
+        beginning.rt,
+        beginning.place,
+        &head,
+        beginning.stated,
+        beginning.fault,
+    )
 }
 
-/// A server that starts anew, and its record.
-pub fn begin_anew<T: Timers, P: Rules, R: Files + AllocGlobal>(
-    beginning: &Beginning<'_, R>,
-    words: &mut StdRng,
-) -> Result<Recorded<T, P, R::File>, Exit> {
-    start_recorded(beginning, beginning.path, new_boot(words))
+/// Gives the new record its name, if all that was taken stands in it.
+fn name<'a, R: Files + AllocGlobal>(
+    beginning: &Beginning<'a, R>,
+    mut record: Recorder<RecordFile<'a, R>>,
+) -> Result<Recorder<RecordFile<'a, R>>, Exit> {
+    if record.has_failed() {
+        return Err(Exit::Recording);
+    }
+    name_part(beginning.rt, beginning.place, &mut record.writer)?;
+    Ok(record)
 }
 
-/// Why a file isn't read as a record of this configuration.
-fn unread(exit: Exit) -> Result<NotResumed, Exit> {
-    match exit {
-        Exit::NoRecord => Ok(NotResumed::NoRecord),
-        Exit::OtherConfiguration => Ok(NotResumed::OtherConfiguration),
-        Exit::Device => Ok(NotResumed::Unreadable),
-        exit => Err(exit),
+/// The record with which a server goes on: the one that was made; or none, where it can't be written and the server is to go on
+/// without it. Nothing is left of one that wasn't made.
+fn settle<'a, R: Files + AllocGlobal>(
+    beginning: &Beginning<'a, R>,
+    made: Result<Recorder<RecordFile<'a, R>>, Exit>,
+) -> Result<Option<Recorder<RecordFile<'a, R>>>, Exit> {
+    let exit = match made {
+        Ok(record) => return Ok(Some(record)),
+        Err(exit) => exit,
+    };
+    remove_part(beginning.rt, beginning.place);
+    match (exit, beginning.fault) {
+        (Exit::Recording, RecordFault::GoOn) => Ok(None),
+        (exit, _) => Err(exit),
     }
 }
 
-/// Why the events of a record weren't taken.
-fn untaken(e: ResumeError) -> Result<NotResumed, Exit> {
-    match e {
-        // The first line isn't counted there.
-        ResumeError::Damaged(line) => Ok(NotResumed::Damaged(line.saturating_add(1))),
-        ResumeError::Read => Ok(NotResumed::Unreadable),
-        ResumeError::Step => Ok(NotResumed::Unlawful),
-        ResumeError::NoMemory => Err(Exit::Memory),
-        ResumeError::Journal => Err(Exit::Recording),
+/// A server that starts anew, and its record.
+pub fn begin_anew<'a, T: Timers, P: Rules, R: Files + AllocGlobal>(
+    beginning: &Beginning<'a, R>,
+    words: &mut StdRng,
+) -> Result<Begun<'a, T, P, R>, Exit> {
+    let boot = new_boot(words);
+    let engine = open(beginning, boot)?;
+    let made = match make(beginning, boot) {
+        Ok(record) => name(beginning, record),
+        Err(exit) => Err(exit),
+    };
+    Ok(Begun {
+        engine,
+        record: settle(beginning, made)?,
+        last: None,
+    })
+}
+
+/// A server that has taken the events of a record, and records none.
+fn go_on_alone<'a, T: Timers, P: Rules, R: Files + AllocGlobal>(
+    beginning: &Beginning<'a, R>,
+    mut engine: Engine<T, P>,
+    mut old: OldRecord<R::File>,
+) -> Result<Again<'a, T, P, R>, Exit> {
+    let alloc = beginning.rt.alloc();
+    match resume(alloc, &mut engine, &mut old.events, &mut NoJournal) {
+        Ok(Resumed { lines, last }) => {
+            let begun = Begun {
+                engine,
+                record: None,
+                last,
+            };
+            Ok(Again::Resumed(begun, lines))
+        }
+        Err(e) => Ok(Again::Not(untaken(e)?)),
     }
 }
 
 /// A server that has taken the events of a record, which stand in the new record, too. That has its name once it is whole, so that
 /// the older one is needed no more.
-fn go_on<T: Timers, P: Rules, R: Files + AllocGlobal>(
-    beginning: &Beginning<'_, R>,
+fn go_on_recorded<'a, T: Timers, P: Rules, R: Files + AllocGlobal>(
+    beginning: &Beginning<'a, R>,
+    mut engine: Engine<T, P>,
+    mut record: Recorder<RecordFile<'a, R>>,
     mut old: OldRecord<R::File>,
-    words: &mut StdRng,
-) -> Result<Again<T, P, R::File>, Exit> {
+) -> Result<Again<'a, T, P, R>, Exit> {
     let alloc = beginning.rt.alloc();
-    let boot = boot_again(&old.head, words);
-    let part = format!(in alloc; "{}.part", beginning.path)?;
-    remove_part(beginning.rt, part.as_str());
-    let mut server = start_recorded(beginning, part.as_str(), boot)?;
-    match resume(
-        alloc,
-        &mut server.engine,
-        &mut old.events,
-        &mut server.record,
-    ) {
-        Ok(lines) => {
-            name_record(beginning.rt, part.as_str(), beginning.path)?;
-            Ok(Again::Resumed(server, lines))
+    match resume(alloc, &mut engine, &mut old.events, &mut record) {
+        Ok(Resumed { lines, last }) => {
+            let begun = Begun {
+                engine,
+                record: settle(beginning, name(beginning, record))?,
+                last,
+            };
+            Ok(Again::Resumed(begun, lines))
         }
         Err(e) => {
-            remove_part(beginning.rt, part.as_str());
+            remove_part(beginning.rt, beginning.place);
             Ok(Again::Not(untaken(e)?))
         }
     }
 }
 
+/// A server that goes on from a record that can be read.
+fn go_on<'a, T: Timers, P: Rules, R: Files + AllocGlobal>(
+    beginning: &Beginning<'a, R>,
+    old: OldRecord<R::File>,
+    words: &mut StdRng,
+) -> Result<Again<'a, T, P, R>, Exit> {
+    let boot = boot_again(&old.head, words);
+    let engine = open(beginning, boot)?;
+    match settle(beginning, make(beginning, boot))? {
+        Some(record) => go_on_recorded(beginning, engine, record, old),
+        None => go_on_alone(beginning, engine, old),
+    }
+}
+
 /// A server that goes on from where a record leads, where it can.
-pub fn begin_again<T: Timers, P: Rules, R: Files + AllocGlobal>(
-    beginning: &Beginning<'_, R>,
+pub fn begin_again<'a, T: Timers, P: Rules, R: Files + AllocGlobal>(
+    beginning: &Beginning<'a, R>,
     old: &str,
     words: &mut StdRng,
-) -> Result<Again<T, P, R::File>, Exit> {
+) -> Result<Again<'a, T, P, R>, Exit> {
     let alloc = beginning.rt.alloc();
     match old_record(beginning.rt, alloc, old, &beginning.stated.digest) {
-        Ok(old) => go_on(beginning, old, words),
+        Ok(old) => match old.head.mark {
+            RecordMark::Whole => go_on(beginning, old, words),
+            RecordMark::Broken => Ok(Again::Not(NotResumed::Broken)),
+            RecordMark::Left => Ok(Again::Not(NotResumed::Left)),
+        },
         Err(exit) => Ok(Again::Not(unread(exit)?)),
     }
 }

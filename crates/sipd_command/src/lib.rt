@@ -7,12 +7,18 @@
 #![tactic(auto)]
 
 mod beginning;
+mod line_printer;
+mod making;
+mod not_resumed;
 mod old_record;
 mod printing;
 mod program;
+mod record_file;
+mod record_folder;
 mod recording;
 mod service;
 mod serving;
+mod stack_limit;
 mod tools;
 mod unheard;
 

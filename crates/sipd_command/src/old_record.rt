@@ -29,7 +29,7 @@ fn first_line<I: Read>(alloc: Global, reader: &mut I) -> Result<Vec<u8>, Exit> {
     Ok(line)
 }
 
-/// A record that was made with the configuration of this digest.
+/// A record that was made with the configuration of this digest, whatever became of it.
 pub fn old_record<R: Files>(
     rt: &R,
     alloc: Global,

@@ -1,5 +1,6 @@
 ghost use Rattle.std.specs.Prelude.{◌≡◌, ◌++◌, IfOk, OnOk};
 ghost use Rattle.std.specs.Io.KnownBytes.{Appends};
+ghost use Rattle.sip_loop.specs.Printing as Lines;
 ghost use Rattle.sipd_command.specs.Printing;
 
 use sip_audit::{Record, line_of};
@@ -19,7 +20,7 @@ pub fn print<W: Write>(text: &[u8], output: &mut W) -> Result<(), Exit>
 
 /// A record's line, with its end.
 fn record_text(alloc: Global, record: &Record) -> Result<Bytes, AllocError>
-    ensures { IfOk result (λ text. text ≡ Printing.record_text «record».now) }
+    ensures { IfOk result (λ text. text ≡ Lines.record_text «record».now) }
 {
     let Ok(mut line) = line_of(alloc, record) else {
         return Err(AllocError);
@@ -28,24 +29,31 @@ fn record_text(alloc: Global, record: &Record) -> Result<Bytes, AllocError>
     Ok(line)
 }
 
+/// Prints a record's line.
+fn print_record<W: Write>(alloc: Global, record: &Record, output: &mut W) -> Result<(), Exit>
+    ensures { OnOk result (Appends (W.contents output.old) (W.contents output.new) (Lines.record_text «record».now)) }
+{
+    let line = record_text(alloc, record)?;
+    print(line.as_slice(), output)
+}
+
 /// Prints records, each in a line.
-#[tactic(auto, using(crate::proofs::Printed::prints_none))]
+#[tactic(auto, using(crate::proofs::Printed::appends_none))]
 pub fn print_records<W: Write>(
     alloc: Global,
     records: &[Record],
     output: &mut W,
 ) -> Result<(), Exit>
-    ensures { OnOk result (Printing.PrintsRecords (W.contents output.old) (W.contents output.new)) }
+    ensures { OnOk result (Appends (W.contents output.old) (W.contents output.new) (Lines.lines_of records.now)) }
 {
     for record in records {
-        let line = record_text(alloc, record)?;
-        print(line.as_slice(), output)?;
+        print_record(alloc, record, output)?;
     }
     Ok(())
 }
 
 /// Where it serves, as a line.
-fn serving_text(alloc: Global, address: Addr) -> Result<Bytes, AllocError>
+pub fn serving_text(alloc: Global, address: Addr) -> Result<Bytes, AllocError>
     ensures { IfOk result (λ text. text ≡ Printing.serving_text address) }
 {
     let mut text = Bytes::new(alloc);
@@ -56,7 +64,7 @@ fn serving_text(alloc: Global, address: Addr) -> Result<Bytes, AllocError>
 }
 
 /// That so many turns are over, as a line.
-fn turns_text(alloc: Global, turns: u32) -> Result<Bytes, AllocError>
+pub fn turns_text(alloc: Global, turns: u32) -> Result<Bytes, AllocError>
     ensures { IfOk result (λ text. text ≡ Printing.turns_text turns) }
 {
     let mut text = Bytes::new(alloc);
@@ -64,20 +72,4 @@ fn turns_text(alloc: Global, turns: u32) -> Result<Bytes, AllocError>
     text.push_decimal(u64::from(turns))?;
     text.extend(b" turns\n")?;
     Ok(text)
-}
-
-/// Prints where it serves.
-pub fn print_serving<W: Write>(alloc: Global, address: Addr, output: &mut W) -> Result<(), Exit>
-    ensures { OnOk result (Appends (W.contents output.old) (W.contents output.new) (Printing.serving_text address)) }
-{
-    let text = serving_text(alloc, address)?;
-    print(text.as_slice(), output)
-}
-
-/// Prints that so many turns are over.
-pub fn print_turns<W: Write>(alloc: Global, turns: u32, output: &mut W) -> Result<(), Exit>
-    ensures { OnOk result (Appends (W.contents output.old) (W.contents output.new) (Printing.turns_text turns)) }
-{
-    let text = turns_text(alloc, turns)?;
-    print(text.as_slice(), output)
 }

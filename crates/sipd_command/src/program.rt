@@ -7,11 +7,13 @@ use crate::serving::serve_file;
 use crate::tools::{check, decide, make_report, make_user};
 use sip_event::Boot;
 use sip_policy::Rules;
+use sip_record::RecordMark;
 use sip_replay::{ReplayError, replay};
 use sip_timers::Timers;
 use sipd_arguments::{
-    Call, Exit, Parsed, ReplayCall, config_of, config_of_bytes, parse, stated_in,
+    Call, DeviceFault, Exit, Parsed, ReplayCall, config_of, config_of_bytes, parse, stated_in,
 };
+use std::alloc::Global;
 use std::io::{Read, Write};
 use std::net::Net;
 use std::random::RandomSource;
@@ -31,7 +33,7 @@ fn exit_of_replay(e: ReplayError) -> Exit
     match e {
         ReplayError::NoMemory => Exit::Memory,
         ReplayError::Script(line) => Exit::Script(line),
-        ReplayError::Read | ReplayError::Write => Exit::Device,
+        ReplayError::Read | ReplayError::Write => Exit::Device(DeviceFault::Other),
     }
 }
 
@@ -57,17 +59,25 @@ fn exit_of_record(e: ReplayError) -> Exit {
     }
 }
 
-/// Replays a record with the configuration of the file with which it was made.
-fn replay_record<T: Timers, P: Rules, R: Files + AllocGlobal, W: Write>(
+/// Replays a record with the configuration of the file with which it was made, whatever became of it; complains where it lacks
+/// events.
+fn replay_record<T: Timers, P: Rules, R: Files + AllocGlobal, W: Write, C: Write>(
     rt: &R,
     config: &str,
-    record: &str,
+    path: &str,
     output: &mut W,
+    complaints: &mut C,
 ) -> Result<(), Exit> {
     let alloc = rt.alloc();
     let stated = stated_in(rt, config)?;
     let config = config_of_bytes(alloc, stated.bytes.as_slice())?;
-    let mut record = old_record(rt, alloc, record, &stated.digest)?;
+    let mut record = old_record(rt, alloc, path, &stated.digest)?;
+    if record.head.mark == RecordMark::Broken {
+        let _ = writeln!(
+            complaints,
+            "sipd: the writing of {path} failed: it lacks what came behind"
+        );
+    }
     let boot = Boot {
         word: record.head.word,
         first: record.head.first,
@@ -79,19 +89,27 @@ fn replay_record<T: Timers, P: Rules, R: Files + AllocGlobal, W: Write>(
     }
 }
 
+/// How the program ends where a record is to be replayed without its configuration; `parse` lets none such through.
+fn record_alone(alloc: Global) -> Result<Exit, Exit> {
+    let text = String::from_str(alloc, "a record is replayed with --config")?;
+    Ok(Exit::Question(text))
+}
+
 /// Replays a record, or else the script of the input.
-fn replay_call<T: Timers, P: Rules, R: Files + AllocGlobal, I: Read, W: Write>(
+fn replay_call<T: Timers, P: Rules, R: Files + AllocGlobal, I: Read, W: Write, C: Write>(
     rt: &R,
     call: &ReplayCall,
     input: &mut I,
     output: &mut W,
+    complaints: &mut C,
 ) -> Result<(), Exit> {
     let config = call.config.as_ref().map(String::as_str);
     match (config, &call.record) {
         (Some(config), Some(record)) => {
-            replay_record::<T, P, R, W>(rt, config, record.as_str(), output)
+            replay_record::<T, P, R, W, C>(rt, config, record.as_str(), output, complaints)
         }
-        (config, _) => replay_script::<T, P, R, I, W>(rt, config, input, output),
+        (None, Some(_)) => Err(record_alone(rt.alloc())?),
+        (config, None) => replay_script::<T, P, R, I, W>(rt, config, input, output),
     }
 }
 
@@ -104,12 +122,12 @@ fn carry_out<
     C: Write,
 >(rt: &R, call: &Call, input: &mut I, output: &mut W, complaints: &mut C) -> Result<(), Exit> {
     match call {
-        Call::Check(call) => check(rt, call, output),
-        Call::Replay(call) => replay_call::<T, P, R, I, W>(rt, call, input, output),
+        Call::Check(call) => check(rt, call, output, complaints),
+        Call::Replay(call) => replay_call::<T, P, R, I, W, C>(rt, call, input, output, complaints),
         Call::Serve(call) => serve_file::<T, P, R, W, C>(rt, call, output, complaints),
         Call::Decide(call) => decide(rt, call, output),
         Call::Report(call) => make_report(rt, call, input, output, complaints),
-        Call::User(call) => make_user(rt, call, input, output),
+        Call::User(call) => make_user(rt, call, input, output, complaints),
     }
 }
 

@@ -3,19 +3,19 @@ use sip_config::{ConfigError, read_config};
 use sip_policy::minute_of;
 use sip_text::Bytes;
 use sipd_arguments::{
-    CheckCall, DecideCall, Exit, ReportCall, UserCall, bytes_in, config_of, config_of_bytes,
-    summary_of,
+    CheckCall, DecideCall, DeviceFault, Exit, ReportCall, UserCall, bytes_in, config_of,
+    config_of_bytes, summary_of,
 };
-use sipd_mistakes::explain;
-use sipd_questions::{Question, QuestionError, decision_text, first_line, show, user_table};
+use sipd_mistakes::{explain, explain_encoding};
+use sipd_questions::{
+    Digests, Question, QuestionError, added_user, decision_text, digest_warning, password_in, show,
+    user_table,
+};
 use sipd_report::{Form, Query, ReportError, report};
 use std::alloc::Global;
 use std::io::{Read, Write};
 use std::rt::{Clock, Files};
 use std::time::{SystemTime, UNIX_EPOCH};
-
-/// The longest first line of a password, in bytes; what stands behind isn't read.
-const LONGEST_PASSWORD: usize = 1024;
 
 /// How the program ends where a question has no answer.
 fn exit_of_question(alloc: Global, e: QuestionError) -> Exit {
@@ -26,6 +26,15 @@ fn exit_of_question(alloc: Global, e: QuestionError) -> Exit {
             Err(_) => Exit::Memory,
         },
     }
+}
+
+/// The same of a question about a method: where it has a small letter, with the one in capitals.
+fn exit_of_decision(alloc: Global, e: QuestionError, method: &str) -> Result<Exit, Exit> {
+    if e != QuestionError::SmallLetter {
+        return Ok(exit_of_question(alloc, e));
+    }
+    let capitals = method.to_ascii_uppercase(alloc)?;
+    Ok(Exit::Question(format!(in alloc; "{e}: {capitals}")?))
 }
 
 /// An answer, or why there is none.
@@ -40,14 +49,14 @@ fn answer(alloc: Global, answer: Result<Bytes, QuestionError>) -> Result<Bytes, 
 fn exit_of_report(e: ReportError) -> Exit {
     match e {
         ReportError::NoMemory => Exit::Memory,
-        ReportError::Read | ReportError::Write => Exit::Device,
+        ReportError::Read | ReportError::Write => Exit::Device(DeviceFault::Other),
     }
 }
 
 /// The milliseconds of UTC since 1970.
 fn present<R: Clock>(rt: &R) -> Result<u64, Exit> {
     let Ok(since) = SystemTime::now(rt)?.duration_since(UNIX_EPOCH) else {
-        return Err(Exit::Device);
+        return Err(Exit::Device(DeviceFault::Other));
     };
     Ok(u64::try_from(since.as_millis()).unwrap_or(u64::MAX))
 }
@@ -70,8 +79,10 @@ pub fn decide<R: Files + Clock + AllocGlobal, W: Write>(
         operation: call.method.as_bytes(),
         target: call.target.as_bytes(),
     };
-    let text = answer(alloc, decision_text(alloc, &config, &question))?;
-    print(text.as_slice(), output)
+    match decision_text(alloc, &config, &question) {
+        Ok(text) => print(text.as_slice(), output),
+        Err(e) => Err(exit_of_decision(alloc, e, call.method.as_str())?),
+    }
 }
 
 /// The time of day of a report: that of a configuration, or UTC.
@@ -108,32 +119,65 @@ pub fn make_report<R: Files + AllocGlobal, I: Read, W: Write, C: Write>(
     Ok(output.flush()?)
 }
 
-/// The first line of the input, with its end where that was read.
-fn password_in<I: Read>(alloc: Global, input: &mut I) -> Result<Vec<u8>, Exit> {
-    let mut line = Vec::new(alloc);
-    let mut byte = [0u8; 1];
-    for _ in 0..LONGEST_PASSWORD {
-        if input.read(&mut byte)? == 0 || byte[0] == b'\n' {
-            return Ok(line);
-        }
-        line.push(byte[0])?;
+/// Complains of what is seldom meant, if anything is.
+fn complain<C: Write>(alloc: Global, warning: &Bytes, complaints: &mut C) -> Result<(), Exit> {
+    if warning.as_slice().is_empty() {
+        return Ok(());
     }
-    Ok(line)
+    let line = Bytes::joined(alloc, b"sipd: ", warning.as_slice())?;
+    let _ = complaints.write_all(line.as_slice());
+    Ok(())
+}
+
+/// The table of a user by what the words of the command line say.
+fn table_of(alloc: Global, call: &UserCall, password: &[u8]) -> Result<Bytes, QuestionError> {
+    let realm = call.realm.as_ref().map(String::as_bytes).unwrap_or(b"");
+    let digests = if call.sha256 {
+        Digests::Both
+    } else {
+        Digests::Md5
+    };
+    user_table(alloc, call.name.as_bytes(), realm, password, digests)
+}
+
+/// Prints the table of a user to be added to the configuration of a file.
+fn add_user<R: Files + AllocGlobal, I: Read, W: Write, C: Write>(
+    rt: &R,
+    path: &str,
+    call: &UserCall,
+    input: &mut I,
+    output: &mut W,
+    complaints: &mut C,
+) -> Result<(), Exit> {
+    let alloc = rt.alloc();
+    let config = config_of(rt, Some(path))?;
+    let password = password_in(alloc, input)?;
+    let table = added_user(
+        alloc,
+        &config,
+        call.name.as_bytes(),
+        call.realm.as_ref().map(String::as_bytes),
+        password.as_slice(),
+    );
+    print(answer(alloc, table)?.as_slice(), output)?;
+    complain(alloc, &digest_warning(alloc, &config)?, complaints)
 }
 
 /// Prints a user's table; the password is the first line of the input.
-pub fn make_user<R: AllocGlobal, I: Read, W: Write>(
+pub fn make_user<R: Files + AllocGlobal, I: Read, W: Write, C: Write>(
     rt: &R,
     call: &UserCall,
     input: &mut I,
     output: &mut W,
+    complaints: &mut C,
 ) -> Result<(), Exit> {
+    if let Some(path) = &call.config {
+        return add_user(rt, path.as_str(), call, input, output, complaints);
+    }
     let alloc = rt.alloc();
-    let line = password_in(alloc, input)?;
-    let password = first_line(line.as_slice());
-    let table = user_table(alloc, call.name.as_bytes(), call.realm.as_bytes(), password);
-    let text = answer(alloc, table)?;
-    print(text.as_slice(), output)
+    let password = password_in(alloc, input)?;
+    let table = table_of(alloc, call, password.as_slice());
+    print(answer(alloc, table)?.as_slice(), output)
 }
 
 /// Prints what is wrong with a configuration that is refused, and where.
@@ -150,6 +194,7 @@ fn print_fault<W: Write>(
 /// Prints all that was understood of a configuration, or what is wrong with it.
 fn show_config<W: Write>(alloc: Global, bytes: &[u8], output: &mut W) -> Result<(), Exit> {
     let Ok(text) = str::from_utf8(bytes) else {
+        print(explain_encoding(alloc, bytes)?.as_slice(), output)?;
         return config_of_bytes(alloc, bytes).map(|_| ());
     };
     match read_config(alloc, text) {
@@ -161,11 +206,13 @@ fn show_config<W: Write>(alloc: Global, bytes: &[u8], output: &mut W) -> Result<
     }
 }
 
-/// Checks the configuration of a file, and prints how much it has, or all that was understood.
-pub fn check<R: Files + AllocGlobal, W: Write>(
+/// Checks the configuration of a file, and prints how much it has, or all that was understood. Beside the first it complains
+/// of users with different digests.
+pub fn check<R: Files + AllocGlobal, W: Write, C: Write>(
     rt: &R,
     call: &CheckCall,
     output: &mut W,
+    complaints: &mut C,
 ) -> Result<(), Exit> {
     let alloc = rt.alloc();
     let bytes = bytes_in(rt, call.config.as_str())?;
@@ -173,5 +220,6 @@ pub fn check<R: Files + AllocGlobal, W: Write>(
         return show_config(alloc, bytes.as_slice(), output);
     }
     let config = config_of_bytes(alloc, bytes.as_slice())?;
-    print(summary_of(alloc, &config)?.as_slice(), output)
+    print(summary_of(alloc, &config)?.as_slice(), output)?;
+    complain(alloc, &digest_warning(alloc, &config)?, complaints)
 }

@@ -1,5 +1,6 @@
 use crate::fault::{Cause, Fault, fault_of, items_of, version_of};
 use crate::faulty_keys::{strayed, unknown_key};
+use crate::headers::wrong_header;
 use crate::keys::Kind;
 use crate::line_number::{line_at, line_number};
 use crate::wanted::Wanted;
@@ -131,6 +132,31 @@ fn put_missing(
     put_wanted(text, wanted)
 }
 
+/// Adds the header of a table, or of one of a list of tables.
+fn put_header(text: &mut Bytes, key: &[u8], is_list: bool) -> Result<(), AllocError> {
+    let (before, behind): (&[u8], &[u8]) = if is_list {
+        (b"[[", b"]]")
+    } else {
+        (b"[", b"]")
+    };
+    text.extend(before)?;
+    text.extend(key)?;
+    text.extend(behind)
+}
+
+/// Adds which line is the header of one table where a list of tables is meant, if one is.
+fn put_wrong_header(text: &mut Bytes, source: &[u8]) -> Result<(), AllocError> {
+    let Some(wrong) = wrong_header(source) else {
+        return Ok(());
+    };
+    text.extend(b"; ")?;
+    put_line(text, Some(wrong.number))?;
+    text.extend(b"in place of ")?;
+    put_header(text, wrong.key, wrong.is_list)?;
+    text.extend(b" write ")?;
+    put_header(text, wrong.wanted, true)
+}
+
 /// Adds what is wrong, and what would do.
 fn put_cause(text: &mut Bytes, source: Source<'_>, fault: &Fault<'_>) -> Result<(), AllocError> {
     match fault.cause {
@@ -185,6 +211,9 @@ fn explain_table(
     };
     put_place(&mut text, source, &fault)?;
     put_cause(&mut text, source, &fault)?;
+    if fault.kind == Kind::Head {
+        put_wrong_header(&mut text, source.text)?;
+    }
     text.push(b'\n')?;
     Ok(text)
 }
@@ -199,6 +228,7 @@ fn explain_toml(alloc: Global, source: &str, error: &toml::de::Error) -> Result<
     text.push_decimal(line_at(source.as_bytes(), span.start) as u64)?;
     text.extend(b": not TOML: ")?;
     text.extend(error.message().as_bytes())?;
+    put_wrong_header(&mut text, source.as_bytes())?;
     text.push(b'\n')?;
     Ok(text)
 }

@@ -1,5 +1,5 @@
-//! What is wrong with a configuration that is refused: the line, the table and the key of its first fault, and what would do. It is
-//! advice: what counts is the refusal itself.
+//! What is wrong with a configuration that is refused: the line, the table and the key of its first fault, or where it isn't UTF-8,
+//! and what would do. It is advice: what counts is the refusal itself.
 //!
 //! - Used: `sipd_command`, for `check --show`.
 //! - Not here: the refusal (`sip_config`), whose values are checked anew here; what a configuration that is taken says
@@ -11,14 +11,17 @@
 //! ```
 #![tactic(auto)]
 
+mod encoding;
 mod explaining;
 mod fault;
 mod faulty_keys;
 mod faulty_lists;
 mod faulty_names;
 mod faulty_values;
+mod headers;
 mod keys;
 mod line_number;
 mod wanted;
 
+pub use encoding::explain_encoding;
 pub use explaining::explain;

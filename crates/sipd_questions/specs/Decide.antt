@@ -1,6 +1,9 @@
 -- What is answered to a question: the rule that decides, its verdict, and where the request goes.
-use Rattle.std.specs.Prelude.{ℕ, ◌==◌, nat_lt, if◌then◌else◌, List, [], ◌++◌, codes, decimal, Option, Some, None, Result, Ok}
+use Rattle.std.specs.Prelude.{ℕ, Bool, true, false, not, ◌==◌, nat_lt, if◌then◌else◌, List, [], ◌++◌, codes, decimal, Option, Some, None, Result, Ok, Err}
 use Rattle.std.specs.List.{slice_get}
+use Rattle.sip_uri.specs.declared.uri.Uri.{Uri}
+use Rattle.sip_uri.specs.declared.error.UriError.{UriError}
+use Rattle.sip_uri.specs.Reading.{reading_of}
 use Rattle.sip_uri.specs.declared.aor.Aor.{Aor}
 use Rattle.sip_uri.specs.Aor.{aor_of}
 use Rattle.sip_uri.specs.Addresses.{addr_text}
@@ -10,12 +13,13 @@ use Rattle.sip_policy.specs.declared.rule.Rule.{Rule}
 use Rattle.sip_policy.specs.Decision.{deciding_rule, decision_of}
 use Rattle.sip_hops.specs.declared.hop.Hop.{Hop as ConfiguredHop}
 use Rattle.sip_config_types.specs.declared.config.Config.{Config}
+use Rattle.sip_validate.specs.Faults.{has_sip_scheme}
 use Rattle.sipd_questions.specs.declared.error.QuestionError.{QuestionError}
 use Rattle.sipd_questions.specs.declared.error.QuestionError.TheVariants.{BadMinute, UnknownUser}
 use Rattle.sipd_questions.specs.declared.destination.Destination.{Destination}
 use Rattle.sipd_questions.specs.declared.destination.Destination.TheVariants.{Nowhere, Registrar, Bindings, Hop, NotFound}
 use Rattle.sipd_questions.specs.Refusals.{◌>>=◌, confirmed}
-use Rattle.sipd_questions.specs.Question.{Question, is_configured, operation_asked, uri_asked}
+use Rattle.sipd_questions.specs.Question.{Question, is_configured, operation_asked, uri_text, uri_read}
 use Rattle.sipd_questions.specs.Destination.{destination_of}
 
 -- a number between two texts
@@ -86,11 +90,37 @@ abbrev pub line_for : Config → Option (List ℕ) → Operation → Aor → ℕ
 line_for config proven operation aor minute =
     line_by config operation aor (rule_for config proven operation aor minute) (decision_for config proven operation aor minute)
 
+-- whether a request that is sent on would go to another URI than `sip:`, by the test of the server's check
+abbrev pub is_sent_elsewhere : Operation → List ℕ → Bool
+is_sent_elsewhere Operation.Register text = false
+is_sent_elsewhere Operation.List text = false
+is_sent_elsewhere (Operation.Send method) text = not (has_sip_scheme text)
+
+-- whether a check of the server refuses what is asked before any rule is: the target's URI is of another scheme than `sip:`; `sips:` is
+-- taken where a REGISTER names whom it is for, in To (RFC 3261 16.3 step 2; 10.3 step 5)
+abbrev pub is_refused_before : Operation → List ℕ → Result Uri UriError → Bool
+is_refused_before operation text (Ok uri) = is_sent_elsewhere operation text
+is_refused_before operation text (Err UriError.Scheme) = true
+is_refused_before operation text (Err e) = false
+
+-- that refusal
+abbrev pub refusal_text : Operation → List ℕ
+refusal_text Operation.Register = codes "400 before any rule: To of a REGISTER is sip: or sips:\n"
+refusal_text Operation.List = codes "400 before any rule: To of a REGISTER is sip: or sips:\n"
+refusal_text (Operation.Send method) = codes "416 before any rule: a Request-URI is sip:\n"
+
+-- what the server answers to what is asked, where the text of a URI reads so; a text that is none is no target
+abbrev pub answer_by : Config → Question → Operation → List ℕ → Result Uri UriError → Result (List ℕ) QuestionError
+answer_by config question operation text reading =
+    if is_refused_before operation text reading then Ok (refusal_text operation)
+    else do
+      uri ← uri_read reading
+      Ok (line_for config question.user operation (aor_of uri) question.minute)
+
 -- the answer to a question, or why there is none
 abbrev pub answer_to : Config → Question → Result (List ℕ) QuestionError
 answer_to config question = do
   _ ← confirmed (nat_lt question.minute 1440) BadMinute
   operation ← operation_asked question.operation
   _ ← confirmed (is_configured config.users question.user) UnknownUser
-  uri ← uri_asked question.target
-  Ok (line_for config question.user operation (aor_of uri) question.minute)
+  answer_by config question operation (uri_text question.target) (reading_of (uri_text question.target))

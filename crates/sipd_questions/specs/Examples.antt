@@ -1,5 +1,7 @@
 -- Questions about the sample, and a user.
-use Rattle.std.specs.Prelude.{ℕ, List, codes, Option, Result}
+use Rattle.std.specs.Prelude.{ℕ, List, [], ◌∷◌, codes, Option, Some, Result}
+use Rattle.sip_policy.specs.declared.user.User.{User}
+use Rattle.sip_config_types.specs.declared.config.Config.{Config}
 use Rattle.sip_config_types.specs.Sample.{sample}
 use Rattle.sipd_questions.specs.declared.error.QuestionError.{QuestionError}
 use Rattle.sipd_questions.specs.Decide.{answer_to}
@@ -11,3 +13,11 @@ asked user operation target = answer_to sample (record { user = user; minute = 0
 -- SHA-256 of `Mufasa:testrealm@host.com:Circle Of Life`, the words of RFC 2617 3.5
 abbrev pub mufasas_sha256 : List ℕ
 mufasas_sha256 = codes "3ba6cd94661c5ef34598040c868f13b8775df29109986be50ad35ae537dd3aa4"
+
+-- a user who has Mufasa's digest by SHA-256
+abbrev pub scar : User
+scar = record { name = codes "scar"; a1 = codes "11111111111111111111111111111111"; a1_sha256 = Some mufasas_sha256; groups = [] }
+
+-- a configuration with that user before the others
+abbrev pub with_sha256 : Config → Config
+with_sha256 config = record config { users = scar ∷ config.users }

@@ -1,10 +1,12 @@
 pub mod QuestionError
 pub mod Refusals
 pub mod Fronts
+pub mod Methods
 pub mod Question
 pub mod Destination
 pub mod Decide
 pub mod User
+pub mod Password
 pub mod Warnings
 pub mod Show
 pub mod Examples

@@ -5,14 +5,14 @@ use Rattle.std.specs.List.{list_any}
 use Rattle.std.specs.Str.{byte, bytes_eq}
 use Rattle.sip_uri.specs.declared.uri.Uri.{Uri}
 use Rattle.sip_uri.specs.declared.error.UriError.{UriError}
-use Rattle.sip_uri.specs.Reading.{reading_of}
 use Rattle.sip_policy.specs.declared.operation.Operation.{Operation}
 use Rattle.sip_policy.specs.declared.user.User.{User}
 use Rattle.sip_policy.specs.User.{is_users_name}
 use Rattle.sip_config.specs.Grammar.{is_sent_method}
 use Rattle.sipd_questions.specs.declared.error.QuestionError.{QuestionError}
-use Rattle.sipd_questions.specs.declared.error.QuestionError.TheVariants.{BadMethod, BadTarget}
+use Rattle.sipd_questions.specs.declared.error.QuestionError.TheVariants.{BadMethod, BadTarget, SmallLetter}
 use Rattle.sipd_questions.specs.Fronts.{front_before}
+use Rattle.sipd_questions.specs.Methods.{has_small_letter}
 use Rattle.sipd_questions.specs.declared.question.Question.{Question as Given}
 
 -- the proven user, if one is proven, the minute of the day, and what is asked and for whom, as words
@@ -31,13 +31,17 @@ abbrev pub is_configured : List User → Option (List ℕ) → Bool
 is_configured users None = true
 is_configured users (Some name) = is_users_name users name
 
+-- that a request of a method is sent on; one with a small letter is taken for no other method, nor as itself
+abbrev pub method_asked : List ℕ → Result Operation QuestionError
+method_asked method = if has_small_letter method then Err SmallLetter else Ok (Operation.Send method)
+
 -- what a word asks for: `register` a REGISTER with a Contact, `list` one without (RFC 3261 10.2), a method that a request of that
 -- method is sent on
 abbrev pub operation_asked : List ℕ → Result Operation QuestionError
 operation_asked word =
     if bytes_eq word (codes "register") then Ok Operation.Register
     else if bytes_eq word (codes "list") then Ok Operation.List
-    else if is_sent_method word then Ok (Operation.Send word)
+    else if is_sent_method word then method_asked word
     else Err BadMethod
 
 -- the URI that was read; a text that is none is no target
@@ -52,7 +56,3 @@ is_address text = list_any (λ b. b == byte "@") (front_before (byte ":") text)
 -- the text of the URI that a target means: `USER@HOST` behind `sip:`, or itself (RFC 3261 19.1.1)
 abbrev pub uri_text : List ℕ → List ℕ
 uri_text target = if is_address target then codes "sip:" ++ target else target
-
--- the URI that a target means
-abbrev pub uri_asked : List ℕ → Result Uri QuestionError
-uri_asked target = uri_read (reading_of (uri_text target))

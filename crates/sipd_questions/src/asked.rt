@@ -1,16 +1,15 @@
-ghost use Rattle.std.specs.Prelude.{◌≡◌};
+ghost use Rattle.std.specs.Prelude.{◌≡◌, IfOk};
 ghost use Rattle.std.specs.Option.{option_copied};
-ghost use Rattle.sip_uri.specs.Reading.{reading_of};
 ghost use Rattle.sip_config.specs.Grammar as Grammars;
 ghost use Rattle.sipd_questions.specs.Refusals.{Reads};
 ghost use Rattle.sipd_questions.specs.Question as Definitions;
 
 use crate::error::QuestionError;
 use crate::fronts::front_before;
+use crate::methods::has_small_letter;
 use sip_policy::{Operation, Users};
 use sip_text::{Bytes, is_token, same_bytes};
-use sip_uri::{Uri, UriError, parse_uri};
-use std::alloc::Global;
+use std::alloc::{AllocError, Global};
 
 /// Whether a text is a method of requests that are sent on.
 fn is_sent_method(text: &[u8]) -> bool
@@ -20,6 +19,16 @@ fn is_sent_method(text: &[u8]) -> bool
         && !same_bytes(text, b"REGISTER")
         && !same_bytes(text, b"ACK")
         && !same_bytes(text, b"CANCEL")
+}
+
+/// That a request of a method is sent on.
+fn method_asked(alloc: Global, method: &[u8]) -> Result<Operation, QuestionError>
+    ensures { Reads (λ operation. operation) result (Definitions.method_asked method.now) }
+{
+    if has_small_letter(method) {
+        return Err(QuestionError::SmallLetter);
+    }
+    Ok(Operation::Send(Bytes::copy(alloc, method)?))
 }
 
 /// What a word asks for.
@@ -33,7 +42,7 @@ pub(crate) fn operation_asked(alloc: Global, word: &[u8]) -> Result<Operation, Q
         return Ok(Operation::List);
     }
     if is_sent_method(word) {
-        return Ok(Operation::Send(Bytes::copy(alloc, word)?));
+        return method_asked(alloc, word);
     }
     Err(QuestionError::BadMethod)
 }
@@ -48,17 +57,6 @@ pub(crate) fn is_configured(users: &Users, user: Option<&[u8]>) -> bool
     }
 }
 
-/// The URI that a text writes.
-fn uri_in(alloc: Global, text: &[u8]) -> Result<Uri, QuestionError>
-    ensures { Reads (λ uri. uri) result (Definitions.uri_read (reading_of text.now)) }
-{
-    match parse_uri(alloc, text) {
-        Ok(uri) => Ok(uri),
-        Err(UriError::NoMemory) => Err(QuestionError::NoMemory),
-        Err(_) => Err(QuestionError::BadTarget),
-    }
-}
-
 /// Whether a text has an `@` before any `:`, as `USER@HOST` has and no URI.
 fn is_address(text: &[u8]) -> bool
     ensures { result ≡ Definitions.is_address text.now }
@@ -66,13 +64,13 @@ fn is_address(text: &[u8]) -> bool
     front_before(text, b':').iter().any(|byte| *byte == b'@')
 }
 
-/// The URI that a target means.
-pub(crate) fn uri_asked(alloc: Global, target: &[u8]) -> Result<Uri, QuestionError>
-    ensures { Reads (λ uri. uri) result (Definitions.uri_asked target.now) }
+/// The text of the URI that a target means.
+pub(crate) fn uri_text(alloc: Global, target: &[u8]) -> Result<Bytes, AllocError>
+    ensures { IfOk result (λ text. text ≡ Definitions.uri_text target.now) }
 {
-    if !is_address(target) {
-        return uri_in(alloc, target);
+    if is_address(target) {
+        Bytes::joined(alloc, b"sip:", target)
+    } else {
+        Bytes::copy(alloc, target)
     }
-    let text = Bytes::joined(alloc, b"sip:", target)?;
-    uri_in(alloc, text.as_slice())
 }

@@ -13,7 +13,8 @@ pub enum QuestionError {
     NoMemory = 1,
     /// The minute is none of a day: 1440 or more.
     BadMinute = 2,
-    /// What is asked is neither `register` nor `list` nor a method of requests that are sent on.
+    /// What is asked is neither `register` nor `list` nor a method of requests that are sent on: REGISTER is asked as the one or
+    /// the other, and no rule decides about ACK and CANCEL.
     BadMethod = 3,
     /// No configured user has the name.
     UnknownUser = 4,
@@ -25,6 +26,14 @@ pub enum QuestionError {
     BadRealm = 7,
     /// The password is empty.
     EmptyPassword = 8,
+    /// The method has a small letter, and methods are told apart by case (RFC 3261 7.1).
+    SmallLetter = 9,
+    /// The password is longer than 1,024 bytes.
+    LongPassword = 10,
+    /// A configured user has the name.
+    TakenName = 11,
+    /// The configuration has another realm than the one that is said.
+    OtherRealm = 12,
 }
 
 impl QuestionError {
@@ -38,7 +47,7 @@ impl QuestionError {
             QuestionError::NoMemory => "out of memory",
             QuestionError::BadMinute => "a minute is 0 to 1439",
             QuestionError::BadMethod => {
-                "what is asked is register, list or a method but REGISTER, ACK and CANCEL"
+                "what is asked is register, list (both are a REGISTER) or a method; no rule decides about ACK and CANCEL"
             }
             QuestionError::UnknownUser => "no user of this name is configured",
             QuestionError::BadTarget => "a target is USER@HOST or a SIP URI",
@@ -48,6 +57,10 @@ impl QuestionError {
             QuestionError::BadRealm =>
                 "a realm is 1 to 128 bytes from a space to ~, without \" \\ :",
             QuestionError::EmptyPassword => "the password is empty",
+            QuestionError::SmallLetter => "methods are in capitals",
+            QuestionError::LongPassword => "a password is at most 1024 bytes",
+            QuestionError::TakenName => "a user of this name is configured already",
+            QuestionError::OtherRealm => "the configuration has another realm",
         }
     }
 }

@@ -1,16 +1,16 @@
-ghost use Rattle.std.specs.Prelude.{◌≡◌, ◌++◌, [], ◌∷◌, codes, Some, None, Ok, Err, pos, negsuc};
+ghost use Rattle.std.specs.Prelude.{◌≡◌, ◌++◌, [], ◌∷◌, codes, replicate, Some, None, Ok, Err, pos, negsuc};
 ghost use Rattle.sip_digest.specs.Answers.{a1_of};
 ghost use Rattle.sip_digest.specs.declared.algorithm.Algorithm.TheVariants as By;
 ghost use Rattle.sipd_questions.specs.declared.error.QuestionError.TheVariants as Refusal;
-ghost use Rattle.sipd_questions.specs.User.{user_table, table_with, first_line};
+ghost use Rattle.sipd_questions.specs.declared.user.Digests.TheVariants.{Md5, Both};
+ghost use Rattle.sipd_questions.specs.User.{user_table, added_user, table_with, first_line};
 ghost use Rattle.sip_config_types.specs.Sample.{sample};
 ghost use Rattle.sip_config.specs.Configuration.{stated_in};
 ghost use Rattle.sip_config.specs.Examples.{sample_head};
 ghost use Rattle.sip_policy.specs.Examples.{mufasas_a1};
-ghost use Rattle.sipd_questions.specs.Examples.{mufasas_sha256};
-ghost use Rattle.sipd_questions.specs.Examples.{asked};
+ghost use Rattle.sipd_questions.specs.Examples.{asked, mufasas_sha256, with_sha256};
 ghost use Rattle.sipd_questions.specs.Show.{shown_lines, clock_text, signed};
-ghost use Rattle.sipd_questions.specs.Warnings.{port_warning, register_warning};
+ghost use Rattle.sipd_questions.specs.Warnings.{port_warning, register_warning, digest_warning, small_letter_warning, any_address_warning};
 
 /// On the sample: a rule without a user allows, a rule denies, none matches.
 #[tactic(auto, unfolding(sip_uri::specs::Reading::reading_of, sip_uri::specs::Reading::rest_of))]
@@ -45,18 +45,44 @@ pub fn registration()
         ≡ Ok (codes "challenged, 401: rule 1 may match once the caller has proved who he is\n") }
 {}
 
+/// What is sent on to `sips:`, or to another scheme, is answered 416, whatever the rules say of its address of record. A REGISTER
+/// names whom it is for in To, where `sips:` is taken, and another scheme is answered 400.
+#[tactic(auto, unfolding(sip_uri::specs::Reading::reading_of, sip_uri::specs::Reading::rest_of))]
+pub fn before_rules()
+    ensures allowed { asked None (codes "INVITE") (codes "sips:help@host.com") ≡ Ok (codes "416 before any rule: a Request-URI is sip:\n") }
+    ensures denied { asked None (codes "INVITE") (codes "SIPS:vault@host.com") ≡ Ok (codes "416 before any rule: a Request-URI is sip:\n") }
+    ensures registers { asked (Some (codes "alice")) (codes "register") (codes "sips:alice@host.com")
+        ≡ Ok (codes "rule 1 allows: to the registrar, for alice@host.com\n") }
+    ensures capitals { asked None (codes "INVITE") (codes "SIP:vault@host.com") ≡ Ok (codes "rule 3 denies: 403\n") }
+    ensures telephone { asked None (codes "INVITE") (codes "tel:+1-201-555-0123") ≡ Ok (codes "416 before any rule: a Request-URI is sip:\n") }
+    ensures registers_telephone { asked None (codes "register") (codes "tel:+1-201-555-0123")
+        ≡ Ok (codes "400 before any rule: To of a REGISTER is sip: or sips:\n") }
+{}
+
+/// A method with a small letter is no method of a rule, and isn't taken for another one; `register` and `list` are words.
+pub fn small_letters()
+    ensures all { asked None (codes "invite") (codes "help@host.com") ≡ Err Refusal.SmallLetter }
+    ensures one { asked None (codes "INVITe") (codes "help@host.com") ≡ Err Refusal.SmallLetter }
+    ensures word { asked None (codes "Register") (codes "help@host.com") ≡ Err Refusal.SmallLetter }
+    ensures no_method { asked None (codes "in vite") (codes "help@host.com") ≡ Err Refusal.BadMethod }
+    ensures registers { asked None (codes "REGISTER") (codes "help@host.com") ≡ Err Refusal.BadMethod }
+    ensures cancels { asked None (codes "CANCEL") (codes "help@host.com") ≡ Err Refusal.BadMethod }
+{}
+
 /// A method that isn't sent on, a user who isn't configured, and a target that is none are refused, in this order.
 #[tactic(auto, unfolding(sip_uri::specs::Reading::reading_of, sip_uri::specs::Reading::rest_of))]
 pub fn refusals()
     ensures method { asked (Some (codes "zazu")) (codes "ACK") (codes "a b") ≡ Err Refusal.BadMethod }
     ensures user { asked (Some (codes "zazu")) (codes "INVITE") (codes "a b") ≡ Err Refusal.UnknownUser }
     ensures target { asked None (codes "INVITE") (codes "a b") ≡ Err Refusal.BadTarget }
-    ensures scheme { asked None (codes "INVITE") (codes "mailto:help@host.com") ≡ Err Refusal.BadTarget }
+    ensures no_scheme { asked None (codes "INVITE") (codes "+1:help@host.com") ≡ Err Refusal.BadTarget }
 {}
 
 /// The table of the user of RFC 2617 3.5, whose digest stands there.
 pub fn table_of_mufasa()
-    ensures { user_table (codes "Mufasa") (codes "testrealm@host.com") (codes "Circle Of Life")
+    ensures md5 { user_table (codes "Mufasa") (codes "testrealm@host.com") (codes "Circle Of Life") Md5
+        ≡ Ok (codes "[[user]]\nname = \"Mufasa\"\na1 = \"939e7578ed9e3c518a452acee763bce9\"\n") }
+    ensures both { user_table (codes "Mufasa") (codes "testrealm@host.com") (codes "Circle Of Life") Both
         ≡ Ok (codes "[[user]]\nname = \"Mufasa\"\na1 = \"939e7578ed9e3c518a452acee763bce9\"\na1_sha256 = \""
         ++ a1_of By.Sha256 (codes "Mufasa") (codes "testrealm@host.com") (codes "Circle Of Life") ++ codes "\"\n") }
 {}
@@ -68,7 +94,7 @@ pub fn sha256_of_mufasa()
 
 /// Behind the sample's first keys, the table states that user.
 pub fn table_is_read()
-    ensures { stated_in (sample_head ++ table_with (codes "Mufasa") mufasas_a1 mufasas_sha256)
+    ensures { stated_in (sample_head ++ table_with Both (codes "Mufasa") mufasas_a1 mufasas_sha256)
         ≡ Ok (record sample {
           users = record { name = codes "Mufasa"; a1 = mufasas_a1; a1_sha256 = Some mufasas_sha256; groups = [] } ∷ [];
           rules = [];
@@ -77,13 +103,26 @@ pub fn table_is_read()
         }) }
 {}
 
-/// No table with a `:` in the realm, with a name or a realm that no configuration takes, or without a password.
+/// A user who is added to the sample has the digest by MD5 alone, as its users have; as soon as one of them has both, so has he.
+pub fn added_to_the_sample()
+    ensures without { added_user sample (codes "zazu") None (codes "x") ≡ user_table (codes "zazu") (codes "testrealm@host.com") (codes "x") Md5 }
+    ensures with_one { added_user (with_sha256 sample) (codes "zazu") None (codes "x")
+        ≡ user_table (codes "zazu") (codes "testrealm@host.com") (codes "x") Both }
+    ensures same_realm { added_user sample (codes "zazu") (Some (codes "testrealm@host.com")) (codes "x")
+        ≡ user_table (codes "zazu") (codes "testrealm@host.com") (codes "x") Md5 }
+    ensures other_realm { added_user sample (codes "alice") (Some (codes "office")) (codes "x") ≡ Err Refusal.OtherRealm }
+    ensures taken { added_user sample (codes "alice") None (codes "") ≡ Err Refusal.TakenName }
+{}
+
+/// No table with a `:` in the realm, with a name or a realm that no configuration takes, without a password, or with one of more
+/// than 1,024 bytes.
 pub fn no_table()
-    ensures name { user_table (codes "a b") (codes "office") (codes "x") ≡ Err Refusal.BadName }
-    ensures name_with_colon { user_table (codes "a:b") (codes "office") (codes "x") ≡ Err Refusal.BadName }
-    ensures realm { user_table (codes "alice") (codes "the \"office\"") (codes "x") ≡ Err Refusal.BadRealm }
-    ensures realm_with_colon { user_table (codes "alice") (codes "office:1") (codes "x") ≡ Err Refusal.BadRealm }
-    ensures password { user_table (codes "alice") (codes "office") (codes "") ≡ Err Refusal.EmptyPassword }
+    ensures name { user_table (codes "a b") (codes "office") (codes "x") Md5 ≡ Err Refusal.BadName }
+    ensures name_with_colon { user_table (codes "a:b") (codes "office") (codes "x") Md5 ≡ Err Refusal.BadName }
+    ensures realm { user_table (codes "alice") (codes "the \"office\"") (codes "x") Md5 ≡ Err Refusal.BadRealm }
+    ensures realm_with_colon { user_table (codes "alice") (codes "office:1") (codes "x") Md5 ≡ Err Refusal.BadRealm }
+    ensures password { user_table (codes "alice") (codes "office") (codes "") Md5 ≡ Err Refusal.EmptyPassword }
+    ensures long_password { user_table (codes "alice") (codes "office") (replicate 1025 97) Md5 ≡ Err Refusal.LongPassword }
 {}
 
 /// A password is the first line, whichever its end is, with its blanks.
@@ -114,9 +153,17 @@ pub fn numbers_are_shown()
     ensures ahead { signed (pos 60) ≡ codes "60" }
 {}
 
-/// Nobody may register without a rule, and another port than the one that is bound is told.
+/// Nobody may register without a rule; another port than the one that is bound, a method in small letters, users with different
+/// digests and an address where nobody can send are told.
 pub fn warnings_are_told()
     ensures rules { register_warning [] ≡ codes "warning: no rule lets anybody register\n" }
     ensures port { port_warning 5070 5060 ≡ codes "warning: port isn't the port of address\n" }
     ensures same { port_warning 5060 5060 ≡ [] }
+    ensures small { small_letter_warning 7 (codes "invite") ≡ codes "warning: rule 7 is for a method that isn't in capitals, as no phone sends it\n" }
+    ensures capitals { small_letter_warning 7 (codes "INVITE") ≡ [] }
+    ensures digests { digest_warning (with_sha256 sample).users
+        ≡ codes "warning: some users have a1_sha256 and others don't, and every phone is offered both digests\n" }
+    ensures md5_alone { digest_warning sample.users ≡ [] }
+    ensures any_address { any_address_warning (codes "0.0.0.0") ≡ codes "warning: host is 0.0.0.0, where no phone can send to\n" }
+    ensures address { any_address_warning (codes "192.0.2.10") ≡ [] }
 {}

@@ -1,14 +1,22 @@
-ghost use Rattle.std.specs.Prelude.{◌≡◌, ℕ, List, Option};
+ghost use Rattle.std.specs.Prelude.{◌≡◌, ℕ, true, false, List, [], take, Option, Some};
 ghost use Rattle.sip_uri.specs.declared.uri.Uri.{Uri};
 ghost use Rattle.sip_uri.specs.Aor.{aor_of};
+ghost use Rattle.sip_uri.specs.Reading.{reading_of};
 ghost use Rattle.sip_policy.specs.declared.decision.Decision.{Decision};
 ghost use Rattle.sip_policy.specs.declared.operation.Operation.{Operation};
 ghost use Rattle.sip_policy.specs.declared.user.User.{User};
 ghost use Rattle.sip_policy.specs.User.{is_users_address};
 ghost use Rattle.sip_targets.specs.Targets.{targets_of};
 ghost use Rattle.sip_config_types.specs.declared.config.Config.{Config};
+ghost use Rattle.sip_validate.specs.Candidate.{Candidate};
+ghost use Rattle.sip_validate.specs.Faults.{is_bad};
+ghost use Rattle.sip_validate.specs.Refusal.{has_other_version, refusal};
+ghost use Rattle.sipd_questions.specs.Decide.{is_refused_before};
 ghost use Rattle.sipd_questions.specs.Destination.{destination_of, targets_there};
+ghost use Rattle.sipd_questions.specs.Fronts.{front_before};
 ghost use Rattle.sipd_questions.specs.Show.{user_line};
+ghost use Rattle.sipd_questions.specs.User.{without_cr, first_line, user_table};
+ghost use Rattle.sipd_questions.specs.declared.user.Digests.{Digests};
 
 /// Where a request that is sent on goes, whatever policy decided about it, is where the server sends it: with any live
 /// contacts, the targets are the same.
@@ -16,6 +24,20 @@ pub fn destination_is_the_targets()
     ensures { (config : Config) (method : List ℕ) (uri : Uri) (decision : Decision) (contacts : List Uri)
         → targets_there config (destination_of config (Operation.Send method) (aor_of uri) decision) uri contacts
         ≡ targets_of decision (is_users_address config.users config.own.domains (aor_of uri)) uri contacts config.hops config.addresses }
+{}
+
+/// What is said to be answered 416 before any rule the server answers so: each request with that Request-URI, once this
+/// server's own part of its way is taken off, but a bad one and one of another version, which are refused for that.
+pub fn refused_by_the_server()
+    ensures { (request : Candidate) (method : List ℕ)
+        → is_refused_before (Operation.Send method) request.way.uri (reading_of request.way.uri) ≡ true
+        → is_bad request ≡ false → has_other_version request ≡ false → refusal request ≡ Some (416, []) }
+{}
+
+/// What is said to a password of which no more than 1,026 bytes of its line were read is what is said to the whole line's.
+pub fn read_so_far()
+    ensures { (name realm text : List ℕ) (digests : Digests)
+        → user_table name realm (without_cr (take 1026 (front_before 10 text))) digests ≡ user_table name realm (first_line text) digests }
 {}
 
 /// What is shown of a user doesn't depend on the digests.

@@ -1,5 +1,5 @@
-//! What is asked of a configuration without a server: who may call whom, and where the call goes; the table of a user; and
-//! what a file was understood to say.
+//! What is asked of a configuration without a server: who may call whom, and where the call goes; the table of a user who is
+//! to be added; what a file was understood to say, and what of that is seldom meant.
 //!
 //! - Used: `sipd_command`, for `decide`, `user` and `check --show`.
 //! - Not here: the decision of a running server (`sip_core`), which is the same definition; reading a file (`sip_config`), and what is
@@ -18,6 +18,8 @@ mod error;
 pub mod examples;
 mod fronts;
 pub mod laws;
+mod methods;
+mod password;
 mod question;
 mod showing;
 mod telling;
@@ -26,6 +28,8 @@ mod warning;
 
 pub use deciding::decision_text;
 pub use error::QuestionError;
+pub use password::password_in;
 pub use question::Question;
 pub use showing::show;
-pub use user::{first_line, user_table};
+pub use user::{Digests, added_user, user_table};
+pub use warning::digest_warning;

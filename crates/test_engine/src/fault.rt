@@ -1,5 +1,5 @@
 use sip_replay::engine::StepError;
-use sip_replay_script::Stop;
+use sip_replay_script::{ReadStop, Stop};
 use std::alloc::{AllocError, AllocFailed};
 use std::io;
 
@@ -53,6 +53,16 @@ impl From<Stop> for Fault {
             Stop::NoMemory => Fault::Memory,
             Stop::Script => Fault::Script,
             Stop::Read | Stop::Write => Fault::Device,
+        }
+    }
+}
+
+impl From<ReadStop> for Fault {
+    fn from(stop: ReadStop) -> Fault {
+        match stop {
+            ReadStop::NoMemory => Fault::Memory,
+            ReadStop::Damaged | ReadStop::Cut => Fault::Script,
+            ReadStop::Read => Fault::Device,
         }
     }
 }

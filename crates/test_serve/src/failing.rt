@@ -5,7 +5,8 @@ use crate::datagrams::{
     REGISTERS, TRYING,
 };
 use crate::trial::{Trial, over_memory};
-use sip_loop::{ServeError, Served};
+use sip_audit::Record;
+use sip_loop::{AuditFault, AuditLog, ServeError, Served};
 use sip_loop_link::Sending::{Failed, Went};
 use sip_loop_link::{MemoryLink, Sending};
 use std::alloc::{AllocError, Global};
@@ -72,6 +73,45 @@ pub fn final_send_fails(alloc: Global) -> bool {
                 && trial.gave(3, &GIVEN)
                 && trial.is_served(1)
                 && trial.gave(7, &[(FAILED, Went)])
+        }
+        Err(_) => false,
+    }
+}
+
+/// The copies of both INVITEs are due at one moment, and the send of the first fails: both happened before, and the moment was
+/// recorded before either was sent.
+pub fn copy_fails_beside_another(alloc: Global) -> bool {
+    const COPIES: [(Datagram, Sending); 2] = [(INVITE_1, Failed), (INVITE_2, Went)];
+    const LINES: &[u8] = b"\ntime 62499\ntime 62500\nfault 62500 4/1\ntime 62500\n";
+    match called(alloc, &[], &[7]) {
+        Ok(mut trial) => {
+            trial.is_served(6) && trial.gave(6, &COPIES) && trial.recorded().ends_with(LINES)
+        }
+        Err(_) => false,
+    }
+}
+
+/// Nothing that lines can be printed on.
+#[derive(Clone, Copy, Drop)]
+struct Closed;
+
+impl AuditLog for Closed {
+    ghost use Rattle.std.specs.Prelude.{Option};
+
+    ghost printed = { λ _. Option.None };
+
+    fn print(&mut self, _records: &[Record]) -> Result<(), AuditFault> {
+        Err(AuditFault::Device)
+    }
+}
+
+/// The line of a decision can't be printed: its event was recorded, and nothing was sent.
+pub fn closed_log(alloc: Global) -> bool {
+    match called(alloc, &[], &[]) {
+        Ok(mut trial) => {
+            is_refused(&trial.serve_on(&mut Closed, 1), ServeError::Audit, 8)
+                && trial.gave(0, &[])
+                && trial.recorded().starts_with(b"hex 1000 ")
         }
         Err(_) => false,
     }

@@ -12,9 +12,12 @@ mod resuming;
 mod trial;
 
 use clocks::{clock_goes_back, clock_jumps};
-use failing::{both_sends_fail, final_send_fails, numbers_worn, receive_fails, trying_send_fails};
+use failing::{
+    both_sends_fail, closed_log, copy_fails_beside_another, final_send_fails, numbers_worn,
+    receive_fails, trying_send_fails,
+};
 use on_loopback::{call_on_loopback, loopback};
-use resuming::{call_goes_on, cut_and_damaged};
+use resuming::{call_goes_on, cut_record, damaged_record};
 use std::io;
 use std::net::Net;
 use test_forms::tell;
@@ -25,12 +28,19 @@ pub fn tell_all<R: Print + AllocGlobal + Net>(rt: &R) -> io::Result<()> {
     tell(rt, "both_sends_fail", both_sends_fail(alloc))?;
     tell(rt, "trying_send_fails", trying_send_fails(alloc))?;
     tell(rt, "final_send_fails", final_send_fails(alloc))?;
+    tell(
+        rt,
+        "copy_fails_beside_another",
+        copy_fails_beside_another(alloc),
+    )?;
+    tell(rt, "closed_log", closed_log(alloc))?;
     tell(rt, "receive_fails", receive_fails(alloc))?;
     tell(rt, "numbers_worn", numbers_worn(alloc))?;
     tell(rt, "clock_goes_back", clock_goes_back(alloc))?;
     tell(rt, "clock_jumps", clock_jumps(alloc))?;
     tell(rt, "call_goes_on", call_goes_on(alloc))?;
-    tell(rt, "cut_and_damaged", cut_and_damaged(alloc))?;
+    tell(rt, "cut_record", cut_record(alloc))?;
+    tell(rt, "damaged_record", damaged_record(alloc))?;
     tell(rt, "loopback", loopback(rt, alloc))?;
     tell(rt, "call_on_loopback", call_on_loopback(rt, alloc))
 }

@@ -26,14 +26,15 @@ fn goes_on(alloc: Global, record: &[u8], lines: u64) -> Result<bool, AllocError>
     )
 }
 
-/// A call that rings goes on where its server ended: the record of the one is taken by another, which sends the copies.
+/// A call that rings goes on where its server ended: the record of the one is taken by another, which sends the copies. It has a
+/// line for each of the four datagrams, and one for each Timer J of the three REGISTERs before the call (RFC 3261 17.2.2).
 pub fn call_goes_on(alloc: Global) -> bool {
     const GIVEN: [(Datagram, Sending); 3] = [(TRYING, Went), (INVITE_1, Went), (INVITE_2, Went)];
     match called(alloc, &[], &[]) {
         Ok(mut trial) => {
             trial.is_served(4)
                 && trial.gave(3, &GIVEN)
-                && goes_on(alloc, trial.recorded(), 4) == Ok(true)
+                && goes_on(alloc, trial.recorded(), 7) == Ok(true)
         }
         Err(_) => false,
     }
@@ -45,13 +46,47 @@ fn resumed(alloc: Global, record: &[u8]) -> Result<Result<u64, ResumeError>, All
     Ok(trial.resume(record))
 }
 
-/// A record that was cut is taken up to its last whole event; one that is damaged within is refused with the line.
-pub fn cut_and_damaged(alloc: Global) -> bool {
-    resumed(alloc, b"time 5\ntime 7\ntim") == Ok(Ok(2))
-        && resumed(
+/// Whether a record comes to so many lines.
+fn is_taken(alloc: Global, record: &[u8], lines: u64) -> bool {
+    resumed(alloc, record) == Ok(Ok(lines))
+}
+
+/// Whether a record is refused as damaged from this line on.
+fn is_damaged(alloc: Global, record: &[u8], line: u64) -> bool {
+    resumed(alloc, record) == Ok(Err(ResumeError::Damaged(line)))
+}
+
+/// A record that was cut in its last event is taken up to the last whole one: in its word, its moment, its digits, or its lines.
+pub fn cut_record(alloc: Global) -> bool {
+    is_taken(alloc, b"", 0)
+        && is_taken(alloc, b"t", 0)
+        && is_taken(alloc, b"time 5\ntime 7\ntim", 2)
+        && is_taken(alloc, b"time 5\ntime 4611686018427387903", 1)
+        && is_taken(
+            alloc,
+            b"time 5\nhex 6 127.0.0.1:5082 00000000000000000000000000000001 4f5",
+            1,
+        )
+        && is_taken(
             alloc,
             b"time 5\ndatagram 6 127.0.0.1:5082 00000000000000000000000000000001\n",
-        ) == Ok(Ok(1))
-        && resumed(alloc, b"time 5\ntim\ntime 7\n") == Ok(Err(ResumeError::Damaged(2)))
-        && resumed(alloc, b"") == Ok(Ok(0))
+            1,
+        )
+        && is_taken(
+            alloc,
+            b"time 5\ndatagram 6 127.0.0.1:5082 00000000000000000000000000000001\nOPTIONS\n.",
+            1,
+        )
+}
+
+/// A record that is damaged is refused with the line, within and at its end, with LF and without: also where a moment is 2^62, or a
+/// datagram's port 0.
+pub fn damaged_record(alloc: Global) -> bool {
+    is_damaged(alloc, b"xyz", 1)
+        && is_damaged(alloc, b"time 5\nxyz", 2)
+        && is_damaged(alloc, b"time 5\nxyz\n", 2)
+        && is_damaged(alloc, b"time 5\ntim\ntime 7\n", 2)
+        && is_damaged(alloc, b"time 5\ntime 07", 2)
+        && is_damaged(alloc, b"time 5\ntime 4611686018427387904", 2)
+        && is_damaged(alloc, b"time 5\nhex 6 127.0.0.1:0", 2)
 }

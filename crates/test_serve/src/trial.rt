@@ -3,7 +3,7 @@ use crate::datagrams::Datagram;
 use sip_config_types::sample;
 use sip_event::Boot;
 use sip_loop::engine::Engine;
-use sip_loop::{ServeError, Served, serve};
+use sip_loop::{AuditLog, NoAudit, ServeError, Served, serve};
 use sip_loop_link::{Given, Link, MemoryClock, MemoryLink, Sending};
 use sip_policy_index::IndexedRules;
 use sip_record::{OnFault, Recorder};
@@ -55,11 +55,21 @@ impl<L: Link> Trial<L> {
     }
 
     pub fn serve(&mut self, turns: u32) -> Result<Served, ServeError> {
+        self.serve_on(&mut NoAudit, turns)
+    }
+
+    /// Serves, and prints decisions on this.
+    pub fn serve_on<A: AuditLog>(
+        &mut self,
+        audit: &mut A,
+        turns: u32,
+    ) -> Result<Served, ServeError> {
         serve(
             self.alloc,
             &mut self.engine,
             &mut self.link,
             &mut self.record,
+            audit,
             &mut self.clock,
             &mut self.words,
             turns,
@@ -68,7 +78,8 @@ impl<L: Link> Trial<L> {
 
     /// Takes the events of a record; how many of its lines were taken.
     pub fn resume(&mut self, mut record: &[u8]) -> Result<u64, ResumeError> {
-        resume(self.alloc, &mut self.engine, &mut record, &mut self.record)
+        let resumed = resume(self.alloc, &mut self.engine, &mut record, &mut self.record)?;
+        Ok(resumed.lines)
     }
 
     /// What was recorded.

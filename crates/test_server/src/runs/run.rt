@@ -5,7 +5,7 @@ use sip_policy::ListRules;
 use sip_policy_index::IndexedRules;
 use sip_timers::ListTimers;
 use sip_timers_wheel::WheelTimers;
-use sipd_arguments::{Call, Exit, Parsed, ReplayCall, parse};
+use sipd_arguments::{Call, DeviceFault, Exit, Parsed, ReplayCall, parse};
 use sipd_command::{command, replay_script};
 use std::alloc::{AllocError, Global};
 use std::fs;
@@ -122,7 +122,7 @@ fn replay_on_lists<R: Files + AllocGlobal>(
             let path = config.as_ref().map(String::as_str);
             replay_script::<ListTimers, ListRules, R, &[u8], Vec<u8>>(rt, path, &mut input, output)
         }
-        _ => Err(Exit::Device),
+        _ => Err(Exit::Device(DeviceFault::Other)),
     }
 }
 

@@ -1,16 +1,25 @@
-use Rattle.std.proofs.Common.{◌∙◌, ◌+◌, arith, drop, refl}
+use Rattle.std.proofs.Common.{◌∙◌, ◌+◌, ◌≤◌, arith, List, [], drop, length, refl, subst}
+use Rattle.std.proofs.lemmas.List.{drop_all}
+use Rattle.sip_event.specs.declared.packet.Packet.{Packet}
 use Rattle.std.proofs.lemmas.Result.{err_from_is_err_and}
-use Rattle.sip_loop.proofs.Handed.{hands_some, hands_then, no_further_on, no_further_same}
-use Rattle.sip_loop.proofs.Courses.{hands_nothing}
-use Rattle.sip_loop.specs.Serving.{Sent}
+use Rattle.model_bounds.specs.state.declared.server.Server.{Server}
+use Rattle.sip_loop.specs.Courses.{Breaks, Course, told_with, waiting_at}
+use Rattle.sip_loop.proofs.Courses.{course_nothing, course_on}
+use Rattle.sip_loop.proofs.WhatIsDue.{further_on, further_same}
+use Rattle.sip_loop.proofs.Handed.{breaks_on}
 use Rattle.sip_loop.proofs.handing.hand_out.Goals as goal
 
 pub returns-in_err-hand_one-clause-broken : goal.returns-in_err-hand_one-clause-broken
 returns-in_err-hand_one-clause-broken g c =
     let p = err_from_is_err_and c.from_residual.result c.from_residual.ensures.1 in
-    rw p.1
-    (hands_some c.args.engine.now.server c.loop-place.engine.server c.args.engine.now.state c.loop-place.engine.state c.hand_one.new.engine.state c.args.out.packets (drop c.loop-place.place c.loop-place.out.packets)
-    (record { given = g.L.Link.given c.args.link.now; written = g.J.Journal.written c.args.journal.now }) (record { given = g.L.Link.given c.loop-place.link; written = g.J.Journal.written c.loop-place.journal }) (record { given = g.L.Link.given c.hand_one.new.link; written = g.J.Journal.written c.hand_one.new.journal }) c.loop-place.invariant.0 c.loop-place.invariant.6 c.in_err-hand_one.ensures.broken)
+    rw (p.1, p.2)
+    (λ others turn. breaks_on c.args.engine.now.server c.args.engine.now.state c.loop-place.engine.state c.hand_one.new.engine.state
+    (waiting_at turn c.args.packets.now c.args.engine.now.state.moment) (waiting_at turn (drop c.loop-place.place c.loop-place.packets) c.loop-place.engine.state.moment)
+    (told_with others (g.L.Link.given c.args.link.now) (g.J.Journal.written c.args.journal.now)) (told_with others (g.L.Link.given c.loop-place.link) (g.J.Journal.written c.loop-place.journal))
+    (told_with others (g.L.Link.given c.hand_one.new.link) (g.J.Journal.written c.hand_one.new.journal)) [] 0 0 0 c.in_err-hand_one.field-0.0 tt (c.loop-place.invariant.6 others turn)
+    (subst (λ (s : Server). Breaks s c.loop-place.engine.state c.hand_one.new.engine.state (waiting_at turn (drop c.loop-place.place c.loop-place.packets) c.loop-place.engine.state.moment)
+    (told_with others (g.L.Link.given c.loop-place.link) (g.J.Journal.written c.loop-place.journal)) (told_with others (g.L.Link.given c.hand_one.new.link) (g.J.Journal.written c.hand_one.new.journal)) 0 c.in_err-hand_one.field-0.0)
+    c.loop-place.invariant.0 (c.in_err-hand_one.ensures.broken others turn)))
 
 pub loop-place-preserved : goal.loop-place-preserved
 loop-place-preserved g c = (
@@ -19,13 +28,33 @@ loop-place-preserved g c = (
   c.hand_one.ensures.failures ∙ c.loop-place.invariant.2,
   c.hand_one.ensures.heard ∙ c.loop-place.invariant.3,
   c.in_ok-hand_one.ensures.more,
-  no_further_on c.args.engine.now.state c.loop-place.engine.state c.hand_one.new.engine.state c.loop-place.invariant.5 c.in_ok-hand_one.ensures.no_further,
-  hands_then c.args.engine.now.server c.loop-place.engine.server c.args.engine.now.state c.loop-place.engine.state c.hand_one.new.engine.state c.args.out.packets (drop c.loop-place.place c.loop-place.out.packets)
-      (drop (c.loop-place.place + 1) c.hand_one.new.packets) (record { given = g.L.Link.given c.args.link.now; written = g.J.Journal.written c.args.journal.now }) (record { given = g.L.Link.given c.loop-place.link; written = g.J.Journal.written c.loop-place.journal }) (record { given = g.L.Link.given c.hand_one.new.link; written = g.J.Journal.written c.hand_one.new.journal }) c.loop-place.invariant.0 c.loop-place.invariant.6
-      c.in_ok-hand_one.ensures.handed,
+  further_on c.args.engine.now.state c.loop-place.engine.state c.hand_one.new.engine.state c.loop-place.invariant.5 c.in_ok-hand_one.ensures.no_further,
+  λ others turn. course_on c.args.engine.now.server c.args.engine.now.state c.loop-place.engine.state c.hand_one.new.engine.state
+      (waiting_at turn c.args.packets.now c.args.engine.now.state.moment) (waiting_at turn (drop c.loop-place.place c.loop-place.packets) c.loop-place.engine.state.moment)
+      (waiting_at turn (drop (c.loop-place.place + 1) c.hand_one.new.packets) c.hand_one.new.engine.state.moment)
+      (told_with others (g.L.Link.given c.args.link.now) (g.J.Journal.written c.args.journal.now)) (told_with others (g.L.Link.given c.loop-place.link) (g.J.Journal.written c.loop-place.journal))
+      (told_with others (g.L.Link.given c.hand_one.new.link) (g.J.Journal.written c.hand_one.new.journal)) [] [] 0 0 0 0 tt (c.loop-place.invariant.6 others turn)
+      (subst (λ (s : Server). Course s c.loop-place.engine.state c.hand_one.new.engine.state (waiting_at turn (drop c.loop-place.place c.loop-place.packets) c.loop-place.engine.state.moment)
+      (waiting_at turn (drop (c.loop-place.place + 1) c.hand_one.new.packets) c.hand_one.new.engine.state.moment)
+      (told_with others (g.L.Link.given c.loop-place.link) (g.J.Journal.written c.loop-place.journal)) (told_with others (g.L.Link.given c.hand_one.new.link) (g.J.Journal.written c.hand_one.new.journal)) [] 0 0)
+      c.loop-place.invariant.0 (c.in_ok-hand_one.ensures.handed others turn)),
 )
 
 pub loop-place-init : goal.loop-place-init
-loop-place-init g c =
-    let sent : Sent = (record { given = g.L.Link.given c.args.link.now; written = g.J.Journal.written c.args.journal.now }) in
-    (refl, refl, refl, refl, omega arith, no_further_same c.args.engine.now.state, hands_nothing c.args.engine.now.server c.args.engine.now.state c.args.out.packets sent sent refl refl)
+loop-place-init g c = (
+  refl,
+  refl,
+  refl,
+  refl,
+  omega arith,
+  further_same c.args.engine.now.state,
+  λ others turn. course_nothing c.args.engine.now.server c.args.engine.now.state (waiting_at turn c.args.packets.now c.args.engine.now.state.moment)
+      (told_with others (g.L.Link.given c.args.link.now) (g.J.Journal.written c.args.journal.now)) tt,
+)
+
+pub returns-clause-handed : goal.returns-clause-handed
+returns-clause-handed g c =
+    let past : length c.loop-place.packets ≤ c.loop-place.place = rw c.as_slice.ensures at c.loop-place-test.false in
+    λ others turn. subst (λ (l : List Packet). Course c.args.engine.now.server c.args.engine.now.state c.loop-place.engine.state (waiting_at turn c.args.packets.now c.args.engine.now.state.moment) (waiting_at turn l c.loop-place.engine.state.moment)
+    (told_with others (g.L.Link.given c.args.link.now) (g.J.Journal.written c.args.journal.now)) (told_with others (g.L.Link.given c.loop-place.link) (g.J.Journal.written c.loop-place.journal)) [] 0 0)
+    (drop_all c.loop-place.place c.loop-place.packets past) (c.loop-place.invariant.6 others turn)

@@ -1,60 +1,59 @@
-use Rattle.std.proofs.Common.{◌∙◌, zero, suc, ap, arith, refl, subst, Option, List}
+use Rattle.std.proofs.Common.{◌∙◌, sym, zero, suc, ap, arith, subst, Option, List, ℕ}
 use Rattle.std.proofs.lemmas.Result.{err_from_is_err_and, on_ok_weaker, IfErr-weaker}
 use Rattle.sip_loop_link.specs.Told.{counted}
 use Rattle.sip_loop_link.specs.declared.datagram.Heard.{Heard}
 use Rattle.model_bounds.specs.state.declared.server.Server.{Server}
-use Rattle.sip_loop.specs.Courses.{Breaks, BreaksOff, GoesOn}
-use Rattle.sip_loop.specs.Serving.{Told, sent_of}
-use Rattle.sip_loop.proofs.Turning.{turn_broken, turn_goes, turn_unfired}
-use Rattle.sip_loop.proofs.Turns.{told_reading}
+use Rattle.sip_loop.specs.Courses.{Breaks, TurnBreaks, TurnGoes}
+use Rattle.sip_loop.specs.Serving.{between_turns, told_by}
+use Rattle.sip_loop.proofs.Gathering.{told_reading}
+use Rattle.sip_loop.proofs.Turning.{turn_begun, turn_part, turn_undue, turn_whole}
 use Rattle.sip_loop.proofs.serving.turn.Goals as goal
 
-pub returns-in_err-fire_due-clause-link_failed : goal.returns-in_err-fire_due-clause-link_failed
-returns-in_err-fire_due-clause-link_failed g c =
+pub returns-in_err-pass_due-clause-link_failed : goal.returns-in_err-pass_due-clause-link_failed
+returns-in_err-pass_due-clause-link_failed g c =
     let p = err_from_is_err_and c.from_residual.result c.from_residual.ensures.1 in
-    λ e. absurd (c.in_err-fire_due.ensures.not_link (cc (p.1, p.2, e)))
+    λ e. absurd (c.in_err-pass_due.ensures.not_link (cc (p.1, p.2, e)))
 
-pub returns-in_err-fire_due-clause-broken : goal.returns-in_err-fire_due-clause-broken
-returns-in_err-fire_due-clause-broken g c =
+pub returns-in_err-pass_due-clause-journal_failed : goal.returns-in_err-pass_due-clause-journal_failed
+returns-in_err-pass_due-clause-journal_failed g c =
     let p = err_from_is_err_and c.from_residual.result c.from_residual.ensures.1 in
-    let before : Told = (record { heard = g.L.Link.heard c.args.link.now; given = g.L.Link.given c.args.link.now; readings = g.C.Clock.readings c.args.clock.now; written = g.J.Journal.written c.args.journal.now; words = g.W.Rng.stream c.args.words.now }) in
-    let after : Told = (record { heard = g.L.Link.heard c.fire_due.new.link; given = g.L.Link.given c.fire_due.new.link; readings = g.C.Clock.readings c.now-at.new.self; written = g.J.Journal.written c.fire_due.new.journal; words = g.W.Rng.stream c.args.words.now }) in
+    λ e. c.in_err-pass_due.ensures.journal_failed (cc (p.1, p.2, e))
+
+pub returns-in_err-pass_due-clause-broken : goal.returns-in_err-pass_due-clause-broken
+returns-in_err-pass_due-clause-broken g c =
+    let p = err_from_is_err_and c.from_residual.result c.from_residual.ensures.1 in
     rw (p.1, p.2)
-    (turn_unfired c.args.engine.now.server c.args.engine.now.state c.fire_due.new.engine.state before after c.now-at.result c.in_err-fire_due.field-0.0 c.in_err-fire_due.ensures.broken c.fire_due.ensures.heard refl
-    (told_reading (g.C.Clock.readings c.args.clock.now) (g.C.Clock.readings c.now-at.new.self) c.now-at.result c.now-at.ensures))
+    (subst (λ (o : Option (List (Option Heard))). Breaks c.args.engine.now.server c.args.engine.now.state c.pass_due.new.engine.state (between_turns c.args.engine.now.state.moment)
+    (told_by (g.L.Link.heard c.args.link.now) (g.L.Link.given c.args.link.now) (g.C.Clock.readings c.args.clock.now) (g.J.Journal.written c.args.journal.now) (g.A.AuditLog.printed c.args.audit.now) (g.W.Rng.stream c.args.words.now))
+    (told_by o (g.L.Link.given c.pass_due.new.link) (g.C.Clock.readings c.now-at.new.self) (g.J.Journal.written c.pass_due.new.journal) (g.A.AuditLog.printed c.args.audit.now) (g.W.Rng.stream c.args.words.now)) 1 c.in_err-pass_due.field-0.0) (sym c.pass_due.ensures.heard)
+    (turn_undue c.args.engine.now.server c.args.engine.now.state c.pass_due.new.engine.state c.now-at.result (g.L.Link.heard c.args.link.now) (g.L.Link.given c.args.link.now) (g.L.Link.given c.pass_due.new.link) (g.C.Clock.readings c.args.clock.now) (g.C.Clock.readings c.now-at.new.self)
+    (g.J.Journal.written c.args.journal.now) (g.J.Journal.written c.pass_due.new.journal) (g.A.AuditLog.printed c.args.audit.now) (g.W.Rng.stream c.args.words.now) c.in_err-pass_due.field-0.0 (told_reading (g.C.Clock.readings c.args.clock.now) (g.C.Clock.readings c.now-at.new.self) c.now-at.result c.now-at.ensures) (c.in_err-pass_due.ensures.broken (record { heard = g.L.Link.heard c.args.link.now; readings = g.C.Clock.readings c.now-at.new.self; printed = g.A.AuditLog.printed c.args.audit.now; words = g.W.Rng.stream c.args.words.now }))))
 
 pub returns-clause-asked : goal.returns-clause-asked
-returns-clause-asked g c = record { times = suc zero; within = omega arith; is = c.take_turn.ensures.asked ∙ ap counted c.fire_due.ensures.receives }
+returns-clause-asked g c = record { times = suc zero; within = omega arith; is = c.take_turn.ensures.asked ∙ ap counted c.pass_due.ensures.receives }
 
 pub returns-clause-goes : goal.returns-clause-goes
 returns-clause-goes g c =
-    let before : Told = (record { heard = g.L.Link.heard c.args.link.now; given = g.L.Link.given c.args.link.now; readings = g.C.Clock.readings c.args.clock.now; written = g.J.Journal.written c.args.journal.now; words = g.W.Rng.stream c.args.words.now }) in
-    let after : Told = (record { heard = g.L.Link.heard c.take_turn.new.link; given = g.L.Link.given c.take_turn.new.link; readings = g.C.Clock.readings c.now-at.new.self; written = g.J.Journal.written c.take_turn.new.journal; words = g.W.Rng.stream c.take_turn.new.words }) in
     on_ok_weaker c.take_turn.result
-    (λ rest. turn_goes c.args.engine.now.server c.args.engine.now.state c.fire_due.new.engine.state c.take_turn.new.engine.state before after c.now-at.result (record { given = g.L.Link.given c.fire_due.new.link; written = g.J.Journal.written c.fire_due.new.journal }) c.args.records.now
-    c.take_turn.new.records c.in_ok-fire_due.ensures.fired
-    (subst (λ (s : Server). GoesOn s c.fire_due.new.engine.state c.take_turn.new.engine.state c.now-at.result before.heard after.heard (record { given = g.L.Link.given c.fire_due.new.link; written = g.J.Journal.written c.fire_due.new.journal }) (sent_of after) before.words after.words c.args.records.now
-    c.take_turn.new.records) c.fire_due.ensures.server
-    (subst (λ (h : Option (List (Option Heard))). GoesOn c.fire_due.new.engine.server c.fire_due.new.engine.state c.take_turn.new.engine.state c.now-at.result h after.heard (record { given = g.L.Link.given c.fire_due.new.link; written = g.J.Journal.written c.fire_due.new.journal }) (sent_of after)
-    before.words after.words c.args.records.now c.take_turn.new.records) c.fire_due.ensures.heard rest))
-    (told_reading (g.C.Clock.readings c.args.clock.now) (g.C.Clock.readings c.now-at.new.self) c.now-at.result c.now-at.ensures)) c.take_turn.ensures.goes
+    (λ rest. turn_whole c.args.engine.now.server c.args.engine.now.state c.pass_due.new.engine.state c.take_turn.new.engine.state c.now-at.result (told_by (g.L.Link.heard c.args.link.now) (g.L.Link.given c.args.link.now) (g.C.Clock.readings c.args.clock.now) (g.J.Journal.written c.args.journal.now) (g.A.AuditLog.printed c.args.audit.now) (g.W.Rng.stream c.args.words.now)) (told_by (g.L.Link.heard c.args.link.now) (g.L.Link.given c.pass_due.new.link) (g.C.Clock.readings c.now-at.new.self) (g.J.Journal.written c.pass_due.new.journal) (g.A.AuditLog.printed c.args.audit.now) (g.W.Rng.stream c.args.words.now)) (told_by (g.L.Link.heard c.take_turn.new.link) (g.L.Link.given c.take_turn.new.link) (g.C.Clock.readings c.now-at.new.self) (g.J.Journal.written c.take_turn.new.journal) (g.A.AuditLog.printed c.take_turn.new.audit) (g.W.Rng.stream c.take_turn.new.words)) c.args.records.now c.take_turn.new.records
+    (turn_begun c.args.engine.now.server c.args.engine.now.state c.pass_due.new.engine.state c.now-at.result (g.L.Link.heard c.args.link.now) (g.L.Link.given c.args.link.now) (g.L.Link.given c.pass_due.new.link) (g.C.Clock.readings c.args.clock.now) (g.C.Clock.readings c.now-at.new.self)
+    (g.J.Journal.written c.args.journal.now) (g.J.Journal.written c.pass_due.new.journal) (g.A.AuditLog.printed c.args.audit.now) (g.W.Rng.stream c.args.words.now) (told_reading (g.C.Clock.readings c.args.clock.now) (g.C.Clock.readings c.now-at.new.self) c.now-at.result c.now-at.ensures) (c.in_ok-pass_due.ensures.goes (record { heard = g.L.Link.heard c.args.link.now; readings = g.C.Clock.readings c.now-at.new.self; printed = g.A.AuditLog.printed c.args.audit.now; words = g.W.Rng.stream c.args.words.now })))
+    (subst (λ (s : Server). TurnGoes s c.pass_due.new.engine.state c.take_turn.new.engine.state c.now-at.result (told_by (g.L.Link.heard c.args.link.now) (g.L.Link.given c.pass_due.new.link) (g.C.Clock.readings c.now-at.new.self) (g.J.Journal.written c.pass_due.new.journal) (g.A.AuditLog.printed c.args.audit.now) (g.W.Rng.stream c.args.words.now)) (told_by (g.L.Link.heard c.take_turn.new.link) (g.L.Link.given c.take_turn.new.link) (g.C.Clock.readings c.now-at.new.self) (g.J.Journal.written c.take_turn.new.journal) (g.A.AuditLog.printed c.take_turn.new.audit) (g.W.Rng.stream c.take_turn.new.words)) c.args.records.now c.take_turn.new.records) c.pass_due.ensures.server
+    (subst (λ (o : Option (List (Option Heard))). TurnGoes c.pass_due.new.engine.server c.pass_due.new.engine.state c.take_turn.new.engine.state c.now-at.result
+    (told_by o (g.L.Link.given c.pass_due.new.link) (g.C.Clock.readings c.now-at.new.self) (g.J.Journal.written c.pass_due.new.journal) (g.A.AuditLog.printed c.args.audit.now) (g.W.Rng.stream c.args.words.now)) (told_by (g.L.Link.heard c.take_turn.new.link) (g.L.Link.given c.take_turn.new.link) (g.C.Clock.readings c.now-at.new.self) (g.J.Journal.written c.take_turn.new.journal) (g.A.AuditLog.printed c.take_turn.new.audit) (g.W.Rng.stream c.take_turn.new.words))
+    c.args.records.now c.take_turn.new.records) c.pass_due.ensures.heard (rest (g.C.Clock.readings c.now-at.new.self))))) c.take_turn.ensures.goes
 
 pub returns-clause-broken : goal.returns-clause-broken
 returns-clause-broken g c =
-    let before : Told = (record { heard = g.L.Link.heard c.args.link.now; given = g.L.Link.given c.args.link.now; readings = g.C.Clock.readings c.args.clock.now; written = g.J.Journal.written c.args.journal.now; words = g.W.Rng.stream c.args.words.now }) in
-    let after : Told = (record { heard = g.L.Link.heard c.take_turn.new.link; given = g.L.Link.given c.take_turn.new.link; readings = g.C.Clock.readings c.now-at.new.self; written = g.J.Journal.written c.take_turn.new.journal; words = g.W.Rng.stream c.take_turn.new.words }) in
     IfErr-weaker c.take_turn.result
-    (λ e. BreaksOff c.fire_due.new.engine.server c.fire_due.new.engine.state c.take_turn.new.engine.state c.now-at.result (g.L.Link.heard c.fire_due.new.link) (g.L.Link.heard c.take_turn.new.link)
-    (record { given = g.L.Link.given c.fire_due.new.link; written = g.J.Journal.written c.fire_due.new.journal }) (record { given = g.L.Link.given c.take_turn.new.link; written = g.J.Journal.written c.take_turn.new.journal }) (g.W.Rng.stream c.args.words.now) (g.W.Rng.stream c.take_turn.new.words) e)
-    (λ e. Breaks c.args.engine.now.server c.args.engine.now.state c.take_turn.new.engine.state before after 1 e)
-    (λ e h. turn_broken c.args.engine.now.server c.args.engine.now.state c.fire_due.new.engine.state c.take_turn.new.engine.state before after c.now-at.result (record { given = g.L.Link.given c.fire_due.new.link; written = g.J.Journal.written c.fire_due.new.journal }) e c.in_ok-fire_due.ensures.fired
-    (subst (λ (s : Server). BreaksOff s c.fire_due.new.engine.state c.take_turn.new.engine.state c.now-at.result before.heard after.heard (record { given = g.L.Link.given c.fire_due.new.link; written = g.J.Journal.written c.fire_due.new.journal }) (sent_of after) before.words after.words e)
-    c.fire_due.ensures.server
-    (subst (λ (o : Option (List (Option Heard))). BreaksOff c.fire_due.new.engine.server c.fire_due.new.engine.state c.take_turn.new.engine.state c.now-at.result o after.heard (record { given = g.L.Link.given c.fire_due.new.link; written = g.J.Journal.written c.fire_due.new.journal }) (sent_of after)
-    before.words after.words e) c.fire_due.ensures.heard h))
-    (told_reading (g.C.Clock.readings c.args.clock.now) (g.C.Clock.readings c.now-at.new.self) c.now-at.result c.now-at.ensures)) c.take_turn.ensures.broken
-
-pub returns-in_err-fire_due-clause-journal_failed : goal.returns-in_err-fire_due-clause-journal_failed
-returns-in_err-fire_due-clause-journal_failed g c =
-    let p = err_from_is_err_and c.from_residual.result c.from_residual.ensures.1 in
-    λ e. c.in_err-fire_due.ensures.journal_failed (cc (p.1, p.2, e))
+    (λ e. (readings : Option (List ℕ)) → TurnBreaks c.pass_due.new.engine.server c.pass_due.new.engine.state c.take_turn.new.engine.state c.now-at.result
+    (told_by (g.L.Link.heard c.pass_due.new.link) (g.L.Link.given c.pass_due.new.link) readings (g.J.Journal.written c.pass_due.new.journal) (g.A.AuditLog.printed c.args.audit.now) (g.W.Rng.stream c.args.words.now))
+    (told_by (g.L.Link.heard c.take_turn.new.link) (g.L.Link.given c.take_turn.new.link) readings (g.J.Journal.written c.take_turn.new.journal) (g.A.AuditLog.printed c.take_turn.new.audit) (g.W.Rng.stream c.take_turn.new.words)) e)
+    (λ e. Breaks c.args.engine.now.server c.args.engine.now.state c.take_turn.new.engine.state (between_turns c.args.engine.now.state.moment) (told_by (g.L.Link.heard c.args.link.now) (g.L.Link.given c.args.link.now) (g.C.Clock.readings c.args.clock.now) (g.J.Journal.written c.args.journal.now) (g.A.AuditLog.printed c.args.audit.now) (g.W.Rng.stream c.args.words.now)) (told_by (g.L.Link.heard c.take_turn.new.link) (g.L.Link.given c.take_turn.new.link) (g.C.Clock.readings c.now-at.new.self) (g.J.Journal.written c.take_turn.new.journal) (g.A.AuditLog.printed c.take_turn.new.audit) (g.W.Rng.stream c.take_turn.new.words)) 1 e)
+    (λ e h. turn_part c.args.engine.now.server c.args.engine.now.state c.pass_due.new.engine.state c.take_turn.new.engine.state c.now-at.result (told_by (g.L.Link.heard c.args.link.now) (g.L.Link.given c.args.link.now) (g.C.Clock.readings c.args.clock.now) (g.J.Journal.written c.args.journal.now) (g.A.AuditLog.printed c.args.audit.now) (g.W.Rng.stream c.args.words.now)) (told_by (g.L.Link.heard c.args.link.now) (g.L.Link.given c.pass_due.new.link) (g.C.Clock.readings c.now-at.new.self) (g.J.Journal.written c.pass_due.new.journal) (g.A.AuditLog.printed c.args.audit.now) (g.W.Rng.stream c.args.words.now)) (told_by (g.L.Link.heard c.take_turn.new.link) (g.L.Link.given c.take_turn.new.link) (g.C.Clock.readings c.now-at.new.self) (g.J.Journal.written c.take_turn.new.journal) (g.A.AuditLog.printed c.take_turn.new.audit) (g.W.Rng.stream c.take_turn.new.words)) e
+    (turn_begun c.args.engine.now.server c.args.engine.now.state c.pass_due.new.engine.state c.now-at.result (g.L.Link.heard c.args.link.now) (g.L.Link.given c.args.link.now) (g.L.Link.given c.pass_due.new.link) (g.C.Clock.readings c.args.clock.now) (g.C.Clock.readings c.now-at.new.self)
+    (g.J.Journal.written c.args.journal.now) (g.J.Journal.written c.pass_due.new.journal) (g.A.AuditLog.printed c.args.audit.now) (g.W.Rng.stream c.args.words.now) (told_reading (g.C.Clock.readings c.args.clock.now) (g.C.Clock.readings c.now-at.new.self) c.now-at.result c.now-at.ensures) (c.in_ok-pass_due.ensures.goes (record { heard = g.L.Link.heard c.args.link.now; readings = g.C.Clock.readings c.now-at.new.self; printed = g.A.AuditLog.printed c.args.audit.now; words = g.W.Rng.stream c.args.words.now })))
+    (subst (λ (s : Server). TurnBreaks s c.pass_due.new.engine.state c.take_turn.new.engine.state c.now-at.result (told_by (g.L.Link.heard c.args.link.now) (g.L.Link.given c.pass_due.new.link) (g.C.Clock.readings c.now-at.new.self) (g.J.Journal.written c.pass_due.new.journal) (g.A.AuditLog.printed c.args.audit.now) (g.W.Rng.stream c.args.words.now)) (told_by (g.L.Link.heard c.take_turn.new.link) (g.L.Link.given c.take_turn.new.link) (g.C.Clock.readings c.now-at.new.self) (g.J.Journal.written c.take_turn.new.journal) (g.A.AuditLog.printed c.take_turn.new.audit) (g.W.Rng.stream c.take_turn.new.words)) e) c.pass_due.ensures.server
+    (subst (λ (o : Option (List (Option Heard))). TurnBreaks c.pass_due.new.engine.server c.pass_due.new.engine.state c.take_turn.new.engine.state c.now-at.result
+    (told_by o (g.L.Link.given c.pass_due.new.link) (g.C.Clock.readings c.now-at.new.self) (g.J.Journal.written c.pass_due.new.journal) (g.A.AuditLog.printed c.args.audit.now) (g.W.Rng.stream c.args.words.now)) (told_by (g.L.Link.heard c.take_turn.new.link) (g.L.Link.given c.take_turn.new.link) (g.C.Clock.readings c.now-at.new.self) (g.J.Journal.written c.take_turn.new.journal) (g.A.AuditLog.printed c.take_turn.new.audit) (g.W.Rng.stream c.take_turn.new.words)) e)
+    c.pass_due.ensures.heard (h (g.C.Clock.readings c.now-at.new.self))))) c.take_turn.ensures.broken

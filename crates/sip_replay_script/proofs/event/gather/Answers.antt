@@ -41,7 +41,7 @@ pub returns-in_err-next-clause-stopped : goal.returns-in_err-next-clause-stopped
 returns-in_err-next-clause-stopped g c =
     let p = err_from_is_err_and c.from_residual-in_err-next.result c.from_residual-in_err-next.ensures.1 in
     rw (p.1, p.2) (datagram_stops (IsSpent (g.R.TellingReader.has_failed c.next.new.reader) c.next.new.self.asks) c.args.lines.now c.keep_lines.new.lines (g.R.TellingReader.remaining c.args.reader.now) (g.R.TellingReader.remaining c.loop-line.reader)
-    c.keep_lines.new.bytes c.in_err-next.field-0.0
+    c.keep_lines.new.bytes c.next.new.line.items c.in_err-next.field-0.0
     (gathers_lines c.args.lines.now c.loop-line.lines c.keep_lines.new.lines (g.R.TellingReader.remaining c.args.reader.now) (g.R.TellingReader.remaining c.loop-line.reader) c.loop-line.bytes c.keep_lines.new.bytes
     c.loop-line.invariant.2 (c.in_ok-keep_lines.ensures.kept c.if-branch.false))
     c.in_err-next.ensures.stopped)

@@ -1,8 +1,6 @@
-use Rattle.std.proofs.Common.{rules}
-use Rattle.sipd_command.proofs.Printed.{prints_one}
+use Rattle.sipd_command.proofs.Printed.{lines_more}
 use Rattle.sipd_command.proofs.printing.print_records.Goals as goal
 
 pub loop-record-preserved : goal.loop-record-preserved
 loop-record-preserved g c =
-    prints_one (g.W.Write.contents c.args.output.now) (g.W.Write.contents c.loop-record.output) (g.W.Write.contents c.print.new.output)
-    c.record-item.result c.loop-record.invariant (search rules)
+    lines_more c.args.records.now c.loop-record.record-index c.record-item.result _ _ _ c.loop-record-test.true c.record-item.is c.loop-record.invariant c.in_ok-print_record.ensures

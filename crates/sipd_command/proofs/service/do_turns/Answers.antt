@@ -3,4 +3,4 @@ use Rattle.sipd_command.proofs.Printed.{prints_more}
 use Rattle.sipd_command.proofs.service.do_turns.Goals as goal
 
 pub loop-preserved : goal.loop-preserved
-loop-preserved g c = prints_more (g.W.Write.contents c.args.output.now) (g.W.Write.contents c.loop.output) (g.W.Write.contents c.do_turn.new.output) c.loop.invariant (search rules)
+loop-preserved g c = prints_more (g.W.Write.contents c.args.printer.now.output) (g.W.Write.contents c.loop.printer.output) (g.W.Write.contents c.do_turn.new.printer.output) c.loop.invariant (search rules)

@@ -3,6 +3,10 @@ use Rattle.md5.specs.Md5.{block_words, rounds, compress, hash_after, digest_byte
 use Rattle.hex.specs.Hex.{encode_with}
 use Rattle.sipd_questions.proofs.examples.table_of_mufasa.Goals as goal
 
-pub returns : goal.returns
+pub returns-clause-md5 : goal.returns-clause-md5
 unfolding encode_with block_words rounds compress hash_after digest_bytes md5
-returns c = refl
+returns-clause-md5 c = refl
+
+pub returns-clause-both : goal.returns-clause-both
+unfolding encode_with block_words rounds compress hash_after digest_bytes md5
+returns-clause-both c = refl

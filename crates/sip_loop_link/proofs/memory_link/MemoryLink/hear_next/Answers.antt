@@ -1,6 +1,6 @@
 use Rattle.std.proofs.Common.{rules, ◌≡◌, ◌+◌, ◌<◌, sym, refl, ap, ◌∙◌, arith, length, Some, []}
 use Rattle.std.proofs.lemmas.List.{length-set}
-use Rattle.sip_loop_link.proofs.Turns.{hears_none, hears_some, first_some}
+use Rattle.sip_loop_link.proofs.Turns.{hears_none, hears_some, first_some, some_posted, writable_next}
 use Rattle.sip_loop_link.specs.MemoryLink.{MemoryState}
 use Rattle.sip_loop_link.specs.contracts.memory_link.MemoryLink.{the_view}
 use Rattle.sip_loop_link.specs.declared.posted.Posted.{Posted}
@@ -16,7 +16,7 @@ returns-then-self-len-clause-heard c =
 pub invariant_of-self-2 : goal.invariant_of-self-2
 invariant_of-self-2 c =
     let inside = c.self.inside in
-    let d : Posted = record { silent = 0; datagram = record { from = c.note_silence-from.result; bytes = [] } } in
+    let d = some_posted in
     let all : c.len.result ≡ length inside.inbox.items = search rules in
     let below : inside.taken < length inside.inbox.items = grind (arith, c.self.invariant.0, all, c.if-self-len.false) in
     let same : length c.note_silence-from.new.inbox.items ≡ length inside.inbox.items =
@@ -27,7 +27,7 @@ invariant_of-self-2 c =
 pub returns-clause-from : goal.returns-clause-from
 returns-clause-from c =
     let inside = c.self.inside in
-    let d : Posted = record { silent = 0; datagram = record { from = c.note_silence-from.result; bytes = [] } } in
+    let d = some_posted in
     let all : c.len.result ≡ length inside.inbox.items = search rules in
     let below : inside.taken < length inside.inbox.items = grind (arith, c.self.invariant.0, all, c.if-self-len.false) in
     rw (sym c.self.view_is) (ap Some (c.note_silence-from.ensures.from d) ∙ first_some inside.inbox.items inside.taken d below)
@@ -35,8 +35,16 @@ returns-clause-from c =
 pub returns-clause-heard : goal.returns-clause-heard
 returns-clause-heard c =
     let inside = c.self.inside in
-    let d : Posted = record { silent = 0; datagram = record { from = c.note_silence-from.result; bytes = [] } } in
+    let d = some_posted in
     let all : c.len.result ≡ length inside.inbox.items = search rules in
     let below : inside.taken < length inside.inbox.items = grind (arith, c.self.invariant.0, all, c.if-self-len.false) in
     let heard = hears_some inside.inbox.items inside.taken inside.silent d (the_view inside) below refl in
     rw (sym c.self.view_is, c.note_silence-from.ensures.noted d) (ap (λ (link : MemoryState). record link { receives = inside.receives + 1 }) (sym heard))
+
+pub returns-clause-writable : goal.returns-clause-writable
+returns-clause-writable c =
+    let inside = c.self.inside in
+    let d = some_posted in
+    let all : c.len.result ≡ length inside.inbox.items = search rules in
+    let below : inside.taken < length inside.inbox.items = grind (arith, c.self.invariant.0, all, c.if-self-len.false) in
+    rw (c.note_silence-from.ensures.noted d) (writable_next inside.inbox.items inside.taken inside.silent d c.note_silence-from.result below (c.note_silence-from.ensures.from d))

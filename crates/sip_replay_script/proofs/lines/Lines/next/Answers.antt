@@ -13,5 +13,5 @@ pub returns-in_err-take_part-clause-stopped : goal.returns-in_err-take_part-clau
 returns-in_err-take_part-clause-stopped g c =
     let p = err_from_is_err_and c.from_residual-in_err-take_part.result c.from_residual-in_err-take_part.ensures.1 in
     rw (p.1, p.2) (part_stops_line (IsSpent (g.R.TellingReader.has_failed c.fill.new.reader) c.take_part.new.self.asks) (pending c.args.self.now (g.R.TellingReader.remaining c.args.reader.now))
-    (pending c.loop-line.self (g.R.TellingReader.remaining c.loop-line.reader)) c.fill.new.self (g.R.TellingReader.remaining c.fill.new.reader) c.loop-line.line.items c.in_err-take_part.field-0.0
+    (pending c.loop-line.self (g.R.TellingReader.remaining c.loop-line.reader)) c.fill.new.self (g.R.TellingReader.remaining c.fill.new.reader) c.loop-line.line.items c.take_part.new.line.items c.in_err-take_part.field-0.0
     c.loop-line.invariant.0 c.in_ok-fill.ensures.kept c.loop-line.invariant.1 c.in_err-take_part.ensures.stopped)

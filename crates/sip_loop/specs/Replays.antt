@@ -1,0 +1,20 @@
+-- What was served, as a replay takes it.
+use Rattle.std.specs.Prelude.{◌≡◌, ℕ, List, ◌++◌, None}
+use Rattle.sip_event.specs.declared.event.Event.{Event}
+use Rattle.sip_event.specs.declared.event.StepOut.{StepOut}
+use Rattle.model_bounds.specs.state.declared.server.Server.{Server}
+use Rattle.model_bounds.specs.state.declared.proxy_state.ProxyState.{ProxyState}
+use Rattle.model_bounds.specs.model.Run.{Link, IsRun}
+use Rattle.sip_replay_script.specs.Events.{SaysEvents}
+use Rattle.sip_loop.specs.Serving.{AreInTurn}
+
+-- Bytes grew by a text that says events, and these steps are a run over exactly these events, from one state to another, each event in its turn:
+-- steps that a replay of the text takes, or a server that goes on from it.
+pub record ReplaysTo (server : Server) (old new : ProxyState) (front all : List ℕ) (steps : List StepOut) : Type 0 where
+  pub text : List ℕ
+  pub events : List Event
+  pub grown : all ≡ front ++ text
+  pub says : SaysEvents events text
+  pub history : List Link
+  pub is_run : IsRun server old events None steps history new
+  pub turns : AreInTurn server history

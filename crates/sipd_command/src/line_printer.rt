@@ -1,0 +1,102 @@
+ghost use Rattle.std.specs.Prelude.{◌≡◌, ◌⊎◌, true, false, OnOk, OnErr, None};
+ghost use Rattle.std.specs.Io.KnownBytes.{Appends};
+ghost use Rattle.sip_loop.specs.Printing.{Prints};
+ghost use Rattle.sip_record.specs.Recorder.{told};
+ghost use Rattle.sipd_command.specs.Printing.{serving_text, turns_text};
+
+use crate::printing::{print, print_records, serving_text, turns_text};
+use sip_audit::Record;
+use sip_loop::{AuditFault, AuditLog};
+use sip_uri::Addr;
+use sipd_arguments::{DeviceFault, Exit};
+use std::alloc::Global;
+use std::io::Write;
+
+/// What prints the lines of decisions on a writer, each whole, and hands them on before it answers. It has failed once memory ran
+/// out or the writer failed, and prints no line from then on.
+#[derive(Drop)]
+pub struct LinePrinter<W: Write + Drop> {
+    alloc: Global,
+    pub output: W,
+    pub has_failed: bool,
+    /// How the writer failed.
+    fault: DeviceFault,
+}
+
+impl<W: Write + Drop> LinePrinter<W> {
+    /// A printer that prints behind what the writer holds.
+    pub fn new(alloc: Global, output: W) -> Self
+        ensures output { result.output ≡ output }
+        ensures has_failed { result.has_failed ≡ false }
+    {
+        LinePrinter {
+            alloc,
+            output,
+            has_failed: false,
+            fault: DeviceFault::Other,
+        }
+    }
+
+    /// Whether it has failed.
+    pub fn has_failed(&self) -> bool
+        ensures { result ≡ self.now.has_failed }
+    {
+        self.has_failed
+    }
+
+    /// How the writer failed.
+    pub fn fault(&self) -> DeviceFault {
+        self.fault
+    }
+
+    /// Prints where it serves.
+    pub fn print_serving(&mut self, address: Addr) -> Result<(), Exit>
+        ensures printed { OnOk result (Appends (W.contents self.old.output) (W.contents self.new.output) (serving_text address)) }
+        ensures has_failed { self.new.has_failed ≡ self.old.has_failed }
+    {
+        let text = serving_text(self.alloc, address)?;
+        print(text.as_slice(), &mut self.output)
+    }
+
+    /// Prints that so many turns are over.
+    pub fn print_turns(&mut self, turns: u32) -> Result<(), Exit>
+        ensures printed { OnOk result (Appends (W.contents self.old.output) (W.contents self.new.output) (turns_text turns)) }
+        ensures has_failed { self.new.has_failed ≡ self.old.has_failed }
+    {
+        let text = turns_text(self.alloc, turns)?;
+        print(text.as_slice(), &mut self.output)
+    }
+}
+
+/// What a fault of printing is to who serves, and how the writer failed.
+fn fault_of(exit: Exit) -> (AuditFault, DeviceFault) {
+    match exit {
+        Exit::Device(fault) => (AuditFault::Device, fault),
+        _ => (AuditFault::NoMemory, DeviceFault::Other),
+    }
+}
+
+impl<W: Write + Drop> AuditLog for LinePrinter<W> {
+    ghost printed = { λ p. told p.has_failed (W.contents p.output) };
+
+    fn print(&mut self, records: &[Record]) -> Result<(), AuditFault>
+        ensures printed { OnOk result (Prints (told self.old.has_failed (W.contents self.old.output))
+            (told self.new.has_failed (W.contents self.new.output)) records.now) }
+        ensures failed { OnErr result (told self.new.has_failed (W.contents self.new.output) ≡ None) }
+        ensures still { OnOk result (self.old.has_failed ≡ false) }
+        ensures going { OnOk result (self.new.has_failed ≡ false) }
+    {
+        if self.has_failed {
+            return Err(AuditFault::Device);
+        }
+        match print_records(self.alloc, records, &mut self.output) {
+            Ok(()) => Ok(()),
+            Err(exit) => {
+                let (failed, fault) = fault_of(exit);
+                self.has_failed = true;
+                self.fault = fault;
+                Err(failed)
+            }
+        }
+    }
+}
