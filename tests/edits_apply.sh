@@ -1,10 +1,16 @@
 #!/bin/sh
-# Whether each must-fail edit can be made, also one that the gate leaves out (.edit.md): each of its old texts stands exactly once in its file. Proves
-# nothing and takes a second; run it at the top of the repository after `rt fmt`, or from anywhere.
+# Whether each must-fail edit can be made, also one that the gate leaves out (.edit.md), and each double edit: each of its old texts stands exactly once
+# in its file. Proves nothing and takes a second; run it at the top of the repository after `rt fmt`, or from anywhere.
 cd "$(dirname "$0")/.." || exit 2
 exec python3 - <<'PY'
 import glob
+import os
 import sys
+import tempfile
+
+sys.dont_write_bytecode = True
+sys.path.insert(0, "tests")
+import double_edits
 
 faults = 0
 edits = sorted(glob.glob("crates/*/must-fail/*.edit") + glob.glob("crates/*/must-fail/*.edit.md"))
@@ -29,6 +35,13 @@ for edit in edits:
     if text is None or olds == 0 or olds != news:
         faults += 1
         print(f"{edit}: no file, or not as many new texts as old ones")
-print(f"{len(edits)} edits, {faults} faults")
+double = [it for path in sorted(glob.glob("tests/double_edits/*.list")) for it in double_edits.edits_in(path)]
+with tempfile.TemporaryDirectory() as room:
+    for edit in double:
+        wrong = double_edits.planted(edit, room)
+        if wrong:
+            faults += 1
+            print(f"{edit.crate} {edit.name}: {wrong}")
+print(f"{len(edits)} edits, {len(double)} double edits, {faults} faults")
 sys.exit(1 if faults else 0)
 PY

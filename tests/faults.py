@@ -250,7 +250,7 @@ def damaged_or_cut(folder, expect):
     ends += [(True, empty[:cut]) for cut in (1, 5, 9, 30, len(empty) - 3, len(empty) - 2, len(empty) - 1)]
     ends += [(True, b"time 18"), (True, b"fault 1893456000000 7/")]
     ends += [(False, end) for end in (b"hello", b"hello\n", b"tim\n", b"time  1", b"time 18x", b"time 018", b"\0" * 40, b"hex 18 localhost")]
-    ends += [(True, empty[:-2] + b"x"), (False, last[:-1] + b"g"), (False, empty[:-3] + b"g\n.\n")]
+    ends += [(False, end) for end in (last[:-1] + b"g", empty[:-3] + b"g\n.\n", empty[:-1] + b"x", empty[:-2] + b"x", empty[:-2] + b"x\n", empty[:-2] + b"x\n" + last + empty)]
     for is_cut, end in ends:
         old = write(new(folder), good + end)
         with serving(folder, config, "--record", new(folder), "--resume", old) as server:

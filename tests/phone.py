@@ -12,6 +12,7 @@ TOP = os.path.join(os.path.dirname(os.path.abspath(__file__)), "..")
 PROGRAM = os.path.join(TOP, "crates", "sipd", "out", "sipd")
 OFFICE = os.path.join(TOP, "examples", "office.toml")
 PASSWORDS = {"alice": "wonderland", "bob": "builder"}  # of examples/office.toml
+SERVERS = []  # that were started
 
 
 def free_port():
@@ -31,8 +32,11 @@ def office(folder, port):
 def started(program, config, *words, before=()):
     """`sipd serve`, once it says where it serves, and the port."""
     it = subprocess.Popen([*before, program, "serve", "--config", config, *words], stdin=subprocess.DEVNULL, stdout=subprocess.PIPE, stderr=subprocess.PIPE)
+    SERVERS.append(it)
     line = it.stdout.readline().decode()
     found = re.fullmatch(r"sipd: serving 127\.0\.0\.1:(\d+)\n", line)
+    if not found:
+        it.kill()
     assert found, (line, it.stderr.read())
     return it, int(found[1])
 
@@ -60,16 +64,17 @@ def md5(text):
 
 
 class Phone:
-    """A phone of a user whose key, MD5 of name:realm:password, it knows."""
+    """A phone of a user whose key, MD5 of name:realm:password, it knows. It hears a datagram that comes again where `again` says so."""
 
     marks = itertools.count(1)
+    again = True
 
-    def __init__(self, name, key, server, domain="127.0.0.1", timeout=5):
+    def __init__(self, name, key, server, domain="127.0.0.1", timeout=5, ip="127.0.0.1"):
         self.name, self.key, self.server, self.domain = name, key, server, domain
         self.socket = socket.socket(socket.AF_INET, socket.SOCK_DGRAM)
-        self.socket.bind(("127.0.0.1", 0))
+        self.socket.bind((ip, 0))
         self.socket.settimeout(timeout)
-        self.at = "127.0.0.1:%d" % self.socket.getsockname()[1]
+        self.at = "%s:%d" % self.socket.getsockname()
         self.address = f"sip:{name}@{domain}"
         self.heard = []
 
@@ -84,6 +89,8 @@ class Phone:
         """The next message that isn't a 100."""
         while True:
             data, self.source = self.socket.recvfrom(65536)
+            if data in self.heard and not self.again:
+                continue
             self.heard.append(data)
             message = Message(data)
             if message.status != 100:

@@ -1,6 +1,7 @@
 #!/usr/bin/env python3
 """Tries `sipd serve` by real sockets of this machine: `tests/serve.py [PROGRAM]`, after `rt run` in crates/sipd. It takes a
-minute, prints a line for each trial, and ends with 1 where one fails. Timer A asks for a machine that isn't overloaded."""
+minute, prints a line for each trial, and ends with 1 where one fails. It asks for no rights, and by how much this machine is late
+it measures itself: a moment that it looks at may be later by that."""
 
 import os
 import re
@@ -9,16 +10,53 @@ import socket
 import subprocess
 import sys
 import tempfile
+import threading
 import time
 
 import phone
 from phone import Phone, free_port, office, started, tag_of, uri_in
 
 PROGRAM = sys.argv[1] if len(sys.argv) > 1 else phone.PROGRAM
+LONGEST = 60  # seconds that a trial may take
+
+
+def waited(process):
+    """How many seconds a process was ready to run and had no processor, where the kernel tells that."""
+    try:
+        with open(f"/proc/{process}/schedstat") as it:
+            return int(it.read().split()[1]) / 1e9
+    except (OSError, IndexError, ValueError):
+        return 0
+
+
+class Lateness:
+    """By how many seconds at most this machine was late, for a server and for who looks at it, while it was asked for: as long as they
+    had no processor, and as much as it woke a sleeper too late."""
+
+    def __init__(self, server):
+        self.processes = (server.pid, os.getpid())
+
+    def __enter__(self):
+        self.most, self.over = 0, threading.Event()
+        self.before = sum(map(waited, self.processes))
+        self.sleeper = threading.Thread(target=self.sleep, daemon=True)
+        self.sleeper.start()
+        return self
+
+    def sleep(self):
+        while not self.over.is_set():
+            before = time.monotonic()
+            time.sleep(0.01)
+            self.most = max(self.most, time.monotonic() - before - 0.01)
+
+    def __exit__(self, *_):
+        self.over.set()
+        self.sleeper.join()
+        self.most += sum(map(waited, self.processes)) - self.before
 
 
 def ended(*words):
-    done = subprocess.run([PROGRAM, *words], stdin=subprocess.DEVNULL, capture_output=True, timeout=60)
+    done = subprocess.run([PROGRAM, *words], stdin=subprocess.DEVNULL, capture_output=True, timeout=20)
     return done.returncode, done.stdout.decode(), done.stderr.decode()
 
 
@@ -43,8 +81,13 @@ def hears(it, seconds):
         it.socket.settimeout(before)
 
 
-def phones(port):
-    return [Phone(name, phone.md5(f"{name}:office:{password}"), ("127.0.0.1", port)) for name, password in phone.PASSWORDS.items()]
+def phones(port, *ips):
+    """Two phones. What comes to one again, as where this machine is slow, it passes over."""
+    made = []
+    for (name, password), ip in zip(phone.PASSWORDS.items(), ips or ("127.0.0.1", "127.0.0.1")):
+        made.append(Phone(name, phone.md5(f"{name}:office:{password}"), ("127.0.0.1", port), ip=ip))
+        made[-1].again = False
+    return made
 
 
 def call(folder):
@@ -86,26 +129,119 @@ def call(folder):
     assert complaints == "", complaints
 
 
+def goes_again(server, alice, bob, meanwhile=lambda: None):
+    """Whether an INVITE that isn't answered goes again 500 ms (50 more or less, and what the machine was late) behind its first sending.
+    It has to on a machine that wasn't late at all; on one that was, and perhaps by more than was seen, it is to be tried again."""
+    bob.again = True
+    number, branch = alice.invite(bob.address)
+    with Lateness(server) as late:
+        first, then = bob.hear(), time.monotonic()
+        meanwhile()
+        second, now = bob.hear(), time.monotonic()
+    assert first.start == second.start and first.fields == second.fields
+    bob.answer(second, 486, "b1")
+    while bob.hear().method != "ACK":
+        pass
+    refused = alice.hear()
+    assert refused.status == 486, refused.start
+    alice.acknowledge(refused, bob.address, number, 2, branch)
+    bob.again = False
+    gap = now - then
+    if 0.45 - late.most <= gap <= 0.55 + late.most:
+        return True
+    assert late.most > 0.005, (gap, late.most)
+    return False
+
+
 def timer_a(folder):
     """After 900 idle ms an INVITE that isn't answered goes again 500 ms (50 more or less) behind its first sending, ten times of ten."""
     server, port = started(PROGRAM, office(folder, free_port()))
     alice, bob = phones(port)
     assert bob.register() == [401, 200]
-    gaps = []
-    for _ in range(10):
+    seen = []
+    while seen.count(True) < 10:
         time.sleep(0.9)
-        number, branch = alice.invite(bob.address)
-        first, then = bob.hear(), time.monotonic()
-        second, now = bob.hear(), time.monotonic()
-        assert first.start == second.start and first.fields == second.fields
-        gaps.append(round((now - then) * 1000))
-        bob.answer(second, 486, "b1")
-        assert bob.hear().method == "ACK"
-        refused = alice.hear()
-        assert refused.status == 486, refused.start
-        alice.acknowledge(refused, bob.address, number, 2, branch)
+        seen.append(goes_again(server, alice, bob))
+        assert seen.count(False) < 10, seen
     stopped(server)
-    assert all(450 <= gap <= 550 for gap in gaps), gaps
+
+
+def guarded_timer(folder):
+    """Behind a datagram that is passed over, nothing is waited for: an INVITE that isn't answered goes again as soon."""
+    server, port = started(PROGRAM, office(folder, free_port()), "--per-source", "2")
+    alice, bob = phones(port, "127.0.0.2", "127.0.0.3")
+    assert bob.register() == [401, 200]
+
+    def flood():
+        time.sleep(0.25)
+        scanner.sendto(b"hello", alice.server)
+
+    with socket.socket(socket.AF_INET, socket.SOCK_DGRAM) as scanner:
+        scanner.bind(("127.0.0.4", 0))
+        for _ in range(5):
+            time.sleep(3)
+            for _ in range(20):
+                scanner.sendto(b"hello", alice.server)
+            if goes_again(server, alice, bob, flood):
+                break
+        else:
+            raise AssertionError("it never went again in time")
+    stopped(server)
+
+
+def another_address(folder):
+    """A phone at another address is answered there, and hears there a request of 4,000 bytes whole."""
+    server, port = started(PROGRAM, office(folder, free_port()))
+    alice, bob = phones(port, "127.0.0.2", "127.0.0.3")
+    assert bob.register() == [401, 200]
+    number, subject = alice.mark(), ("Subject", "long " * 800)
+    branch = alice.request("INVITE", bob.address, bob.address, number, 1, [subject])
+    first = alice.hear()
+    assert first.status == 407, first.start
+    alice.acknowledge(first, bob.address, number, 1, branch)
+    proof = alice.credential(first, "INVITE", bob.address)
+    branch = alice.request("INVITE", bob.address, bob.address, number, 2, [subject, alice.contact(), proof])
+    invite = bob.hear()
+    assert invite.uri == f"sip:bob@{bob.at}" and invite["Subject"].split() == subject[1].split(), invite.start
+    bob.answer(invite, 486, "b1")
+    assert bob.hear().method == "ACK"
+    refused = alice.hear()
+    assert refused.status == 486, refused.start
+    alice.acknowledge(refused, bob.address, number, 2, branch)
+    printed, _ = stopped(server)
+    assert " sent 1\n" in printed, printed
+
+
+def failed_send(folder):
+    """What the system refuses to send counts at once as a 503 (RFC 3261 16.9), of which the caller hears as a 500 (16.7)."""
+    server, port = started(PROGRAM, office(folder, free_port()))
+    alice, bob = phones(port)
+    # Nothing may be sent to a broadcast address by a socket that didn't ask for it.
+    bob.at = "255.255.255.255:9"
+    assert bob.register() == [401, 200]
+    before = time.monotonic()
+    alice.invite(bob.address)
+    over = alice.hear()
+    assert over.status == 500 and time.monotonic() - before < 5, over.start
+    stopped(server)
+
+
+def drawn(server, port):
+    """What a server drew for the first challenge of a phone: its nonce, and its tag."""
+    alice, _ = phones(port)
+    alice.request("REGISTER", "sip:127.0.0.1", alice.address, "drawn", 1, [alice.contact()])
+    refused = alice.hear()
+    killed(server)
+    return re.search(r'nonce="([^"]*)"', refused["WWW-Authenticate"])[1], tag_of(refused)
+
+
+def drawn_anew(folder):
+    """Two starts draw other nonces and tags, with a record and without one."""
+    config = office(folder, free_port())
+    records = [("--record", os.path.join(folder, name)) for name in ("drawn", "drawn2")]
+    starts = [drawn(*started(PROGRAM, config, *words)) for words in ((), (), *records)]
+    assert all(nonce and tag for nonce, tag in starts), starts
+    assert len({nonce for nonce, _ in starts}) == len({tag for _, tag in starts}) == len(starts), starts
 
 
 def stop_and_continue(folder):
@@ -127,11 +263,11 @@ def turns(folder):
     port = free_port()
     config = office(folder, port)
     for count in (0, 1, 3):
-        before = time.monotonic()
         wanted = (0, f"sipd: serving 127.0.0.1:{port}\nsipd: {count} turns\n", "")
+        before = time.monotonic()
         assert ended("serve", "--config", config, "--turns", str(count)) == wanted
         passed = time.monotonic() - before
-        assert count - 0.5 <= passed <= count + 2, passed
+        assert count - 0.5 <= passed <= count + 5, passed
 
 
 def bad_starts(folder):
@@ -320,6 +456,8 @@ def not_resumed(folder):
         (config, config, "it is no record"),
         (config, damaged, "its line 3 begins no event"),
         (config, missing, "it can't be read"),
+        (config, folder, "it can't be read"),
+        (config, os.devnull, "it is no record"),
         (config, broken, "its writing failed: it lacks events"),
         (config, left, "another start went on from it"),
     )):
@@ -330,7 +468,7 @@ def not_resumed(folder):
     assert replayed(config, left) == (0, whole, "")
     assert replayed(config, broken) == (0, whole, f"sipd: the writing of {broken} failed: it lacks what came behind\n")
     there = ended("serve", "--config", config, "--record", good)
-    assert there == (4, "", "sipd: the record can't be made: its file is there already, or its folder isn't\n"), there
+    assert there == (4, "", "sipd: the record can't be made: its file is there already, or its folder isn't, or may not be written, or has no hard links\n"), there
     assert replayed(other, good) == (3, "", "sipd: the record was made with another configuration\n")
     assert replayed(config, config) == (3, "", "sipd: no record\n")
 
@@ -423,7 +561,7 @@ def made_in(folder, kind):
 def folder_of_records(folder):
     """Each start has a file of its own in the folder, beside its configuration, and goes on from the newest one where it can."""
     config, records = office(folder, free_port()), os.path.join(folder, "records")
-    assert ended("serve", "--config", config, "--records", records) == (4, "", "sipd: the record can't be made: its file is there already, or its folder isn't\n")
+    assert ended("serve", "--config", config, "--records", records) == (4, "", "sipd: the record can't be made: its file is there already, or its folder isn't, or may not be written, or has no hard links\n")
     os.mkdir(records)
     with open(os.path.join(records, "9999999999999.record.old"), "w"):
         pass
@@ -472,10 +610,7 @@ def clock_behind(folder):
                 words[1] = str(int(words[1]) + day)
             made.write(" ".join(words) + "\n")
     server, _ = started(PROGRAM, config, "--record", os.path.join(folder, "behind_clock"), "--resume", ahead)
-    alice.invite(bob.address)
-    first, then = bob.hear(), time.monotonic()
-    second, now = bob.hear(), time.monotonic()
-    assert first.start == second.start and 0.4 < now - then < 0.6, now - then
+    assert any(goes_again(server, alice, bob) for _ in range(10))
     printed, complaints = killed(server)
     found = re.fullmatch(r"sipd: goes on behind \d+ lines of .*/ahead\nsipd: the clock is (\d+) ms behind the record; moments go on from the record's last one\n", complaints)
     assert found and day - 60_000 < int(found[1]) <= day, complaints
@@ -495,6 +630,7 @@ def guard(folder):
     alice, bob = phones(port)
     with socket.socket(socket.AF_INET, socket.SOCK_DGRAM) as scanner:
         scanner.bind(("127.0.0.2", 0))
+        before = time.monotonic()
         for number in range(1200):
             at = "127.0.0.2:%d" % scanner.getsockname()[1]
             scanner.sendto(
@@ -505,25 +641,48 @@ def guard(folder):
             time.sleep(0.0025)
             if number % 100 == 50:
                 assert alice.register() == [401, 200] and bob.register() == [401, 200], number
+    passed = time.monotonic() - before
     printed, complaints = killed(server)
     assert complaints.startswith("sipd: ") and "of 127.0.0.2" in complaints and "127.0.0.1" not in complaints, complaints
     scanned = [line for line in printed.splitlines() if " x@127.0.0.1 " in line]
-    assert 40 <= len(scanned) <= 40 + 20 * 6, len(scanned)
+    assert 40 <= len(scanned) <= 40 + 20 * (passed + 2), (len(scanned), passed)
 
 
-TRIALS = (call, timer_a, stop_and_continue, turns, bad_starts, closed_output, record, restart, no_count_twice, not_resumed, full_device, full_start, lost_record, folder_of_records, clock_behind, small_stack, guard)
+TRIALS = (
+    call, another_address, turns, timer_a, guarded_timer, failed_send, drawn_anew, stop_and_continue, bad_starts, closed_output, record, restart, no_count_twice, not_resumed,
+    full_device, full_start, lost_record, folder_of_records, clock_behind, small_stack, guard,
+)
+
+
+def too_long(*_):
+    raise TimeoutError(f"it isn't over after {LONGEST} seconds")
+
+
+def fault_of(trial, folder):
+    """What fails of a trial, if something does. None of its servers is left."""
+    signal.alarm(LONGEST)
+    try:
+        trial(folder)
+        return None
+    except Exception as fault:  # whatever a wrong program makes of a trial
+        return fault
+    finally:
+        signal.alarm(0)
+        for server in phone.SERVERS:
+            server.kill()
+            server.wait()
+        phone.SERVERS.clear()
 
 
 def main():
+    signal.signal(signal.SIGALRM, too_long)
+    signal.signal(signal.SIGTERM, lambda *_: sys.exit(1))
     failed = 0
     with tempfile.TemporaryDirectory() as folder:
         for trial in TRIALS:
-            try:
-                trial(folder)
-                print("ok:", trial.__doc__)
-            except (AssertionError, OSError) as fault:
-                failed += 1
-                print("FAILED:", trial.__doc__, repr(fault))
+            fault = fault_of(trial, folder)
+            failed += fault is not None
+            print(*(("ok:", trial.__doc__) if fault is None else ("FAILED:", trial.__doc__, repr(fault))), flush=True)
     sys.exit(1 if failed else 0)
 
 

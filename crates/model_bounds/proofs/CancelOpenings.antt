@@ -62,7 +62,7 @@ begun_left g now number (b ∷ bs) h = omega (arith, left_cons g b bs, none (g b
   none s false n is = refl
 
 -- each has a number
-begun_each : (now number : ℕ) (bs : List Branch) → 1 ≤ number → AreBegun now number bs → AllByRecursion IsSteady bs
+pub begun_each : (now number : ℕ) (bs : List Branch) → 1 ≤ number → AreBegun now number bs → AllByRecursion IsSteady bs
 begun_each now number [] high h = tt
 begun_each now number (b ∷ bs) high h =
     let numbered = h.0.is_numbered in
@@ -72,20 +72,20 @@ begun_each now number (b ∷ bs) high h =
 -- ---- a 100
 
 -- a branch without an address has a status
-unsent_kept : (bs : List Branch) → AllByRecursion IsKept (unsent bs)
+pub unsent_kept : (bs : List Branch) → AllByRecursion IsKept (unsent bs)
 unsent_kept bs = each (filter (λ (b : Branch). not (is_some b.address)) bs) where
   each : (xs : List Branch) → AllByRecursion IsKept (map (λ (b : Branch). record { status = 503; message = None }) xs)
   each [] = tt
   each (x ∷ xs) = (made_kept 503 (omega arith), each xs)
 
 -- what a request becomes with its 100
-record IsTried (r x : OpenRequest) : Type 0 where
-  less : IsLess r x
-  answer : IsNoCancel x.answer
-  like : IsLike r x
-  succeeds : Succeeds r x
+pub record IsTried (r x : OpenRequest) : Type 0 where
+  pub less : IsLess r x
+  pub answer : IsNoCancel x.answer
+  pub like : IsLike r x
+  pub succeeds : Succeeds r x
 
-tried_well : (server : Server) (now : ℕ) (r : OpenRequest) → AllByRecursion IsSteady r.branches → IsNoCancel r.answer → AllByRecursion IsKept r.finals → IsTried r (tried now (trying server r) r)
+pub tried_well : (server : Server) (now : ℕ) (r : OpenRequest) → AllByRecursion IsSteady r.branches → IsNoCancel r.answer → AllByRecursion IsKept r.finals → IsTried r (tried now (trying server r) r)
 tried_well server now r each no_cancel keeps = by_test (is_tried r) where
   hundred : Upward
   hundred = record { status = 100; message = made_answer server r.number r.request r.source 100 []; target = None }

@@ -263,7 +263,7 @@ module _ (laws : AreCopyLaws) (test : Packet → Bool) (is_test : IsTest test) (
       replaced_well next requests (change_packets change) again r change.request there own.0.number_is own.1 (omega (arith, fewer, change_none state act now r change again is)) h
 
   -- a part of a step
-  part_well : (state : ProxyState) (act : Act) (now : ℕ) (requests after : List OpenRequest) (firsts again : List Packet) → NoneBefore now requests → IsPart server state act now requests after firsts again → Stands state.next requests
+  pub part_well : (state : ProxyState) (act : Act) (now : ℕ) (requests after : List OpenRequest) (firsts again : List Packet) → NoneBefore now requests → IsPart server state act now requests after firsts again → Stands state.next requests
       → IsWell (next_after state act) requests after firsts again
   part_well state act now requests after firsts again none part h = by_part part where
     moved : Stands (next_after state act) requests

@@ -2,6 +2,9 @@ pub mod CancelBranches
 pub mod CancelChanges
 pub mod CancelHistories
 pub mod CancelOpenings
+pub mod CancelNames
+pub mod CancelOnce
+pub mod SecondCancels
 pub mod CancelParts
 pub mod CancelTexts
 pub mod EndingChanges

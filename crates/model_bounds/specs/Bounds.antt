@@ -5,16 +5,18 @@ use Rattle.sip_model.specs.Run.{Link}
 use Rattle.model_bounds.specs.FinalAnswers.{IsAnsweredOnce, AnswersGoAgain}
 use Rattle.model_bounds.specs.Endings.{EndInTime}
 use Rattle.model_bounds.specs.Sendings.{GoOutSoOften}
-use Rattle.model_bounds.specs.Cancels.{GoOutElevenTimes}
+use Rattle.model_bounds.specs.Cancels.{GoOutElevenTimes, HasOneCancelEach}
 
 -- At most one final answer goes to the caller of a request for the first time, or several 2xx of an INVITE, counted in packets;
 -- these go again no more often than copies
 -- of the request came, and to an INVITE ten times more. To a target a request goes out eleven times at most, an INVITE seven times
 -- and at its moments alone; and each
--- CANCEL of this server goes out eleven times at most for each time that it is first sent. Each open request ends in time.
+-- CANCEL of this server goes out eleven times at most for each time that it is first sent, which for each branch is once. Each open
+-- request ends in time.
 pub record IsBounded (server : Server) (history : List Link) : Type 0 where
   pub answered : (number : ℕ) → IsAnsweredOnce number history
   pub again : (number : ℕ) → AnswersGoAgain number history
   pub goes_out : GoOutSoOften history
   pub cancels : GoOutElevenTimes history
+  pub one_cancel : HasOneCancelEach server history
   pub ends : EndInTime server history

@@ -5,7 +5,7 @@ ghost use Rattle.sip_model.specs.state.State.{first_state};
 ghost use Rattle.sip_model.specs.Run.{Link, IsChain};
 ghost use Rattle.model_bounds.specs.Bounds.{IsBounded};
 
-use crate::cancels::cancels_go_out_so_often;
+use crate::cancels::{cancels_go_out_so_often, one_cancel_for_each_branch};
 use crate::endings::requests_end_in_time;
 use crate::final_answers::{final_answers_go_again, one_final_answer_in_packets};
 use crate::sendings::requests_go_out_so_often;
@@ -13,7 +13,8 @@ use crate::sendings::requests_go_out_so_often;
 /// Every history is bounded, whatever comes and whatever fails: of each request at most one final answer goes to its
 /// caller, or several 2xx of an INVITE, and goes again as often as copies of the request come, to an INVITE ten times more
 /// by time; the request goes out to a target eleven times at most, an INVITE seven times, at its moments
-/// alone, and a CANCEL of this server's eleven times; and each request is closed in time.
+/// alone, and a CANCEL of this server's eleven times, of which one is the first, for each branch; and each request is
+/// closed in time.
 pub fn every_history_is_bounded()
     ensures { (server : Server) (first : ℕ) (history : List Link) (last : ProxyState) → IsChain server (first_state first) history last
         → IsBounded server history }
@@ -22,5 +23,6 @@ pub fn every_history_is_bounded()
     final_answers_go_again();
     requests_go_out_so_often();
     cancels_go_out_so_often();
+    one_cancel_for_each_branch();
     requests_end_in_time();
 }

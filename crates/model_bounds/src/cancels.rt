@@ -7,7 +7,9 @@ ghost use Rattle.sip_model.specs.state.declared.open_request.OpenRequest.{OpenRe
 ghost use Rattle.sip_model.specs.state.State.{first_state};
 ghost use Rattle.sip_model.specs.context_model.Sending.{branch_packets};
 ghost use Rattle.sip_model.specs.Run.{Link, IsChain};
-ghost use Rattle.model_bounds.specs.Cancels.{begins_cancel, IsOwnCancel, GoOutElevenTimes};
+ghost use Rattle.model_bounds.specs.Cancels.{begins_cancel, IsOwnCancel, GoOutElevenTimes, HasOneCancelEach};
+ghost use Rattle.model_bounds.specs.SecondCancel.{second_cancel};
+ghost use Rattle.sip_model.specs.context_model.Calls.{sample};
 
 use model_transactions::copies::{
     begins_with, copy_leaves_one_less, nothing_leaves_more, sent_at, stays_timely,
@@ -28,6 +30,25 @@ pub fn cancels_go_out_so_often()
     copy_leaves_one_less();
     nothing_leaves_more();
 }
+
+/// Each branch is sent its CANCEL for the first time at most once, whatever happens: of all first sendings of a history
+/// those that are CANCELs of this server are those of branches, each of another one (RFC 3261 9.1).
+pub fn one_cancel_for_each_branch()
+    ensures { (server : Server) (first : ℕ) (history : List Link) (last : ProxyState)
+        → IsChain server (first_state first) history last → HasOneCancelEach server history }
+{
+    steps_have_parts();
+    sent_at();
+    begins_with();
+    stays_timely();
+    copy_leaves_one_less();
+    nothing_leaves_more();
+}
+
+/// A history in which a target is sent a second CANCEL, for the first time like the one before it, doesn't have that.
+pub fn second_cancel_is_refused()
+    ensures { HasOneCancelEach sample second_cancel → ⊥ }
+{}
 
 /// What is sent for a CANCEL, first and again, is what this law counts: its ticket names no branch, and it begins with
 /// its method.

@@ -32,7 +32,7 @@ use Rattle.model_meanings.proofs.Messages.{busy_said, busy_is_for, ringing_said,
 use Rattle.model_meanings.proofs.Coming.{differ, refusal_not_passed, trying_not_passed, late_not_passed, EndsHow, ends_how, all_sent_are}
 
 -- the caller is at port 5070
-caller_is : (response_address Onward.invite (local 5070)).port ≡ 5070
+pub caller_is : (response_address Onward.invite (local 5070)).port ≡ 5070
 unfolding digits encode_with rest_of reading_of core_in nonce_text
 caller_is = refl
 

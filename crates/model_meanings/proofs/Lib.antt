@@ -36,3 +36,5 @@ pub mod Copying
 pub mod Recording
 pub mod GivingUp
 pub mod Timing
+pub mod Taken
+pub mod Withheld

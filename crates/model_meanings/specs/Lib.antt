@@ -14,3 +14,4 @@ pub mod WrongRequests
 pub mod WrongCopies
 pub mod WrongRecords
 pub mod WrongMoments
+pub mod WrongSilence

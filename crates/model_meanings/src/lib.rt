@@ -18,6 +18,7 @@ pub mod keys;
 pub mod listing;
 pub mod nonces;
 pub mod origins;
+pub mod owed;
 pub mod responses;
 pub mod sending;
 pub mod successes;

@@ -1,7 +1,7 @@
 -- A link that hears no more of a source than its allowance.
-use Rattle.std.specs.Prelude.{◌≡◌, ◌≤◌, ℕ, zero, suc, Bool, true, false, not, ◌||◌, max, List, [], ◌∷◌, length, Option, Some, None, Result, Ok, Err, ◌⊎◌}
+use Rattle.std.specs.Prelude.{◌≡◌, ◌≤◌, ◌<◌, nat_lt, ℕ, zero, suc, Bool, true, false, not, ◌||◌, max, List, [], ◌∷◌, length, Option, Some, None, Result, Ok, Err, ◌⊎◌}
 use Rattle.std.specs.List.{list_all, list_any}
-use Rattle.sip_loop_link.specs.Told.{counted, heard_of, and_then, and_counted}
+use Rattle.sip_loop_link.specs.Told.{counted, heard_of, and_then, and_counted, left_of}
 use Rattle.sip_loop_link.specs.declared.datagram.Given.{Given}
 use Rattle.sip_loop_link.specs.declared.datagram.Heard.{Heard}
 use Rattle.sip_loop_link.specs.declared.datagram.LinkFault.{LinkFault}
@@ -20,14 +20,22 @@ pub record AllowanceState : Type 0 where
   pub sources : SourceTable
   pub unheard : UnheardCounts
 
--- what a link tells: what it heard and was given, where it tells that, what it holds, how often it was asked for a datagram, and
--- how often that failed
+-- what a link tells: what it heard, set aside, was given and was let wait, where it tells that, what it holds, how often it was asked for a
+-- datagram, and how often that failed
 pub record LinkState : Type 0 where
   pub heard : Option (List (Option Heard))
+  pub fresh : Bool
+  pub aside : Option (List Heard)
   pub given : Option (List Given)
   pub held : List ℕ
+  pub waits : Option (List ℕ)
   pub receives : ℕ
   pub failures : ℕ
+
+-- by what each of these is
+abbrev pub link_told : Option (List (Option Heard)) → Bool → Option (List Heard) → Option (List Given) → List ℕ → Option (List ℕ) → ℕ → ℕ → LinkState
+link_told heard fresh aside given held waits receives failures =
+    record { heard = heard; fresh = fresh; aside = aside; given = given; held = held; waits = waits; receives = receives; failures = failures }
 
 -- what a guard is seen as: what it keeps where there is a limit; what the link under it tells, and its clock; how often it was
 -- asked for a datagram itself, and how often that failed
@@ -67,10 +75,10 @@ abbrev pub IsAdmitted : AllowanceState → List ℕ → AllowanceState → Type 
 IsAdmitted old ip new = (is_among old.always ip ≡ true → new ≡ old)
     × (is_among old.always ip ≡ false → (new ≡ record old { sources = new.sources }) × IsCharged old.limit old.present ip old.sources new.sources)
 
--- what a link tells when it heard these datagrams too, the newest first
-abbrev pub and_passed : Option (List (Option Heard)) → List Heard → Option (List (Option Heard))
+-- what a link tells when it set aside these datagrams too, the newest first
+abbrev pub and_passed : Option (List Heard) → List Heard → Option (List Heard)
 and_passed told [] = told
-and_passed told (datagram ∷ before) = and_then (and_passed told before) (Some datagram)
+and_passed told (datagram ∷ before) = and_then (and_passed told before) datagram
 
 -- what isn't handed on, with these datagrams too, the newest first
 abbrev pub noted_all : UnheardCounts → List Heard → UnheardCounts
@@ -82,12 +90,19 @@ abbrev pub counted_times : ℕ → ℕ → ℕ
 counted_times zero number = number
 counted_times (suc n) number = counted (counted_times n number)
 
--- the link heard so many datagrams, each beyond the allowance of its source, which isn't heard always; they were counted and not handed on. The newest first
+-- how many datagrams in a row are passed over at most
+abbrev pub most_passed : ℕ
+most_passed = 64
+
+-- The link heard so many datagrams, each beyond the allowance of its source, which isn't heard always; they were counted, set aside and not
+-- handed on, so that the link heard what it had heard before, or nothing behind the last of as many as are passed over at most. The newest first.
 pub record PassesOver (old new : AllowanceState) (before after : LinkState) (count : ℕ) : Type 0 where
   pub passed : List Heard
   pub number : length passed ≡ count
-  pub told : after.heard ≡ and_passed before.heard passed
+  pub told : after.heard ≡ left_of (nat_lt count most_passed) before.heard
+  pub aside : after.aside ≡ and_passed before.aside passed
   pub given : after.given ≡ before.given
+  pub waits : after.waits ≡ before.waits
   pub asked : after.receives ≡ counted_times count before.receives
   pub whole : after.failures ≡ before.failures
   pub beyond : list_all (λ datagram. not (is_within old datagram.from.ip)) passed ≡ true
@@ -95,14 +110,10 @@ pub record PassesOver (old new : AllowanceState) (before after : LinkState) (cou
 
 -- a receive of a link: what it answers is what it heard, and if it failed, nothing
 abbrev pub Receives : LinkState → LinkState → Result (Option Addr) LinkFault → Type 0
-Receives before after (Ok from) = (after.heard ≡ and_then before.heard (heard_of from after.held)) × (after.given ≡ before.given)
+Receives before after (Ok from) = (after.aside ≡ before.aside) × (after.heard ≡ and_then before.heard (heard_of from after.held)) × (after.given ≡ before.given) × (after.waits ≡ before.waits)
     × (after.receives ≡ counted before.receives) × (after.failures ≡ before.failures)
-Receives before after (Err fault) = (after.heard ≡ before.heard) × (after.given ≡ before.given)
+Receives before after (Err fault) = (after.aside ≡ before.aside) × (after.heard ≡ before.heard) × (after.given ≡ before.given) × (after.waits ≡ before.waits)
     × (after.receives ≡ counted before.receives) × (after.failures ≡ counted before.failures)
-
--- how many datagrams in a row are passed over at most
-abbrev pub most_passed : ℕ
-most_passed = 64
 
 -- what becomes of the allowances behind what a receive answers: a datagram's source is heard always, or it was within its allowance
 abbrev pub Answers : AllowanceState → AllowanceState → Result (Option Addr) LinkFault → Type 0
@@ -118,7 +129,7 @@ pub record Hears (old new : AllowanceState) (before after : LinkState) (result :
   pub count : ℕ
   pub passes : PassesOver old between before link count
   pub answers : Answers between new result
-  pub ends : Receives link after result ⊎ ((count ≡ most_passed) × (result ≡ Ok None) × (after ≡ link))
+  pub ends : ((count < most_passed) × Receives link after result) ⊎ ((count ≡ most_passed) × (result ≡ Ok None) × (after ≡ link))
 
 -- a receive of a guard with a limit: its clock is read once
 pub record HearsWithin (allowances : AllowanceState) (old new : GuardState) (result : Result (Option Addr) LinkFault) : Type 0 where

@@ -1,7 +1,5 @@
-ghost use Rattle.std.specs.Prelude.{◌≡◌, None, IfOk, IfSome, OnOk, OnErr, option_map};
-ghost use Rattle.std.specs.Borrow.{Lends, sem};
-ghost use Rattle.sip_guard.specs.contracts.guard.Guard.{the_row};
-ghost use Rattle.sip_loop_link.specs.Told.{counted, and_then, IsWritable};
+ghost use Rattle.std.specs.Prelude.{◌≡◌, true, None, IfOk, IfSome, OnOk, OnErr, option_map};
+ghost use Rattle.sip_loop_link.specs.Told.{counted, heard_of, and_then, GrewBy, IsWritable, SetsAside};
 ghost use Rattle.sip_guard.specs.Guard.{allowances_of, told_all, IsBounded, Hears, Guards};
 
 use crate::allowances::Allowances;
@@ -37,8 +35,11 @@ impl<L: Link, C: Clock> Model for Guard<L, C> {
       allowances = g.allowances;
       link = record {
         heard = L.heard g.link;
+        fresh = L.fresh g.link;
+        aside = L.aside g.link;
         given = L.given g.link;
         held = L.held g.link;
+        waits = L.waits g.link;
         receives = L.receives g.link;
         failures = L.failures g.link;
       };
@@ -56,9 +57,14 @@ fn hear_within<L: Link>(
     requires { IsBounded allowances.old }
     ensures bounded { IsBounded allowances.new }
     ensures hears { Hears allowances.old allowances.new
-        (record { heard = L.heard link.old; given = L.given link.old; held = L.held link.old; receives = L.receives link.old; failures = L.failures link.old })
-        (record { heard = L.heard link.new; given = L.given link.new; held = L.held link.new; receives = L.receives link.new; failures = L.failures link.new })
+        (record { heard = L.heard link.old; fresh = L.fresh link.old; aside = L.aside link.old; given = L.given link.old; held = L.held link.old; waits = L.waits link.old; receives = L.receives link.old; failures = L.failures link.old })
+        (record { heard = L.heard link.new; fresh = L.fresh link.new; aside = L.aside link.new; given = L.given link.new; held = L.held link.new; waits = L.waits link.new; receives = L.receives link.new; failures = L.failures link.new })
         result }
+    ensures tells { IfOk result (λ from. L.heard link.new ≡ and_then (L.heard link.old) (heard_of from (L.held link.new))) }
+    ensures silent { OnErr result (L.heard link.new ≡ L.heard link.old) }
+    ensures fresh { IfOk result (λ from. IfSome from (λ _. L.fresh link.new ≡ true)) }
+    ensures given { L.given link.new ≡ L.given link.old }
+    ensures waits { L.waits link.new ≡ L.waits link.old }
     ensures writable { IfOk result (λ from. IfSome from (λ source. IsWritable source (L.held link.new))) }
 {
     let mut passed = 0;
@@ -70,6 +76,7 @@ fn hear_within<L: Link>(
             return Ok(Some(from));
         }
         passed += 1;
+        link.set_aside(from, passed < MOST_PASSED);
     }
     Ok(None)
 }
@@ -88,7 +95,7 @@ impl<L: Link, C: Clock> Guard<L, C> {
     ) -> Result<Guard<L, C>, AllocError>
         ensures { IfOk result (λ guard. guard ≡ record {
           allowances = option_map (allowances_of always.items) limit;
-          link = record { heard = L.heard link; given = L.given link; held = L.held link; receives = L.receives link; failures = L.failures link };
+          link = record { heard = L.heard link; fresh = L.fresh link; aside = L.aside link; given = L.given link; held = L.held link; waits = L.waits link; receives = L.receives link; failures = L.failures link };
           readings = C.readings clock;
           receives = 0;
           failures = 0;
@@ -109,18 +116,9 @@ impl<L: Link, C: Clock> Guard<L, C> {
 
     /// The link under it.
     pub fn link(&self) -> &L
-        ensures { self.now.link ≡ record { heard = L.heard result.now; given = L.given result.now; held = L.held result.now; receives = L.receives result.now; failures = L.failures result.now } }
+        ensures { self.now.link ≡ record { heard = L.heard result.now; fresh = L.fresh result.now; aside = L.aside result.now; given = L.given result.now; held = L.held result.now; waits = L.waits result.now; receives = L.receives result.now; failures = L.failures result.now } }
     {
         &self.link
-    }
-
-    /// The link under it, for what only that link can do, as to wait.
-    pub fn link_mut(&mut self) -> &mut L
-        ensures* writes_back { sem 𝓛 (Lends (the_row L.row C.row L.Link C.Clock) L.row self.entry result
-            (λ link. record self.old { link = record { heard = L.heard link; given = L.given link; held = L.held link; receives = L.receives link; failures = L.failures link } })) }
-        ensures link { self.old.link ≡ record { heard = L.heard result.now; given = L.given result.now; held = L.held result.now; receives = L.receives result.now; failures = L.failures result.now } }
-    {
-        &mut self.link
     }
 
     /// How much of whom it didn't hand on since these counts began. None where there is no limit.
@@ -148,6 +146,11 @@ impl<L: Link, C: Clock> Guard<L, C> {
         ensures failures { self.new.failures ≡ self.old.failures }
         ensures bounded { IfSome self.new.allowances IsBounded }
         ensures guards { Guards self.old.allowances self.old self.new result }
+        ensures tells { IfOk result (λ from. self.new.link.heard ≡ and_then self.old.link.heard (heard_of from self.new.link.held)) }
+        ensures silent { OnErr result (self.new.link.heard ≡ self.old.link.heard) }
+        ensures fresh { IfOk result (λ from. IfSome from (λ _. self.new.link.fresh ≡ true)) }
+        ensures given { self.new.link.given ≡ self.old.link.given }
+        ensures waits { self.new.link.waits ≡ self.old.link.waits }
         ensures writable { IfOk result (λ from. IfSome from (λ source. IsWritable source self.new.link.held)) }
     {
         match &mut self.allowances {
@@ -165,11 +168,17 @@ impl<L: Link, C: Clock> Link for Guard<L, C> {
 
     ghost failures = { λ g. g.failures };
 
-    ghost heard = { λ _. None };
+    ghost heard = { λ g. g.link.heard };
 
-    ghost given = { λ _. None };
+    ghost fresh = { λ g. g.link.fresh };
+
+    ghost aside = { λ _. None };
+
+    ghost given = { λ g. g.link.given };
 
     ghost held = { λ g. g.link.held };
+
+    ghost waits = { λ g. g.link.waits };
 
     fn receive(&mut self) -> Result<Option<Addr>, LinkFault>
         ensures counted { self.new.receives ≡ counted self.old.receives }
@@ -177,6 +186,11 @@ impl<L: Link, C: Clock> Link for Guard<L, C> {
         ensures err { OnErr result (self.new.failures ≡ counted self.old.failures) }
         ensures bounded { IfSome self.new.allowances IsBounded }
         ensures guards { Guards self.old.allowances self.old self.new result }
+        ensures tells { IfOk result (λ from. self.new.link.heard ≡ and_then self.old.link.heard (heard_of from self.new.link.held)) }
+        ensures silent { OnErr result (self.new.link.heard ≡ self.old.link.heard) }
+        ensures fresh { IfOk result (λ from. IfSome from (λ _. self.new.link.fresh ≡ true)) }
+        ensures given { self.new.link.given ≡ self.old.link.given }
+        ensures waits { self.new.link.waits ≡ self.old.link.waits }
         ensures writable { IfOk result (λ from. IfSome from (λ source. IsWritable source self.new.link.held)) }
     {
         self.receives = self.receives.saturating_add(1);
@@ -185,6 +199,19 @@ impl<L: Link, C: Clock> Link for Guard<L, C> {
             self.failures = self.failures.saturating_add(1);
         }
         found
+    }
+
+    fn set_aside(&mut self, from: Addr, again: bool)
+        ensures aside { self.old.link.fresh ≡ true
+            → SetsAside (record { from = from; bytes = self.old.link.held }) again self.old.link.heard self.new.link.heard self.old.link.aside self.new.link.aside }
+        ensures allowances { self.new.allowances ≡ self.old.allowances }
+        ensures readings { self.new.readings ≡ self.old.readings }
+        ensures counted { self.new.receives ≡ self.old.receives }
+        ensures failures { self.new.failures ≡ self.old.failures }
+        ensures given { self.new.link.given ≡ self.old.link.given }
+        ensures waits { self.new.link.waits ≡ self.old.link.waits }
+    {
+        self.link.set_aside(from, again);
     }
 
     fn bytes(&self) -> &[u8] {
@@ -202,7 +229,24 @@ impl<L: Link, C: Clock> Link for Guard<L, C> {
         ensures sent { IfOk result (λ sending. self.new.link.given
             ≡ and_then self.old.link.given (record { to = to; bytes = bytes.now; sending = sending })) }
         ensures refused { OnErr result (self.new.link.given ≡ self.old.link.given) }
+        ensures aside { self.new.link.aside ≡ self.old.link.aside }
+        ensures waits { self.new.link.waits ≡ self.old.link.waits }
     {
         self.link.send(to, bytes)
+    }
+
+    fn wait(&mut self, milliseconds: u64)
+        ensures waited { GrewBy milliseconds self.old.link.waits self.new.link.waits }
+        ensures allowances { self.new.allowances ≡ self.old.allowances }
+        ensures readings { self.new.readings ≡ self.old.readings }
+        ensures counted { self.new.receives ≡ self.old.receives }
+        ensures failures { self.new.failures ≡ self.old.failures }
+        ensures heard { self.new.link.heard ≡ self.old.link.heard }
+        ensures aside { self.new.link.aside ≡ self.old.link.aside }
+        ensures given { self.new.link.given ≡ self.old.link.given }
+        ensures asked { self.new.link.receives ≡ self.old.link.receives }
+        ensures whole { self.new.link.failures ≡ self.old.link.failures }
+    {
+        self.link.wait(milliseconds);
     }
 }

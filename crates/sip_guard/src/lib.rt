@@ -7,7 +7,7 @@
 //!
 //! ```text
 //! let mut link = Guard::new(alloc, keys, link, clock, Limit::of_rate(20), gateways)?;
-//! link.link_mut().wait(1000);
+//! link.wait(1000);
 //! let found = link.receive()?;
 //! ```
 #![tactic(auto)]

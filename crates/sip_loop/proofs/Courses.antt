@@ -1,7 +1,7 @@
 -- Pieces of serving, and one behind the other.
 use Rattle.std.specs.List.{AllByRecursion}
 use Rattle.sip_replay_script.specs.EventText.{is_sayable}
-use Rattle.std.proofs.Common.{◌≡◌, true, ℕ, ◌+◌, List, [], ◌∷◌, ◌++◌, length, length-append, Option, None, Some, refl, sym, ◌∙◌, ap, ap₂, subst, append-nil, append_assoc}
+use Rattle.std.proofs.Common.{◌≡◌, ◌≢◌, true, false, ℕ, ◌+◌, List, [], ◌∷◌, ◌++◌, length, length-append, Option, None, Some, refl, sym, ◌∙◌, ap, ap₂, subst, append-nil, append_assoc}
 use Rattle.rand_core.specs.Stream.{Stream}
 use Rattle.sip_loop_link.specs.declared.datagram.Given.{Given}
 use Rattle.sip_loop_link.specs.declared.datagram.Heard.{Heard}
@@ -15,9 +15,10 @@ use Rattle.model_bounds.specs.state.declared.server.Server.{Server}
 use Rattle.model_bounds.specs.state.declared.proxy_state.ProxyState.{ProxyState}
 use Rattle.model_bounds.specs.model.Run.{Link, IsRun}
 use Rattle.sip_loop.specs.Printing.{Prints}
-use Rattle.sip_loop.specs.Serving.{AreDrawn, AreInTurn, AreTold, Asked, Asks, Cause, Clear, FallsDue, Fires, IsToldMore, Logs, MayCome, MayFallDue, Point, Reads, Sends, Stage, Stopped, Takes, Tells, Told, Turn, Unlogged, Untold}
+use Rattle.sip_loop.specs.Serving.{AreDrawn, AreInTurn, AreTold, AreAt, Asked, Asks, Cause, Clear, FallsAt, FallsDue, Fires, HasFailed, IsToldMore, Kept, Logs, MayCome, MayFallDue, Point, Reads, Sends, Stage, Stopped, Takes, Tells, Told, Turn, Unlogged, Untold}
 use Rattle.sip_loop.specs.Serving.{ahead, between_turns, event_for, event_taken, event_told, failing, gathered, heard_of_turn, moment_read, packets_of, reading_of, records_logged, records_of, steps_taken, told_by, told_more, turn_asked, turn_behind, untold_in}
 use Rattle.sip_loop.specs.Courses.{Course, IsThrough, waiting_at}
+use Rattle.sip_loop.proofs.Faults.{faulted_nothing, faulted_on, held_through, whole_nothing, whole_on}
 use Rattle.sip_loop.proofs.Gathering.{ahead_behind, gathered_behind, path_on, records_both, told_if_none, told_none, told_nothing, told_on}
 use Rattle.sip_loop.proofs.Noted.{notes_nothing}
 use Rattle.sip_loop.proofs.Printed.{prints_nothing}
@@ -70,6 +71,8 @@ module _ (server : Server) where
     turns = tt;
     sayable = tt;
     told = told_nothing t;
+    whole = whole_nothing t;
+    faulted = faulted_nothing p.stage t is;
     recorded = refl;
     told_but_last = sym (none_untold p.stage is);
     through = λ h. (refl, refl);
@@ -82,6 +85,7 @@ module _ (server : Server) where
       → Course server old new from to before after (records ++ more) (reads + more_reads) (asks + more_asks)
   course_on old middle new from mid to before half after records more reads asks more_reads more_asks is first second =
       let none : ahead first.done ≡ None = (first.through is).0 in
+      let held = held_through mid.stage before half is first.faulted in
       let logged : gathered records_logged first.done ≡ records = (first.through is).1 in
       let until : ahead (second.done ++ first.done) ≡ ahead second.done = ahead_behind second.done first.done none in
       record {
@@ -99,6 +103,8 @@ module _ (server : Server) where
             subst (λ (es : List Event). AllByRecursion (λ (event : Event). is_sayable event ≡ true) es) (sym (gathered_behind event_taken second.done first.done))
             (all_on (gathered event_taken first.done) (gathered event_taken second.done) first.sayable second.sayable);
         told = told_on before half after first.done second.done first.told second.told;
+        whole = whole_on before half first.done second.done held first.whole second.whole;
+        faulted = faulted_on to.stage before half after held second.faulted;
         recorded =
             ap records_of (gathered_behind steps_taken second.done first.done) ∙ records_both (gathered steps_taken first.done) (gathered steps_taken second.done)
             ∙ ap₂ (λ (a b : List Record). a ++ b) first.recorded second.recorded;
@@ -122,7 +128,7 @@ module _ (server : Server) where
   -- ---- one doing
 
   -- the clock is read
-  pub course_reads : (state : ProxyState) (m at : ℕ) (h : Option (List (Option Heard))) (g : Option (List Given)) (r r2 : Option (List ℕ)) (w p : Option (Option (List ℕ))) (ws : Stream) → IsToldMore r (at ∷ []) r2
+  pub course_reads : (state : ProxyState) (m at : ℕ) (h : Option (List (Option Heard))) (g : Option (List Given)) (r r2 : Option (List ℕ)) (w p : Kept) (ws : Stream) → IsToldMore r (at ∷ []) r2
       → Course server state state (between_turns m) (waiting_at (Some at) [] m) (told_by h g r w p ws) (told_by h g r2 w p ws) [] 1 0
   course_reads state m at h g r r2 w p ws told = record {
     done = Reads at ∷ [];
@@ -131,7 +137,9 @@ module _ (server : Server) where
     is_run = run_nothing server state None;
     turns = tt;
     sayable = tt;
-    told = record { heard = told_none h; given = told_none g; readings = told; words = refl; noted = notes_nothing w; printed = prints_nothing p };
+    told = record { heard = told_none h; given = told_none g; readings = told; words = refl; noted = notes_nothing w.bytes; printed = prints_nothing p.bytes };
+    whole = record { journal = λ some. absurd (some refl); log = λ some. absurd (some refl) };
+    faulted = (refl, refl);
     recorded = refl;
     told_but_last = refl;
     through = λ h. (refl, refl);
@@ -140,7 +148,7 @@ module _ (server : Server) where
   }
 
   -- the link is asked
-  pub course_asks : (state : ProxyState) (m at : ℕ) (turn : Turn) (h h2 : Option (List (Option Heard))) (g : Option (List Given)) (r : Option (List ℕ)) (w p : Option (Option (List ℕ))) (ws ws2 : Stream) → reading_of turn ≡ at
+  pub course_asks : (state : ProxyState) (m at : ℕ) (turn : Turn) (h h2 : Option (List (Option Heard))) (g : Option (List Given)) (r : Option (List ℕ)) (w p : Kept) (ws ws2 : Stream) → reading_of turn ≡ at
       → h2 ≡ told_more h (heard_of_turn turn ∷ []) → AreDrawn ws (turn ∷ []) ws2
       → Course server state state (waiting_at (Some at) [] m) (asked_at at turn m) (told_by h g r w p ws) (told_by h2 g r w p ws2) [] 0 1
   course_asks state m at turn h h2 g r w p ws ws2 is heard drawn = record {
@@ -150,7 +158,9 @@ module _ (server : Server) where
     is_run = run_nothing server state None;
     turns = tt;
     sayable = tt;
-    told = record { heard = heard; given = told_none g; readings = told_if_none r; words = drawn; noted = notes_nothing w; printed = prints_nothing p };
+    told = record { heard = heard; given = told_none g; readings = told_if_none r; words = drawn; noted = notes_nothing w.bytes; printed = prints_nothing p.bytes };
+    whole = record { journal = λ some. absurd (some refl); log = λ some. absurd (some refl) };
+    faulted = (refl, refl);
     recorded = refl;
     told_but_last = refl;
     through = λ h. (refl, refl);
@@ -159,7 +169,7 @@ module _ (server : Server) where
   }
 
   -- a packet is given to the link
-  pub course_sends : (state : ProxyState) (turn : Option ℕ) (p : Packet) (sending : Sending) (rest : List Packet) (m : ℕ) (h : Option (List (Option Heard))) (g g2 : Option (List Given)) (r : Option (List ℕ)) (w l : Option (Option (List ℕ))) (ws : Stream)
+  pub course_sends : (state : ProxyState) (turn : Option ℕ) (p : Packet) (sending : Sending) (rest : List Packet) (m : ℕ) (h : Option (List (Option Heard))) (g g2 : Option (List Given)) (r : Option (List ℕ)) (w l : Kept) (ws : Stream)
       → g2 ≡ told_more g (record { to = p.to; bytes = p.bytes; sending = sending } ∷ [])
       → Course server state state (waiting_at turn (p ∷ rest) m) (sent_at turn (failing p sending) rest m) (told_by h g r w l ws) (told_by h g2 r w l ws) [] 0 0
   course_sends state turn p sending rest m h g g2 r w l ws given = record {
@@ -169,7 +179,9 @@ module _ (server : Server) where
     is_run = run_nothing server state None;
     turns = tt;
     sayable = tt;
-    told = record { heard = told_none h; given = given; readings = told_if_none r; words = refl; noted = notes_nothing w; printed = prints_nothing l };
+    told = record { heard = told_none h; given = given; readings = told_if_none r; words = refl; noted = notes_nothing w.bytes; printed = prints_nothing l.bytes };
+    whole = record { journal = λ some. absurd (some refl); log = λ some. absurd (some refl) };
+    faulted = (refl, refl);
     recorded = refl;
     told_but_last = refl;
     through = λ h. (refl, refl);
@@ -178,16 +190,18 @@ module _ (server : Server) where
   }
 
   -- what is due happens, and the event behind it isn't taken
-  pub course_fires : (old new : ProxyState) (p : Point) (at : ℕ) (outs : List StepOut) (history : List Link) (t : Told) → MayFallDue at p → IsRun server old [] (Some at) outs history new → AreInTurn server history
+  pub course_fires : (old new : ProxyState) (p : Point) (at : ℕ) (outs : List StepOut) (history : List Link) (t : Told) → MayFallDue at p → AreAt at outs → IsRun server old [] (Some at) outs history new → AreInTurn server history
       → records_of outs ≡ [] → Course server old new p (stopped_at p (FallsDue at) outs) t t [] 0 0
-  course_fires old new p at outs history t comes run turns none = record {
+  course_fires old new p at outs history t comes falls run turns none = record {
     done = Fires (FallsDue at) outs ∷ [];
-    path = (p, refl, record { comes = comes; leads = refl });
+    path = (p, refl, record { comes = comes; falls = falls; leads = refl });
     history = history;
     is_run = run;
     turns = turns;
     sayable = tt;
     told = let told = told_nothing t in record { heard = told.heard; given = told.given; readings = told.readings; words = told.words; noted = told.noted; printed = told.printed };
+    whole = record { journal = λ some. absurd (some refl); log = λ some. absurd (some refl) };
+    faulted = (refl, refl);
     recorded = none;
     told_but_last = refl;
     through = λ h. absurd h;
@@ -197,18 +211,20 @@ module _ (server : Server) where
 
   -- ---- an event
 
-  module _ (old new : ProxyState) (p : Point) (cause : Cause) (outs : List StepOut) (own : StepOut) (history : List Link) (comes : MayCome cause p)
+  module _ (old new : ProxyState) (p : Point) (cause : Cause) (outs : List StepOut) (own : StepOut) (history : List Link) (comes : MayCome cause p) (falls : FallsAt cause outs)
       (run : IsRun server old (event_for cause ∷ []) None (outs ++ own ∷ []) history new) (turns : AreInTurn server history) (recorded : records_of (outs ++ own ∷ []) ≡ own.records) (says : is_sayable (event_for cause) ≡ true) where
     -- it was taken, and isn't told
-    pub course_takes : (t t2 : Told) → AreTold t t2 [] → Course server old new p (taken_at p cause outs own) t t2 own.records 0 0
-    course_takes t t2 told = record {
+    pub course_takes : (t t2 : Told) → AreTold t t2 [] → HasFailed t2.journal → t2.log.faulted ≡ t.log.faulted → Course server old new p (taken_at p cause outs own) t t2 own.records 0 0
+    course_takes t t2 told failed same = record {
       done = Takes cause outs own ∷ [];
-      path = (p, refl, record { comes = comes; leads = refl });
+      path = (p, refl, record { comes = comes; falls = falls; leads = refl });
       history = history;
       is_run = run;
       turns = turns;
       sayable = (says, tt);
       told = record { heard = told.heard; given = told.given; readings = told.readings; words = told.words; noted = told.noted; printed = told.printed };
+      whole = record { journal = λ some. absurd (some refl); log = λ some. absurd (some refl) };
+      faulted = (failed, same);
       recorded = recorded;
       told_but_last = refl;
       through = λ h. absurd h;
@@ -217,16 +233,18 @@ module _ (server : Server) where
     }
 
     -- it was told, and its lines aren't printed
-    pub course_tells : (h : Option (List (Option Heard))) (g : Option (List Given)) (r : Option (List ℕ)) (w w2 l l2 : Option (Option (List ℕ))) (ws : Stream) → Notes w w2 (event_for cause ∷ []) → Prints l l2 []
+    pub course_tells : (h : Option (List (Option Heard))) (g : Option (List Given)) (r : Option (List ℕ)) (w w2 l l2 : Kept) (ws : Stream) → Notes w.bytes w2.bytes (event_for cause ∷ []) → (w.faulted ≡ false) × (w2.faulted ≡ false) → Prints l.bytes l2.bytes [] → HasFailed l2
         → Course server old new p (unlogged_at p cause outs own) (told_by h g r w l ws) (told_by h g r w2 l2 ws) own.records 0 0
-    course_tells h g r w w2 l l2 ws noted printed = record {
+    course_tells h g r w w2 l l2 ws noted whole printed failed = record {
       done = Tells (event_for cause) ∷ Takes cause outs own ∷ [];
-      path = (taken_at p cause outs own, (p, refl, record { comes = comes; leads = refl }), record { cause = cause; records = own.records; untold = refl; same = refl; leads = refl });
+      path = (taken_at p cause outs own, (p, refl, record { comes = comes; falls = falls; leads = refl }), record { cause = cause; records = own.records; untold = refl; same = refl; leads = refl });
       history = history;
       is_run = subst (λ (ss : List StepOut). IsRun server old (event_for cause ∷ []) None ss history new) (sym (append-nil (outs ++ own ∷ []))) run;
       turns = turns;
       sayable = (says, tt);
       told = record { heard = told_none h; given = told_none g; readings = told_if_none r; words = refl; noted = noted; printed = printed };
+      whole = record { journal = λ some. whole.0; log = λ some. absurd (some refl) };
+      faulted = (whole.1 ∙ sym whole.0, failed);
       recorded = ap records_of (append-nil (outs ++ own ∷ [])) ∙ recorded;
       told_but_last = refl;
       through = λ h. absurd h;
@@ -235,14 +253,15 @@ module _ (server : Server) where
     }
 
     -- and they are
-    pub course_event : (waiting : List Packet) (m : ℕ) (h : Option (List (Option Heard))) (g : Option (List Given)) (r : Option (List ℕ)) (w w2 l l2 : Option (Option (List ℕ))) (ws : Stream)
-        → waiting ≡ p.waiting ++ packets_of (outs ++ own ∷ []) → m ≡ own.at → Notes w w2 (event_for cause ∷ []) → Prints l l2 own.records
+    pub course_event : (waiting : List Packet) (m : ℕ) (h : Option (List (Option Heard))) (g : Option (List Given)) (r : Option (List ℕ)) (w w2 l l2 : Kept) (ws : Stream)
+        → waiting ≡ p.waiting ++ packets_of (outs ++ own ∷ []) → m ≡ own.at → Notes w.bytes w2.bytes (event_for cause ∷ []) → (w.faulted ≡ false) × (w2.faulted ≡ false)
+        → Prints l.bytes l2.bytes own.records → (own.records ≢ [] → l.faulted ≡ false) → l2.faulted ≡ l.faulted
         → Course server old new p (waiting_at (turn_behind cause p.turn) waiting m) (told_by h g r w l ws) (told_by h g r w2 l2 ws) own.records 0 0
-    course_event waiting m h g r w w2 l l2 ws waits stands noted printed = record {
+    course_event waiting m h g r w w2 l l2 ws waits stands noted whole printed sound held = record {
       done = Logs own.records ∷ Tells (event_for cause) ∷ Takes cause outs own ∷ [];
       path = (
         unlogged_at p cause outs own,
-        (taken_at p cause outs own, (p, refl, record { comes = comes; leads = refl }), record { cause = cause; records = own.records; untold = refl; same = refl; leads = refl }),
+        (taken_at p cause outs own, (p, refl, record { comes = comes; falls = falls; leads = refl }), record { cause = cause; records = own.records; untold = refl; same = refl; leads = refl }),
         record { unlogged = refl; leads = ap₂ (λ (l : List Packet) (n : ℕ). waiting_at (turn_behind cause p.turn) l n) waits stands },
       );
       history = history;
@@ -250,6 +269,8 @@ module _ (server : Server) where
       turns = turns;
       sayable = (says, tt);
       told = record { heard = told_none h; given = told_none g; readings = told_if_none r; words = refl; noted = noted; printed = printed };
+      whole = record { journal = λ some. whole.0; log = sound };
+      faulted = (whole.1 ∙ sym whole.0, held);
       recorded = ap records_of (twice_nil (outs ++ own ∷ [])) ∙ recorded;
       told_but_last = refl;
       through = λ h. (refl, refl);

@@ -13,7 +13,7 @@ use Rattle.sip_record.specs.Record.{Notes}
 use Rattle.sip_loop.specs.Printing.{Prints}
 use Rattle.sip_loop.proofs.Noted.{notes_nothing, notes_both, notes_untold}
 use Rattle.sip_loop.proofs.Printed.{prints_nothing, prints_both}
-use Rattle.sip_loop.specs.Serving.{AreDrawn, AreTold, Arrival, Doing, IsPath, IsToldMore, Point, Silence, Told, Turn, ahead, behind_word, event_told, gathered, heard_then, moment_read, packet_given, packets_of, records_logged, records_of, told_by, told_more, turn_asked}
+use Rattle.sip_loop.specs.Serving.{AreDrawn, AreTold, Arrival, Doing, IsPath, IsToldMore, Kept, Point, Silence, Told, Turn, ahead, behind_word, event_told, gathered, heard_then, moment_read, packet_given, packets_of, records_logged, records_of, told_by, told_more, turn_asked}
 
 -- ---- lists
 
@@ -80,19 +80,19 @@ told_nothing t = record {
   given = told_none t.given;
   readings = told_if_none t.readings;
   words = refl;
-  noted = notes_nothing t.written;
-  printed = prints_nothing t.printed;
+  noted = notes_nothing t.journal.bytes;
+  printed = prints_nothing t.log.bytes;
 }
 
 -- a journal that failed tells nothing
-pub told_failed : (h : Option (List (Option Heard))) (g : Option (List Given)) (r : Option (List ℕ)) (w w2 l : Option (Option (List ℕ))) (ws : Stream) → w2 ≡ None → AreTold (told_by h g r w l ws) (told_by h g r w2 l ws) []
+pub told_failed : (h : Option (List (Option Heard))) (g : Option (List Given)) (r : Option (List ℕ)) (w w2 l : Kept) (ws : Stream) → w2.bytes ≡ None → AreTold (told_by h g r w l ws) (told_by h g r w2 l ws) []
 told_failed h g r w w2 l ws none = record {
   heard = told_none h;
   given = told_none g;
   readings = told_if_none r;
   words = refl;
-  noted = notes_untold w w2 [] none;
-  printed = prints_nothing l;
+  noted = notes_untold w.bytes w2.bytes [] none;
+  printed = prints_nothing l.bytes;
 }
 
 pub told_on : (before middle after : Told) (done more : List Doing) → AreTold before middle done → AreTold middle after more → AreTold before after (more ++ done)
@@ -110,9 +110,9 @@ told_on before middle after done more h k = record {
       subst (λ (l : List Turn). AreDrawn before.words l after.words) (sym (gathered_behind turn_asked more done))
       (drawn_both (gathered turn_asked done) (gathered turn_asked more) before.words middle.words after.words h.words k.words);
   noted =
-      subst (λ (l : List Event). Notes before.written after.written l) (sym (gathered_behind event_told more done))
-      (notes_both before.written middle.written after.written (gathered event_told done) (gathered event_told more) h.noted k.noted);
+      subst (λ (l : List Event). Notes before.journal.bytes after.journal.bytes l) (sym (gathered_behind event_told more done))
+      (notes_both before.journal.bytes middle.journal.bytes after.journal.bytes (gathered event_told done) (gathered event_told more) h.noted k.noted);
   printed =
-      subst (λ (l : List Record). Prints before.printed after.printed l) (sym (gathered_behind records_logged more done))
-      (prints_both before.printed middle.printed after.printed (gathered records_logged done) (gathered records_logged more) h.printed k.printed);
+      subst (λ (l : List Record). Prints before.log.bytes after.log.bytes l) (sym (gathered_behind records_logged more done))
+      (prints_both before.log.bytes middle.log.bytes after.log.bytes (gathered records_logged done) (gathered records_logged more) h.printed k.printed);
 }

@@ -1,5 +1,5 @@
 -- What is handed out, and the faults of it.
-use Rattle.std.proofs.Common.{◌≡◌, ℕ, ◌+◌, ◌≤◌, ◌<◌, ◌^◌, true, List, [], ◌∷◌, ◌++◌, length, drop, zero, suc, Option, None, Some, Result, Ok, Err, OnErr, refl, sym, ◌∙◌, ap, subst, arith, append-nil}
+use Rattle.std.proofs.Common.{◌≡◌, ℕ, ◌+◌, ◌≤◌, ◌<◌, ◌^◌, true, false, List, [], ◌∷◌, ◌++◌, length, drop, zero, suc, Option, None, Some, Result, Ok, Err, OnErr, refl, sym, ◌∙◌, ap, subst, arith, append-nil}
 use Rattle.std.specs.Prelude.{find, get_or, ◌==◌}
 use Rattle.std.proofs.lemmas.List.{drop_more}
 use Rattle.sip_loop_link.specs.declared.datagram.Given.{Given}
@@ -16,13 +16,18 @@ use Rattle.model_bounds.specs.state.declared.open_request.OpenRequest.{OpenReque
 use Rattle.model_bounds.specs.state.declared.proxy_state.ProxyState.{ProxyState}
 use Rattle.model_bounds.specs.state.declared.server.Server.{Server}
 use Rattle.model_bounds.specs.steps_model.Step.{Given as ForEvent, IsFault, IsStep, failed_branch, failed_request, fault_effect, is_failed, moment_of}
+use Rattle.model_bounds.specs.state.State.{first_state}
 use Rattle.model_bounds.specs.model.Ends.{sends_left}
+use Rattle.model_bounds.specs.model.Run.{Link, IsChain}
+use Rattle.sip_run.specs.Due.{NothingDueBy}
+use Rattle.sip_run.specs.engine.StepError.{refusal_at}
 use Rattle.sip_loop.specs.Printing.{Prints}
-use Rattle.sip_loop.specs.Serving.{IsWhy, MayFail, Point, Told, Unsent}
+use Rattle.sip_loop.specs.Serving.{HasFailed, IsWhy, Kept, MayFail, Point, Told, Unsent, untold_in}
 use Rattle.sip_loop.specs.Courses.{Breaks, Course, IsNoFurther, IsThrough, Others, TakesFault, told_with, waiting_at}
 use Rattle.sip_loop.specs.declared.served.ServeError.{ServeError}
 use Rattle.sip_loop.specs.declared.served.ServeError.TheVariants as refusals
 use Rattle.sip_loop.proofs.Courses.{course_event, course_nothing, course_on, course_sends, course_takes, sent_at, taken_at}
+use Rattle.sip_loop.proofs.FaultsLeaveNone.{FaultLeaves, fault_leaves_none}
 use Rattle.sip_loop.proofs.Gathering.{told_failed, told_one}
 use Rattle.sip_loop.proofs.Printed.{prints_nothing}
 use Rattle.sip_loop.proofs.Sayable.{is_small}
@@ -43,22 +48,28 @@ module _ (server : Server) (now : ℕ) (ticket : Ticket) (state : ProxyState) wh
   fault_records : (fault_effect server now ticket state).records ≡ []
   fault_records = request_records (find (λ (r : OpenRequest). r.number == ticket.datagram) state.requests)
 
-pub takes_fault : (server : Server) (old new : ProxyState) (at : ℕ) (ticket : Ticket) (out : StepOut) → at ≡ old.moment → at < 2 ^ 62 → IsStep server old (ForEvent (Fault at ticket)) out new → new.moment ≡ out.at
-    → length out.packets + sends_left new ≤ sends_left old → (IsFault server old old.moment ticket out new → IsNoFurther old new) → TakesFault server old ticket out new
-takes_fault server old new at ticket out is small step stands fewer further =
+-- a moment that counts as the state's is that
+pub counts_as : (state : ProxyState) (at : ℕ) → at ≡ state.moment → state.moment ≡ moment_of state at
+counts_as state at is = omega (arith, is)
+
+pub takes_fault : FaultLeaves → (server : Server) (old new : ProxyState) (at first : ℕ) (history : List Link) (ticket : Ticket) (out : StepOut) → IsChain server (first_state first) history old → NothingDueBy old.moment old → at ≡ old.moment → at < 2 ^ 62
+    → refusal_at at ≡ None → IsStep server old (ForEvent (Fault at ticket)) out new → new.moment ≡ out.at → length out.packets + sends_left new ≤ sends_left old → (IsFault server old old.moment ticket out new → IsNoFurther old new) → TakesFault server old ticket out new
+takes_fault leaves server old new at first history ticket out chain none is small not_refused step stands fewer further =
     let then : IsStep server old (ForEvent (Fault old.moment ticket)) out new = subst (λ (n : ℕ). IsStep server old (ForEvent (Fault n ticket)) out new) is step in
+    let due : NothingDueBy (moment_of old old.moment) old = subst (λ (n : ℕ). NothingDueBy n old) (counts_as old old.moment refl) none in
     record {
       step = then;
+      in_turn = record {
+        none_due = due;
+        not_refused = subst (λ (n : ℕ). refusal_at n ≡ None) is not_refused;
+      };
+      none_due = fault_leaves_none leaves server first history old new ticket out chain then due;
       stands = stands;
       sayable = subst (λ (n : ℕ). is_moment n ≡ true) is (is_small at small);
       no_records = then.does.records ∙ fault_records server (moment_of old old.moment) ticket (record old { moment = moment_of old old.moment });
       fewer = fewer;
       no_further = further then;
     }
-
--- a moment that counts as the state's is that
-pub counts_as : (state : ProxyState) (at : ℕ) → at ≡ state.moment → state.moment ≡ moment_of state at
-counts_as state at is = omega (arith, is)
 
 -- ---- what waits
 
@@ -92,20 +103,20 @@ breaks_on server old middle new from mid before half after records reads asks mo
 }
 
 -- memory ran out, whatever was done
-pub breaks_memory : (server : Server) (old new : ProxyState) (from to : Point) (before after : Told) (records : List Record) (reads asks : ℕ) (e : ServeError) → e ≡ refusals.NoMemory
+pub breaks_memory : (server : Server) (old new : ProxyState) (from to : Point) (before after : Told) (records : List Record) (reads asks : ℕ) (e : ServeError) → e ≡ refusals.NoMemory → untold_in to.stage ≡ []
     → Course server old new from to before after records reads asks → Breaks server old new from before after reads e
-breaks_memory server old new from to before after records reads asks e is course = record {
+breaks_memory server old new from to before after records reads asks e is told course = record {
   to = to;
   records = records;
   asks = asks;
   course = course;
-  why = subst (λ (x : ServeError). IsWhy x to new) (sym is) tt;
+  why = subst (λ (x : ServeError). IsWhy x to new) (sym is) told;
 }
 
 -- ---- one packet
 
 module _ (server : Server) (old : ProxyState) (packets : List Packet) (place : ℕ) (p : Packet) (lt : place < length packets) (is : p ≡ get_or packets place p) (others : Others) (turn : Option ℕ)
-    (g g2 : Option (List Given)) (w : Option (Option (List ℕ))) where
+    (g g2 : Option (List Given)) (w : Kept) where
   -- a point of which so much is known
   from_place : (T : Point → Type 0) → T (waiting_at turn (p ∷ drop (place + 1) packets) old.moment) → T (waiting_at turn (drop place packets) old.moment)
   from_place T h = subst (λ (l : List Packet). T (waiting_at turn l old.moment)) (sym (at_place packets place p lt is)) h
@@ -115,73 +126,73 @@ module _ (server : Server) (old : ProxyState) (packets : List Packet) (place : �
       → Course server old old (waiting_at turn (drop place packets) old.moment) (waiting_at turn (drop (place + 1) packets) old.moment) (told_with others g w) (told_with others g2 w) [] 0 0
   went given =
       from_place (λ from. Course server old old from (waiting_at turn (drop (place + 1) packets) old.moment) (told_with others g w) (told_with others g2 w) [] 0 0)
-      (course_sends server old turn p Went (drop (place + 1) packets) old.moment others.heard g g2 others.readings w others.printed others.words (given ∙ told_one g _))
+      (course_sends server old turn p Went (drop (place + 1) packets) old.moment others.heard g g2 others.readings w others.log others.words (given ∙ told_one g _))
 
   -- it failed
   failed : g2 ≡ and_then g (record { to = p.to; bytes = p.bytes; sending = Failed })
       → Course server old old (waiting_at turn (drop place packets) old.moment) (sent_at turn (Some p) (drop (place + 1) packets) old.moment) (told_with others g w) (told_with others g2 w) [] 0 0
   failed given =
       from_place (λ from. Course server old old from (sent_at turn (Some p) (drop (place + 1) packets) old.moment) (told_with others g w) (told_with others g2 w) [] 0 0)
-      (course_sends server old turn p Failed (drop (place + 1) packets) old.moment others.heard g g2 others.readings w others.printed others.words (given ∙ told_one g _))
+      (course_sends server old turn p Failed (drop (place + 1) packets) old.moment others.heard g g2 others.readings w others.log others.words (given ∙ told_one g _))
 
   -- and its fault wasn't taken
   pub unfaulted : (e : ServeError) → e ≡ refusals.NoMemory → g2 ≡ and_then g (record { to = p.to; bytes = p.bytes; sending = Failed })
       → Breaks server old old (waiting_at turn (drop place packets) old.moment) (told_with others g w) (told_with others g2 w) 0 e
   unfaulted e lack given =
-      breaks_memory server old old (waiting_at turn (drop place packets) old.moment) (sent_at turn (Some p) (drop (place + 1) packets) old.moment) (told_with others g w) (told_with others g2 w) [] 0 0 e lack (failed given)
+      breaks_memory server old old (waiting_at turn (drop place packets) old.moment) (sent_at turn (Some p) (drop (place + 1) packets) old.moment) (told_with others g w) (told_with others g2 w) [] 0 0 e lack refl (failed given)
 
   -- it was
   module _ (new : ProxyState) (out : StepOut) (given : g2 ≡ and_then g (record { to = p.to; bytes = p.bytes; sending = Failed })) (taken : TakesFault server old p.ticket out new) where
     comes : MayFail old.moment p (sent_at turn (Some p) (drop (place + 1) packets) old.moment)
     comes = record { clear = refl; failed = refl; same = refl }
 
-    fault_event : (w2 : Option (Option (List ℕ))) (waiting : List Packet) → waiting ≡ drop (place + 1) packets ++ out.packets → Notes w w2 (Fault old.moment p.ticket ∷ [])
+    fault_event : (w2 : Kept) (waiting : List Packet) → waiting ≡ drop (place + 1) packets ++ out.packets → Notes w.bytes w2.bytes (Fault old.moment p.ticket ∷ []) → (w.faulted ≡ false) × (w2.faulted ≡ false)
         → Course server old new (sent_at turn (Some p) (drop (place + 1) packets) old.moment) (waiting_at turn waiting new.moment) (told_with others g2 w) (told_with others g2 w2) [] 0 0
-    fault_event w2 waiting waits noted =
+    fault_event w2 waiting waits noted whole =
         subst (λ (rs : List Record). Course server old new (sent_at turn (Some p) (drop (place + 1) packets) old.moment) (waiting_at turn waiting new.moment) (told_with others g2 w) (told_with others g2 w2) rs 0 0) taken.no_records
-        (course_event server old new (sent_at turn (Some p) (drop (place + 1) packets) old.moment) (Unsent old.moment p) [] out (record { before = old; act = ForEvent (Fault old.moment p.ticket); out = out; after = new } ∷ []) comes
-        (record { chain = (refl, taken.step, refl); paced = (tt, tt); of_events = refl; of_steps = refl }) (refl, tt) (append-nil out.records) taken.sayable
-        waiting new.moment others.heard g2 others.readings w w2 others.printed others.printed others.words
-        (waits ∙ ap (λ (l : List Packet). drop (place + 1) packets ++ l) (sym (append-nil out.packets))) taken.stands noted
-        (subst (λ (rs : List Record). Prints others.printed others.printed rs) (sym taken.no_records) (prints_nothing others.printed)))
+        (course_event server old new (sent_at turn (Some p) (drop (place + 1) packets) old.moment) (Unsent old.moment p) [] out (record { before = old; act = ForEvent (Fault old.moment p.ticket); out = out; after = new } ∷ []) comes refl
+        (record { chain = (refl, taken.step, refl); paced = (tt, tt); of_events = refl; of_steps = refl }) ((refl, taken.in_turn), tt) (append-nil out.records) taken.sayable
+        waiting new.moment others.heard g2 others.readings w w2 others.log others.log others.words
+        (waits ∙ ap (λ (l : List Packet). drop (place + 1) packets ++ l) (sym (append-nil out.packets))) taken.stands noted whole
+        (subst (λ (rs : List Record). Prints others.log.bytes others.log.bytes rs) (sym taken.no_records) (prints_nothing others.log.bytes)) (λ some. absurd (some taken.no_records)) refl)
 
     -- and told
-    pub faulted : (w2 : Option (Option (List ℕ))) (after : List Packet) → after ≡ packets ++ out.packets → Notes w w2 (Fault old.moment p.ticket ∷ [])
+    pub faulted : (w2 : Kept) (after : List Packet) → after ≡ packets ++ out.packets → Notes w.bytes w2.bytes (Fault old.moment p.ticket ∷ []) → (w.faulted ≡ false) × (w2.faulted ≡ false)
         → Course server old new (waiting_at turn (drop place packets) old.moment) (waiting_at turn (drop (place + 1) after) new.moment) (told_with others g w) (told_with others g2 w2) [] 0 0
-    faulted w2 after added noted =
+    faulted w2 after added noted whole =
         course_on server old old new (waiting_at turn (drop place packets) old.moment) (sent_at turn (Some p) (drop (place + 1) packets) old.moment) (waiting_at turn (drop (place + 1) after) new.moment)
         (told_with others g w) (told_with others g2 w) (told_with others g2 w2) [] [] 0 0 0 0 tt (failed given)
-        (fault_event w2 (drop (place + 1) after) (ap (drop (place + 1)) added ∙ behind_more packets out.packets place lt) noted)
+        (fault_event w2 (drop (place + 1) after) (ap (drop (place + 1)) added ∙ behind_more packets out.packets place lt) noted whole)
 
     -- and told, and memory ran out
-    pub faulted_some : (w2 : Option (Option (List ℕ))) (e : ServeError) → e ≡ refusals.NoMemory → Notes w w2 (Fault old.moment p.ticket ∷ [])
+    pub faulted_some : (w2 : Kept) (e : ServeError) → e ≡ refusals.NoMemory → Notes w.bytes w2.bytes (Fault old.moment p.ticket ∷ []) → (w.faulted ≡ false) × (w2.faulted ≡ false)
         → Breaks server old new (waiting_at turn (drop place packets) old.moment) (told_with others g w) (told_with others g2 w2) 0 e
-    faulted_some w2 e lack noted =
-        breaks_memory server old new (waiting_at turn (drop place packets) old.moment) (waiting_at turn (drop (place + 1) packets ++ out.packets) new.moment) (told_with others g w) (told_with others g2 w2) [] 0 0 e lack
+    faulted_some w2 e lack noted whole =
+        breaks_memory server old new (waiting_at turn (drop place packets) old.moment) (waiting_at turn (drop (place + 1) packets ++ out.packets) new.moment) (told_with others g w) (told_with others g2 w2) [] 0 0 e lack refl
         (course_on server old old new (waiting_at turn (drop place packets) old.moment) (sent_at turn (Some p) (drop (place + 1) packets) old.moment) (waiting_at turn (drop (place + 1) packets ++ out.packets) new.moment)
         (told_with others g w) (told_with others g2 w) (told_with others g2 w2) [] [] 0 0 0 0 tt (failed given)
-        (fault_event w2 (drop (place + 1) packets ++ out.packets) refl noted))
+        (fault_event w2 (drop (place + 1) packets ++ out.packets) refl noted whole))
 
     -- and the journal failed
-    pub untold : (w2 : Option (Option (List ℕ))) → w2 ≡ None
+    pub untold : (w2 : Kept) → HasFailed w2
         → Breaks server old new (waiting_at turn (drop place packets) old.moment) (told_with others g w) (told_with others g2 w2) 0 refusals.Journal
-    untold w2 none = record {
+    untold w2 failed_now = record {
       to = taken_at (sent_at turn (Some p) (drop (place + 1) packets) old.moment) (Unsent old.moment p) [] out;
       records = [] ++ out.records;
       asks = 0;
       course = course_on server old old new (waiting_at turn (drop place packets) old.moment) (sent_at turn (Some p) (drop (place + 1) packets) old.moment)
           (taken_at (sent_at turn (Some p) (drop (place + 1) packets) old.moment) (Unsent old.moment p) [] out)
           (told_with others g w) (told_with others g2 w) (told_with others g2 w2) [] out.records 0 0 0 0 tt (failed given)
-          (course_takes server old new (sent_at turn (Some p) (drop (place + 1) packets) old.moment) (Unsent old.moment p) [] out (record { before = old; act = ForEvent (Fault old.moment p.ticket); out = out; after = new } ∷ []) comes
-          (record { chain = (refl, taken.step, refl); paced = (tt, tt); of_events = refl; of_steps = refl }) (refl, tt) (append-nil out.records) taken.sayable
-          (told_with others g2 w) (told_with others g2 w2) (told_failed others.heard g2 others.readings w w2 others.printed others.words none));
+          (course_takes server old new (sent_at turn (Some p) (drop (place + 1) packets) old.moment) (Unsent old.moment p) [] out (record { before = old; act = ForEvent (Fault old.moment p.ticket); out = out; after = new } ∷ []) comes refl
+          (record { chain = (refl, taken.step, refl); paced = (tt, tt); of_events = refl; of_steps = refl }) ((refl, taken.in_turn), tt) (append-nil out.records) taken.sayable
+          (told_with others g2 w) (told_with others g2 w2) (told_failed others.heard g2 others.readings w w2 others.log others.words failed_now.0) failed_now refl);
       why = record { cause = Unsent old.moment p; records = out.records; untold = refl };
     }
 
 -- nothing was given
-pub unsent : (server : Server) (state : ProxyState) (waiting : List Packet) (others : Others) (turn : Option ℕ) (g g2 : Option (List Given)) (w : Option (Option (List ℕ))) (e : ServeError) → g2 ≡ g → e ≡ refusals.NoMemory
+pub unsent : (server : Server) (state : ProxyState) (waiting : List Packet) (others : Others) (turn : Option ℕ) (g g2 : Option (List Given)) (w : Kept) (e : ServeError) → g2 ≡ g → e ≡ refusals.NoMemory
     → Breaks server state state (waiting_at turn waiting state.moment) (told_with others g w) (told_with others g2 w) 0 e
 unsent server state waiting others turn g g2 w e same lack =
     subst (λ (x : Option (List Given)). Breaks server state state (waiting_at turn waiting state.moment) (told_with others g w) (told_with others x w) 0 e) (sym same)
-    (breaks_memory server state state (waiting_at turn waiting state.moment) (waiting_at turn waiting state.moment) (told_with others g w) (told_with others g w) [] 0 0 e lack
+    (breaks_memory server state state (waiting_at turn waiting state.moment) (waiting_at turn waiting state.moment) (told_with others g w) (told_with others g w) [] 0 0 e lack refl
     (course_nothing server state (waiting_at turn waiting state.moment) (told_with others g w) tt))

@@ -1,5 +1,7 @@
 pub mod Courses
 pub mod WhatIsDue
+pub mod Faults
+pub mod FaultsLeaveNone
 pub mod Gathering
 pub mod Handed
 pub mod Noted

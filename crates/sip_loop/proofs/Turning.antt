@@ -1,5 +1,5 @@
 -- A turn, of its pieces, and turns, one behind the other.
-use Rattle.std.proofs.Common.{◌≡◌, ◌⊎◌, inl, inr, ℕ, ◌+◌, ◌≤◌, ◌<◌, zero, suc, List, [], ◌∷◌, ◌++◌, Option, None, Some, refl, sym, ◌∙◌, ap, subst, arith, append-nil, append_assoc}
+use Rattle.std.proofs.Common.{◌≡◌, ◌≢◌, ◌⊎◌, false, inl, inr, ℕ, ◌+◌, ◌≤◌, ◌<◌, zero, suc, List, [], ◌∷◌, ◌++◌, Option, None, Some, refl, sym, ◌∙◌, ap, subst, arith, append-nil}
 use Rattle.std.specs.Prelude.{IsSome}
 use Rattle.rand_core.specs.Stream.{Stream}
 use Rattle.sip_loop_link.specs.declared.datagram.Given.{Given}
@@ -25,14 +25,14 @@ use Rattle.sip_run.specs.Refusals.{refusal_of_event}
 use Rattle.sip_loop.specs.Counts.{counted_times, IsAskedWithin}
 use Rattle.sip_loop.specs.Printing.{Prints}
 use Rattle.sip_loop.specs.ServeErrors.{IsOfHanding, refusal_of_step}
-use Rattle.sip_loop.specs.Serving.{AreInTurn, Arrival, Brought, IsServed, IsToldMore, IsTurnOf, IsUnserved, IsWhy, MayBring, Point, Serves, Silence, Told, Turn}
+use Rattle.sip_loop.specs.Serving.{AreInTurn, Arrival, Brought, HasFailed, IsServed, IsToldMore, IsTurnOf, IsUnserved, IsWhy, Kept, MayBring, Point, Serves, Silence, Told, Turn}
 use Rattle.sip_loop.specs.Serving.{behind_word, between_turns, event_of_turn, reading_of, told_by, word_from}
 use Rattle.sip_loop.specs.Courses.{Breaks, BreaksOff, Course, Goes, IsWhyStep, LinkFails, StepFails, TakesTurn, TurnBreaks, TurnGoes, waiting_at}
 use Rattle.sip_loop.specs.declared.served.ServeError.{ServeError}
 use Rattle.sip_loop.specs.declared.served.ServeError.TheVariants as refusals
 use Rattle.sip_loop.proofs.Courses.{asked_at, course_asks, course_event, course_nothing, course_on, course_reads, course_takes, course_tells, taken_at, unlogged_at}
 use Rattle.sip_loop.proofs.Gathering.{told_failed, told_one}
-use Rattle.sip_loop.proofs.Handed.{breaks_memory, breaks_on}
+use Rattle.sip_loop.proofs.Handed.{breaks_on}
 use Rattle.sip_loop.proofs.Printed.{prints_untold}
 use Rattle.sip_loop.proofs.Runs.{chain_on}
 use Rattle.sip_loop.proofs.Sayable.{datagram_says, small_moment}
@@ -124,7 +124,7 @@ in_turn server old new (Arrival at heard word) out none not_refused = record { n
 
 -- ---- the rest of a turn
 
-module _ (server : Server) (old : ProxyState) (at : ℕ) (none_due : NothingDueBy (moment_of old at) old) (h h2 : Option (List (Option Heard))) (g : Option (List Given)) (r : Option (List ℕ)) (w l : Option (Option (List ℕ))) (ws ws2 : Stream) where
+module _ (server : Server) (old : ProxyState) (at : ℕ) (none_due : NothingDueBy (moment_of old at) old) (h h2 : Option (List (Option Heard))) (g : Option (List Given)) (r : Option (List ℕ)) (w l : Kept) (ws ws2 : Stream) where
   -- the link failed
   pub turn_unheard : (new : ProxyState) (e : ServeError) → new ≡ old → LinkFails h h2 ws ws2 e → TurnBreaks server old new at (told_by h g r w l ws) (told_by h2 g r w l ws2) e
   turn_unheard new e same fails =
@@ -140,12 +140,17 @@ module _ (server : Server) (old : ProxyState) (at : ℕ) (none_due : NothingDueB
         why = record { idle = record { clear = refl; whole = refl; all_sent = refl }; reading = at; is_open = refl; none_due = none_due };
       }))))
 
-  why_not : (turn : Turn) (e : ServeError) → IsWhyStep e old turn → IsWhy e (asked_at at turn old.moment) old
-  why_not turn refusals.NoMemory why = tt
-  why_not turn refusals.Journal why = absurd why
-  why_not turn refusals.Audit why = absurd why
-  why_not turn refusals.Link why = absurd why
-  why_not turn refusals.Step why = record { cause = Brought turn; comes = record { asked = refl; whole = refl; all_sent = refl }; refused = why }
+  why_not : (turn : Turn) (e : ServeError) → reading_of turn ≡ at → IsWhyStep e old turn → IsWhy e (asked_at at turn old.moment) old
+  why_not turn refusals.NoMemory is why = refl
+  why_not turn refusals.Journal is why = absurd why
+  why_not turn refusals.Audit is why = absurd why
+  why_not turn refusals.Link is why = absurd why
+  why_not turn refusals.Step is why = record {
+    cause = Brought turn;
+    comes = record { asked = refl; whole = refl; all_sent = refl };
+    first = subst (λ (n : ℕ). NothingDueBy (moment_of old n) old) (sym is) none_due;
+    refused = why;
+  }
 
   -- the step wasn't taken
   pub turn_untaken : (new : ProxyState) (e : ServeError) → new ≡ old → StepFails old at h h2 ws ws2 e → TurnBreaks server old new at (told_by h g r w l ws) (told_by h2 g r w l ws2) e
@@ -156,7 +161,7 @@ module _ (server : Server) (old : ProxyState) (at : ℕ) (none_due : NothingDueB
         records = [];
         asks = 1;
         course = course_asks server old old.moment at fails.turn h h2 g r w l ws ws2 fails.is_at fails.hears fails.draws;
-        why = why_not fails.turn e fails.why;
+        why = why_not fails.turn e fails.is_at fails.why;
       })
 
   pub turn_broken : (new : ProxyState) (e : ServeError) → new ≡ old → (LinkFails h h2 ws ws2 e ⊎ StepFails old at h h2 ws ws2 e) → TurnBreaks server old new at (told_by h g r w l ws) (told_by h2 g r w l ws2) e
@@ -176,79 +181,71 @@ module _ (server : Server) (old : ProxyState) (at : ℕ) (none_due : NothingDueB
     comes = record { asked = refl; whole = refl; all_sent = refl }
 
     -- and the journal failed
-    pub turn_untold : (w2 : Option (Option (List ℕ))) → w2 ≡ None → TurnBreaks server old middle at (told_by h g r w l ws) (told_by h2 g r w2 l ws2) refusals.Journal
-    turn_untold w2 none = record {
+    pub turn_untold : (w2 : Kept) → HasFailed w2 → TurnBreaks server old middle at (told_by h g r w l ws) (told_by h2 g r w2 l ws2) refusals.Journal
+    turn_untold w2 failed = record {
       to = taken_at (asked_at at turn old.moment) (Brought turn) [] out;
       records = [] ++ out.records;
       asks = 1 + 0;
       course = course_on server old old middle (waiting_at (Some at) [] old.moment) (asked_at at turn old.moment) (taken_at (asked_at at turn old.moment) (Brought turn) [] out)
           (told_by h g r w l ws) (told_by h2 g r w l ws2) (told_by h2 g r w2 l ws2) [] out.records 0 1 0 0 tt asks
-          (course_takes server old middle (asked_at at turn old.moment) (Brought turn) [] out (record { before = old; act = ForEvent (event_of_turn turn); out = out; after = middle } ∷ []) comes
+          (course_takes server old middle (asked_at at turn old.moment) (Brought turn) [] out (record { before = old; act = ForEvent (event_of_turn turn); out = out; after = middle } ∷ []) comes refl
           (record { chain = (refl, takes.step, refl); paced = (tt, tt); of_events = refl; of_steps = refl }) turns (append-nil out.records) takes.sayable
-          (told_by h2 g r w l ws2) (told_by h2 g r w2 l ws2) (told_failed h2 g r w w2 l ws2 none));
+          (told_by h2 g r w l ws2) (told_by h2 g r w2 l ws2) (told_failed h2 g r w w2 l ws2 failed.0) failed refl);
       why = record { cause = Brought turn; records = out.records; untold = refl };
     }
 
     -- it was told, and its lines weren't printed
-    pub turn_unlogged : (w2 l2 : Option (Option (List ℕ))) (e : ServeError) → Notes w w2 (event_of_turn turn ∷ []) → l2 ≡ None → ((e ≡ refusals.NoMemory) ⊎ (e ≡ refusals.Audit))
+    pub turn_unlogged : (w2 l2 : Kept) (e : ServeError) → Notes w.bytes w2.bytes (event_of_turn turn ∷ []) → (w.faulted ≡ false) × (w2.faulted ≡ false) → HasFailed l2 → ((e ≡ refusals.NoMemory) ⊎ (e ≡ refusals.Audit))
         → TurnBreaks server old middle at (told_by h g r w l ws) (told_by h2 g r w2 l2 ws2) e
-    turn_unlogged w2 l2 e noted none why = record {
+    turn_unlogged w2 l2 e noted whole failed why = record {
       to = unlogged_at (asked_at at turn old.moment) (Brought turn) [] out;
       records = [] ++ out.records;
       asks = 1 + 0;
       course = course_on server old old middle (waiting_at (Some at) [] old.moment) (asked_at at turn old.moment) (unlogged_at (asked_at at turn old.moment) (Brought turn) [] out)
           (told_by h g r w l ws) (told_by h2 g r w l ws2) (told_by h2 g r w2 l2 ws2) [] out.records 0 1 0 0 tt asks
-          (course_tells server old middle (asked_at at turn old.moment) (Brought turn) [] out (record { before = old; act = ForEvent (event_of_turn turn); out = out; after = middle } ∷ []) comes
-          (record { chain = (refl, takes.step, refl); paced = (tt, tt); of_events = refl; of_steps = refl }) turns (append-nil out.records) takes.sayable h2 g r w w2 l l2 ws2 noted (prints_untold l l2 [] none));
+          (course_tells server old middle (asked_at at turn old.moment) (Brought turn) [] out (record { before = old; act = ForEvent (event_of_turn turn); out = out; after = middle } ∷ []) comes refl
+          (record { chain = (refl, takes.step, refl); paced = (tt, tt); of_events = refl; of_steps = refl }) turns (append-nil out.records) takes.sayable h2 g r w w2 l l2 ws2 noted whole (prints_untold l.bytes l2.bytes [] failed.0) failed);
       why = by_case why;
     } where
       by_case : ((e ≡ refusals.NoMemory) ⊎ (e ≡ refusals.Audit)) → IsWhy e (unlogged_at (asked_at at turn old.moment) (Brought turn) [] out) middle
-      by_case (inl is) = subst (λ (x : ServeError). IsWhy x (unlogged_at (asked_at at turn old.moment) (Brought turn) [] out) middle) (sym is) tt
+      by_case (inl is) = subst (λ (x : ServeError). IsWhy x (unlogged_at (asked_at at turn old.moment) (Brought turn) [] out) middle) (sym is) refl
       by_case (inr is) = subst (λ (x : ServeError). IsWhy x (unlogged_at (asked_at at turn old.moment) (Brought turn) [] out) middle) (sym is) (record { records = out.records; unlogged = refl })
 
     -- and they were
-    pub turn_logged : (w2 l2 : Option (Option (List ℕ))) → Notes w w2 (event_of_turn turn ∷ []) → Prints l l2 out.records
+    pub turn_logged : (w2 l2 : Kept) → Notes w.bytes w2.bytes (event_of_turn turn ∷ []) → (w.faulted ≡ false) × (w2.faulted ≡ false) → Prints l.bytes l2.bytes out.records → (out.records ≢ [] → l.faulted ≡ false) → l2.faulted ≡ l.faulted
         → Course server old middle (waiting_at (Some at) [] old.moment) (waiting_at None out.packets middle.moment) (told_by h g r w l ws) (told_by h2 g r w2 l2 ws2) out.records 0 1
-    turn_logged w2 l2 noted printed =
+    turn_logged w2 l2 noted whole printed sound held =
         course_on server old old middle (waiting_at (Some at) [] old.moment) (asked_at at turn old.moment) (waiting_at None out.packets middle.moment)
         (told_by h g r w l ws) (told_by h2 g r w l ws2) (told_by h2 g r w2 l2 ws2) [] out.records 0 1 0 0 tt asks
-        (course_event server old middle (asked_at at turn old.moment) (Brought turn) [] out (record { before = old; act = ForEvent (event_of_turn turn); out = out; after = middle } ∷ []) comes
+        (course_event server old middle (asked_at at turn old.moment) (Brought turn) [] out (record { before = old; act = ForEvent (event_of_turn turn); out = out; after = middle } ∷ []) comes refl
         (record { chain = (refl, takes.step, refl); paced = (tt, tt); of_events = refl; of_steps = refl }) turns (append-nil out.records) takes.sayable
-        out.packets middle.moment h2 g r w w2 l l2 ws2 (sym (append-nil out.packets)) stands noted printed)
-
-    -- memory ran out then
-    pub turn_unlisted : (w2 l2 : Option (Option (List ℕ))) (e : ServeError) → e ≡ refusals.NoMemory → Notes w w2 (event_of_turn turn ∷ []) → Prints l l2 out.records
-        → TurnBreaks server old middle at (told_by h g r w l ws) (told_by h2 g r w2 l2 ws2) e
-    turn_unlisted w2 l2 e lack noted printed =
-        breaks_memory server old middle (waiting_at (Some at) [] old.moment) (waiting_at None out.packets middle.moment) (told_by h g r w l ws) (told_by h2 g r w2 l2 ws2) out.records 0 1 e lack
-        (turn_logged w2 l2 noted printed)
+        out.packets middle.moment h2 g r w w2 l l2 ws2 (sym (append-nil out.packets)) stands noted whole printed sound held)
 
     -- its packets were given to the link
-    pub turn_goes : (new : ProxyState) (g2 : Option (List Given)) (w2 w3 l2 : Option (Option (List ℕ))) (records more : List Record) → Notes w w2 (event_of_turn turn ∷ []) → Prints l l2 out.records
-        → Course server middle new (waiting_at None out.packets middle.moment) (waiting_at None [] new.moment) (told_by h2 g r w2 l2 ws2) (told_by h2 g2 r w3 l2 ws2) [] 0 0 → more ≡ records ++ out.records
-        → TurnGoes server old new at (told_by h g r w l ws) (told_by h2 g2 r w3 l2 ws2) records more
-    turn_goes new g2 w2 w3 l2 records more noted printed hands listed = record {
-      listed = out.records;
+    pub turn_goes : (new : ProxyState) (g2 : Option (List Given)) (w2 w3 l2 : Kept) → Notes w.bytes w2.bytes (event_of_turn turn ∷ []) → (w.faulted ≡ false) × (w2.faulted ≡ false) → Prints l.bytes l2.bytes out.records → (out.records ≢ [] → l.faulted ≡ false) → l2.faulted ≡ l.faulted
+        → Course server middle new (waiting_at None out.packets middle.moment) (waiting_at None [] new.moment) (told_by h2 g r w2 l2 ws2) (told_by h2 g2 r w3 l2 ws2) [] 0 0
+        → TurnGoes server old new at (told_by h g r w l ws) (told_by h2 g2 r w3 l2 ws2)
+    turn_goes new g2 w2 w3 l2 noted whole printed sound held hands = record {
+      records = out.records;
       course =
           subst (λ (rs : List Record). Course server old new (waiting_at (Some at) [] old.moment) (between_turns new.moment) (told_by h g r w l ws) (told_by h2 g2 r w3 l2 ws2) rs 0 1) (append-nil out.records)
           (course_on server old middle new (waiting_at (Some at) [] old.moment) (waiting_at None out.packets middle.moment) (between_turns new.moment)
-          (told_by h g r w l ws) (told_by h2 g r w2 l2 ws2) (told_by h2 g2 r w3 l2 ws2) out.records [] 0 1 0 0 tt (turn_logged w2 l2 noted printed) hands);
-      recorded = listed;
+          (told_by h g r w l ws) (told_by h2 g r w2 l2 ws2) (told_by h2 g2 r w3 l2 ws2) out.records [] 0 1 0 0 tt (turn_logged w2 l2 noted whole printed sound held) hands);
     }
 
     -- not all of them
-    pub turn_unsent : (new : ProxyState) (g2 : Option (List Given)) (w2 w3 l2 : Option (Option (List ℕ))) (e : ServeError) → Notes w w2 (event_of_turn turn ∷ []) → Prints l l2 out.records
+    pub turn_unsent : (new : ProxyState) (g2 : Option (List Given)) (w2 w3 l2 : Kept) (e : ServeError) → Notes w.bytes w2.bytes (event_of_turn turn ∷ []) → (w.faulted ≡ false) × (w2.faulted ≡ false) → Prints l.bytes l2.bytes out.records → (out.records ≢ [] → l.faulted ≡ false) → l2.faulted ≡ l.faulted
         → Breaks server middle new (waiting_at None out.packets middle.moment) (told_by h2 g r w2 l2 ws2) (told_by h2 g2 r w3 l2 ws2) 0 e
         → TurnBreaks server old new at (told_by h g r w l ws) (told_by h2 g2 r w3 l2 ws2) e
-    turn_unsent new g2 w2 w3 l2 e noted printed breaks =
+    turn_unsent new g2 w2 w3 l2 e noted whole printed sound held breaks =
         breaks_on server old middle new (waiting_at (Some at) [] old.moment) (waiting_at None out.packets middle.moment) (told_by h g r w l ws) (told_by h2 g r w2 l2 ws2) (told_by h2 g2 r w3 l2 ws2)
-        out.records 0 1 0 e tt (turn_logged w2 l2 noted printed) breaks
+        out.records 0 1 0 e tt (turn_logged w2 l2 noted whole printed sound held) breaks
 
 -- ---- a turn
 
 module _ (server : Server) where
   -- the clock was read, and what was due by then happened
-  pub turn_begun : (old middle : ProxyState) (at : ℕ) (h : Option (List (Option Heard))) (g g2 : Option (List Given)) (r r2 : Option (List ℕ)) (w w2 l : Option (Option (List ℕ))) (ws : Stream) → IsToldMore r (at ∷ []) r2
+  pub turn_begun : (old middle : ProxyState) (at : ℕ) (h : Option (List (Option Heard))) (g g2 : Option (List Given)) (r r2 : Option (List ℕ)) (w w2 l : Kept) (ws : Stream) → IsToldMore r (at ∷ []) r2
       → Course server old middle (waiting_at (Some at) [] old.moment) (waiting_at (Some at) [] middle.moment) (told_by h g r2 w l ws) (told_by h g2 r2 w2 l ws) [] 0 0
       → Course server old middle (between_turns old.moment) (waiting_at (Some at) [] middle.moment) (told_by h g r w l ws) (told_by h g2 r2 w2 l ws) [] 1 0
   turn_begun old middle at h g g2 r r2 w w2 l ws read course =
@@ -256,19 +253,18 @@ module _ (server : Server) where
       (told_by h g r w l ws) (told_by h g r2 w l ws) (told_by h g2 r2 w2 l ws) [] [] 1 0 0 0 tt (course_reads server old old.moment at h g r r2 w l ws read) course
 
   -- not all of it
-  pub turn_undue : (old new : ProxyState) (at : ℕ) (h : Option (List (Option Heard))) (g g2 : Option (List Given)) (r r2 : Option (List ℕ)) (w w2 l : Option (Option (List ℕ))) (ws : Stream) (e : ServeError) → IsToldMore r (at ∷ []) r2
+  pub turn_undue : (old new : ProxyState) (at : ℕ) (h : Option (List (Option Heard))) (g g2 : Option (List Given)) (r r2 : Option (List ℕ)) (w w2 l : Kept) (ws : Stream) (e : ServeError) → IsToldMore r (at ∷ []) r2
       → Breaks server old new (waiting_at (Some at) [] old.moment) (told_by h g r2 w l ws) (told_by h g2 r2 w2 l ws) 0 e
       → Breaks server old new (between_turns old.moment) (told_by h g r w l ws) (told_by h g2 r2 w2 l ws) 1 e
   turn_undue old new at h g g2 r r2 w w2 l ws e read breaks =
       breaks_on server old old new (between_turns old.moment) (waiting_at (Some at) [] old.moment)
       (told_by h g r w l ws) (told_by h g r2 w l ws) (told_by h g2 r2 w2 l ws) [] 1 0 0 e tt (course_reads server old old.moment at h g r r2 w l ws read) breaks
 
-  pub turn_whole : (old middle new : ProxyState) (at : ℕ) (before half after : Told) (records more : List Record) → Course server old middle (between_turns old.moment) (waiting_at (Some at) [] middle.moment) before half [] 1 0
-      → TurnGoes server middle new at half after records more → Goes server old new before after 1 records more
-  turn_whole old middle new at before half after records more first second = record {
-    listed = second.listed;
-    course = course_on server old middle new (between_turns old.moment) (waiting_at (Some at) [] middle.moment) (between_turns new.moment) before half after [] second.listed 1 0 0 1 tt first second.course;
-    recorded = second.recorded;
+  pub turn_whole : (old middle new : ProxyState) (at : ℕ) (before half after : Told) → Course server old middle (between_turns old.moment) (waiting_at (Some at) [] middle.moment) before half [] 1 0
+      → TurnGoes server middle new at half after → Goes server old new before after 1
+  turn_whole old middle new at before half after first second = record {
+    records = second.records;
+    course = course_on server old middle new (between_turns old.moment) (waiting_at (Some at) [] middle.moment) (between_turns new.moment) before half after [] second.records 1 0 0 1 tt first second.course;
   }
 
   pub turn_part : (old middle new : ProxyState) (at : ℕ) (before half after : Told) (e : ServeError) → Course server old middle (between_turns old.moment) (waiting_at (Some at) [] middle.moment) before half [] 1 0
@@ -278,23 +274,21 @@ module _ (server : Server) where
 
   -- ---- turns
 
-  pub goes_nothing : (state : ProxyState) (t : Told) (records : List Record) → Goes server state state t t 0 records records
-  goes_nothing state t records = record { listed = []; course = course_nothing server state (between_turns state.moment) t tt; recorded = sym (append-nil records) }
+  pub goes_nothing : (state : ProxyState) (t : Told) → Goes server state state t t 0
+  goes_nothing state t = record { records = []; course = course_nothing server state (between_turns state.moment) t tt }
 
-  pub goes_further : (old middle new : ProxyState) (before half after : Told) (count : ℕ) (records some more : List Record) → Goes server old middle before half count records some → Goes server middle new half after 1 some more
-      → Goes server old new before after (count + 1) records more
-  goes_further old middle new before half after count records some more first second = record {
-    listed = first.listed ++ second.listed;
-    course = course_on server old middle new (between_turns old.moment) (between_turns middle.moment) (between_turns new.moment) before half after first.listed second.listed count count 1 1 tt first.course second.course;
-    recorded = second.recorded ∙ ap (λ (l : List Record). l ++ second.listed) first.recorded ∙ append_assoc records first.listed second.listed;
+  pub goes_further : (old middle new : ProxyState) (before half after : Told) (count : ℕ) → Goes server old middle before half count → Goes server middle new half after 1 → Goes server old new before after (count + 1)
+  goes_further old middle new before half after count first second = record {
+    records = first.records ++ second.records;
+    course = course_on server old middle new (between_turns old.moment) (between_turns middle.moment) (between_turns new.moment) before half after first.records second.records count count 1 1 tt first.course second.course;
   }
 
-  pub breaks_further : (old middle new : ProxyState) (before half after : Told) (count most : ℕ) (records some : List Record) (e : ServeError) → Goes server old middle before half count records some
+  pub breaks_further : (old middle new : ProxyState) (before half after : Told) (count most : ℕ) (e : ServeError) → Goes server old middle before half count
       → Breaks server middle new (between_turns middle.moment) half after 1 e → count < most → BreaksOff server old new before after most e
-  breaks_further old middle new before half after count most records some e first second lt = record {
+  breaks_further old middle new before half after count most e first second lt = record {
     count = count + 1;
     within = omega (arith, lt);
-    breaks = breaks_on server old middle new (between_turns old.moment) (between_turns middle.moment) before half after first.listed count count 1 e tt first.course second;
+    breaks = breaks_on server old middle new (between_turns old.moment) (between_turns middle.moment) before half after first.records count count 1 e tt first.course second;
   }
 
 -- ---- all of it
@@ -317,20 +311,19 @@ module _ (lawful : HistoriesHaveAccess) (bounded : HistoriesAreBounded) (server 
     access = λ first past chain. lawful server first (h.history ++ past) new (chain_on server (first_state first) old new past h.history chain h.is_run.chain);
     bounded = λ first past chain. bounded server first (h.history ++ past) new (chain_on server (first_state first) old new past h.history chain h.is_run.chain);
     told = h.told;
+    whole = h.whole;
   }
 
-  pub served : (count : ℕ) (records more : List Record) → records ≡ [] → Goes server old new before after count records more → IsServed count server old new before after more
-  served count records more none h =
-      let all : more ≡ h.listed = h.recorded ∙ ap (λ (l : List Record). l ++ h.listed) none in
-      record {
-        done = h.course.done;
-        serves = serves (between_turns old.moment) (between_turns new.moment) h.listed count count h.course;
-        counted = h.course.asked;
-        in_order = h.course.path;
-        all_told = h.course.told_but_last ∙ append-nil _;
-        recorded = all ∙ sym h.course.recorded;
-        logged = all ∙ sym (h.course.through tt).1;
-      }
+  pub served : (count : ℕ) → Goes server old new before after count → IsServed count server old new before after
+  served count h = record {
+    done = h.course.done;
+    serves = serves (between_turns old.moment) (between_turns new.moment) h.records count count h.course;
+    counted = h.course.asked;
+    in_order = h.course.path;
+    all_told = h.course.told_but_last ∙ append-nil _;
+    logged = h.course.recorded ∙ sym (h.course.through tt).1;
+    held = h.course.faulted;
+  }
 
   pub unserved : (most : ℕ) (e : ServeError) → BreaksOff server old new before after most e → IsUnserved most server old new before after e
   unserved most e h = record {
@@ -340,6 +333,7 @@ module _ (lawful : HistoriesHaveAccess) (bounded : HistoriesAreBounded) (server 
     point = h.breaks.to;
     in_order = h.breaks.course.path;
     told_but_last = h.breaks.course.told_but_last;
+    faulted = h.breaks.course.faulted;
     why = h.breaks.why;
   }
 

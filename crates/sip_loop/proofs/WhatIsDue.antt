@@ -1,5 +1,5 @@
 -- What is due happens.
-use Rattle.std.proofs.Common.{◌≡◌, ◌⊎◌, inl, inr, ℕ, ◌+◌, ◌≤◌, ◌<◌, List, [], ◌∷◌, ◌++◌, max, Option, None, Some, Result, Ok, Err, refl, sym, ◌∙◌, ap, ap₂, subst, arith, append-nil, append_assoc}
+use Rattle.std.proofs.Common.{◌≡◌, ◌≢◌, ◌⊎◌, false, inl, inr, ℕ, ◌+◌, ◌≤◌, ◌<◌, List, [], ◌∷◌, ◌++◌, max, Option, None, Some, Result, Ok, Err, refl, sym, ◌∙◌, ap, ap₂, subst, arith, append-nil, append_assoc}
 use Rattle.std.specs.Prelude.{IfSome, IsSome}
 use Rattle.std.specs.List.{AllByRecursion}
 use Rattle.sip_loop.specs.Printing.{Prints}
@@ -24,7 +24,8 @@ use Rattle.sip_run.specs.Due.{Fires, NothingDueBy}
 use Rattle.sip_run.specs.Refusals.{RefusesStep}
 use Rattle.sip_record.specs.Record.{Notes}
 use Rattle.sip_loop.specs.ServeErrors.{refusal_of_step}
-use Rattle.sip_loop.specs.Serving.{FallsDue, IsWhy, MayFallDue, Point, Told, packets_of}
+use Rattle.sip_run.specs.engine.engine_time.Next.{IsNext}
+use Rattle.sip_loop.specs.Serving.{AreAt, FallsDue, HasFailed, IsWhy, Kept, MayFallDue, Point, Told, packets_of, untold_in}
 use Rattle.sip_loop.specs.Courses.{Breaks, Course, FiresOne, Happens, HappensAll, HappensSome, HappensTo, IsNoFurther, IsWhyDue, LeavesFewer, Others, TakesDue, told_with, waiting_at}
 use Rattle.sip_loop.specs.declared.served.ServeError.{ServeError}
 use Rattle.sip_loop.specs.declared.served.ServeError.TheVariants as refusals
@@ -162,10 +163,18 @@ own_at at = record { at = at; packets = []; records = [] }
 
 module _ (server : Server) where
   pub happens_nothing : (state : ProxyState) (at : ℕ) → Happens server state state at []
-  happens_nothing state at = record { history = []; is_run = record { chain = refl; paced = tt; of_events = refl; of_steps = refl }; turns = tt; no_records = refl }
+  happens_nothing state at = record { history = []; is_run = record { chain = refl; paced = tt; of_events = refl; of_steps = refl }; turns = tt; no_records = refl; stand = tt }
 
-  pub happens_more : (old middle new : ProxyState) (at : ℕ) (outs : List StepOut) (out : StepOut) → Happens server old middle at outs → FiresOne server middle at out new → Happens server old new at (outs ++ out ∷ [])
-  happens_more old middle new at outs out h fires = record {
+  at_more : (at : ℕ) (outs : List StepOut) (out : StepOut) → AreAt at outs → out.at ≡ at → AreAt at (outs ++ out ∷ [])
+  at_more at [] out all is = (is, tt)
+  at_more at (x ∷ outs) out all is = (all.0, at_more at outs out all.1 is)
+
+  is_some_more : (outs : List StepOut) (out : StepOut) → outs ++ out ∷ [] ≢ []
+  is_some_more [] out e = cc
+  is_some_more (x ∷ outs) out e = cc
+
+  pub happens_more : (old middle new : ProxyState) (at : ℕ) (outs : List StepOut) (out : StepOut) → Happens server old middle at outs → FiresOne server middle at out new → out.at ≡ at → Happens server old new at (outs ++ out ∷ [])
+  happens_more old middle new at outs out h fires is = record {
     history = record { before = middle; act = Passing at; out = out; after = new } ∷ h.history;
     is_run = record {
       chain = (refl, inr fires.happens, h.is_run.chain);
@@ -175,23 +184,31 @@ module _ (server : Server) where
     };
     turns = (fires.happens, h.turns);
     no_records = records_both outs (out ∷ []) ∙ ap₂ (λ (a b : List Record). a ++ b) h.no_records (append-nil out.records ∙ fires.no_records);
+    stand = at_more at outs out h.stand is;
   }
 
-  pub all_nothing : (state : ProxyState) (at : ℕ) (waiting : List Packet) → HappensAll server state state at waiting waiting
-  all_nothing state at waiting = record { outs = []; happens = happens_nothing state at; added = sym (append-nil waiting) }
+  -- the first
+  pub all_first : (old new : ProxyState) (at : ℕ) (out : StepOut) (before after : List Packet) → FiresOne server old at out new → out.at ≡ at → after ≡ before ++ out.packets → HappensAll server old new at before after
+  all_first old new at out before after fires is more = record {
+    outs = out ∷ [];
+    some = is_some_more [] out;
+    happens = happens_more old old new at [] out (happens_nothing old at) fires is;
+    added = more ∙ ap (λ (l : List Packet). before ++ l) (sym (append-nil out.packets));
+  }
 
-  pub all_more : (old middle new : ProxyState) (at : ℕ) (out : StepOut) (before half after : List Packet) → HappensAll server old middle at before half → FiresOne server middle at out new → after ≡ half ++ out.packets
-      → HappensAll server old new at before after
-  all_more old middle new at out before half after h fires more = record {
+  pub all_more : (old middle new : ProxyState) (at : ℕ) (out : StepOut) (before half after : List Packet) → HappensAll server old middle at before half → FiresOne server middle at out new → out.at ≡ at
+      → after ≡ half ++ out.packets → HappensAll server old new at before after
+  all_more old middle new at out before half after h fires is more = record {
     outs = h.outs ++ out ∷ [];
-    happens = happens_more old middle new at h.outs out h.happens fires;
+    some = is_some_more h.outs out;
+    happens = happens_more old middle new at h.outs out h.happens fires is;
     added =
         more ∙ ap (λ (l : List Packet). l ++ out.packets) h.added ∙ append_assoc before (packets_of h.outs) out.packets
         ∙ ap (λ (l : List Packet). before ++ l) (sym (packets_both h.outs (out ∷ []) ∙ ap (λ (l : List Packet). packets_of h.outs ++ l) (append-nil out.packets)));
   }
 
-  pub to_more : (old middle new : ProxyState) (at : ℕ) (out : StepOut) → HappensTo server old middle at → FiresOne server middle at out new → HappensTo server old new at
-  to_more old middle new at out h fires = record { outs = h.outs ++ out ∷ []; happens = happens_more old middle new at h.outs out h.happens fires }
+  pub to_more : (old middle new : ProxyState) (at : ℕ) (out : StepOut) → HappensTo server old middle at → FiresOne server middle at out new → out.at ≡ at → HappensTo server old new at
+  to_more old middle new at out h fires is = record { outs = h.outs ++ out ∷ []; happens = happens_more old middle new at h.outs out h.happens fires is }
 
   -- ---- and the moment was taken
 
@@ -227,6 +244,8 @@ module _ (server : Server) where
   takes_due old new at before after h not_refused none stands = record {
     outs = h.outs;
     own = own_at at;
+    some = h.some;
+    stand = h.happens.stand;
     history = record { before = new; act = ForEvent (Time at); out = own_at at; after = new } ∷ h.happens.history;
     is_run = record {
       chain = (refl, is_taken new at stands none, h.happens.is_run.chain);
@@ -250,52 +269,52 @@ module _ (server : Server) where
   may_fall reading due m le = record { idle = record { clear = refl; whole = refl; all_sent = refl }; reading = reading; is_open = refl; in_time = le }
 
   -- it was taken and told, and what it hands out waits
-  pub due_told : (old new : ProxyState) (reading due : ℕ) (waiting : List Packet) (others : Others) (g : Option (List Given)) (w w2 : Option (Option (List ℕ))) → due ≤ max reading old.moment → TakesDue server old new due [] waiting
-      → Notes w w2 (Time due ∷ []) → Course server old new (waiting_at (Some reading) [] old.moment) (waiting_at (Some reading) waiting new.moment) (told_with others g w) (told_with others g w2) [] 0 0
-  due_told old new reading due waiting others g w w2 le t noted =
+  pub due_told : (old new : ProxyState) (reading due : ℕ) (waiting : List Packet) (others : Others) (g : Option (List Given)) (w w2 : Kept) → due ≤ max reading old.moment → TakesDue server old new due [] waiting
+      → Notes w.bytes w2.bytes (Time due ∷ []) → (w.faulted ≡ false) × (w2.faulted ≡ false) → Course server old new (waiting_at (Some reading) [] old.moment) (waiting_at (Some reading) waiting new.moment) (told_with others g w) (told_with others g w2) [] 0 0
+  due_told old new reading due waiting others g w w2 le t noted whole =
       subst (λ (rs : List Record). Course server old new (waiting_at (Some reading) [] old.moment) (waiting_at (Some reading) waiting new.moment) (told_with others g w) (told_with others g w2) rs 0 0) t.none_recorded
-      (course_event server old new (waiting_at (Some reading) [] old.moment) (FallsDue due) t.outs t.own t.history (may_fall reading due old.moment le) t.is_run t.turns (t.no_records ∙ sym t.none_recorded) t.sayable
-      waiting new.moment others.heard g others.readings w w2 others.printed others.printed others.words t.added t.stands noted
-      (subst (λ (rs : List Record). Prints others.printed others.printed rs) (sym t.none_recorded) (prints_nothing others.printed)))
+      (course_event server old new (waiting_at (Some reading) [] old.moment) (FallsDue due) t.outs t.own t.history (may_fall reading due old.moment le) (t.some, t.stand) t.is_run t.turns (t.no_records ∙ sym t.none_recorded) t.sayable
+      waiting new.moment others.heard g others.readings w w2 others.log others.log others.words t.added t.stands noted whole
+      (subst (λ (rs : List Record). Prints others.log.bytes others.log.bytes rs) (sym t.none_recorded) (prints_nothing others.log.bytes)) (λ some. absurd (some t.none_recorded)) refl)
 
   -- it was taken, and the journal failed
-  pub due_untold : (old new : ProxyState) (reading due : ℕ) (waiting : List Packet) (others : Others) (g : Option (List Given)) (w w2 : Option (Option (List ℕ))) → due ≤ max reading old.moment
-      → TakesDue server old new due [] waiting → w2 ≡ None → Breaks server old new (waiting_at (Some reading) [] old.moment) (told_with others g w) (told_with others g w2) 0 refusals.Journal
-  due_untold old new reading due waiting others g w w2 le h none = record {
+  pub due_untold : (old new : ProxyState) (reading due : ℕ) (waiting : List Packet) (others : Others) (g : Option (List Given)) (w w2 : Kept) → due ≤ max reading old.moment
+      → TakesDue server old new due [] waiting → HasFailed w2 → Breaks server old new (waiting_at (Some reading) [] old.moment) (told_with others g w) (told_with others g w2) 0 refusals.Journal
+  due_untold old new reading due waiting others g w w2 le h failed = record {
     to = taken_at (waiting_at (Some reading) [] old.moment) (FallsDue due) h.outs h.own;
     records = h.own.records;
     asks = 0;
-    course = course_takes server old new (waiting_at (Some reading) [] old.moment) (FallsDue due) h.outs h.own h.history (may_fall reading due old.moment le) h.is_run h.turns (h.no_records ∙ sym h.none_recorded) h.sayable
-        (told_with others g w) (told_with others g w2) (told_failed others.heard g others.readings w w2 others.printed others.words none);
+    course = course_takes server old new (waiting_at (Some reading) [] old.moment) (FallsDue due) h.outs h.own h.history (may_fall reading due old.moment le) (h.some, h.stand) h.is_run h.turns (h.no_records ∙ sym h.none_recorded) h.sayable
+        (told_with others g w) (told_with others g w2) (told_failed others.heard g others.readings w w2 others.log others.words failed.0) failed refl;
     why = record { cause = FallsDue due; records = h.own.records; untold = refl };
   }
 
-  why_not : (due : ℕ) (p : Point) (state : ProxyState) (e : ServeError) → MayFallDue due p → IsWhyDue e due → IsWhy e p state
-  why_not due p state refusals.NoMemory comes h = tt
-  why_not due p state refusals.Journal comes h = absurd h
-  why_not due p state refusals.Audit comes h = absurd h
-  why_not due p state refusals.Link comes h = absurd h
-  why_not due p state refusals.Step comes h = record { cause = FallsDue due; comes = comes; refused = h }
+  why_not : (due : ℕ) (p : Point) (state : ProxyState) (e : ServeError) → MayFallDue due p → IsNext state.requests due → IsWhyDue e due → IsWhy e p state
+  why_not due p state refusals.NoMemory comes first h = ap untold_in comes.idle.clear
+  why_not due p state refusals.Journal comes first h = absurd h
+  why_not due p state refusals.Audit comes first h = absurd h
+  why_not due p state refusals.Link comes first h = absurd h
+  why_not due p state refusals.Step comes first h = record { cause = FallsDue due; comes = comes; first = first; refused = h }
 
   -- it wasn't taken
-  pub due_broken : (old new : ProxyState) (reading due : ℕ) (t : Told) (e : ServeError) → due ≤ max reading old.moment → HappensSome server old new due e → Breaks server old new (waiting_at (Some reading) [] old.moment) t t 0 e
-  due_broken old new reading due t e le (inl some) =
+  pub due_broken : (old new : ProxyState) (reading due : ℕ) (t : Told) (e : ServeError) → due ≤ max reading old.moment → IsNext old.requests due → HappensSome server old new due e → Breaks server old new (waiting_at (Some reading) [] old.moment) t t 0 e
+  due_broken old new reading due t e le first (inl some) =
       let comes : MayFallDue due (waiting_at (Some reading) [] old.moment) = may_fall reading due old.moment le in
       record {
         to = stopped_at (waiting_at (Some reading) [] old.moment) (FallsDue due) some.1.outs;
         records = [];
         asks = 0;
-        course = course_fires server old new (waiting_at (Some reading) [] old.moment) due some.1.outs some.1.happens.history t comes some.1.happens.is_run some.1.happens.turns some.1.happens.no_records;
-        why = subst (λ (x : ServeError). IsWhy x (stopped_at (waiting_at (Some reading) [] old.moment) (FallsDue due) some.1.outs) new) (sym some.0) tt;
+        course = course_fires server old new (waiting_at (Some reading) [] old.moment) due some.1.outs some.1.happens.history t comes some.1.happens.stand some.1.happens.is_run some.1.happens.turns some.1.happens.no_records;
+        why = subst (λ (x : ServeError). IsWhy x (stopped_at (waiting_at (Some reading) [] old.moment) (FallsDue due) some.1.outs) new) (sym some.0) refl;
       }
-  due_broken old new reading due t e le (inr none) =
+  due_broken old new reading due t e le first (inr none) =
       subst (λ (s : ProxyState). Breaks server old s (waiting_at (Some reading) [] old.moment) t t 0 e) (sym none.same)
       (record {
         to = waiting_at (Some reading) [] old.moment;
         records = [];
         asks = 0;
         course = course_nothing server old (waiting_at (Some reading) [] old.moment) t tt;
-        why = why_not due (waiting_at (Some reading) [] old.moment) old e (may_fall reading due old.moment le) none.why;
+        why = why_not due (waiting_at (Some reading) [] old.moment) old e (may_fall reading due old.moment le) first none.why;
       })
 
   -- ---- refusals

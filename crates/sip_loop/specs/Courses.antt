@@ -1,5 +1,5 @@
 -- How serving goes on, piece by piece: what each piece does leads on from what was done before it.
-use Rattle.std.specs.Prelude.{ℕ, ◌≡◌, ◌≤◌, ◌+◌, ◌⊎◌, ⊤, true, List, [], ◌∷◌, ◌++◌, length, Option, Some, None, IsSome}
+use Rattle.std.specs.Prelude.{ℕ, ◌≡◌, ◌≢◌, ◌≤◌, ◌+◌, ◌⊎◌, ⊤, true, List, [], ◌∷◌, ◌++◌, length, Option, Some, None, IsSome}
 use Rattle.rand_core.specs.Stream.{Stream}
 use Rattle.sip_loop_link.specs.declared.datagram.Given.{Given}
 use Rattle.sip_loop_link.specs.declared.datagram.Heard.{Heard}
@@ -18,7 +18,9 @@ use Rattle.model_bounds.specs.model.Ends.{sends_left, steps_left}
 use Rattle.model_bounds.specs.steps_model.Step.{Given as ForEvent, IsStep, IsDeadline, IsResend, moment_of}
 use Rattle.sip_run.specs.engine.StepError.{refusal_at}
 use Rattle.sip_run.specs.Refusals.{refusal_of_event}
-use Rattle.sip_loop.specs.Serving.{AreDrawn, AreInTurn, AreTold, Asked, Clear, Doing, IsPath, IsWhy, Point, Stage, Stopped, Told, Turn, Unlogged, Untold}
+use Rattle.sip_run.specs.Runs.{IsInTurn}
+use Rattle.sip_run.specs.Due.{NothingDueBy}
+use Rattle.sip_loop.specs.Serving.{AreAt, AreDrawn, AreFaulted, AreInTurn, AreTold, AreWhole, Asked, Clear, Doing, IsPath, IsWhy, Kept, Point, Stage, Stopped, Told, Turn, Unlogged, Untold}
 use Rattle.sip_loop.specs.Serving.{ahead, between_turns, event_of_turn, event_taken, event_told, gathered, heard_of_turn, moment_read, packets_of, reading_of, records_logged, records_of, steps_taken, told_more, turn_asked, untold_in}
 use Rattle.sip_loop.specs.declared.served.ServeError.{ServeError}
 use Rattle.sip_loop.specs.declared.served.ServeError.TheVariants.{NoMemory, Journal, Audit, Link as LinkFailed, Step}
@@ -43,6 +45,8 @@ pub record Course (server : Server) (old new : ProxyState) (from to : Point) (be
   pub turns : AreInTurn server history
   pub sayable : AllByRecursion (λ (event : Event). is_sayable event ≡ true) (gathered event_taken done)
   pub told : AreTold before after done
+  pub whole : AreWhole before done
+  pub faulted : AreFaulted to.stage before after
   pub recorded : records_of (gathered steps_taken done) ≡ records
   pub told_but_last : gathered event_taken done ≡ gathered event_told done ++ untold_in to.stage
   pub through : IsThrough to.stage → (ahead done ≡ None) × (gathered records_logged done ≡ records)
@@ -57,11 +61,10 @@ pub record Breaks (server : Server) (old new : ProxyState) (from : Point) (befor
   pub course : Course server old new from to before after records reads asks
   pub why : IsWhy e to new
 
--- Turns were served whole, and these records added.
-pub record Goes (server : Server) (old new : ProxyState) (before after : Told) (count : ℕ) (records more : List Record) : Type 0 where
-  pub listed : List Record
-  pub course : Course server old new (between_turns old.moment) (between_turns new.moment) before after listed count count
-  pub recorded : more ≡ records ++ listed
+-- Turns were served whole.
+pub record Goes (server : Server) (old new : ProxyState) (before after : Told) (count : ℕ) : Type 0 where
+  pub records : List Record
+  pub course : Course server old new (between_turns old.moment) (between_turns new.moment) before after records count count
 
 -- Turns were served up to a refusal.
 pub record BreaksOff (server : Server) (old new : ProxyState) (before after : Told) (most : ℕ) (e : ServeError) : Type 0 where
@@ -73,11 +76,10 @@ pub record BreaksOff (server : Server) (old new : ProxyState) (before after : To
 abbrev pub waiting_at : Option ℕ → List Packet → ℕ → Point
 waiting_at turn waiting at = record { turn = turn; stage = Clear; failed = None; waiting = waiting; at = at }
 
--- The rest of a turn was served, once what was due by its reading had happened, and these records added.
-pub record TurnGoes (server : Server) (old new : ProxyState) (at : ℕ) (before after : Told) (records more : List Record) : Type 0 where
-  pub listed : List Record
-  pub course : Course server old new (waiting_at (Some at) [] old.moment) (between_turns new.moment) before after listed 0 1
-  pub recorded : more ≡ records ++ listed
+-- The rest of a turn was served, once what was due by its reading had happened.
+pub record TurnGoes (server : Server) (old new : ProxyState) (at : ℕ) (before after : Told) : Type 0 where
+  pub records : List Record
+  pub course : Course server old new (waiting_at (Some at) [] old.moment) (between_turns new.moment) before after records 0 1
 
 -- The same, refused.
 abbrev pub TurnBreaks : Server → ProxyState → ProxyState → ℕ → Told → Told → ServeError → Type 0
@@ -87,17 +89,17 @@ TurnBreaks server old new at before after e = Breaks server old new (waiting_at 
 pub record Others : Type 0 where
   pub heard : Option (List (Option Heard))
   pub readings : Option (List ℕ)
-  pub printed : Option (Option (List ℕ))
+  pub log : Kept
   pub words : Stream
 
--- with what was given to the link, and the bytes of the journal
-abbrev pub told_with : Others → Option (List Given) → Option (Option (List ℕ)) → Told
-told_with others given written = record {
+-- with what was given to the link, and what the journal tells
+abbrev pub told_with : Others → Option (List Given) → Kept → Told
+told_with others given journal = record {
   heard = others.heard;
   given = given;
   readings = others.readings;
-  written = written;
-  printed = others.printed;
+  journal = journal;
+  log = others.log;
   words = others.words;
 }
 
@@ -143,10 +145,12 @@ pub record Happens (server : Server) (old new : ProxyState) (at : ℕ) (outs : L
   pub is_run : IsRun server old [] (Some at) outs history new
   pub turns : AreInTurn server history
   pub no_records : records_of outs ≡ []
+  pub stand : AreAt at outs
 
--- and what it hands out was added to what waits
+-- and what it hands out was added to what waits; something was
 pub record HappensAll (server : Server) (old new : ProxyState) (at : ℕ) (before after : List Packet) : Type 0 where
   pub outs : List StepOut
+  pub some : outs ≢ []
   pub happens : Happens server old new at outs
   pub added : after ≡ before ++ packets_of outs
 
@@ -176,6 +180,8 @@ HappensSome server old new at e = ((e ≡ NoMemory) × HappensTo server old new 
 pub record TakesDue (server : Server) (old new : ProxyState) (at : ℕ) (before after : List Packet) : Type 0 where
   pub outs : List StepOut
   pub own : StepOut
+  pub some : outs ≢ []
+  pub stand : AreAt at outs
   pub history : List Link
   pub is_run : IsRun server old (Time at ∷ []) None (outs ++ own ∷ []) history new
   pub turns : AreInTurn server history
@@ -195,9 +201,12 @@ IsNoFurther old new = (at : ℕ) → steps_left at new ≤ steps_left at old
 abbrev pub LeavesFewer : ℕ → ProxyState → ProxyState → Type 0
 LeavesFewer at old new = (by : ℕ) → moment_of old at ≤ moment_of old by → steps_left by new + 1 ≤ steps_left by old
 
--- The fault of a packet was taken at the state's moment: nothing is recorded, and each packet that it hands out leaves one less that a fault can.
+-- The fault of a packet was taken at the state's moment, in its turn: nothing is recorded, nothing falls due by it, and each packet that it
+-- hands out leaves one less that a fault can.
 pub record TakesFault (server : Server) (old : ProxyState) (ticket : Ticket) (out : StepOut) (new : ProxyState) : Type 0 where
   pub step : IsStep server old (ForEvent (Fault old.moment ticket)) out new
+  pub in_turn : IsInTurn old (Fault old.moment ticket)
+  pub none_due : NothingDueBy new.moment new
   pub stands : new.moment ≡ out.at
   pub sayable : is_sayable (Fault old.moment ticket) ≡ true
   pub no_records : out.records ≡ []

@@ -1,5 +1,5 @@
 -- What was served, as a replay takes it.
-use Rattle.std.specs.Prelude.{◌≡◌, ℕ, List, ◌++◌, None}
+use Rattle.std.specs.Prelude.{◌≡◌, ℕ, List, ◌++◌, Option}
 use Rattle.sip_event.specs.declared.event.Event.{Event}
 use Rattle.sip_event.specs.declared.event.StepOut.{StepOut}
 use Rattle.model_bounds.specs.state.declared.server.Server.{Server}
@@ -8,13 +8,13 @@ use Rattle.model_bounds.specs.model.Run.{Link, IsRun}
 use Rattle.sip_replay_script.specs.Events.{SaysEvents}
 use Rattle.sip_loop.specs.Serving.{AreInTurn}
 
--- Bytes grew by a text that says events, and these steps are a run over exactly these events, from one state to another, each event in its turn:
--- steps that a replay of the text takes, or a server that goes on from it.
-pub record ReplaysTo (server : Server) (old new : ProxyState) (front all : List ℕ) (steps : List StepOut) : Type 0 where
+-- Bytes grew by a text that says events, and these steps are a run over exactly these events, from one state to another, each event in its turn,
+-- behind which time passed up to a moment, if to one: steps that a replay of the text takes, or a server that goes on from it.
+pub record ReplaysTo (server : Server) (old new : ProxyState) (front all : List ℕ) (until : Option ℕ) (steps : List StepOut) : Type 0 where
   pub text : List ℕ
   pub events : List Event
   pub grown : all ≡ front ++ text
   pub says : SaysEvents events text
   pub history : List Link
-  pub is_run : IsRun server old events None steps history new
+  pub is_run : IsRun server old events until steps history new
   pub turns : AreInTurn server history

@@ -1,6 +1,6 @@
 -- What serving is: turn by turn a clock is read, what is due happens, a datagram is taken or none was heard; each event that was taken is
 -- told to a journal, what it records is printed, and then what it hands out is given to a link.
-use Rattle.std.specs.Prelude.{ℕ, ◌≡◌, ◌≤◌, ◌⊎◌, ◌+◌, ◌*◌, ◌^◌, max, ⊤, true, List, [], ◌∷◌, ◌++◌, length, Option, Some, None, IsSome}
+use Rattle.std.specs.Prelude.{ℕ, ◌≡◌, ◌≢◌, ◌≤◌, ◌⊎◌, ◌+◌, ◌*◌, ◌^◌, max, ⊤, Bool, true, false, List, [], ◌∷◌, ◌++◌, length, Option, Some, None, IsSome}
 use Rattle.std.specs.List.{flat_map, AllByRecursion}
 use Rattle.rand_core.specs.Stream.{Stream, next_u64}
 use Rattle.sip_loop_link.specs.declared.datagram.Given.{Given}
@@ -22,6 +22,7 @@ use Rattle.model_bounds.specs.model.Run.{Link, IsChain, IsRun, event_moment}
 use Rattle.model_bounds.specs.model.Access.{Access}
 use Rattle.model_bounds.specs.Bounds.{IsBounded}
 use Rattle.sip_run.specs.Due.{NothingDueBy}
+use Rattle.sip_run.specs.engine.engine_time.Next.{IsNext}
 use Rattle.sip_run.specs.Refusals.{refusal_of_event}
 use Rattle.sip_run.specs.Runs.{IsInTurn}
 use Rattle.sip_loop.specs.Printing.{Prints}
@@ -248,9 +249,20 @@ turn_behind (FallsDue at) turn = turn
 turn_behind (Brought turn) open_turn = None
 turn_behind (Unsent at p) turn = turn
 
+-- these steps stand at a moment
+abbrev pub AreAt : ℕ → List StepOut → Type 0
+AreAt at steps = AllByRecursion (λ (out : StepOut). out.at ≡ at) steps
+
+-- what falls due at a moment comes before the event of that moment, and there is no such event without it; nothing is due before another
+abbrev pub FallsAt : Cause → List StepOut → Type 0
+FallsAt (FallsDue at) due = (due ≢ []) × AreAt at due
+FallsAt (Brought turn) due = due ≡ []
+FallsAt (Unsent at p) due = due ≡ []
+
 -- an event is taken: what is due before it, and it, hand out what waits from then on
 pub record TakesAt (before : Point) (cause : Cause) (due : List StepOut) (own : StepOut) (after : Point) : Type 0 where
   pub comes : MayCome cause before
+  pub falls : FallsAt cause due
   pub leads : after ≡ record {
     turn = turn_behind cause before.turn;
     stage = Untold cause own.records;
@@ -262,6 +274,7 @@ pub record TakesAt (before : Point) (cause : Cause) (due : List StepOut) (own : 
 -- or it isn't taken
 pub record FiresAt (before : Point) (cause : Cause) (due : List StepOut) (after : Point) : Type 0 where
   pub comes : MayCome cause before
+  pub falls : AreAt (event_moment (event_for cause)) due
   pub leads : after ≡ record before { stage = Stopped cause; waiting = before.waiting ++ packets_of due }
 
 -- the clock is read once, when a turn begins
@@ -341,21 +354,28 @@ untold_in (Unlogged records) = []
 
 -- ---- what the devices tell
 
+-- What the journal, or the log, tells: the bytes that were written, where it tells them and hasn't failed, and whether it answers faults.
+pub record Kept : Type 0 where
+  pub bytes : Option (Option (List ℕ))
+  pub faulted : Bool
+
+abbrev pub kept : Option (Option (List ℕ)) → Bool → Kept
+kept bytes faulted = record { bytes = bytes; faulted = faulted }
+
 -- What devices tell: what the link heard, call by call, and was given, and what the clock showed, oldest first, where they tell it;
--- the bytes of the journal, and those that were printed, where these are told and it hasn't failed; and what a source of words will give.
+-- what the journal and the log tell; and what a source of words will give.
 pub record Told : Type 0 where
   pub heard : Option (List (Option Heard))
   pub given : Option (List Given)
   pub readings : Option (List ℕ)
-  pub written : Option (Option (List ℕ))
-  pub printed : Option (Option (List ℕ))
+  pub journal : Kept
+  pub log : Kept
   pub words : Stream
 
 -- by what each device tells of itself
-abbrev pub told_by : Option (List (Option Heard)) → Option (List Given) → Option (List ℕ) → Option (Option (List ℕ)) → Option (Option (List ℕ))
-    → Stream → Told
-told_by heard given readings written printed words =
-    record { heard = heard; given = given; readings = readings; written = written; printed = printed; words = words }
+abbrev pub told_by : Option (List (Option Heard)) → Option (List Given) → Option (List ℕ) → Kept → Kept → Stream → Told
+told_by heard given readings journal log words =
+    record { heard = heard; given = given; readings = readings; journal = journal; log = log; words = words }
 
 -- a list that is told, with others at its end
 abbrev pub told_more : {A : Type 0} → Option (List A) → List A → Option (List A)
@@ -374,17 +394,38 @@ pub record AreTold (before after : Told) (done : List Doing) : Type 0 where
   pub given : after.given ≡ told_more before.given (gathered packet_given done)
   pub readings : IsToldMore before.readings (gathered moment_read done) after.readings
   pub words : AreDrawn before.words (gathered turn_asked done) after.words
-  pub noted : Notes before.written after.written (gathered event_told done)
-  pub printed : Prints before.printed after.printed (gathered records_logged done)
+  pub noted : Notes before.journal.bytes after.journal.bytes (gathered event_told done)
+  pub printed : Prints before.log.bytes after.log.bytes (gathered records_logged done)
+
+-- The journal answered no fault where it was told an event, nor the log where lines were printed: each that answered one goes on to.
+pub record AreWhole (before : Told) (done : List Doing) : Type 0 where
+  pub journal : gathered event_told done ≢ [] → before.journal.faulted ≡ false
+  pub log : gathered records_logged done ≢ [] → before.log.faulted ≡ false
+
+-- whether they answer faults is as it was
+abbrev pub AreHeld : Told → Told → Type 0
+AreHeld before after = (after.journal.faulted ≡ before.journal.faulted) × (after.log.faulted ≡ before.log.faulted)
+
+-- it has failed, and says so
+abbrev pub HasFailed : Kept → Type 0
+HasFailed kept = (kept.bytes ≡ None) × (kept.faulted ≡ true)
+
+-- The journal has failed, and said so, just where the event that was taken last wasn't told to it; and so has the log where its lines weren't printed.
+abbrev pub AreFaulted : Stage → Told → Told → Type 0
+AreFaulted Clear before after = AreHeld before after
+AreFaulted (Asked turn) before after = AreHeld before after
+AreFaulted (Stopped cause) before after = AreHeld before after
+AreFaulted (Untold cause records) before after = HasFailed after.journal × (after.log.faulted ≡ before.log.faulted)
+AreFaulted (Unlogged records) before after = (after.journal.faulted ≡ before.journal.faulted) × HasFailed after.log
 
 -- ---- serving
 
--- An event comes in its turn: all that was due by its moment has happened; the fault of a packet comes at the moment of the step before it. And time
--- passes only where a deadline does, or something goes again.
+-- An event comes in its turn: all that was due by its moment has happened, and the server doesn't refuse it; the fault of a packet comes at
+-- the moment of the step before it. And time passes only where a deadline does, or something goes again.
 abbrev pub IsTurnOf : Server → ProxyState → Act → StepOut → ProxyState → Type 0
 IsTurnOf server before (ForEvent (Datagram at word from bytes)) out after = IsInTurn before (Datagram at word from bytes)
 IsTurnOf server before (ForEvent (Time at)) out after = IsInTurn before (Time at)
-IsTurnOf server before (ForEvent (Fault at ticket)) out after = at ≡ before.moment
+IsTurnOf server before (ForEvent (Fault at ticket)) out after = (at ≡ before.moment) × IsInTurn before (Fault at ticket)
 IsTurnOf server before (Passing at) out after = IsDeadline server before at out after ⊎ IsResend server before at out after
 
 abbrev pub AreInTurn : Server → List Link → Type 0
@@ -401,17 +442,18 @@ pub record Serves (server : Server) (old new : ProxyState) (before after : Told)
   pub access : (first : ℕ) (past : List Link) → IsChain server (first_state first) past old → Access server (history ++ past)
   pub bounded : (first : ℕ) (past : List Link) → IsChain server (first_state first) past old → IsBounded server (history ++ past)
   pub told : AreTold before after done
+  pub whole : AreWhole before done
 
--- So many turns were served whole: each event was told to the journal, and all that they hand out was given to the link; these are the records of their steps, and the lines of
--- these were printed.
-pub record IsServed (turns : ℕ) (server : Server) (old new : ProxyState) (before after : Told) (records : List Record) : Type 0 where
+-- So many turns were served whole: each event was told to the journal, the lines of the records of all steps were printed, all that they hand
+-- out was given to the link; and neither the journal nor the log answered a fault.
+pub record IsServed (turns : ℕ) (server : Server) (old new : ProxyState) (before after : Told) : Type 0 where
   pub done : List Doing
   pub serves : Serves server old new before after done
   pub counted : length (gathered turn_asked done) ≡ turns
   pub in_order : IsPath (between_turns old.moment) done (between_turns new.moment)
   pub all_told : gathered event_taken done ≡ gathered event_told done
-  pub recorded : records ≡ records_of (gathered steps_taken done)
-  pub logged : records ≡ gathered records_logged done
+  pub logged : records_of (gathered steps_taken done) ≡ gathered records_logged done
+  pub held : AreHeld before after
 
 -- the journal failed: the event that it wasn't told was taken last, and nothing that it hands out was given
 pub record IsUntold (point : Point) : Type 0 where
@@ -431,22 +473,31 @@ pub record IsUnheard (point : Point) (last : ProxyState) : Type 0 where
   pub is_open : point.turn ≡ Some reading
   pub none_due : NothingDueBy (moment_of last reading) last
 
--- the server refuses the step of an event that comes next
+-- Nothing is left that comes before an event: what falls due is the first that is due; nothing is due by the reading of a turn; and the
+-- fault of a packet is never refused.
+abbrev pub IsFirst : Cause → ProxyState → Type 0
+IsFirst (FallsDue at) last = IsNext last.requests at
+IsFirst (Brought turn) last = NothingDueBy (moment_of last (reading_of turn)) last
+IsFirst (Unsent at p) last = ⊥
+
+-- the server refuses the step of the event that comes next
 pub record IsRefused (point : Point) (last : ProxyState) : Type 0 where
   pub cause : Cause
   pub comes : MayCome cause point
+  pub first : IsFirst cause last
   pub refused : IsSome (refusal_of_event last (event_for cause))
 
--- Why serving ended: for want of memory at any call, what was given being a front of what the steps hand out; or since the journal, or
--- printing, or the link failed; or since the server refuses a step.
+-- Why serving ended: for want of memory at any call, what was given being a front of what the steps hand out, and each event that was taken
+-- having been told; or since the journal, or printing, or the link failed; or since the server refuses a step.
 abbrev pub IsWhy : ServeError → Point → ProxyState → Type 0
-IsWhy NoMemory point last = ⊤
+IsWhy NoMemory point last = untold_in point.stage ≡ []
 IsWhy Journal point last = IsUntold point
 IsWhy Audit point last = IsUnlogged point
 IsWhy LinkFailed point last = IsUnheard point last
 IsWhy Step point last = IsRefused point last
 
--- Serving was refused within so many turns: each event was told to the journal, but for the last one where that failed.
+-- Serving was refused within so many turns: each event was told to the journal, but for the last one where that failed; and neither the journal nor
+-- the log answered a fault, but the one that made an end of it.
 pub record IsUnserved (turns : ℕ) (server : Server) (old new : ProxyState) (before after : Told) (e : ServeError) : Type 0 where
   pub done : List Doing
   pub serves : Serves server old new before after done
@@ -454,4 +505,5 @@ pub record IsUnserved (turns : ℕ) (server : Server) (old new : ProxyState) (be
   pub point : Point
   pub in_order : IsPath (between_turns old.moment) done point
   pub told_but_last : gathered event_taken done ≡ gathered event_told done ++ untold_in point.stage
+  pub faulted : AreFaulted point.stage before after
   pub why : IsWhy e point new

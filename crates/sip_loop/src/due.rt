@@ -9,6 +9,7 @@ ghost use Rattle.sip_run.specs.engine.engine_time.Next.{IsNext};
 ghost use Rattle.sip_run.specs.Due.{NothingDueBy};
 ghost use Rattle.sip_loop.specs.Courses.{Breaks, Course, FiresOne, HappensAll, HappensSome, HappensTo, IsNoFurther, IsWhyDue, LeavesFewer, Others, TakesDue, told_with, waiting_at};
 ghost use Rattle.sip_loop.specs.ServeErrors.{IsOfHanding};
+ghost use Rattle.sip_loop.specs.Serving.{kept};
 ghost use Rattle.sip_loop.specs.declared.served.ServeError.TheVariants as Refusal;
 
 use crate::handing::{hand_out, wait_for};
@@ -116,6 +117,7 @@ fn take_due<T: Timers, R: Rules>(
     requires { IsNext engine.old.state.requests due }
     ensures server { engine.new.server ≡ engine.old.server }
     ensures taken { OnOk result (TakesDue engine.old.server engine.old.state engine.new.state due waiting.old waiting.new) }
+    ensures none_due { OnOk result (NothingDueBy engine.new.state.moment engine.new.state) }
     ensures fewer { OnOk result (LeavesFewer due engine.old.state engine.new.state) }
     ensures refused { IfErr result (HappensSome engine.old.server engine.old.state engine.new.state due) }
 {
@@ -140,14 +142,17 @@ fn serve_due<T: Timers, R: Rules, L: Link, J: Journal>(
     ensures receives { L.receives link.new ≡ L.receives link.old }
     ensures failures { L.failures link.new ≡ L.failures link.old }
     ensures heard { L.heard link.new ≡ L.heard link.old }
+    ensures link_waits { L.waits link.new ≡ L.waits link.old }
     ensures goes { OnOk result ((others : Others) (reading : ℕ) → due ≤ max reading engine.old.state.moment
         → Course engine.old.server engine.old.state engine.new.state
         (waiting_at (Some reading) [] engine.old.state.moment) (waiting_at (Some reading) [] engine.new.state.moment)
-        (told_with others (L.given link.old) (J.written journal.old)) (told_with others (L.given link.new) (J.written journal.new)) [] 0 0) }
+        (told_with others (L.given link.old) (kept (J.written journal.old) (J.faulted journal.old)))
+        (told_with others (L.given link.new) (kept (J.written journal.new) (J.faulted journal.new))) [] 0 0) }
     ensures fewer { OnOk result (LeavesFewer due engine.old.state engine.new.state) }
     ensures broken { IfErr result (λ e. (others : Others) (reading : ℕ) → due ≤ max reading engine.old.state.moment
         → Breaks engine.old.server engine.old.state engine.new.state (waiting_at (Some reading) [] engine.old.state.moment)
-        (told_with others (L.given link.old) (J.written journal.old)) (told_with others (L.given link.new) (J.written journal.new)) 0 e) }
+        (told_with others (L.given link.old) (kept (J.written journal.old) (J.faulted journal.old)))
+        (told_with others (L.given link.new) (kept (J.written journal.new) (J.faulted journal.new))) 0 e) }
     ensures not_link { IfErr result (λ e. ¬ (e ≡ Refusal.Link)) }
     ensures journal_failed { IfErr result (λ e. e ≡ Refusal.Journal → J.written journal.new ≡ Option.None) }
 {
@@ -169,13 +174,16 @@ pub(crate) fn pass_due<T: Timers, R: Rules, L: Link, J: Journal>(
     ensures receives { L.receives link.new ≡ L.receives link.old }
     ensures failures { L.failures link.new ≡ L.failures link.old }
     ensures heard { L.heard link.new ≡ L.heard link.old }
+    ensures link_waits { L.waits link.new ≡ L.waits link.old }
     ensures goes { OnOk result ((others : Others) → Course engine.old.server engine.old.state engine.new.state
         (waiting_at (Some at) [] engine.old.state.moment) (waiting_at (Some at) [] engine.new.state.moment)
-        (told_with others (L.given link.old) (J.written journal.old)) (told_with others (L.given link.new) (J.written journal.new)) [] 0 0) }
+        (told_with others (L.given link.old) (kept (J.written journal.old) (J.faulted journal.old)))
+        (told_with others (L.given link.new) (kept (J.written journal.new) (J.faulted journal.new))) [] 0 0) }
     ensures none_due { OnOk result (NothingDueBy (moment_of engine.new.state at) engine.new.state) }
     ensures broken { IfErr result (λ e. (others : Others) → Breaks engine.old.server engine.old.state engine.new.state
         (waiting_at (Some at) [] engine.old.state.moment)
-        (told_with others (L.given link.old) (J.written journal.old)) (told_with others (L.given link.new) (J.written journal.new)) 0 e) }
+        (told_with others (L.given link.old) (kept (J.written journal.old) (J.faulted journal.old)))
+        (told_with others (L.given link.new) (kept (J.written journal.new) (J.faulted journal.new))) 0 e) }
     ensures not_link { IfErr result (λ e. ¬ (e ≡ Refusal.Link)) }
     ensures journal_failed { IfErr result (λ e. e ≡ Refusal.Journal → J.written journal.new ≡ Option.None) }
 {

@@ -1,13 +1,16 @@
 ghost use Rattle.std.specs.Prelude.{◌≡◌, ◌<◌, ◌≤◌, ◌+◌, ◌++◌, ℕ, Option, [], drop, length, IfOk, IfErr, OnOk, OnErr};
 ghost use Rattle.model_bounds.specs.model.Ends.{sends_left};
 ghost use Rattle.sip_loop.specs.Courses.{Breaks, Course, IsNoFurther, Others, TakesFault, told_with, waiting_at};
+ghost use Rattle.sip_run.specs.Due.{NothingDueBy};
 ghost use Rattle.sip_loop.specs.ServeErrors.{IsOfHanding};
+ghost use Rattle.sip_loop.specs.Serving.{kept};
 ghost use Rattle.sip_loop.specs.declared.served.ServeError.TheVariants.{NoMemory};
 
 use crate::served::ServeError;
 use model_bounds::model::histories::steps_stand_at_their_moments;
 use model_bounds::model::order::no_deadline_passed;
 use model_bounds::model::runs::failed_sends_end;
+use model_ties::laws::fault_leaves_nothing_due;
 use sip_event::{Packet, StepOut, Ticket};
 use sip_loop_link::{Link, Sending};
 use sip_policy::Rules;
@@ -62,6 +65,7 @@ fn take_fault<T: Timers, R: Rules>(
     engine: &mut Engine<T, R>,
     ticket: Ticket,
 ) -> Result<StepOut, ServeError>
+    requires { NothingDueBy engine.old.state.moment engine.old.state }
     ensures server { engine.new.server ≡ engine.old.server }
     ensures taken { IfOk result (λ out. TakesFault engine.old.server engine.old.state ticket out engine.new.state) }
     ensures refused { IfErr result (λ e. e ≡ NoMemory) }
@@ -70,6 +74,7 @@ fn take_fault<T: Timers, R: Rules>(
     no_deadline_passed();
     steps_stand_at_their_moments();
     failed_sends_end();
+    fault_leaves_nothing_due();
     engine.is_reached();
     let at = engine.moment();
     let out = engine.fault(at, ticket)?;
@@ -85,21 +90,26 @@ fn hand_one<T: Timers, R: Rules, L: Link, J: Journal>(
     packets: &mut Items<Packet>,
     place: usize,
 ) -> Result<(), ServeError>
-    requires { place < length packets.old }
+    requires there { place < length packets.old }
+    requires none_due { NothingDueBy engine.old.state.moment engine.old.state }
     ensures server { engine.new.server ≡ engine.old.server }
     ensures receives { L.receives link.new ≡ L.receives link.old }
     ensures failures { L.failures link.new ≡ L.failures link.old }
     ensures heard { L.heard link.new ≡ L.heard link.old }
+    ensures link_waits { L.waits link.new ≡ L.waits link.old }
     ensures handed { OnOk result ((others : Others) (turn : Option ℕ) → Course engine.old.server engine.old.state engine.new.state
         (waiting_at turn (drop place packets.old) engine.old.state.moment) (waiting_at turn (drop (place + 1) packets.new) engine.new.state.moment)
-        (told_with others (L.given link.old) (J.written journal.old)) (told_with others (L.given link.new) (J.written journal.new)) [] 0 0) }
+        (told_with others (L.given link.old) (kept (J.written journal.old) (J.faulted journal.old)))
+        (told_with others (L.given link.new) (kept (J.written journal.new) (J.faulted journal.new))) [] 0 0) }
+    ensures none_left { OnOk result (NothingDueBy engine.new.state.moment engine.new.state) }
     ensures more { OnOk result (place + 1 ≤ length packets.new) }
     ensures fewer { OnOk result (length packets.new + sends_left engine.new.state ≤ length packets.old + sends_left engine.old.state) }
     ensures no_further { OnOk result (IsNoFurther engine.old.state engine.new.state) }
     ensures refused { IfErr result (λ e. IsOfHanding e (J.written journal.new)) }
     ensures broken { IfErr result (λ e. (others : Others) (turn : Option ℕ) → Breaks engine.old.server engine.old.state engine.new.state
         (waiting_at turn (drop place packets.old) engine.old.state.moment)
-        (told_with others (L.given link.old) (J.written journal.old)) (told_with others (L.given link.new) (J.written journal.new)) 0 e) }
+        (told_with others (L.given link.old) (kept (J.written journal.old) (J.faulted journal.old)))
+        (told_with others (L.given link.new) (kept (J.written journal.new) (J.faulted journal.new))) 0 e) }
 {
     let packet = &packets.as_slice()[place];
     let ticket = packet.ticket;
@@ -122,18 +132,22 @@ pub(crate) fn hand_out<T: Timers, R: Rules, L: Link, J: Journal>(
     journal: &mut J,
     packets: &mut Items<Packet>,
 ) -> Result<(), ServeError>
+    requires { NothingDueBy engine.old.state.moment engine.old.state }
     ensures server { engine.new.server ≡ engine.old.server }
     ensures receives { L.receives link.new ≡ L.receives link.old }
     ensures failures { L.failures link.new ≡ L.failures link.old }
     ensures heard { L.heard link.new ≡ L.heard link.old }
+    ensures link_waits { L.waits link.new ≡ L.waits link.old }
     ensures handed { OnOk result ((others : Others) (turn : Option ℕ) → Course engine.old.server engine.old.state engine.new.state
         (waiting_at turn packets.old engine.old.state.moment) (waiting_at turn [] engine.new.state.moment)
-        (told_with others (L.given link.old) (J.written journal.old)) (told_with others (L.given link.new) (J.written journal.new)) [] 0 0) }
+        (told_with others (L.given link.old) (kept (J.written journal.old) (J.faulted journal.old)))
+        (told_with others (L.given link.new) (kept (J.written journal.new) (J.faulted journal.new))) [] 0 0) }
     ensures no_further { OnOk result (IsNoFurther engine.old.state engine.new.state) }
     ensures refused { IfErr result (λ e. IsOfHanding e (J.written journal.new)) }
     ensures broken { IfErr result (λ e. (others : Others) (turn : Option ℕ) → Breaks engine.old.server engine.old.state engine.new.state
         (waiting_at turn packets.old engine.old.state.moment)
-        (told_with others (L.given link.old) (J.written journal.old)) (told_with others (L.given link.new) (J.written journal.new)) 0 e) }
+        (told_with others (L.given link.old) (kept (J.written journal.old) (J.faulted journal.old)))
+        (told_with others (L.given link.new) (kept (J.written journal.new) (J.faulted journal.new))) 0 e) }
 {
     let mut place = 0;
     while place < packets.as_slice().len() {

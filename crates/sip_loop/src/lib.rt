@@ -6,7 +6,7 @@
 //! - Tried: `test_serve`, and over sockets `tests/serve.py`.
 //!
 //! ```text
-//! let served = serve(alloc, &mut engine, &mut link, &mut journal, &mut audit, &mut clock, &mut words, turns)?;
+//! serve(alloc, &mut engine, &mut link, &mut journal, &mut audit, &mut clock, &mut words, turns)?;
 //! ```
 #![tactic(auto)]
 
@@ -15,13 +15,12 @@ mod due;
 mod handing;
 pub mod laws;
 mod no_audit;
-mod records;
 mod served;
 mod serving;
 
 pub use audit_log::{AuditFault, AuditLog};
 pub use no_audit::NoAudit;
-pub use served::{ServeError, Served};
+pub use served::ServeError;
 pub use serving::serve;
 
 /// Of `sip_engine`.

@@ -6,9 +6,11 @@ use sip_audit::Record;
 pub struct NoAudit;
 
 impl AuditLog for NoAudit {
-    ghost use Rattle.std.specs.Prelude.{Option};
+    ghost use Rattle.std.specs.Prelude.{Option, false};
 
     ghost printed = { λ _. Option.Some Option.None };
+
+    ghost faulted = { λ _. false };
 
     fn print(&mut self, _records: &[Record]) -> Result<(), AuditFault> {
         Ok(())

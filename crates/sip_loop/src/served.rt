@@ -3,22 +3,14 @@ ghost use Rattle.sip_loop.specs.ServeErrors.{number_of_refusal, refusal_of_audit
 ghost use Rattle.sip_loop.specs.declared.served.ServeError.TheVariants.{NoMemory, Journal, Link};
 
 use crate::audit_log::AuditFault;
-use sip_audit::Record;
 use sip_loop_link::LinkFault;
 use sip_record::JournalFault;
 use sip_run::engine::StepError;
-use sip_text::Items;
 use std::alloc::{AllocError, AllocFailed};
 use std::error::Error;
 use std::fmt;
 
-/// What came of serving: the records of the steps that were taken, in their order.
-#[derive(Drop)]
-pub struct Served {
-    pub records: Items<Record>,
-}
-
-/// Why serving ended before its last turn. There are no records then; what was sent stays sent.
+/// Why serving ended before its last turn. What was sent stays sent.
 #[derive(Clone, Copy, Debug, PartialEq, Eq)]
 pub enum ServeError {
     /// Memory ran out.

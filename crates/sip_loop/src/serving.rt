@@ -1,4 +1,4 @@
-ghost use Rattle.std.specs.Prelude.{◌≡◌, ◌⊎◌, ◌≤◌, ℕ, ◌∷◌, [], List, Option, None, Some, Err, IfOk, IfErr, OnOk, OnErr};
+ghost use Rattle.std.specs.Prelude.{◌≡◌, ◌≢◌, ◌⊎◌, ◌≤◌, ℕ, ◌∷◌, [], true, false, List, Option, None, Some, Err, IfOk, IfErr, OnOk, OnErr};
 ghost use Rattle.sip_loop_link.specs.Told.{counted};
 ghost use Rattle.sip_loop.specs.Counts.{counted_times, IsAskedWithin};
 ghost use Rattle.model_bounds.specs.steps_model.Step.{moment_of};
@@ -6,17 +6,17 @@ ghost use Rattle.sip_run.specs.Due.{NothingDueBy};
 ghost use Rattle.sip_loop.specs.Courses.{Breaks, BreaksOff, Goes, LinkFails, StepFails, TakesTurn, TurnBreaks, TurnGoes, waiting_at};
 ghost use Rattle.sip_loop.specs.Printing.{Prints};
 ghost use Rattle.sip_record.specs.Record.{Notes};
-ghost use Rattle.sip_loop.specs.Serving.{IsServed, IsUnserved, behind_word, between_turns, event_of_turn, told_by, turn_at, word_from};
+ghost use Rattle.sip_loop.specs.Serving.{IsServed, IsUnserved, behind_word, between_turns, event_of_turn, kept, told_by, turn_at, word_from};
 ghost use Rattle.sip_loop.specs.declared.served.ServeError.TheVariants as Refusal;
 
 use crate::audit_log::AuditLog;
 use crate::due::pass_due;
 use crate::handing::hand_out;
-use crate::records::list_records;
-use crate::served::{ServeError, Served};
+use crate::served::ServeError;
 use model_bounds::bounds::every_history_is_bounded;
 use model_bounds::model::histories::steps_stand_at_their_moments;
 use model_bounds::model::laws::every_history_has_access;
+use model_bounds::model::order::no_deadline_passed;
 use rand_core::Rng;
 use sip_audit::Record;
 use sip_event::StepOut;
@@ -24,7 +24,6 @@ use sip_loop_link::{Clock, Link};
 use sip_policy::Rules;
 use sip_record::Journal;
 use sip_run::engine::Engine;
-use sip_text::Items;
 use sip_timers::Timers;
 use sip_uri::Addr;
 use std::alloc::Global;
@@ -69,12 +68,16 @@ fn take_event<T: Timers, R: Rules, L: Link, W: Rng>(
     ensures link_held { ¬ (result ≡ Err Refusal.Link) → L.failures link.new ≡ L.failures link.old }
     ensures not_journal { IfErr result (λ e. ¬ (e ≡ Refusal.Journal)) }
     ensures given { L.given link.new ≡ L.given link.old }
+    ensures link_waits { L.waits link.new ≡ L.waits link.old }
     ensures taken { IfOk result (λ taken. TakesTurn engine.old.server engine.old.state at (L.heard link.old) (L.heard link.new)
         (W.stream words.old) (W.stream words.new) (turn_at at taken.arrived (L.held link.new)) taken.out engine.new.state) }
     ensures broken { IfErr result (λ e. LinkFails (L.heard link.old) (L.heard link.new) (W.stream words.old) (W.stream words.new) e
         ⊎ StepFails engine.old.state at (L.heard link.old) (L.heard link.new) (W.stream words.old) (W.stream words.new) e) }
+    ensures none_left { OnOk result (NothingDueBy engine.new.state.moment engine.new.state) }
     ensures unchanged { OnErr result (engine.new ≡ engine.old) }
 {
+    no_deadline_passed();
+    engine.is_reached();
     match link.receive()? {
         Some(from) => {
             let word = next_word(words);
@@ -99,6 +102,8 @@ fn note_turn<J: Journal>(
     ensures noted { OnOk result (Notes (J.written journal.old) (J.written journal.new) (event_of_turn (turn_at at arrived bytes.now) ∷ [])) }
     ensures refused { IfErr result (λ e. e ≡ Refusal.Journal) }
     ensures told { OnErr result (J.written journal.new ≡ None) }
+    ensures whole { OnOk result ((J.faulted journal.old ≡ false) × (J.faulted journal.new ≡ false)) }
+    ensures said { OnErr result (J.faulted journal.new ≡ true) }
 {
     match arrived {
         Some(arrived) => Ok(journal.heard(at, arrived.word, arrived.from, bytes)?),
@@ -111,6 +116,9 @@ fn log_records<A: AuditLog>(audit: &mut A, records: &[Record]) -> Result<(), Ser
     ensures printed { OnOk result (Prints (A.printed audit.old) (A.printed audit.new) records.now) }
     ensures refused { IfErr result (λ e. (e ≡ Refusal.NoMemory) ⊎ (e ≡ Refusal.Audit)) }
     ensures told { OnErr result (A.printed audit.new ≡ None) }
+    ensures whole { OnOk result (records.now ≢ [] → A.faulted audit.old ≡ false) }
+    ensures held { OnOk result (A.faulted audit.new ≡ A.faulted audit.old) }
+    ensures said { OnErr result (A.faulted audit.new ≡ true) }
 {
     if records.is_empty() {
         return Ok(());
@@ -119,8 +127,8 @@ fn log_records<A: AuditLog>(audit: &mut A, records: &[Record]) -> Result<(), Ser
     Ok(())
 }
 
-/// The rest of a turn, once all that was due by its reading has happened: its event is taken and told to the journal, what it records
-/// is printed and listed, and then its packets are given to the link.
+/// The rest of a turn, once all that was due by its reading has happened: its event is taken and told to the journal, the lines of what
+/// it records are printed, and then its packets are given to the link.
 fn take_turn<T: Timers, R: Rules, L: Link, J: Journal, A: AuditLog, W: Rng>(
     engine: &mut Engine<T, R>,
     link: &mut L,
@@ -128,7 +136,6 @@ fn take_turn<T: Timers, R: Rules, L: Link, J: Journal, A: AuditLog, W: Rng>(
     audit: &mut A,
     words: &mut W,
     at: u64,
-    records: &mut Items<Record>,
 ) -> Result<(), ServeError>
     requires { NothingDueBy (moment_of engine.old.state at) engine.old.state }
     ensures server { engine.new.server ≡ engine.old.server }
@@ -136,20 +143,23 @@ fn take_turn<T: Timers, R: Rules, L: Link, J: Journal, A: AuditLog, W: Rng>(
     ensures link_failed { result ≡ Err Refusal.Link → L.failures link.new ≡ counted (L.failures link.old) }
     ensures link_held { ¬ (result ≡ Err Refusal.Link) → L.failures link.new ≡ L.failures link.old }
     ensures journal_failed { result ≡ Err Refusal.Journal → J.written journal.new ≡ None }
+    ensures link_waits { L.waits link.new ≡ L.waits link.old }
     ensures goes { OnOk result ((readings : Option (List ℕ)) → TurnGoes engine.old.server engine.old.state engine.new.state at
-        (told_by (L.heard link.old) (L.given link.old) readings (J.written journal.old) (A.printed audit.old) (W.stream words.old))
-        (told_by (L.heard link.new) (L.given link.new) readings (J.written journal.new) (A.printed audit.new) (W.stream words.new))
-        records.old records.new) }
+        (told_by (L.heard link.old) (L.given link.old) readings (kept (J.written journal.old) (J.faulted journal.old))
+        (kept (A.printed audit.old) (A.faulted audit.old)) (W.stream words.old))
+        (told_by (L.heard link.new) (L.given link.new) readings (kept (J.written journal.new) (J.faulted journal.new))
+        (kept (A.printed audit.new) (A.faulted audit.new)) (W.stream words.new))) }
     ensures broken { IfErr result (λ e. (readings : Option (List ℕ)) → TurnBreaks engine.old.server engine.old.state engine.new.state at
-        (told_by (L.heard link.old) (L.given link.old) readings (J.written journal.old) (A.printed audit.old) (W.stream words.old))
-        (told_by (L.heard link.new) (L.given link.new) readings (J.written journal.new) (A.printed audit.new) (W.stream words.new)) e) }
+        (told_by (L.heard link.old) (L.given link.old) readings (kept (J.written journal.old) (J.faulted journal.old))
+        (kept (A.printed audit.old) (A.faulted audit.old)) (W.stream words.old))
+        (told_by (L.heard link.new) (L.given link.new) readings (kept (J.written journal.new) (J.faulted journal.new))
+        (kept (A.printed audit.new) (A.faulted audit.new)) (W.stream words.new)) e) }
 {
     steps_stand_at_their_moments();
     let taken = take_event(engine, link, words, at)?;
     let Taken { mut out, arrived } = taken;
     note_turn(journal, at, arrived, link.bytes())?;
     log_records(audit, out.records.as_slice())?;
-    list_records(records, &mut out.records)?;
     hand_out(engine, link, journal, &mut out.packets)
 }
 
@@ -162,7 +172,6 @@ fn turn<T: Timers, R: Rules, L: Link, J: Journal, A: AuditLog, C: Clock, W: Rng>
     audit: &mut A,
     clock: &mut C,
     words: &mut W,
-    records: &mut Items<Record>,
 ) -> Result<(), ServeError>
     ensures server { engine.new.server ≡ engine.old.server }
     ensures asked_all { OnOk result (L.receives link.new ≡ counted (L.receives link.old)) }
@@ -170,17 +179,21 @@ fn turn<T: Timers, R: Rules, L: Link, J: Journal, A: AuditLog, C: Clock, W: Rng>
     ensures link_failed { result ≡ Err Refusal.Link → L.failures link.new ≡ counted (L.failures link.old) }
     ensures link_held { ¬ (result ≡ Err Refusal.Link) → L.failures link.new ≡ L.failures link.old }
     ensures journal_failed { result ≡ Err Refusal.Journal → J.written journal.new ≡ None }
+    ensures link_waits { L.waits link.new ≡ L.waits link.old }
     ensures goes { OnOk result (Goes engine.old.server engine.old.state engine.new.state
-        (told_by (L.heard link.old) (L.given link.old) (C.readings clock.old) (J.written journal.old) (A.printed audit.old) (W.stream words.old))
-        (told_by (L.heard link.new) (L.given link.new) (C.readings clock.new) (J.written journal.new) (A.printed audit.new) (W.stream words.new)) 1
-        records.old records.new) }
+        (told_by (L.heard link.old) (L.given link.old) (C.readings clock.old) (kept (J.written journal.old) (J.faulted journal.old))
+        (kept (A.printed audit.old) (A.faulted audit.old)) (W.stream words.old))
+        (told_by (L.heard link.new) (L.given link.new) (C.readings clock.new) (kept (J.written journal.new) (J.faulted journal.new))
+        (kept (A.printed audit.new) (A.faulted audit.new)) (W.stream words.new)) 1) }
     ensures broken { IfErr result (Breaks engine.old.server engine.old.state engine.new.state (between_turns engine.old.state.moment)
-        (told_by (L.heard link.old) (L.given link.old) (C.readings clock.old) (J.written journal.old) (A.printed audit.old) (W.stream words.old))
-        (told_by (L.heard link.new) (L.given link.new) (C.readings clock.new) (J.written journal.new) (A.printed audit.new) (W.stream words.new)) 1) }
+        (told_by (L.heard link.old) (L.given link.old) (C.readings clock.old) (kept (J.written journal.old) (J.faulted journal.old))
+        (kept (A.printed audit.old) (A.faulted audit.old)) (W.stream words.old))
+        (told_by (L.heard link.new) (L.given link.new) (C.readings clock.new) (kept (J.written journal.new) (J.faulted journal.new))
+        (kept (A.printed audit.new) (A.faulted audit.new)) (W.stream words.new)) 1) }
 {
     let at = clock.now();
     pass_due(alloc, engine, link, journal, at)?;
-    take_turn(engine, link, journal, audit, words, at, records)
+    take_turn(engine, link, journal, audit, words, at)
 }
 
 /// Serves for some turns. In each the clock is read once, in milliseconds; all that is due by then happens, moment by moment: what is due at
@@ -191,10 +204,11 @@ fn turn<T: Timers, R: Rules, L: Link, J: Journal, A: AuditLog, C: Clock, W: Rng>
 /// (`in_order`). Each valid new request outside a dialog is sent to exactly the unexpired bindings or the configured hop that the
 /// first matching rule gives its proven user; bindings change or are listed exactly as an allowed REGISTER says; every policy denial is a
 /// 403 whose Warning names that rule; all else sent belongs to an open request or a known dialog (`access` in `Serves`). Where the
-/// journal tells what it holds, that says exactly the events that were taken (`noted` there). Refusals, behind which what was sent stays
-/// sent and the engine goes on from where it is: `NoMemory`; `Journal`, where an event couldn't be told, which was taken, and of which nothing
-/// was given to the link; `Audit`, where the lines of one couldn't be printed, likewise; `Link`, where `receive` failed; `Step`, where a
-/// moment is 2^62 ms or more, or a datagram's number would be.
+/// journal tells what it holds, that says exactly the events that were taken (`noted` there). No fault of the journal, or of the log, is
+/// passed over (`held`, `faulted`). Refusals, behind which what was sent stays sent and the engine goes on from where it is: `NoMemory`;
+/// `Journal`, where an event couldn't be told, which was taken, and of which nothing was given to the link; `Audit`, where the lines of one
+/// couldn't be printed, likewise; `Link`, where `receive` failed; `Step`, where a moment is 2^62 ms or more, or a datagram's number would
+/// be.
 pub fn serve<T: Timers, R: Rules, L: Link, J: Journal, A: AuditLog, C: Clock, W: Rng>(
     alloc: Global,
     engine: &mut Engine<T, R>,
@@ -204,34 +218,29 @@ pub fn serve<T: Timers, R: Rules, L: Link, J: Journal, A: AuditLog, C: Clock, W:
     clock: &mut C,
     words: &mut W,
     turns: u32,
-) -> Result<Served, ServeError>
+) -> Result<(), ServeError>
     ensures server { engine.new.server ≡ engine.old.server }
-    ensures served { IfOk result (λ served. IsServed turns engine.old.server engine.old.state engine.new.state
-        (told_by (L.heard link.old) (L.given link.old) (C.readings clock.old) (J.written journal.old) (A.printed audit.old) (W.stream words.old))
-        (told_by (L.heard link.new) (L.given link.new) (C.readings clock.new) (J.written journal.new) (A.printed audit.new) (W.stream words.new)) served.records) }
+    ensures served { OnOk result (IsServed turns engine.old.server engine.old.state engine.new.state
+        (told_by (L.heard link.old) (L.given link.old) (C.readings clock.old) (kept (J.written journal.old) (J.faulted journal.old))
+        (kept (A.printed audit.old) (A.faulted audit.old)) (W.stream words.old))
+        (told_by (L.heard link.new) (L.given link.new) (C.readings clock.new) (kept (J.written journal.new) (J.faulted journal.new))
+        (kept (A.printed audit.new) (A.faulted audit.new)) (W.stream words.new))) }
     ensures refused { IfErr result (IsUnserved turns engine.old.server engine.old.state engine.new.state
-        (told_by (L.heard link.old) (L.given link.old) (C.readings clock.old) (J.written journal.old) (A.printed audit.old) (W.stream words.old))
-        (told_by (L.heard link.new) (L.given link.new) (C.readings clock.new) (J.written journal.new) (A.printed audit.new) (W.stream words.new))) }
+        (told_by (L.heard link.old) (L.given link.old) (C.readings clock.old) (kept (J.written journal.old) (J.faulted journal.old))
+        (kept (A.printed audit.old) (A.faulted audit.old)) (W.stream words.old))
+        (told_by (L.heard link.new) (L.given link.new) (C.readings clock.new) (kept (J.written journal.new) (J.faulted journal.new))
+        (kept (A.printed audit.new) (A.faulted audit.new)) (W.stream words.new))) }
     ensures asked_all { OnOk result (L.receives link.new ≡ counted_times turns (L.receives link.old)) }
     ensures asked { IsAskedWithin turns (L.receives link.old) (L.receives link.new) }
     ensures link_failed { result ≡ Err Refusal.Link → L.failures link.new ≡ counted (L.failures link.old) }
     ensures journal_failed { result ≡ Err Refusal.Journal → J.written journal.new ≡ None }
+    ensures link_waits { L.waits link.new ≡ L.waits link.old }
     ensures link_held { ¬ (result ≡ Err Refusal.Link) → L.failures link.new ≡ L.failures link.old }
 {
     every_history_has_access();
     every_history_is_bounded();
-    let mut records = Items::new(alloc);
     for _ in 0..turns {
-        turn(
-            alloc,
-            engine,
-            link,
-            journal,
-            audit,
-            clock,
-            words,
-            &mut records,
-        )?;
+        turn(alloc, engine, link, journal, audit, clock, words)?;
     }
-    Ok(Served { records })
+    Ok(())
 }

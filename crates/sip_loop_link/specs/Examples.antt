@@ -1,5 +1,5 @@
 -- A link over memory of the worked example.
-use Rattle.std.specs.Prelude.{ℕ, [], ◌∷◌}
+use Rattle.std.specs.Prelude.{ℕ, false, [], ◌∷◌, Some}
 use Rattle.sip_loop_link.specs.MemoryLink.{MemoryState, received}
 use Rattle.sip_loop_link.specs.declared.datagram.Heard.{Heard}
 use Rattle.sip_loop_link.specs.declared.datagram.Given.{Given}
@@ -23,12 +23,15 @@ abbrev pub two_datagrams : MemoryState
 two_datagrams = record {
   waiting = heard 1 ∷ heard 2 ∷ [];
   heard = [];
+  fresh = false;
+  aside = [];
   given = sent ∷ [];
   held = [];
   receives = 0;
   failures = 0;
   receive_fails = 2 ∷ [];
   send_fails = 2 ∷ [];
+  waits = Some [];
 }
 
 -- the same behind four receives

@@ -1,5 +1,5 @@
 -- A link over memory: what it hears, what it was given, and at which calls it fails.
-use Rattle.std.specs.Prelude.{ℕ, ◌+◌, zero, suc, nat_eq, nat_lt, Bool, ◌||◌, not, List, [], ◌∷◌, ◌++◌, length, Option, None, Some, Result}
+use Rattle.std.specs.Prelude.{◌≡◌, ℕ, ◌+◌, zero, suc, nat_eq, nat_lt, Bool, true, false, ◌||◌, not, List, [], ◌∷◌, ◌++◌, length, Option, None, Some, Result}
 use Rattle.std.specs.Prelude.{Ok, Err, if◌then◌else◌}
 use Rattle.std.specs.List.{list_any}
 use Rattle.sip_loop_link.specs.Told.{most, counted}
@@ -11,18 +11,22 @@ use Rattle.sip_loop_link.specs.declared.datagram.Sending.TheVariants.{Went, Fail
 use Rattle.sip_loop_link.specs.declared.posted.Posted.{Posted}
 use Rattle.sip_uri.specs.declared.addr.Addr.{Addr}
 
--- what a link over memory is seen as: the datagrams that it is yet to hear; what each receive that didn't fail heard; what it
--- was given; the bytes of the datagram that it heard last; how many receives there were, and how many of them failed; and the
--- numbers, from 1, of the receives and of the sends that fail
+-- what a link over memory is seen as: the datagrams that it is yet to hear; what each receive that didn't fail heard, but
+-- for what was set aside; whether it heard a datagram last; what was set aside; what it was given; the bytes of the datagram that it heard last; how many receives there were, and how many of them failed; the
+-- numbers, from 1, of the receives and of the sends that fail; and how many milliseconds it was let wait, time by time, while there
+-- was memory to tell it
 pub record MemoryState : Type 0 where
   pub waiting : List Heard
   pub heard : List (Option Heard)
+  pub fresh : Bool
+  pub aside : List Heard
   pub given : List Given
   pub held : List ℕ
   pub receives : ℕ
   pub failures : ℕ
   pub receive_fails : List ℕ
   pub send_fails : List ℕ
+  pub waits : Option (List ℕ)
 
 -- whether the next receive fails: its number is among those, or can't be counted
 abbrev pub next_receive_fails : MemoryState → Bool
@@ -47,8 +51,8 @@ next_answer link = if next_receive_fails link then Err (record {}) else Ok (firs
 
 -- a link that hears the first of these datagrams, or nothing
 abbrev pub hearing : List Heard → MemoryState → MemoryState
-hearing [] link = record link { heard = link.heard ++ None ∷ [] }
-hearing (datagram ∷ rest) link = record link { waiting = rest; heard = link.heard ++ Some datagram ∷ []; held = datagram.bytes }
+hearing [] link = record link { heard = link.heard ++ None ∷ []; fresh = false }
+hearing (datagram ∷ rest) link = record link { waiting = rest; heard = link.heard ++ Some datagram ∷ []; fresh = true; held = datagram.bytes }
 
 -- a link behind its next receive
 abbrev pub received : MemoryState → MemoryState
@@ -66,10 +70,31 @@ abbrev pub nothings : ℕ → List (Option Heard)
 nothings zero = []
 nothings (suc n) = None ∷ nothings n
 
--- what was heard up to the last of these
+-- what was heard of a datagram, and what was set aside, where it was set aside or wasn't
+abbrev pub heard_one : Bool → Heard → List (Option Heard)
+heard_one true datagram = []
+heard_one false datagram = Some datagram ∷ []
+
+abbrev pub aside_one : Bool → Heard → List Heard
+aside_one true datagram = datagram ∷ []
+aside_one false datagram = []
+
+-- what was heard up to the last of these, but for what was set aside
 abbrev pub heard_by : List Posted → List (Option Heard)
 heard_by [] = []
-heard_by (posted ∷ rest) = nothings posted.silent ++ Some posted.datagram ∷ heard_by rest
+heard_by (posted ∷ rest) = (nothings posted.silent ++ heard_one posted.is_aside posted.datagram) ++ heard_by rest
+
+-- what of these was set aside
+abbrev pub aside_by : List Posted → List Heard
+aside_by [] = []
+aside_by (posted ∷ rest) = aside_one posted.is_aside posted.datagram ++ aside_by rest
+
+-- the last of so many of these wasn't set aside
+abbrev pub IsFresh : List Posted → ℕ → Type 0
+IsFresh [] count = ⊥
+IsFresh (posted ∷ rest) zero = ⊥
+IsFresh (posted ∷ rest) (suc zero) = posted.is_aside ≡ false
+IsFresh (posted ∷ rest) (suc (suc count)) = IsFresh rest (suc count)
 
 -- the bytes of the last of these, or none
 abbrev pub last_bytes : List ℕ → List Posted → List ℕ

@@ -1,5 +1,5 @@
 -- What a link and a clock count, and what they tell, where they tell it.
-use Rattle.std.specs.Prelude.{◌≢◌, ◌≤◌, ℕ, ◌+◌, ◌-◌, ◌^◌, nat_lt, List, [], ◌∷◌, ◌++◌, length, Option, None, Some, if◌then◌else◌}
+use Rattle.std.specs.Prelude.{◌≡◌, ◌≢◌, ◌≤◌, ⊤, ℕ, Bool, true, false, ◌+◌, ◌-◌, ◌^◌, nat_lt, List, [], ◌∷◌, ◌++◌, length, Option, None, Some, if◌then◌else◌}
 use Rattle.sip_loop_link.specs.declared.datagram.Heard.{Heard}
 use Rattle.sip_uri.specs.declared.addr.Addr.{Addr}
 
@@ -33,3 +33,21 @@ and_then (Some list) last = Some (list ++ last ∷ [])
 abbrev pub and_counted : {A : Type 0} → Option (List A) → A → Option (List A)
 and_counted None last = None
 and_counted (Some list) last = if nat_lt (length list) most then Some (list ++ last ∷ []) else None
+
+-- a list that may be told has grown by one at its end, where it is told still
+abbrev pub GrewBy : {A : Type 0} → A → Option (List A) → Option (List A) → Type 0
+GrewBy last old None = ⊤
+GrewBy last None (Some all) = ⊥
+GrewBy last (Some list) (Some all) = all ≡ list ++ last ∷ []
+
+-- what was heard before, where it is asked again for what it set aside, or nothing more
+abbrev pub left_of : Bool → Option (List (Option Heard)) → Option (List (Option Heard))
+left_of true before = before
+left_of false before = and_then before None
+
+-- A link heard a datagram last, and set it aside: that counts as if it had heard nothing, or not at all, where it is asked again for it;
+-- and it has set aside one more.
+abbrev pub SetsAside : Heard → Bool → Option (List (Option Heard)) → Option (List (Option Heard)) → Option (List Heard) → Option (List Heard) → Type 0
+SetsAside datagram again heard_old heard_new aside_old aside_new =
+    (before : Option (List (Option Heard))) → heard_old ≡ and_then before (Some datagram)
+    → (heard_new ≡ left_of again before) × (aside_new ≡ and_then aside_old datagram)

@@ -1,5 +1,5 @@
-ghost use Rattle.std.specs.Prelude.{◌≡◌, ℕ, IfOk, IfSome, OnOk, OnErr, Option, List};
-ghost use Rattle.sip_loop_link.specs.Told.{counted, heard_of, and_then, IsWritable};
+ghost use Rattle.std.specs.Prelude.{◌≡◌, ℕ, Bool, true, IfOk, IfSome, OnOk, OnErr, Option, List};
+ghost use Rattle.sip_loop_link.specs.Told.{counted, heard_of, and_then, GrewBy, IsWritable, SetsAside};
 ghost use Rattle.sip_loop_link.specs.declared.datagram.Heard.{Heard};
 ghost use Rattle.sip_loop_link.specs.declared.datagram.Given.{Given};
 
@@ -8,7 +8,7 @@ use sip_uri::Addr;
 use std::alloc::AllocError;
 
 /// What hears and sends datagrams. It counts how often it was asked for one, and how often that failed, and may tell
-/// what it heard and what it was given, oldest first.
+/// what it heard, what it was given and how long it was let wait, oldest first.
 pub trait Link: Drop {
     ghost receives: { Self → ℕ };
 
@@ -20,6 +20,15 @@ pub trait Link: Drop {
 
     ghost held: { Self → List ℕ };
 
+    // whether it heard a datagram last, and not nothing
+    ghost fresh: { Self → Bool };
+
+    // the datagrams that were set aside, if it tells them
+    ghost aside: { Self → Option (List Heard) };
+
+    // how many milliseconds it was let wait, time by time, if it tells that
+    ghost waits: { Self → Option (List ℕ) };
+
     /// The source of the next datagram, or nothing where there is none now. Doesn't wait. What nobody can be answered for (port 0,
     /// RFC 768) or is too long for a line of a record, it doesn't hear.
     fn receive(&mut self) -> Result<Option<Addr>, LinkFault>
@@ -29,7 +38,20 @@ pub trait Link: Drop {
         ensures tells { IfOk result (λ from. heard self.new ≡ and_then (heard self.old) (heard_of from (held self.new))) }
         ensures silent { OnErr result (heard self.new ≡ heard self.old) }
         ensures writable { IfOk result (λ from. IfSome from (λ source. IsWritable source (held self.new))) }
-        ensures given { given self.new ≡ given self.old };
+        ensures fresh { IfOk result (λ from. IfSome from (λ _. fresh self.new ≡ true)) }
+        ensures given { given self.new ≡ given self.old }
+        ensures aside { aside self.new ≡ aside self.old }
+        ensures waits { waits self.new ≡ waits self.old };
+
+    /// Sets aside the datagram that it heard last, whose source this is: it counts as one that wasn't heard. Where it is asked again for
+    /// it, that receive doesn't count as one that heard nothing either.
+    fn set_aside(&mut self, from: Addr, again: bool)
+        ensures aside { fresh self.old ≡ true
+            → SetsAside (record { from = from; bytes = held self.old }) again (heard self.old) (heard self.new) (aside self.old) (aside self.new) }
+        ensures counted { receives self.new ≡ receives self.old }
+        ensures failures { failures self.new ≡ failures self.old }
+        ensures given { given self.new ≡ given self.old }
+        ensures waits { waits self.new ≡ waits self.old };
 
     /// The bytes of the datagram that it heard last.
     fn bytes(&self) -> &[u8]
@@ -41,5 +63,16 @@ pub trait Link: Drop {
         ensures failures { failures self.new ≡ failures self.old }
         ensures heard { heard self.new ≡ heard self.old }
         ensures ok { IfOk result (λ sending. given self.new ≡ and_then (given self.old) (record { to = to; bytes = bytes.now; sending = sending })) }
-        ensures err { OnErr result (given self.new ≡ given self.old) };
+        ensures err { OnErr result (given self.new ≡ given self.old) }
+        ensures aside { aside self.new ≡ aside self.old }
+        ensures waits { waits self.new ≡ waits self.old };
+
+    /// Waits so many milliseconds at most for something to hear, which the next `receive` hears.
+    fn wait(&mut self, milliseconds: u64)
+        ensures waited { GrewBy milliseconds (waits self.old) (waits self.new) }
+        ensures counted { receives self.new ≡ receives self.old }
+        ensures failures { failures self.new ≡ failures self.old }
+        ensures heard { heard self.new ≡ heard self.old }
+        ensures aside { aside self.new ≡ aside self.old }
+        ensures given { given self.new ≡ given self.old };
 }

@@ -2,10 +2,11 @@ ghost use Rattle.sip_loop_link.specs.Told.{IsWritable};
 
 use crate::datagram::Heard;
 
-/// A datagram that a link over memory hears, and before which so many receives heard nothing.
+/// A datagram that a link over memory hears, before which so many receives heard nothing, and whether it was set aside then.
 #[derive(Drop)]
 pub(crate) struct Posted {
     pub(crate) silent: u64,
+    pub(crate) is_aside: bool,
     pub(crate) datagram: Heard,
     ghost writable: { IsWritable datagram.from datagram.bytes },
 }

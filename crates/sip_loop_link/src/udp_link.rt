@@ -1,4 +1,4 @@
-ghost use Rattle.std.specs.Prelude.{◌≡◌, ◌≤◌, [], length, IfOk, IfSome, IsSome, OnOk, OnErr, None};
+ghost use Rattle.std.specs.Prelude.{◌≡◌, ◌≤◌, [], length, IfOk, IfSome, IsSome, OnOk, OnErr, None, true};
 ghost use Rattle.sip_loop_link.specs.Told.{counted, most_bytes, IsWritable};
 
 use crate::datagram::{LinkFault, MOST_BYTES, Sending};
@@ -15,7 +15,7 @@ use std::time::Duration;
 const MOST_PASSED: u32 = 64;
 
 /// A link over a UDP socket of IPv4. What comes from port 0 is passed over, since nobody there can be answered (RFC 768). It tells
-/// nothing of what it hears and is given.
+/// nothing of what it hears and is given, and how long it waits.
 #[derive(Drop)]
 pub struct UdpLink {
     socket: UdpSocket,
@@ -103,22 +103,6 @@ impl UdpLink {
     /// The port that it is bound to.
     pub fn port(&self) -> io::Result<u16> {
         Ok(self.socket.local_addr()?.port())
-    }
-
-    /// Waits for a datagram, so many milliseconds at most, and keeps what that came to for the next `receive`: the datagram, that
-    /// none came, or a fault. Doesn't wait where something is kept already.
-    pub fn wait(&mut self, milliseconds: u64)
-        ensures receives { self.new.receives ≡ self.old.receives }
-        ensures failures { self.new.failures ≡ self.old.failures }
-        ensures at_once { milliseconds ≡ 0 → self.new ≡ self.old }
-        ensures keeps { IsSome self.old.kept → self.new ≡ self.old }
-        ensures waited { ¬ (milliseconds ≡ 0) → IsSome self.new.kept }
-    {
-        if self.kept.is_some() || milliseconds == 0 {
-            return;
-        }
-        let found = self.hear_within(milliseconds);
-        self.kept = Some(found);
     }
 
     /// The next datagram, waited for so many milliseconds at most. One from port 0 ends the wait: what is there behind it is heard.
@@ -210,6 +194,12 @@ impl Link for UdpLink {
 
     ghost held = { λ l. l.held };
 
+    ghost fresh = { λ _. true };
+
+    ghost aside = { λ _. None };
+
+    ghost waits = { λ _. None };
+
     fn receive(&mut self) -> Result<Option<Addr>, LinkFault>
         ensures counted { self.new.receives ≡ counted self.old.receives }
         ensures ok { OnOk result (self.new.failures ≡ self.old.failures) }
@@ -226,6 +216,10 @@ impl Link for UdpLink {
         found
     }
 
+    fn set_aside(&mut self, _from: Addr, _again: bool)
+        ensures { self.new ≡ self.old }
+    {}
+
     fn bytes(&self) -> &[u8] {
         &self.buffer.as_slice()[..self.held]
     }
@@ -237,5 +231,21 @@ impl Link for UdpLink {
             Ok(length) if length == bytes.len() => Ok(Sending::Went),
             _ => Ok(Sending::Failed),
         }
+    }
+
+    // Keeps what waiting came to for the next `receive`: the datagram, that none came, or a fault. Doesn't wait where something is
+    // kept already.
+    fn wait(&mut self, milliseconds: u64)
+        ensures receives { self.new.receives ≡ self.old.receives }
+        ensures failures { self.new.failures ≡ self.old.failures }
+        ensures at_once { milliseconds ≡ 0 → self.new ≡ self.old }
+        ensures keeps { IsSome self.old.kept → self.new ≡ self.old }
+        ensures waited { ¬ (milliseconds ≡ 0) → IsSome self.new.kept }
+    {
+        if self.kept.is_some() || milliseconds == 0 {
+            return;
+        }
+        let found = self.hear_within(milliseconds);
+        self.kept = Some(found);
     }
 }

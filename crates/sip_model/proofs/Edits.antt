@@ -13,12 +13,12 @@ use Rattle.sip_model.proofs.Apart.{TargetsDiffer, only_target}
 -- ---- tests
 
 -- both hold
-and_parts : (p q : Bool) → (p && q) ≡ true → (p ≡ true) × (q ≡ true)
+pub and_parts : (p q : Bool) → (p && q) ≡ true → (p ≡ true) × (q ≡ true)
 and_parts true q e = (refl, e)
 and_parts false q e = absurd (cc)
 
 -- both do
-and_both : (p q : Bool) → p ≡ true → q ≡ true → (p && q) ≡ true
+pub and_both : (p q : Bool) → p ≡ true → q ≡ true → (p && q) ≡ true
 and_both true q e f = f
 and_both false q e f = absurd (cc)
 
@@ -136,3 +136,21 @@ map_same (b ∷ bs) = ap (λ (xs : List Branch). b ∷ xs) (map_same bs)
 pub map_both : (f g : Branch → Branch) (bs : List Branch) → map f (map g bs) ≡ map (λ (x : Branch). f (g x)) bs
 map_both f g [] = refl
 map_both f g (b ∷ bs) = ap (λ (xs : List Branch). f (g b) ∷ xs) (map_both f g bs)
+
+-- ---- the last branch ends
+
+-- all branches to targets are final after an edit that ends one, where all others were
+pub all_now : (b : Branch) (edit : Branch → Branch) → Edits b edit → ((x : Branch) → is_same_branch x b ≡ true → is_final (edit x).phase ≡ true) → (bs : List Branch)
+    → AllByRecursion (λ (x : Branch). x.is_cancel ≡ false → is_same_branch x b ≡ false → is_final x.phase ≡ true) bs → targets_final (map edit bs) ≡ true
+all_now b edit h ends [] others = refl
+all_now b edit h ends (x ∷ xs) others = by_cancel x.is_cancel refl (is_same_branch x b) refl (all_now b edit h ends xs others.1) where
+  by_cancel : (c : Bool) → x.is_cancel ≡ c → (t : Bool) → is_same_branch x b ≡ t → targets_final (map edit xs) ≡ true → targets_final (edit x ∷ map edit xs) ≡ true
+  by_cancel true is t same rest =
+      let now : (edit x).is_cancel ≡ true = h.keeps x ∙ is in
+      rw now rest
+  by_cancel false is true same rest =
+      let now : (edit x).is_cancel ≡ false = h.keeps x ∙ is in
+      rw now (and_both (is_final (edit x).phase) (targets_final (map edit xs)) (ends x same) rest)
+  by_cancel false is false same rest =
+      let now : (edit x).is_cancel ≡ false = h.keeps x ∙ is in
+      rw now (and_both (is_final (edit x).phase) (targets_final (map edit xs)) (ap is_final (h.others x same) ∙ others.0 is same) rest)

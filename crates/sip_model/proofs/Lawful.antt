@@ -1,15 +1,16 @@
 -- Every step of a run is lawful by its history.
-use Rattle.std.proofs.Common.{ℕ, List, [], ◌∷◌, Option, subst}
+use Rattle.std.proofs.Common.{ℕ, List, [], ◌∷◌, Option, sym, subst}
 use Rattle.sip_location.specs.Sameness.{SameBindings}
 use Rattle.sip_event.specs.declared.event.StepOut.{StepOut}
 use Rattle.sip_event.specs.declared.event.Event.{Event}
 use Rattle.model_steps.specs.state.declared.server.Server.{Server}
 use Rattle.model_steps.specs.state.declared.proxy_state.ProxyState.{ProxyState}
 use Rattle.model_steps.specs.state.State.{first_state}
-use Rattle.model_steps.specs.Step.{originals}
+use Rattle.model_steps.specs.Step.{NoneBefore, NoneAgainBefore, originals}
 use Rattle.sip_model.specs.Run.{Link, IsChain, IsRun}
 use Rattle.sip_model.specs.Bindings.{bindings_after}
 use Rattle.sip_model.specs.Access.{IsOwed, IsLawful, Access}
+use Rattle.sip_model.specs.Parts.{HasParts}
 use Rattle.sip_model.proofs.Registers.{bindings_of_chain}
 use Rattle.sip_model.proofs.Sixteen.{few_of_chain}
 use Rattle.sip_model.proofs.Services.{serves_of_step}
@@ -21,6 +22,9 @@ use Rattle.sip_model.proofs.MadeFinals.{best_made}
 use Rattle.sip_model.proofs.AllSent.{step_sends}
 use Rattle.sip_model.proofs.Steady.{steady_in_step}
 use Rattle.sip_model.proofs.Causes.{step_causes}
+use Rattle.sip_model.proofs.Orders.{chain_named}
+use Rattle.sip_model.proofs.Paying.{owed_pays}
+use Rattle.sip_model.proofs.StepParts.{step_parts}
 use Rattle.sip_model.proofs.Audited.{rising_of_step}
 use Rattle.sip_model.proofs.Standing.{stands_of_chain}
 use Rattle.sip_model.proofs.Places.{all_weaker}
@@ -31,6 +35,7 @@ lawful_of_chain : (server : Server) (first : ℕ) (link : Link) (history : List 
     → IsLawful server history link
 lawful_of_chain server first link history last chain =
     let before : SameBindings link.before.moment link.before.bindings (bindings_after server history) = bindings_of_chain server first history link.before chain.2 in
+    let parts : HasParts server link.before link.act link.out link.after = step_parts server link.before link.act link.out link.after chain.1 in
     record {
       stands = stands_of_chain server first link history last chain;
       bindings = before;
@@ -44,6 +49,9 @@ lawful_of_chain server first link history last chain =
       again = step_causes server link.before link.act link.out link.after chain.1;
       repeats = step_repeats server link.before link.act link.out link.after chain.1;
       went = went_of_chain server first link history last chain;
+      pays = owed_pays server (link ∷ history) link chain.1 (chain_named server first history link.before chain.2).numbers.differ (steady_in_step server first link history chain.2);
+      none_passed = subst (λ (moment : ℕ). NoneBefore moment link.before.requests) (sym parts.is_at) parts.none_passed;
+      none_again = subst (λ (moment : ℕ). NoneAgainBefore moment link.before.requests) (sym parts.is_at) parts.none_again;
       records = step_records server link.before link.act link.out link.after chain.1;
       rise = rising_of_step server first link history chain.1 chain.2;
     }

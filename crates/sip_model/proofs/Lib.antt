@@ -63,6 +63,11 @@ pub mod Sendings
 pub mod Expiring
 pub mod AllSent
 pub mod Causes
+pub mod SettledSends
+pub mod OwedChanges
+pub mod Found
+pub mod OwedInTime
+pub mod Paying
 pub mod Audited
 pub mod Steady
 pub mod Standing

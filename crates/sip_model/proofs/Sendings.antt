@@ -35,7 +35,7 @@ use Rattle.sip_model.proofs.ForOpen.{cancellable_parts, IsKept, MaySend, IsRight
 -- ---- statuses and phases
 
 -- a 2xx isn't provisional
-success_final : (status : ℕ) → is_success status ≡ true → is_provisional status ≡ false
+pub success_final : (status : ℕ) → is_success status ≡ true → is_provisional status ≡ false
 success_final status e = grind (arith, nat_tests)
 
 -- a provisional response leaves a phase as final as it was
@@ -69,12 +69,12 @@ heard_ready false now status (Done due first) e = absurd (cc)
 heard_ready false now status Ended e = absurd (cc)
 
 -- a branch without a final response takes a 2xx
-takes_success : (phase : Phase) → is_final phase ≡ false → TakesSuccess phase
-takes_success (Unheard due) e = tt
-takes_success (Heard due) e = tt
-takes_success (Cancelled due) e = tt
-takes_success (Done due first) e = absurd (cc)
-takes_success Ended e = absurd (cc)
+takes_success : (r : OpenRequest) (phase : Phase) → is_final phase ≡ false → TakesSuccess r phase
+takes_success r (Unheard due) e = tt
+takes_success r (Heard due) e = tt
+takes_success r (Cancelled due) e = tt
+takes_success r (Done due first) e = absurd (cc)
+takes_success r Ended e = absurd (cc)
 
 -- a final answer that goes up closes the side
 closes : (now : ℕ) (u : Upward) (s : OpenRequest) → is_provisional u.status ≡ false → is_answering (answered now u s).side ≡ false
@@ -214,7 +214,7 @@ module _ (server : Server) (history : List Link) (state : ProxyState) (act : Act
           silent : Goes None
           silent = nothing_goes server history state act at r r known.waits
 
-          accepting : TakesSuccess b.phase → (x : Bool) → is_success status ≡ x → (y : Bool) → (is_answering r.side || is_accepted r) ≡ y → Goes (cond (x && y) (Some (relayed_from b status m)) None)
+          accepting : TakesSuccess r b.phase → (x : Bool) → is_success status ≡ x → (y : Bool) → (is_answering r.side || is_accepted r) ≡ y → Goes (cond (x && y) (Some (relayed_from b status m)) None)
           accepting takes true success true owes =
               one_goes server history state act at r r b status m comes (Accepting success takes owes)
               (λ owed. absurd (true≢false (sym owed ∙ closes at (relayed_from b status m) r (success_final status success))))
@@ -225,11 +225,11 @@ module _ (server : Server) (history : List Link) (state : ProxyState) (act : Act
           by_phase (Unheard due) is = silent
           by_phase (Heard due) is = silent
           by_phase (Cancelled due) is = silent
-          by_phase (Done due first) is = by_first (is_invite r) (is_success first) refl where
-            by_first : (i f : Bool) → is_success first ≡ f → Goes (cond (i && f) (relayed_success r b status m) None)
-            by_first true true well = accepting (subst TakesSuccess (sym is) well) (is_success status) refl (is_answering r.side || is_accepted r) refl
-            by_first true false well = silent
-            by_first false f well = silent
+          by_phase (Done due first) is = by_first (is_invite r) refl (is_success first) refl where
+            by_first : (i : Bool) → is_invite r ≡ i → (f : Bool) → is_success first ≡ f → Goes (cond (i && f) (relayed_success r b status m) None)
+            by_first true invite true well = accepting (subst (TakesSuccess r) (sym is) (invite, well)) (is_success status) refl (is_answering r.side || is_accepted r) refl
+            by_first true invite false well = silent
+            by_first false invite f well = silent
           by_phase Ended is = silent
 
     -- ---- the first final response
@@ -303,7 +303,7 @@ module _ (server : Server) (history : List Link) (state : ProxyState) (act : Act
 
         goes : (x : Bool) → is_success status ≡ x → (y : Bool) → (is_answering r.side || is_accepted r) ≡ y → Goes (cond (x && y) (Some (relayed_from b status m)) None)
         goes true success true owes =
-            one_goes server history state act at r s b status m comes (Accepting success (takes_success b.phase first) owes)
+            one_goes server history state act at r s b status m comes (Accepting success (takes_success r b.phase first) owes)
             (λ owed. absurd (true≢false (sym owed ∙ closes at (relayed_from b status m) s late)))
         goes true success false closed =
             nothing_goes server history state act at r s (λ owes. absurd (true≢false (sym (ap (λ (v : Bool). v || is_accepted r) (sym (side t) ∙ owes)) ∙ closed)))

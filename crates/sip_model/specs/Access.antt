@@ -44,7 +44,7 @@ use Rattle.model_steps.specs.state.declared.open_request.OpenRequest.{OpenReques
 use Rattle.model_steps.specs.state.declared.branch.Branch.{Branch}
 use Rattle.model_steps.specs.state.declared.branch.Phase.{Phase}
 use Rattle.model_steps.specs.state.declared.branch.Phase.TheVariants.{Unheard, Heard, Cancelled, Done, Ended}
-use Rattle.model_steps.specs.state.State.{is_invite, has_key, is_success, is_failure, is_decline, is_provisional, is_final, is_answering}
+use Rattle.model_steps.specs.state.State.{is_invite, has_key, is_success, is_failure, is_decline, is_provisional, is_final, is_answering, phase_deadline, side_deadline}
 use Rattle.model_steps.specs.state.Dialogs.{dialog_of}
 use Rattle.model_steps.specs.context_model.Sending.{made_answer, answer_packet, answer_to, to_branch, ack_packets, branch_packets}
 use Rattle.model_steps.specs.context_model.Sending.{onward_as, request_of}
@@ -55,9 +55,9 @@ use Rattle.model_steps.specs.verdict_model.Verdict.{Challenge, Deny, Send, Regis
 use Rattle.model_steps.specs.verdict_model.Verdict.{question_of, answer_of, request_targets, registration_by, next_address, responding}
 use Rattle.model_steps.specs.verdict_model.Verdict.{found_for_cancel, message_in, verdict_of}
 use Rattle.model_steps.specs.context_model.Opening.{arriving, branches_from, dialog_branch}
-use Rattle.model_steps.specs.context_model.Retransmission.{IsRetransmission, IsResent, answers_again, acked_again}
+use Rattle.model_steps.specs.context_model.Retransmission.{IsRetransmission, IsResent, answers_again, acked_again, answer_due, branch_due}
 use Rattle.model_steps.specs.Effect.{contact_fields, challenge_status, challenges_to, method_of, ack_packet}
-use Rattle.model_steps.specs.Step.{Act, Given, Passing, originals, retransmissions, arrival_of}
+use Rattle.model_steps.specs.Step.{Act, Given, Passing, NoneBefore, NoneAgainBefore, originals, retransmissions, arrival_of}
 use Rattle.sip_model.specs.Run.{Link, event_moment}
 use Rattle.sip_model.specs.Bindings.{Arrived, bindings_after}
 use Rattle.sip_model.specs.Lives.{sent_first, first_sending}
@@ -343,27 +343,29 @@ pub record ComesNow (server : Server) (state : ProxyState) (act : Act) (r : Open
   pub is_for : responding server state.requests response.fields ≡ Some (r, b)
   pub is_target : b.is_cancel ≡ false
 
--- The ACK that a step sends for an open request: of the first final response of a branch of an INVITE, of 300 to 699 (RFC 3261 17.1.1.3); or none.
+-- The ACK that a step sends for an open request: of the first final response of a branch of an INVITE, of 300 to 699 (RFC 3261
+-- 17.1.1.3); or none, where none is owed (`Owes`).
 pub data IsAckNow (server : Server) (state : ProxyState) (act : Act) (r : OpenRequest) : List Packet → Type 0 where
   NoAck : IsAckNow server state act r []
   Acks : (b : Branch) (status : ℕ) (response : Message) → ComesNow server state act r b status response → is_invite r ≡ true
       → is_failure status ≡ true → is_final b.phase ≡ false
       → IsAckNow server state act r (ack_packets server false r b (first_value Name.To response.fields))
 
--- A branch of this phase still takes a 2xx: it has no final response, or its first one was a 2xx (RFC 6026 7.2).
-abbrev pub TakesSuccess : Phase → Type 0
-TakesSuccess (Unheard due) = Unit {0}
-TakesSuccess (Heard due) = Unit {0}
-TakesSuccess (Cancelled due) = Unit {0}
-TakesSuccess (Done due first) = is_success first ≡ true
-TakesSuccess Ended = ⊥
+-- A branch of a request, in this phase, still takes a 2xx: it has no final response, or is an INVITE's and its first one was a 2xx
+-- (RFC 6026 7.2).
+abbrev pub TakesSuccess : OpenRequest → Phase → Type 0
+TakesSuccess r (Unheard due) = Unit {0}
+TakesSuccess r (Heard due) = Unit {0}
+TakesSuccess r (Cancelled due) = Unit {0}
+TakesSuccess r (Done due first) = (is_invite r ≡ true) × (is_success first ≡ true)
+TakesSuccess r Ended = ⊥
 
 -- A response of this status is sent on at once: of 101 to 199, while neither its branch nor its request has a final one; a 2xx,
 -- while the request has no final answer, or is an INVITE whose
 -- last one was a 2xx (RFC 3261 16.7 step 5, RFC 6026 7.1).
 pub data IsPassedOn (r : OpenRequest) (b : Branch) (status : ℕ) : Type 0 where
   Early : is_provisional status ≡ true → ((status ≡ 100) → ⊥) → is_final b.phase ≡ false → is_answering r.side ≡ true → IsPassedOn r b status
-  Accepting : is_success status ≡ true → TakesSuccess b.phase → (is_answering r.side || is_accepted r) ≡ true → IsPassedOn r b status
+  Accepting : is_success status ≡ true → TakesSuccess r b.phase → (is_answering r.side || is_accepted r) ≡ true → IsPassedOn r b status
 
 -- What a branch to a target ends with in a step at a moment: the final response that comes for it; 408 where its deadline passes
 -- without one, unless it is an INVITE that was heard; 487 where
@@ -386,8 +388,8 @@ OthersEnded r b = AllByRecursion (λ (x : Branch). x.is_cancel ≡ false → is_
 abbrev pub IsMadeLater : ℕ → Type 0
 IsMadeLater status = (status ≡ 408) ⊎ ((status ≡ 487) ⊎ (status ≡ 500))
 
--- What goes to the caller of an open request in a step: nothing; a response that is sent on at once; or, as its last branch ends and
--- no final answer went before, the best of what its branches
+-- What goes to the caller of an open request in a step: nothing, where nothing is owed (`Owes`); a response that is sent on at once;
+-- or, as its last branch ends and no final answer went before, the best of what its branches
 -- ended with, in order of arrival (RFC 3261 16.7 steps 5 to 7).
 pub data IsAnswerNow (server : Server) (state : ProxyState) (act : Act) (at : ℕ) (r : OpenRequest) : List Packet → Type 0 where
   NoAnswer : IsAnswerNow server state act at r []
@@ -429,14 +431,15 @@ pub record IsCancelledNow (server : Server) (history : List Link) (state : Proxy
   pub was_heard : (is_ready b.phase ≡ true) ⊎ ((is_unheard b.phase ≡ true) × IsHeardNow server state act r b)
   pub was_given_up : WasGivenUp server history r.number ⊎ (b.phase ≡ Heard at)
 
--- the CANCELs that a step sends for an open request: those of some of its branches, each once
+-- the CANCELs that a step sends for an open request: those of some of its branches, each once; which of them it has to send, `Owes` says
 pub record AreCancelsNow (server : Server) (history : List Link) (state : ProxyState) (act : Act) (at : ℕ) (r : OpenRequest)
     (packets : List Packet) : Type 0 where
   pub is_one : Branch → Bool
   pub are_all : packets ≡ flat_map (λ (b : Branch). to_branch r b 0 false (cancel_of (request_of server r b))) (filter is_one r.branches)
   pub each : AllByRecursion (λ (b : Branch). is_one b ≡ true → IsCancelledNow server history state act at r b) r.branches
 
--- What a step sends for a request that was open before it, if it does for one: an ACK, an answer, and CANCELs, in this order, or some of them.
+-- What a step sends for a request that was open before it, if it does for one: an ACK, an answer, and CANCELs, in this order, or some
+-- of them: those that are owed at least (`Owes`).
 pub data IsForOpen (server : Server) (history : List Link) (state : ProxyState) (act : Act) (at : ℕ) : List Packet → Type 0 where
   ForNone : IsForOpen server history state act at []
   ForOne : (r : OpenRequest) (acks answers cancels : List Packet) → Contains state.requests r → IsAckNow server state act r acks
@@ -451,7 +454,7 @@ pub record IsAllSent (server : Server) (history : List Link) (state : ProxyState
 
 -- ---- what goes again
 
--- All that goes again in a step at a moment: nothing; the last answer of the request that a datagram copies; the ACK of a branch
+-- All that goes again in a step at a moment: nothing, where nothing is owed (`Owes`); the last answer of the request that a datagram copies; the ACK of a branch
 -- whose final response came before, and comes again; or what has
 -- its moment then (RFC 3261 17).
 pub data GoesAgain (server : Server) (state : ProxyState) (act : Act) (at : ℕ) : List Packet → Type 0 where
@@ -464,6 +467,104 @@ pub data GoesAgain (server : Server) (state : ProxyState) (act : Act) (at : ℕ)
       → responding server state.requests m.fields ≡ Some (r, b) → GoesAgain server state act at (acked_again server r b status)
   ByTime : (r later : OpenRequest) (packets : List Packet) → Contains state.requests r → IsResent server at r packets later
       → GoesAgain server state act at packets
+
+-- ---- what is owed
+
+-- a step is taken for a datagram that says a message, on which this is the verdict
+pub record IsTakenFor (server : Server) (link : Link) (m : Message) (v : Verdict) : Type 0 where
+  pub at : ℕ
+  pub word : ℕ
+  pub from : Addr
+  pub bytes : List ℕ
+  pub is_act : link.act ≡ Given (Datagram at word from bytes)
+  pub is_verdict : verdict_of server link.before (arrival_of link.before at word from) bytes ≡ Some (m, v)
+
+-- a branch of an open request is open in a state in the phase in which it was
+pub record StaysInPhase (after : ProxyState) (r : OpenRequest) (b : Branch) : Type 0 where
+  pub request : OpenRequest
+  pub branch : Branch
+  pub is_open : Contains after.requests request
+  pub is_number : request.number ≡ r.number
+  pub is_there : Contains request.branches branch
+  pub is_one : is_same_branch branch b ≡ true
+  pub is_phase : branch.phase ≡ b.phase
+
+-- the same, and what it sends goes again, if it does, at the same moment
+pub record KeepsMoment (after : ProxyState) (r : OpenRequest) (b : Branch) : Type 0 where
+  pub stays : StaysInPhase after r b
+  pub goes_then : stays.branch.again ≡ b.again
+
+-- an open request is open in a state with its answering side as it was, and its last answer goes again, if it does, at the same moment
+pub record KeepsAnswer (after : ProxyState) (r : OpenRequest) : Type 0 where
+  pub request : OpenRequest
+  pub is_open : Contains after.requests request
+  pub is_number : request.number ≡ r.number
+  pub is_side : request.side ≡ r.side
+  pub goes_then : request.again ≡ r.again
+
+-- no other branch of a request has the name of this one
+abbrev pub IsOnly : OpenRequest → Branch → Type 0
+IsOnly r b = (x : Branch) → Contains r.branches x → is_same_branch x b ≡ true → x ≡ b
+
+-- time passes in a step, and a branch leaves its phase
+pub record LeavesPhase (link : Link) (r : OpenRequest) (b : Branch) : Type 0 where
+  pub until : ℕ
+  pub is_passing : link.act ≡ Passing until
+  pub is_left : StaysInPhase link.after r b → ⊥
+
+-- A branch to a target, without a final response before a step, has to end in it with an answer: a final response that is no 2xx is
+-- taken for it; its request could not be sent; or time passes, and it leaves its phase at its deadline (RFC 3261 16.7 to 16.9).
+pub data MustEnd (server : Server) (link : Link) (r : OpenRequest) (b : Branch) : Final → Type 0 where
+  HasAnswer : (status : ℕ) (response : Message) → IsTakenFor server link response (Respond r b status) → is_provisional status ≡ false
+      → is_success status ≡ false → MustEnd server link r b (final_of status response)
+  HasFailed : (when : ℕ) (ticket : Ticket) → link.act ≡ Given (Fault when ticket) → ticket.datagram ≡ r.number → ticket.branch ≡ b.number
+      → is_unheard b.phase ≡ true → MustEnd server link r b (record { status = 503; message = None })
+  HasWaited : (last : Final) → LeavesPhase link r b → EndsNow server link.before link.act link.out.at r b last → MustEnd server link r b last
+
+-- A branch to a target of an INVITE has to be sent its CANCEL in a step: it was to be cancelled, and its first provisional response
+-- is taken for it; or it was heard before, and now the caller cancels its request, which owes its final answer; the first final
+-- response of another branch, a 2xx or 6xx, is taken; or time passes, and it leaves its phase at Timer C (RFC 3261 9.1, 16.7 step
+-- 10, 16.8, 16.10).
+pub data MustCancel (server : Server) (link : Link) (r : OpenRequest) (b : Branch) : Type 0 where
+  OnceHeard : (status : ℕ) (response : Message) → IsTakenFor server link response (Respond r b status) → is_provisional status ≡ true
+      → b.wants_cancel ≡ true → is_unheard b.phase ≡ true → MustCancel server link r b
+  WithCaller : (m : Message) → IsTakenFor server link m (Cancel (Some r)) → is_answering r.side ≡ true → is_ready b.phase ≡ true
+      → MustCancel server link r b
+  WithAnother : (other : Branch) (status : ℕ) (response : Message) → IsTakenFor server link response (Respond r other status)
+      → other.is_cancel ≡ false → is_final other.phase ≡ false → (is_success status || is_decline status) ≡ true
+      → is_same_branch b other ≡ false → is_ready b.phase ≡ true → MustCancel server link r b
+  AtTimerC : LeavesPhase link r b → b.phase ≡ Heard link.out.at → MustCancel server link r b
+
+-- What a step owes:
+-- the ACK of the first final response of a branch of an INVITE, of 300 to 699, that is taken;
+-- to the caller the response that is taken and passed on at once, or the best of what its branches ended with, as the last of them
+-- has to end and no final answer went before;
+-- the CANCEL of each branch that has to be sent it;
+-- to a copy of an open request, which is no ACK, its last answer again; and to a final response that comes again its ACK again;
+-- as time passes, what a branch sends, or the last answer, again, where its moment is the step's, no deadline of it is, and after
+-- the step it has another moment.
+pub data Owes (server : Server) (link : Link) : Packet → Type 0 where
+  TheAck : (r : OpenRequest) (b : Branch) (status : ℕ) (response : Message) (p : Packet)
+      → IsTakenFor server link response (Respond r b status) → b.is_cancel ≡ false → is_invite r ≡ true → is_failure status ≡ true
+      → is_final b.phase ≡ false → Contains (ack_packets server false r b (first_value Name.To response.fields)) p → Owes server link p
+  ThePassedOn : (r : OpenRequest) (b : Branch) (status : ℕ) (response : Message) → IsTakenFor server link response (Respond r b status)
+      → b.is_cancel ≡ false → IsPassedOn r b status → Owes server link (answer_to false r (text_of (without_top_via response)))
+  TheBest : (r : OpenRequest) (b : Branch) (last best : Final) → Contains link.before.requests r → Contains r.branches b
+      → b.is_cancel ≡ false → is_final b.phase ≡ false → MustEnd server link r b last → OthersEnded r b → is_answering r.side ≡ true
+      → best_of (r.finals ++ last ∷ []) ≡ Some best → Owes server link (answer_to false r (text_of (upward_of server r best).message))
+  TheCancel : (r : OpenRequest) (b : Branch) (p : Packet) → Contains link.before.requests r → Contains r.branches b
+      → b.is_cancel ≡ false → is_invite r ≡ true → MustCancel server link r b
+      → Contains (to_branch r b 0 false (cancel_of (request_of server r b))) p → Owes server link p
+  TheCopy : (r : OpenRequest) (m : Message) (p : Packet) → IsTakenFor server link m (Copy r)
+      → bytes_eq (method_of m.start) (codes "ACK") ≡ false → Contains (answers_again r r.answer) p → Owes server link p
+  TheAckAgain : (r : OpenRequest) (b : Branch) (status : ℕ) (response : Message) (p : Packet)
+      → IsTakenFor server link response (Respond r b status) → Contains (acked_again server r b status) p → Owes server link p
+  TheNext : (r : OpenRequest) (b : Branch) (until : ℕ) (p : Packet) → link.act ≡ Passing until → Contains link.before.requests r
+      → Contains r.branches b → IsOnly r b → branch_due r b ≡ Some link.out.at → (phase_deadline b.phase ≡ Some link.out.at → ⊥)
+      → (KeepsMoment link.after r b → ⊥) → Contains (branch_packets server true r b) p → Owes server link p
+  TheNextAnswer : (r : OpenRequest) (until : ℕ) (p : Packet) → link.act ≡ Passing until → Contains link.before.requests r
+      → answer_due r ≡ Some link.out.at → (side_deadline r.side ≡ Some link.out.at → ⊥) → (KeepsAnswer link.after r → ⊥)
+      → Contains (answers_again r r.answer) p → Owes server link p
 
 -- ---- the audit log
 
@@ -496,7 +597,8 @@ StandsAt last (Passing until) at = (last ≤ at) × (at ≤ max last until)
 -- allowed REGISTERs of its history make, and those after it do so with its own;
 -- what it is taken for is served by these; all that it sends for the first time is owed, and is exactly what its datagram gets and
 -- what an open request does; all that goes again has its
--- cause, is of a request that is open, and went before; and it records the request that policy was asked about, and nothing else,
+-- cause, is of a request that is open, and went before; all that it owes is among what it hands out, and it passes over no deadline,
+-- and no moment at which something goes again; and it records the request that policy was asked about, and nothing else,
 -- under a number above all before.
 pub record IsLawful (server : Server) (history : List Link) (link : Link) : Type 0 where
   pub stands : StandsAt (moment_in history) link.act link.out.at
@@ -508,6 +610,9 @@ pub record IsLawful (server : Server) (history : List Link) (link : Link) : Type
   pub again : GoesAgain server link.before link.act link.out.at (retransmissions link.out.packets)
   pub repeats : AllByRecursion (IsRetransmission server link.before.requests) (retransmissions link.out.packets)
   pub went : AllByRecursion (λ (p : Packet). Contains (sent_first history) (first_sending p)) (retransmissions link.out.packets)
+  pub pays : (p : Packet) → Owes server link p → Contains link.out.packets p
+  pub none_passed : NoneBefore link.out.at link.before.requests
+  pub none_again : NoneAgainBefore link.out.at link.before.requests
   pub records : link.out.records ≡ records_at server link.before link.act
   pub rise : AllByRecursion (IsAbove (recorded_by history)) link.out.records
 

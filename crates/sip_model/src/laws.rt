@@ -1,4 +1,4 @@
-ghost use Rattle.std.specs.Prelude.{◌≡◌, ◌↔◌, ℕ, true, false, List, [], ◌∷◌, map, Option, Some};
+ghost use Rattle.std.specs.Prelude.{◌≡◌, ◌↔◌, ℕ, true, false, List, [], ◌∷◌, map, Contains, Option, Some};
 ghost use Rattle.sip_uri.specs.declared.uri.Uri.{Uri};
 ghost use Rattle.sip_uri.specs.Aor.{aor_of};
 ghost use Rattle.sip_message_form.specs.declared.message.Message.{Message};
@@ -13,6 +13,7 @@ ghost use Rattle.sip_location.specs.Binding.{live};
 ghost use Rattle.sip_targets.specs.Target.{target_for};
 ghost use Rattle.model_steps.specs.state.declared.server.Server.{Server};
 ghost use Rattle.sip_event.specs.declared.event.Event.{Event};
+ghost use Rattle.sip_event.specs.declared.packet.Packet.{Packet};
 ghost use Rattle.sip_event.specs.declared.event.StepOut.{StepOut};
 ghost use Rattle.model_steps.specs.state.declared.proxy_state.ProxyState.{ProxyState};
 ghost use Rattle.model_steps.specs.state.State.{first_state};
@@ -28,7 +29,7 @@ ghost use Rattle.sip_edit_response.specs.Challenges.{challenge};
 ghost use Rattle.model_steps.specs.Effect.{challenge_name, challenges_to};
 ghost use Rattle.sip_model.specs.Run.{Link, IsChain, IsRun};
 ghost use Rattle.sip_model.specs.Bindings.{Arrived, allowed_in};
-ghost use Rattle.sip_model.specs.Access.{IsAllowedRegister, decision_on, targets_on, Access};
+ghost use Rattle.sip_model.specs.Access.{IsAllowedRegister, decision_on, targets_on, Owes, Access};
 
 /// The REGISTERs of which the bindings after a history are made are exactly those that are valid, new, and
 /// let through by the first rule that matches.
@@ -51,6 +52,14 @@ pub fn every_run_has_access()
 pub fn every_history_has_access()
     ensures { (server : Server) (first : ℕ) (history : List Link) (last : ProxyState) → IsChain server (first_state first) history last
         → Access server history }
+{}
+
+/// Whatever a step owes, it hands out: the ACK of a branch's first 300 to 699; to the caller the response that is
+/// passed on, or the best answer once the last branch ends; its CANCEL to each branch that is to be cancelled and was
+/// heard; and to a copy of a request, or of a final response, what went for the first.
+pub fn owed_is_sent()
+    ensures { (server : Server) (first : ℕ) (link : Link) (history : List Link) (last : ProxyState)
+        → IsChain server (first_state first) (link ∷ history) last → (p : Packet) → Owes server link p → Contains link.out.packets p }
 {}
 
 /// The targets of a request outside a dialog, in the words of the headline: where the first rule that matches

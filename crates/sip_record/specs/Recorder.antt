@@ -1,5 +1,5 @@
 -- What a recorder makes of an event.
-use Rattle.std.specs.Prelude.{◌≡◌, ◌⊎◌, ℕ, Bool, true, false, List, Option, Some, None, Result, Ok, Err}
+use Rattle.std.specs.Prelude.{◌≡◌, ◌⊎◌, ◌&&◌, ℕ, Bool, true, false, List, Option, Some, None, Result, Ok, Err}
 use Rattle.std.specs.Io.KnownBytes.{Appends}
 use Rattle.sip_event.specs.declared.event.Event.{Event}
 use Rattle.sip_replay_script.specs.EventText.{event_text, is_sayable}
@@ -17,6 +17,15 @@ abbrev pub answer_of : OnFault → Bool → Result (Unit {0}) JournalFault
 answer_of End true = Err (record {})
 answer_of End false = Ok tt
 answer_of GoOn failed = Ok tt
+
+-- whether the server is to end where the record can't be kept
+abbrev pub is_end : OnFault → Bool
+is_end End = true
+is_end GoOn = false
+
+-- so it answers faults once it has failed, where the server is to end then
+abbrev pub is_faulted : OnFault → Bool → Bool
+is_faulted on_fault failed = failed && is_end on_fault
 
 -- exactly an event's text was written, and handed on
 pub record WritesEvent (old new : Option (List ℕ)) (flushed : Type 0) (event : Event) : Type 0 where

@@ -7,9 +7,11 @@ use sip_uri::Addr;
 pub struct NoJournal;
 
 impl Journal for NoJournal {
-    ghost use Rattle.std.specs.Prelude.{Option};
+    ghost use Rattle.std.specs.Prelude.{Option, false};
 
     ghost written = { λ _. Option.Some Option.None };
+
+    ghost faulted = { λ _. false };
 
     fn heard(
         &mut self,

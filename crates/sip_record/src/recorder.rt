@@ -3,7 +3,7 @@ ghost use Rattle.sip_event.specs.declared.event.Event.TheVariants.{Datagram, Tim
 ghost use Rattle.sip_replay_script.specs.Devices.{GaveUp, WritesFront};
 ghost use Rattle.sip_replay_script.specs.EventText.{event_text};
 ghost use Rattle.sip_record.specs.Record.{Notes};
-ghost use Rattle.sip_record.specs.Recorder.{told, answer_of, CantWrite, WritesEvent};
+ghost use Rattle.sip_record.specs.Recorder.{told, answer_of, is_faulted, CantWrite, WritesEvent};
 
 use crate::journal::{Journal, JournalFault};
 use crate::line_room::LineRoom;
@@ -54,7 +54,9 @@ impl<W: TellingWriter + Drop> Recorder<W> {
 
     /// A fault where it has failed and the server is to end.
     fn answer(&self) -> Result<(), JournalFault>
-        ensures { result ≡ answer_of self.now.on_fault self.now.has_failed }
+        ensures value { result ≡ answer_of self.now.on_fault self.now.has_failed }
+        ensures whole { OnOk result (is_faulted self.now.on_fault self.now.has_failed ≡ false) }
+        ensures said { OnErr result (is_faulted self.now.on_fault self.now.has_failed ≡ true) }
     {
         match self.on_fault {
             OnFault::End if self.has_failed => Err(JournalFault),
@@ -68,11 +70,16 @@ impl<W: TellingWriter + Drop> Journal for Recorder<W> {
 
     ghost written = { λ r. told r.has_failed (W.contents r.writer) };
 
+    ghost faulted = { λ r. is_faulted r.on_fault r.has_failed };
+
     #[tactic(auto, using(sip_replay_script::proofs::Fronts::front_none))]
     fn heard(&mut self, at: u64, word: u128, from: Addr, bytes: &[u8]) -> Result<(), JournalFault>
         ensures noted { OnOk result (Notes (told self.old.has_failed (W.contents self.old.writer))
             (told self.new.has_failed (W.contents self.new.writer)) (Datagram at word from bytes.now ∷ [])) }
         ensures failed { OnErr result (told self.new.has_failed (W.contents self.new.writer) ≡ None) }
+        ensures whole { OnOk result ((is_faulted self.old.on_fault self.old.has_failed ≡ false)
+            × (is_faulted self.new.on_fault self.new.has_failed ≡ false)) }
+        ensures said { OnErr result (is_faulted self.new.on_fault self.new.has_failed ≡ true) }
         ensures written { self.new.has_failed ≡ false → WritesEvent (W.contents self.old.writer) (W.contents self.new.writer)
             (W.is_flushed self.new.writer) (Datagram at word from bytes.now) }
         ensures why { self.new.has_failed ≡ true → (self.old.has_failed ≡ true) ⊎ CantWrite (GaveUp (W.has_failed self.new.writer)
@@ -97,6 +104,9 @@ impl<W: TellingWriter + Drop> Journal for Recorder<W> {
         ensures noted { OnOk result (Notes (told self.old.has_failed (W.contents self.old.writer))
             (told self.new.has_failed (W.contents self.new.writer)) (Time at ∷ [])) }
         ensures failed { OnErr result (told self.new.has_failed (W.contents self.new.writer) ≡ None) }
+        ensures whole { OnOk result ((is_faulted self.old.on_fault self.old.has_failed ≡ false)
+            × (is_faulted self.new.on_fault self.new.has_failed ≡ false)) }
+        ensures said { OnErr result (is_faulted self.new.on_fault self.new.has_failed ≡ true) }
         ensures written { self.new.has_failed ≡ false → WritesEvent (W.contents self.old.writer) (W.contents self.new.writer)
             (W.is_flushed self.new.writer) (Time at) }
         ensures why { self.new.has_failed ≡ true → (self.old.has_failed ≡ true) ⊎ CantWrite (GaveUp (W.has_failed self.new.writer)
@@ -120,6 +130,9 @@ impl<W: TellingWriter + Drop> Journal for Recorder<W> {
         ensures noted { OnOk result (Notes (told self.old.has_failed (W.contents self.old.writer))
             (told self.new.has_failed (W.contents self.new.writer)) (Fault at ticket ∷ [])) }
         ensures failed { OnErr result (told self.new.has_failed (W.contents self.new.writer) ≡ None) }
+        ensures whole { OnOk result ((is_faulted self.old.on_fault self.old.has_failed ≡ false)
+            × (is_faulted self.new.on_fault self.new.has_failed ≡ false)) }
+        ensures said { OnErr result (is_faulted self.new.on_fault self.new.has_failed ≡ true) }
         ensures written { self.new.has_failed ≡ false → WritesEvent (W.contents self.old.writer) (W.contents self.new.writer)
             (W.is_flushed self.new.writer) (Fault at ticket) }
         ensures why { self.new.has_failed ≡ true → (self.old.has_failed ≡ true) ⊎ CantWrite (GaveUp (W.has_failed self.new.writer)

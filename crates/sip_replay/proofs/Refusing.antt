@@ -1,5 +1,5 @@
 -- What holds where a replay is refused.
-use Rattle.std.proofs.Common.{◌≡◌, ℕ, ◌+◌, inl, inr, List, [], ◌∷◌, ◌++◌, Option, None, Some, IfSome, Result, Ok, Err, OnOk, IfErr, refl, sym, ◌∙◌, ap, subst, arith, append-nil, append_assoc}
+use Rattle.std.proofs.Common.{◌≡◌, ◌≢◌, ℕ, ◌+◌, inl, inr, List, [], ◌∷◌, ◌++◌, Option, None, Some, IfSome, Result, Ok, Err, OnOk, IfErr, refl, sym, ◌∙◌, ap, subst, arith, append-nil, append_assoc}
 use Rattle.std.specs.Prelude.{count_by, cond}
 use Rattle.std.specs.Io.KnownBytes.{Appends, Consumes, Keeps, prepend_known}
 use Rattle.std.proofs.KnownBytes.{Appends-nil, Appends-trans}
@@ -13,23 +13,25 @@ use Rattle.model_bounds.specs.state.State.{first_state}
 use Rattle.model_bounds.specs.model.Access.{Access}
 use Rattle.model_bounds.specs.Bounds.{IsBounded}
 use Rattle.model_bounds.specs.model.Run.{first_moment}
-use Rattle.sip_replay_script.specs.Print.{step_text, printed}
-use Rattle.sip_replay.specs.Errors.{error_at, IsFaulted}
+use Rattle.sip_replay_print.specs.Print.{step_text, printed}
+use Rattle.sip_replay.specs.Errors.{error_at, unread_error, IsFaulted}
 use Rattle.sip_replay_script.specs.Devices.{WritesFront}
 use Rattle.sip_replay_script.specs.Lines.{Reading, is_end, pending}
-use Rattle.sip_replay_script.specs.Events.{GivesEvent, IsNoEvent, EventStops}
+use Rattle.sip_replay_script.specs.Events.{GivesEvent, IsNoEvent, ReadStops, SaysEvent}
 use Rattle.sip_replay_script.proofs.Saying.{says_all}
 use Rattle.sip_replay.specs.Replays.{server_with, IsReplay}
 use Rattle.sip_replay.specs.Refusals.{BeginsWith, NoEventBehind, ComesTo, CantGoOn, StopsWithin, Refuses, IsRefused, PlaysSome, TakingStops, history_before, moment_ahead}
 use Rattle.sip_replay.specs.declared.error.ReplayError.{ReplayError}
 use Rattle.sip_replay.specs.declared.error.ReplayError.TheVariants as errors
-use Rattle.sip_replay_script.specs.declared.stop.Stop.{Stop}
-use Rattle.sip_replay_script.specs.declared.stop.Stop.TheVariants as stops
+use Rattle.sip_replay.specs.declared.stop.Stop.{Stop}
+use Rattle.sip_replay.specs.declared.stop.Stop.TheVariants as stops
+use Rattle.sip_replay_script.specs.declared.read_stop.ReadStop.{ReadStop}
+use Rattle.sip_replay_script.specs.declared.read_stop.ReadStop.TheVariants as read_stops
 use Rattle.sip_replay_script.proofs.Fronts.{appends_kept, front_all, front_none, front_second, front_still}
 use Rattle.std.proofs.lemmas.List.Sums.{sum_by-append}
 use Rattle.sip_replay.proofs.Replaying.{AllAreLawful, Replays}
 use Rattle.sip_run.proofs.RunOn.{run_on}
-use Rattle.sip_replay.proofs.Running.{RunsJoin}
+use Rattle.sip_replay.proofs.Running.{RunsJoin, prompt_both}
 
 -- ---- nothing was taken
 
@@ -49,6 +51,7 @@ comes_nothing server state script = record {
   says_ahead = refl;
   begins = begins_nothing script;
   is_run = record { chain = refl; paced = tt; of_events = refl; of_steps = refl };
+  prompt = tt;
 }
 
 none_behind : (script : Option (List ℕ)) → IfSome script IsNoEvent → IfSome script (NoEventBehind [])
@@ -58,25 +61,35 @@ none_behind (Some xs) h = (xs, refl, h)
 pub refuses_at_once : (server : Server) (state : ProxyState) (number : ℕ) (script w : Option (List ℕ)) → Refuses server state number script w w errors.NoMemory
 refuses_at_once server state number script w = record { steps = []; comes = comes_nothing server state script; writes = front_none w [] }
 
+-- that what says an event, cut before its end, says none
+abbrev pub CutIsNone : Type 0
+CutIsNone = (event : Event) (front rest : List ℕ) → SaysEvent (front ++ rest) event → front ≢ [] → rest ≢ [] → IsNoEvent front
+
 -- no event was read
-pub event_refused : (F : Type 0) (server : Server) (state : ProxyState) (number first : ℕ) (script w : Option (List ℕ)) (stop : Stop) → first ≡ number + 1 → EventStops F script stop → Refuses server state number script w w (error_at stop first)
+no_event_stops : (server : Server) (state : ProxyState) (number first : ℕ) (script w : Option (List ℕ)) → first ≡ number + 1 → IfSome script IsNoEvent → Refuses server state number script w w (errors.Script first)
 unfolding comes_nothing
-event_refused F server state number first script w stops.NoMemory is h = record { steps = []; comes = comes_nothing server state script; writes = front_none w [] }
-event_refused F server state number first script w stops.Script is h = record {
+no_event_stops server state number first script w is h = record {
   steps = [];
   comes = comes_nothing server state script;
   why = none_behind script h;
   line_is = omega (arith, is);
   written = Appends-nil w;
 }
-event_refused F server state number first script w stops.Read is h = record { steps = []; comes = comes_nothing server state script; none_ahead = refl; written = Appends-nil w }
-event_refused F server state number first script w stops.Write is h = absurd h
 
-pub event_faulted : (F G : Type 0) (first : ℕ) (script : Option (List ℕ)) (stop : Stop) → EventStops F script stop → IsFaulted F G (error_at stop first)
-event_faulted F G first script stops.NoMemory h = tt
-event_faulted F G first script stops.Script h = tt
-event_faulted F G first script stops.Read h = h
-event_faulted F G first script stops.Write h = absurd h
+pub event_refused : CutIsNone → (F : Type 0) (server : Server) (state : ProxyState) (number first : ℕ) (script w : Option (List ℕ)) (stop : ReadStop) → first ≡ number + 1 → ReadStops F script stop → Refuses server state number script w w (unread_error stop first)
+unfolding comes_nothing
+event_refused none F server state number first script w read_stops.NoMemory is h = record { steps = []; comes = comes_nothing server state script; writes = front_none w [] }
+event_refused none F server state number first None w read_stops.Damaged is h = no_event_stops server state number first None w is tt
+event_refused none F server state number first (Some rest) w read_stops.Damaged is h = no_event_stops server state number first (Some rest) w is h.none
+event_refused none F server state number first None w read_stops.Cut is h = no_event_stops server state number first None w is tt
+event_refused none F server state number first (Some rest) w read_stops.Cut is h = no_event_stops server state number first (Some rest) w is (none h.event rest h.more h.says h.begun h.cut)
+event_refused none F server state number first script w read_stops.Read is h = record { steps = []; comes = comes_nothing server state script; none_ahead = refl; written = Appends-nil w }
+
+pub event_faulted : (F G : Type 0) (first : ℕ) (script : Option (List ℕ)) (stop : ReadStop) → ReadStops F script stop → IsFaulted F G (unread_error stop first)
+event_faulted F G first script read_stops.NoMemory h = tt
+event_faulted F G first script read_stops.Damaged h = tt
+event_faulted F G first script read_stops.Cut h = tt
+event_faulted F G first script read_stops.Read h = h
 
 -- ---- an event was read
 
@@ -100,6 +113,7 @@ within_event server old part rest m r event a b given (inl h) = record {
     says_ahead = given.says;
     begins = begins_text (pending part m) (pending rest r) given.text given.consumes;
     is_run = h.is_run;
+    prompt = h.prompt;
   };
   writes = h.writes;
 }
@@ -116,6 +130,7 @@ within_event server old part rest m r event a b given (inr h) = record {
     says_ahead = refl;
     begins = subst (λ l. IfSome (pending part m) (BeginsWith l)) (sym (append-nil given.text)) (begins_text (pending part m) (pending rest r) given.text given.consumes);
     is_run = h.is_run;
+    prompt = h.prompt;
   };
   writes = h.writes;
 }
@@ -136,18 +151,17 @@ taking_refuses G server old first part rest m r event a b stops.Script is given 
     says_ahead = given.says;
     begins = begins_text (pending part m) (pending rest r) given.text given.consumes;
     is_run = h.plays.is_run;
+    prompt = h.plays.prompt;
   };
   why = h.why;
   line_is = omega (arith, is);
   written = h.plays.written;
 }
-taking_refuses G server old first part rest m r event a b stops.Read is given h = absurd h
 taking_refuses G server old first part rest m r event a b stops.Write is given h = within_event server old part rest m r event a b given h.0
 
 pub taking_faulted : (F G : Type 0) (server : Server) (old : ProxyState) (first : ℕ) (event : Event) (a b : Option (List ℕ)) (stop : Stop) → TakingStops server old event a b G stop → IsFaulted F G (error_at stop first)
 taking_faulted F G server old first event a b stops.NoMemory h = tt
 taking_faulted F G server old first event a b stops.Script h = tt
-taking_faulted F G server old first event a b stops.Read h = absurd h
 taking_faulted F G server old first event a b stops.Write h = h.1
 
 -- ---- behind what was taken before
@@ -171,6 +185,7 @@ comes_on join server first mid old part before middle start half more h c = reco
   begins = subst (λ l. IfSome (pending old before) (BeginsWith l)) (sym (append_assoc h.text c.text c.further)) (begins_on (pending old before) (pending part middle) h.text (c.text ++ c.further) h.consumes c.begins);
   is_run = join server first mid c.last h.events c.events (moment_ahead c.ahead) h.plays.steps more h.plays.history c.history
       (run_on server first mid h.events (first_moment c.events (moment_ahead c.ahead)) h.plays.steps h.plays.history h.plays.is_run) c.is_run;
+  prompt = prompt_both server h.plays.history c.history c.prompt h.plays.prompt;
 }
 
 none_behind_both : (a b : Option (List ℕ)) (text more : List ℕ) → Consumes a b text → IfSome b (NoEventBehind more) → IfSome a (NoEventBehind (text ++ more))
@@ -274,6 +289,7 @@ within_whole config word first script a b h = record {
     says_ahead = refl;
     begins = begins_whole script h.text h.whole;
     is_run = h.is_run;
+    prompt = h.prompt;
   };
   writes = front_all a b (printed h.steps) h.written;
 }

@@ -11,7 +11,7 @@ use Rattle.model_bounds.specs.model.Access.{Access}
 use Rattle.model_bounds.specs.Bounds.{IsBounded}
 use Rattle.model_bounds.specs.model.Run.{Link, IsChain, IsRun}
 use Rattle.model_bounds.specs.state.State.{first_state}
-use Rattle.sip_replay_script.specs.Print.{printed}
+use Rattle.sip_replay_print.specs.Print.{printed}
 use Rattle.std.specs.Prelude.{count_by, cond}
 use Rattle.sip_replay_script.specs.Lines.{Reading, is_end, pending, IsOver}
 use Rattle.std.proofs.lemmas.List.Sums.{sum_by-append}
@@ -94,6 +94,7 @@ replays_over config word first state old new rest before middle after start writ
   whole = whole_of old.unread before (pending new middle) (pending rest after) h.text none h.consumes over.kept over.at_end;
   says = h.says;
   is_run = h.plays.is_run;
+  prompt = h.plays.prompt;
   written = h.plays.written;
 }
 
@@ -108,6 +109,7 @@ replay_kept config word first script a b c h k = record {
   whole = h.whole;
   says = h.says;
   is_run = h.is_run;
+  prompt = h.prompt;
   written = appends_kept a b c (printed h.steps) h.written k;
 }
 

@@ -1,19 +1,32 @@
 -- A run of the server, step by step, and what is printed of it.
-use Rattle.std.proofs.Common.{◌≡◌, inr, ℕ, List, [], ◌∷◌, ◌++◌, Option, None, Some, refl, sym, ◌∙◌, ap, subst, append-nil}
+use Rattle.std.proofs.Common.{◌≡◌, ◌⊎◌, inr, ℕ, List, [], ◌∷◌, ◌++◌, Option, None, Some, refl, sym, ◌∙◌, ap, subst, append-nil}
 use Rattle.std.proofs.lemmas.Grind.{flat_map-append}
 use Rattle.std.proofs.lemmas.List.{reverse-append}
 use Rattle.std.specs.Io.KnownBytes.{Appends}
 use Rattle.std.proofs.KnownBytes.{Appends-nil, Appends-trans}
 use Rattle.sip_event.specs.declared.event.Event.{Event}
+use Rattle.sip_event.specs.declared.event.Event.TheVariants.{Datagram, Time, Fault}
 use Rattle.sip_event.specs.declared.event.StepOut.{StepOut}
 use Rattle.model_bounds.specs.state.declared.server.Server.{Server}
 use Rattle.model_bounds.specs.state.declared.proxy_state.ProxyState.{ProxyState}
-use Rattle.model_bounds.specs.steps_model.Step.{Given, Passing, IsStep}
+use Rattle.model_bounds.specs.steps_model.Step.{Given, IsDeadline, IsResend, IsStep, Passing, moment_of}
 use Rattle.model_bounds.specs.model.Run.{Link, IsRun, event_moment, events_of, steps_of, first_moment}
-use Rattle.sip_replay_script.specs.Print.{step_text, printed}
-use Rattle.sip_run.specs.Due.{Fires}
+use Rattle.sip_replay_print.specs.Print.{step_text, printed}
+use Rattle.model_ties.specs.Ties.{ArePrompt, IsPrompt}
+use Rattle.sip_run.specs.Due.{Fires, NothingDueBy}
 use Rattle.sip_run.proofs.RunOn.{run_on}
 use Rattle.sip_replay.specs.Replays.{Plays}
+
+-- an event that comes once nothing is due by its moment waited for all that was
+pub prompt_event : (server : Server) (mid new : ProxyState) (event : Event) (out : StepOut) → NothingDueBy (moment_of mid (event_moment event)) mid → IsPrompt server mid (Given event) out new
+prompt_event server mid new (Datagram at word from bytes) out none = tt
+prompt_event server mid new (Time at) out none = tt
+prompt_event server mid new (Fault at ticket) out none = (none.none, none.none_again)
+
+-- one history behind another
+pub prompt_both : (server : Server) (history later : List Link) → ArePrompt server later → ArePrompt server history → ArePrompt server (later ++ history)
+prompt_both server history [] h k = k
+prompt_both server history (link ∷ later) h k = (h.0, prompt_both server history later h.1 k)
 
 -- no step yet
 pub plays_nothing : (server : Server) (state : ProxyState) (until : Option ℕ) (before : Option (List ℕ)) → Plays server state state [] until before before
@@ -21,6 +34,7 @@ plays_nothing server state until before = record {
   steps = [];
   history = [];
   is_run = record { chain = refl; paced = tt; of_events = refl; of_steps = refl };
+  prompt = tt;
   written = Appends-nil before;
 }
 
@@ -29,17 +43,18 @@ pub printed_more : (steps : List StepOut) (out : StepOut) → printed (steps ++ 
 printed_more steps out = flat_map-append step_text steps (out ∷ []) ∙ ap (λ l. printed steps ++ l) (append-nil (step_text out))
 
 -- time passes
-passing_step : (server : Server) (old mid new : ProxyState) (at : ℕ) (out : StepOut) (a b c : Option (List ℕ)) → Plays server old mid [] (Some at) a b → IsStep server mid (Passing at) out new
+passing_step : (server : Server) (old mid new : ProxyState) (at : ℕ) (out : StepOut) (a b c : Option (List ℕ)) → Plays server old mid [] (Some at) a b → IsDeadline server mid at out new ⊎ IsResend server mid at out new
     → Appends b c (step_text out) → Plays server old new [] (Some at) a c
-passing_step server old mid new at out a b c h step written = record {
+passing_step server old mid new at out a b c h happens written = record {
   steps = h.steps ++ out ∷ [];
   history = record { before = mid; act = Passing at; out = out; after = new } ∷ h.history;
   is_run = record {
-    chain = (refl, step, h.is_run.chain);
+    chain = (refl, inr happens, h.is_run.chain);
     paced = (refl, h.is_run.paced);
     of_events = h.is_run.of_events;
     of_steps = reverse-append (out ∷ []) (steps_of h.history) ∙ ap (λ l. l ++ out ∷ []) h.is_run.of_steps;
   };
+  prompt = (happens, h.prompt);
   written = subst (λ l. Appends a c l) (sym (printed_more h.steps out)) (Appends-trans a b c (printed h.steps) (step_text out) h.written written);
 }
 
@@ -47,12 +62,12 @@ passing_step server old mid new at out a b c h step written = record {
 pub plays_firing : (server then_server : Server) (old mid new : ProxyState) (at : ℕ) (out : StepOut) (a b c : Option (List ℕ)) → then_server ≡ server → Plays server old mid [] (Some at) a b
     → Fires then_server mid at out new → Appends b c (step_text out) → Plays server old new [] (Some at) a c
 plays_firing server then_server old mid new at out a b c same h fires written =
-    passing_step server old mid new at out a b c h (subst (λ s. IsStep s mid (Passing at) out new) same (inr fires.happens)) written
+    passing_step server old mid new at out a b c h (subst (λ s. IsDeadline s mid at out new ⊎ IsResend s mid at out new) same fires.happens) written
 
 -- the event's own step comes
-event_step : (server : Server) (old mid new : ProxyState) (event : Event) (out : StepOut) (a b c : Option (List ℕ)) → Plays server old mid [] (Some (event_moment event)) a b → IsStep server mid (Given event) out new
-    → Appends b c (step_text out) → Plays server old new (event ∷ []) None a c
-event_step server old mid new event out a b c h step written = record {
+event_step : (server : Server) (old mid new : ProxyState) (event : Event) (out : StepOut) (a b c : Option (List ℕ)) → Plays server old mid [] (Some (event_moment event)) a b
+    → NothingDueBy (moment_of mid (event_moment event)) mid → IsStep server mid (Given event) out new → Appends b c (step_text out) → Plays server old new (event ∷ []) None a c
+event_step server old mid new event out a b c h none step written = record {
   steps = h.steps ++ out ∷ [];
   history = record { before = mid; act = Given event; out = out; after = new } ∷ h.history;
   is_run = record {
@@ -61,14 +76,15 @@ event_step server old mid new event out a b c h step written = record {
     of_events = reverse-append (event ∷ []) (events_of h.history) ∙ ap (λ l. l ++ event ∷ []) h.is_run.of_events;
     of_steps = reverse-append (out ∷ []) (steps_of h.history) ∙ ap (λ l. l ++ out ∷ []) h.is_run.of_steps;
   };
+  prompt = (prompt_event server mid new event out none, h.prompt);
   written = subst (λ l. Appends a c l) (sym (printed_more h.steps out)) (Appends-trans a b c (printed h.steps) (step_text out) h.written written);
 }
 
 -- the same of the server as it is then
 pub plays_event : (server then_server : Server) (old mid new : ProxyState) (at : ℕ) (event : Event) (out : StepOut) (a b c : Option (List ℕ)) → then_server ≡ server → at ≡ event_moment event
-    → Plays server old mid [] (Some at) a b → IsStep then_server mid (Given event) out new → Appends b c (step_text out) → Plays server old new (event ∷ []) None a c
-plays_event server then_server old mid new at event out a b c same is h step written =
-    event_step server old mid new event out a b c (subst (λ (m : ℕ). Plays server old mid [] (Some m) a b) is h) (subst (λ s. IsStep s mid (Given event) out new) same step) written
+    → Plays server old mid [] (Some at) a b → NothingDueBy (moment_of mid at) mid → IsStep then_server mid (Given event) out new → Appends b c (step_text out) → Plays server old new (event ∷ []) None a c
+plays_event server then_server old mid new at event out a b c same is h none step written =
+    event_step server old mid new event out a b c (subst (λ (m : ℕ). Plays server old mid [] (Some m) a b) is h) (subst (λ (m : ℕ). NothingDueBy (moment_of mid m) mid) is none) (subst (λ s. IsStep s mid (Given event) out new) same step) written
 
 -- two runs, one behind the other, are one
 abbrev pub RunsJoin : Type 0
@@ -85,5 +101,6 @@ plays_both join server old mid new events event a b c h next = record {
   history = next.history ++ h.history;
   is_run = join server old mid new events (event ∷ []) None h.steps next.steps h.history next.history
       (run_on server old mid events (Some (event_moment event)) h.steps h.history h.is_run) next.is_run;
+  prompt = prompt_both server h.history next.history next.prompt h.prompt;
   written = subst (λ l. Appends a c l) (sym (flat_map-append step_text h.steps next.steps)) (Appends-trans a b c (printed h.steps) (printed next.steps) h.written next.written);
 }

@@ -1,5 +1,5 @@
 -- How a replay stops.
-use Rattle.std.proofs.Common.{◌≡◌, ℕ, inl, inr, List, [], ◌∷◌, ◌++◌, Bool, true, false, Option, None, Some, refl, sym, ◌∙◌, ap, subst}
+use Rattle.std.proofs.Common.{◌≡◌, ◌⊎◌, ℕ, inl, inr, List, [], ◌∷◌, ◌++◌, Bool, true, false, Option, None, Some, refl, sym, ◌∙◌, ap, subst}
 use Rattle.std.specs.Prelude.{IsSome, if◌then◌else◌}
 use Rattle.std.specs.Io.KnownBytes.{Appends}
 use Rattle.std.proofs.lemmas.List.{reverse-append}
@@ -8,83 +8,84 @@ use Rattle.sip_event.specs.declared.event.Event.TheVariants.{Datagram, Time, Fau
 use Rattle.sip_event.specs.declared.event.StepOut.{StepOut}
 use Rattle.model_bounds.specs.state.declared.server.Server.{Server}
 use Rattle.model_bounds.specs.state.declared.proxy_state.ProxyState.{ProxyState}
-use Rattle.model_bounds.specs.steps_model.Step.{Given, Passing, IsStep}
+use Rattle.model_bounds.specs.steps_model.Step.{Given, IsDeadline, IsResend, IsStep, Passing, moment_of}
 use Rattle.model_bounds.specs.model.Run.{event_moment, events_of, steps_of}
 use Rattle.sip_run.specs.engine.declared.error.StepError.{StepError}
 use Rattle.sip_run.specs.engine.declared.error.StepError.TheVariants as step_errors
 use Rattle.sip_run.specs.engine.StepError.{refusal_at, is_too_large}
-use Rattle.sip_replay_script.specs.Print.{step_text, printed}
-use Rattle.sip_replay.specs.Errors.{stop_of_step}
-use Rattle.sip_replay_script.specs.Devices.{WritesFront, PrintStops}
-use Rattle.sip_run.specs.Due.{Fires}
+use Rattle.sip_replay_print.specs.Print.{step_text, printed}
+use Rattle.sip_replay.specs.Errors.{stop_of_print, stop_of_step}
+use Rattle.sip_replay_script.specs.Devices.{WritesFront}
+use Rattle.sip_replay_print.specs.Stops.{PrintStops}
+use Rattle.sip_run.specs.Due.{Fires, NothingDueBy}
 use Rattle.sip_run.specs.Refusals.{RefusesStep, refusal_of_event}
-use Rattle.sip_replay.specs.Refusals.{StepStops, PlaysPart, FiringStops, TakingStops}
+use Rattle.sip_replay.specs.Refusals.{PlaysPart, FiringStops, TakingStops}
 use Rattle.sip_replay.specs.Replays.{Plays}
-use Rattle.sip_replay_script.specs.declared.stop.Stop.{Stop}
-use Rattle.sip_replay_script.specs.declared.stop.Stop.TheVariants as stops
+use Rattle.sip_replay.specs.declared.stop.Stop.{Stop}
+use Rattle.sip_replay.specs.declared.stop.Stop.TheVariants as stops
+use Rattle.sip_replay_script.specs.declared.print_stop.PrintStop.{PrintStop}
+use Rattle.sip_replay_script.specs.declared.print_stop.PrintStop.TheVariants as print_stops
 use Rattle.sip_replay_script.proofs.Fronts.{front_all, front_second}
-use Rattle.sip_replay.proofs.Running.{printed_more}
+use Rattle.sip_replay.proofs.Running.{printed_more, prompt_event}
 
 -- ---- a step that is refused
 
-some_stops : (refusal e : StepError) → StepStops (Some refusal) (stop_of_step e)
-some_stops refusal step_errors.NoMemory = tt
-some_stops refusal step_errors.MomentTooLarge = refl
-some_stops refusal step_errors.Worn = refl
+-- for another reason than want of memory: as the server says
+too_large_is : (refusal : Option StepError) → RefusesStep refusal step_errors.MomentTooLarge → IsSome refusal
+too_large_is None h = absurd cc
+too_large_is (Some refusal) h = refl
 
-pub step_stops : (refusal : Option StepError) (e : StepError) → RefusesStep refusal e → StepStops refusal (stop_of_step e)
-step_stops None e h = subst (λ x. StepStops None (stop_of_step x)) (sym h) tt
-step_stops (Some refusal) e h = some_stops refusal e
+worn_is : (refusal : Option StepError) → RefusesStep refusal step_errors.Worn → IsSome refusal
+worn_is None h = absurd cc
+worn_is (Some refusal) h = refl
 
 -- ---- time that passes
 
 -- all that was printed is a front of it
 part_of : (server : Server) (old new : ProxyState) (events : List Event) (until : Option ℕ) (a b : Option (List ℕ)) → Plays server old new events until a b → PlaysPart server old events until a b
-part_of server old new events until a b h = record { steps = h.steps; history = h.history; last = new; is_run = h.is_run; writes = front_all a b (printed h.steps) h.written }
+part_of server old new events until a b h = record { steps = h.steps; history = h.history; last = new; is_run = h.is_run; prompt = h.prompt; writes = front_all a b (printed h.steps) h.written }
 
 -- a front of the last step
 front_more : (a b c : Option (List ℕ)) (steps : List StepOut) (out : StepOut) → Appends a b (printed steps) → WritesFront b c (step_text out) → WritesFront a c (printed (steps ++ out ∷ []))
 front_more a b c steps out h front = subst (λ l. WritesFront a c l) (sym (printed_more steps out)) (front_second a b c (printed steps) (step_text out) h front)
 
-part_passing : (server : Server) (old mid new : ProxyState) (at : ℕ) (out : StepOut) (a b c : Option (List ℕ)) → Plays server old mid [] (Some at) a b → IsStep server mid (Passing at) out new
+part_passing : (server : Server) (old mid new : ProxyState) (at : ℕ) (out : StepOut) (a b c : Option (List ℕ)) → Plays server old mid [] (Some at) a b → IsDeadline server mid at out new ⊎ IsResend server mid at out new
     → WritesFront b c (step_text out) → PlaysPart server old [] (Some at) a c
-part_passing server old mid new at out a b c h step front = record {
+part_passing server old mid new at out a b c h happens front = record {
   steps = h.steps ++ out ∷ [];
   history = record { before = mid; act = Passing at; out = out; after = new } ∷ h.history;
   last = new;
   is_run = record {
-    chain = (refl, step, h.is_run.chain);
+    chain = (refl, inr happens, h.is_run.chain);
     paced = (refl, h.is_run.paced);
     of_events = h.is_run.of_events;
     of_steps = reverse-append (out ∷ []) (steps_of h.history) ∙ ap (λ l. l ++ out ∷ []) h.is_run.of_steps;
   };
+  prompt = (happens, h.prompt);
   writes = front_more a b c h.steps out h.written front;
 }
 
 -- what is due next is refused
-pub firing_refused : (server : Server) (old mid : ProxyState) (at : ℕ) (a b : Option (List ℕ)) (G : Type 0) (stop : Stop) → Plays server old mid [] (Some at) a b → StepStops (refusal_at at) stop → FiringStops server old at a b G stop
-firing_refused server old mid at a b G stops.NoMemory h s = part_of server old mid [] (Some at) a b h
-firing_refused server old mid at a b G stops.Script h s = record { last = mid; plays = h; why = s }
-firing_refused server old mid at a b G stops.Read h s = s
-firing_refused server old mid at a b G stops.Write h s = absurd s
+pub firing_refused : (server : Server) (old mid : ProxyState) (at : ℕ) (a b : Option (List ℕ)) (G : Type 0) (e : StepError) → Plays server old mid [] (Some at) a b → RefusesStep (refusal_at at) e → FiringStops server old at a b G (stop_of_step e)
+firing_refused server old mid at a b G step_errors.NoMemory h s = part_of server old mid [] (Some at) a b h
+firing_refused server old mid at a b G step_errors.MomentTooLarge h s = record { last = mid; plays = h; why = too_large_is (refusal_at at) s }
+firing_refused server old mid at a b G step_errors.Worn h s = record { last = mid; plays = h; why = worn_is (refusal_at at) s }
 
-part_stops_firing : (server : Server) (old : ProxyState) (at : ℕ) (a c : Option (List ℕ)) (G : Type 0) (stop : Stop) → PlaysPart server old [] (Some at) a c → PrintStops G stop → FiringStops server old at a c G stop
-part_stops_firing server old at a c G stops.NoMemory h s = h
-part_stops_firing server old at a c G stops.Script h s = absurd s
-part_stops_firing server old at a c G stops.Read h s = s
-part_stops_firing server old at a c G stops.Write h s = (h, s)
+part_stops_firing : (server : Server) (old : ProxyState) (at : ℕ) (a c : Option (List ℕ)) (G : Type 0) (stop : PrintStop) → PlaysPart server old [] (Some at) a c → PrintStops G stop → FiringStops server old at a c G (stop_of_print stop)
+part_stops_firing server old at a c G print_stops.NoMemory h s = h
+part_stops_firing server old at a c G print_stops.Write h s = (h, s)
 
 -- what happened isn't printed whole
-pub firing_unprinted : (server then_server : Server) (old mid new : ProxyState) (at : ℕ) (out : StepOut) (a b c : Option (List ℕ)) (G : Type 0) (stop : Stop) → then_server ≡ server → Plays server old mid [] (Some at) a b
-    → Fires then_server mid at out new → WritesFront b c (step_text out) → PrintStops G stop → FiringStops server old at a c G stop
+pub firing_unprinted : (server then_server : Server) (old mid new : ProxyState) (at : ℕ) (out : StepOut) (a b c : Option (List ℕ)) (G : Type 0) (stop : PrintStop) → then_server ≡ server → Plays server old mid [] (Some at) a b
+    → Fires then_server mid at out new → WritesFront b c (step_text out) → PrintStops G stop → FiringStops server old at a c G (stop_of_print stop)
 firing_unprinted server then_server old mid new at out a b c G stop same h fires front s =
-    part_stops_firing server old at a c G stop (part_passing server old mid new at out a b c h (subst (λ x. IsStep x mid (Passing at) out new) same (inr fires.happens)) front) s
+    part_stops_firing server old at a c G stop (part_passing server old mid new at out a b c h (subst (λ x. IsDeadline x mid at out new ⊎ IsResend x mid at out new) same fires.happens) front) s
 
 -- ---- an event that was read
 
-part_event : (server : Server) (old mid new : ProxyState) (event : Event) (out : StepOut) (a b c : Option (List ℕ)) → Plays server old mid [] (Some (event_moment event)) a b → IsStep server mid (Given event) out new
-    → WritesFront b c (step_text out) → PlaysPart server old (event ∷ []) None a c
-part_event server old mid new event out a b c h step front = record {
+part_event : (server : Server) (old mid new : ProxyState) (event : Event) (out : StepOut) (a b c : Option (List ℕ)) → Plays server old mid [] (Some (event_moment event)) a b
+    → NothingDueBy (moment_of mid (event_moment event)) mid → IsStep server mid (Given event) out new → WritesFront b c (step_text out) → PlaysPart server old (event ∷ []) None a c
+part_event server old mid new event out a b c h none step front = record {
   steps = h.steps ++ out ∷ [];
   history = record { before = mid; act = Given event; out = out; after = new } ∷ h.history;
   last = new;
@@ -94,6 +95,7 @@ part_event server old mid new event out a b c h step front = record {
     of_events = reverse-append (event ∷ []) (events_of h.history) ∙ ap (λ l. l ++ event ∷ []) h.is_run.of_events;
     of_steps = reverse-append (out ∷ []) (steps_of h.history) ∙ ap (λ l. l ++ out ∷ []) h.is_run.of_steps;
   };
+  prompt = (prompt_event server mid new event out none, h.prompt);
   writes = front_more a b c h.steps out h.written front;
 }
 
@@ -110,33 +112,30 @@ too_late state (Fault at ticket) h = h
 firing_taking : (server : Server) (old : ProxyState) (event : Event) (a b : Option (List ℕ)) (G : Type 0) (stop : Stop) → FiringStops server old (event_moment event) a b G stop → TakingStops server old event a b G stop
 firing_taking server old event a b G stops.NoMemory h = inl h
 firing_taking server old event a b G stops.Script h = record { last = h.last; plays = h.plays; why = too_late h.last event h.why }
-firing_taking server old event a b G stops.Read h = h
 firing_taking server old event a b G stops.Write h = (inl h.0, h.1)
 
 -- before it not all was fired
 pub taking_unfired : (server : Server) (old : ProxyState) (at : ℕ) (event : Event) (a b : Option (List ℕ)) (G : Type 0) (stop : Stop) → at ≡ event_moment event → FiringStops server old at a b G stop → TakingStops server old event a b G stop
 taking_unfired server old at event a b G stop is h = firing_taking server old event a b G stop (subst (λ (m : ℕ). FiringStops server old m a b G stop) is h)
 
-own_stops : (server : Server) (old mid : ProxyState) (event : Event) (a b : Option (List ℕ)) (G : Type 0) (stop : Stop) → Plays server old mid [] (Some (event_moment event)) a b → StepStops (refusal_of_event mid event) stop → TakingStops server old event a b G stop
-own_stops server old mid event a b G stops.NoMemory h s = inl (part_of server old mid [] (Some (event_moment event)) a b h)
-own_stops server old mid event a b G stops.Script h s = record { last = mid; plays = h; why = s }
-own_stops server old mid event a b G stops.Read h s = s
-own_stops server old mid event a b G stops.Write h s = absurd s
+own_stops : (server : Server) (old mid : ProxyState) (event : Event) (a b : Option (List ℕ)) (G : Type 0) (e : StepError) → Plays server old mid [] (Some (event_moment event)) a b → RefusesStep (refusal_of_event mid event) e
+    → TakingStops server old event a b G (stop_of_step e)
+own_stops server old mid event a b G step_errors.NoMemory h s = inl (part_of server old mid [] (Some (event_moment event)) a b h)
+own_stops server old mid event a b G step_errors.MomentTooLarge h s = record { last = mid; plays = h; why = too_large_is (refusal_of_event mid event) s }
+own_stops server old mid event a b G step_errors.Worn h s = record { last = mid; plays = h; why = worn_is (refusal_of_event mid event) s }
 
 -- its own step is refused
-pub taking_refused : (server : Server) (old mid : ProxyState) (at : ℕ) (event : Event) (a b : Option (List ℕ)) (G : Type 0) (stop : Stop) → at ≡ event_moment event → Plays server old mid [] (Some at) a b
-    → StepStops (refusal_of_event mid event) stop → TakingStops server old event a b G stop
-taking_refused server old mid at event a b G stop is h s = own_stops server old mid event a b G stop (subst (λ (m : ℕ). Plays server old mid [] (Some m) a b) is h) s
+pub taking_refused : (server : Server) (old mid : ProxyState) (at : ℕ) (event : Event) (a b : Option (List ℕ)) (G : Type 0) (e : StepError) → at ≡ event_moment event → Plays server old mid [] (Some at) a b
+    → RefusesStep (refusal_of_event mid event) e → TakingStops server old event a b G (stop_of_step e)
+taking_refused server old mid at event a b G e is h s = own_stops server old mid event a b G e (subst (λ (m : ℕ). Plays server old mid [] (Some m) a b) is h) s
 
-part_stops_taking : (server : Server) (old : ProxyState) (event : Event) (a c : Option (List ℕ)) (G : Type 0) (stop : Stop) → PlaysPart server old (event ∷ []) None a c → PrintStops G stop → TakingStops server old event a c G stop
-part_stops_taking server old event a c G stops.NoMemory h s = inr h
-part_stops_taking server old event a c G stops.Script h s = absurd s
-part_stops_taking server old event a c G stops.Read h s = s
-part_stops_taking server old event a c G stops.Write h s = (inr h, s)
+part_stops_taking : (server : Server) (old : ProxyState) (event : Event) (a c : Option (List ℕ)) (G : Type 0) (stop : PrintStop) → PlaysPart server old (event ∷ []) None a c → PrintStops G stop → TakingStops server old event a c G (stop_of_print stop)
+part_stops_taking server old event a c G print_stops.NoMemory h s = inr h
+part_stops_taking server old event a c G print_stops.Write h s = (inr h, s)
 
 -- its own step isn't printed whole
-pub taking_unprinted : (server then_server : Server) (old mid new : ProxyState) (at : ℕ) (event : Event) (out : StepOut) (a b c : Option (List ℕ)) (G : Type 0) (stop : Stop) → then_server ≡ server → at ≡ event_moment event
-    → Plays server old mid [] (Some at) a b → IsStep then_server mid (Given event) out new → WritesFront b c (step_text out) → PrintStops G stop → TakingStops server old event a c G stop
-taking_unprinted server then_server old mid new at event out a b c G stop same is h step front s =
+pub taking_unprinted : (server then_server : Server) (old mid new : ProxyState) (at : ℕ) (event : Event) (out : StepOut) (a b c : Option (List ℕ)) (G : Type 0) (stop : PrintStop) → then_server ≡ server → at ≡ event_moment event
+    → Plays server old mid [] (Some at) a b → NothingDueBy (moment_of mid at) mid → IsStep then_server mid (Given event) out new → WritesFront b c (step_text out) → PrintStops G stop → TakingStops server old event a c G (stop_of_print stop)
+taking_unprinted server then_server old mid new at event out a b c G stop same is h none step front s =
     part_stops_taking server old event a c G stop
-    (part_event server old mid new event out a b c (subst (λ (m : ℕ). Plays server old mid [] (Some m) a b) is h) (subst (λ x. IsStep x mid (Given event) out new) same step) front) s
+    (part_event server old mid new event out a b c (subst (λ (m : ℕ). Plays server old mid [] (Some m) a b) is h) (subst (λ (m : ℕ). NothingDueBy (moment_of mid m) mid) is none) (subst (λ x. IsStep x mid (Given event) out new) same step) front) s

@@ -2,8 +2,12 @@
 use Rattle.std.specs.Prelude.{◌≡◌, ◌≤◌, ⊤, ℕ, Option}
 use Rattle.sip_run.specs.engine.declared.error.StepError.{StepError}
 use Rattle.sip_run.specs.engine.declared.error.StepError.TheVariants as step_errors
-use Rattle.sip_replay_script.specs.declared.stop.Stop.{Stop}
-use Rattle.sip_replay_script.specs.declared.stop.Stop.TheVariants as stops
+use Rattle.sip_replay_script.specs.declared.print_stop.PrintStop.{PrintStop}
+use Rattle.sip_replay_script.specs.declared.print_stop.PrintStop.TheVariants as print_stops
+use Rattle.sip_replay_script.specs.declared.read_stop.ReadStop.{ReadStop}
+use Rattle.sip_replay_script.specs.declared.read_stop.ReadStop.TheVariants as read_stops
+use Rattle.sip_replay.specs.declared.stop.Stop.{Stop}
+use Rattle.sip_replay.specs.declared.stop.Stop.TheVariants as stops
 use Rattle.sip_replay_script.specs.Devices.{later}
 use Rattle.sip_replay.specs.declared.error.ReplayError.{ReplayError}
 use Rattle.sip_replay.specs.declared.error.ReplayError.TheVariants.{NoMemory, Script, Read, Write}
@@ -15,11 +19,17 @@ number_of_error (Script line) = 2
 number_of_error Read = 3
 number_of_error Write = 4
 
+-- the refusal where no event is read that would begin with a line
+abbrev pub unread_error : ReadStop → ℕ → ReplayError
+unread_error read_stops.NoMemory line = NoMemory
+unread_error read_stops.Damaged line = Script line
+unread_error read_stops.Cut line = Script line
+unread_error read_stops.Read line = Read
+
 -- the refusal of the event that begins with a line
 abbrev pub error_at : Stop → ℕ → ReplayError
 error_at stops.NoMemory line = NoMemory
 error_at stops.Script line = Script line
-error_at stops.Read line = Read
 error_at stops.Write line = Write
 
 -- want of memory stays that; any other refusal of a step is the script's
@@ -27,6 +37,11 @@ abbrev pub stop_of_step : StepError → Stop
 stop_of_step step_errors.NoMemory = stops.NoMemory
 stop_of_step step_errors.MomentTooLarge = stops.Script
 stop_of_step step_errors.Worn = stops.Script
+
+-- and printing stops for want of memory, or by the writer
+abbrev pub stop_of_print : PrintStop → Stop
+stop_of_print print_stops.NoMemory = stops.NoMemory
+stop_of_print print_stops.Write = stops.Write
 
 -- a reader was asked at most that often
 pub record IsAsked (most : ℕ) (old new : Option ℕ) : Type 0 where

@@ -1,5 +1,5 @@
 -- How far a replay came that was refused, and what was written then.
-use Rattle.std.specs.Prelude.{◌≡◌, ◌+◌, ◌⊎◌, ⊤, ℕ, List, [], ◌∷◌, ◌++◌, count_by, Option, None, Some, option_map, IfSome, IsSome}
+use Rattle.std.specs.Prelude.{◌≡◌, ◌+◌, ◌⊎◌, ℕ, List, [], ◌∷◌, ◌++◌, count_by, Option, None, Some, option_map, IfSome, IsSome}
 use Rattle.std.specs.Io.KnownBytes.{Appends}
 use Rattle.sip_event.specs.declared.event.Event.{Event}
 use Rattle.sip_event.specs.declared.event.StepOut.{StepOut}
@@ -10,16 +10,17 @@ use Rattle.model_bounds.specs.state.State.{first_state}
 use Rattle.model_bounds.specs.model.Run.{Link, IsRun, event_moment}
 use Rattle.model_bounds.specs.model.Access.{Access}
 use Rattle.model_bounds.specs.Bounds.{IsBounded}
+use Rattle.model_ties.specs.Ties.{ArePrompt}
 use Rattle.sip_run.specs.engine.declared.error.StepError.{StepError}
 use Rattle.sip_run.specs.engine.StepError.{refusal_at}
 use Rattle.sip_run.specs.Refusals.{refusal_of_event}
-use Rattle.sip_replay_script.specs.Print.{printed}
+use Rattle.sip_replay_print.specs.Print.{printed}
 use Rattle.sip_replay_script.specs.Devices.{WritesFront}
 use Rattle.sip_replay_script.specs.Lines.{is_end}
 use Rattle.sip_replay_script.specs.Events.{SaysEvent, SaysEvents, IsNoEvent}
 use Rattle.sip_replay.specs.Replays.{server_with, Plays}
-use Rattle.sip_replay_script.specs.declared.stop.Stop.{Stop}
-use Rattle.sip_replay_script.specs.declared.stop.Stop.TheVariants as stops
+use Rattle.sip_replay.specs.declared.stop.Stop.{Stop}
+use Rattle.sip_replay.specs.declared.stop.Stop.TheVariants as stops
 use Rattle.sip_replay.specs.declared.error.ReplayError.{ReplayError}
 use Rattle.sip_replay.specs.declared.error.ReplayError.TheVariants.{NoMemory, Script, Read, Write}
 
@@ -42,7 +43,8 @@ NoEventBehind text bytes = (rest : List ℕ) × (bytes ≡ text ++ rest) × IsNo
 
 -- How far a server came in a script: the script begins with a text that says the events that it took, and behind it perhaps with one
 -- more, which was read. The steps are a run for the
--- events taken, in which time passed up to the moment of the one more.
+-- events taken, in which time passed up to the moment of the one more, only where something that is due happens, and all that is due by the
+-- moment of an event happens before it.
 pub record ComesTo (server : Server) (first : ProxyState) (script : Option (List ℕ)) (steps : List StepOut) : Type 0 where
   pub events : List Event
   pub text : List ℕ
@@ -54,6 +56,7 @@ pub record ComesTo (server : Server) (first : ProxyState) (script : Option (List
   pub says_ahead : SaysAhead ahead further
   pub begins : IfSome script (BeginsWith (text ++ further))
   pub is_run : IsRun server first events (moment_ahead ahead) steps history last
+  pub prompt : ArePrompt server history
 
 -- no event was read behind a text, since none stands there; or one was, and the server refuses its step
 abbrev pub CantGoOn : Option (List ℕ) → List ℕ → ProxyState → Option Event → Type 0
@@ -106,19 +109,13 @@ pub record IsRefused (config : Config) (word first : ℕ) (script old new : Opti
 
 -- ---- inside
 
--- a step is refused for want of memory, or as the server says
-abbrev pub StepStops : Option StepError → Stop → Type 0
-StepStops refusal stops.NoMemory = ⊤
-StepStops refusal stops.Script = IsSome refusal
-StepStops refusal stops.Read = ⊥
-StepStops refusal stops.Write = ⊥
-
--- some events have a run, and a front of what is printed of its steps was written
+-- some events have such a run, and a front of what is printed of its steps was written
 pub record PlaysPart (server : Server) (old : ProxyState) (events : List Event) (until : Option ℕ) (before after : Option (List ℕ)) : Type 0 where
   pub steps : List StepOut
   pub history : List Link
   pub last : ProxyState
   pub is_run : IsRun server old events until steps history last
+  pub prompt : ArePrompt server history
   pub writes : WritesFront before after (printed steps)
 
 -- time passed up to a moment, all that is printed of these steps was written, and the next is refused, or there were too many
@@ -132,7 +129,6 @@ pub record PlaysUpTo (server : Server) (old : ProxyState) (at : ℕ) (before aft
 abbrev pub FiringStops : Server → ProxyState → ℕ → Option (List ℕ) → Option (List ℕ) → Type 0 → Stop → Type 0
 FiringStops server old at before after gave_up stops.NoMemory = PlaysPart server old [] (Some at) before after
 FiringStops server old at before after gave_up stops.Script = PlaysUpTo server old at before after (λ last. refusal_at at)
-FiringStops server old at before after gave_up stops.Read = ⊥
 FiringStops server old at before after gave_up stops.Write = PlaysPart server old [] (Some at) before after × gave_up
 
 -- the server stopped before an event, or at it
@@ -145,5 +141,4 @@ abbrev pub TakingStops : Server → ProxyState → Event → Option (List ℕ) �
 TakingStops server old event before after gave_up stops.NoMemory = PlaysSome server old event before after
 TakingStops server old event before after gave_up stops.Script = PlaysUpTo server old (event_moment event) before after
     (λ last. refusal_of_event last event)
-TakingStops server old event before after gave_up stops.Read = ⊥
 TakingStops server old event before after gave_up stops.Write = PlaysSome server old event before after × gave_up

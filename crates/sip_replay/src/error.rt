@@ -1,8 +1,8 @@
 ghost use Rattle.std.specs.Prelude.{◌≡◌};
-ghost use Rattle.sip_replay.specs.Errors.{error_at, number_of_error, stop_of_step};
+ghost use Rattle.sip_replay.specs.Errors.{error_at, number_of_error, unread_error};
 
-use sip_replay_script::Stop;
-use sip_run::engine::StepError;
+use crate::stop::Stop;
+use sip_replay_script::ReadStop;
 use std::error::Error;
 use std::fmt;
 
@@ -20,6 +20,17 @@ pub enum ReplayError {
 }
 
 impl ReplayError {
+    /// The refusal where no event is read that would begin with this line.
+    pub(crate) fn unread(stop: ReadStop, line: u64) -> ReplayError
+        ensures { result ≡ unread_error stop line }
+    {
+        match stop {
+            ReadStop::NoMemory => ReplayError::NoMemory,
+            ReadStop::Damaged | ReadStop::Cut => ReplayError::Script(line),
+            ReadStop::Read => ReplayError::Read,
+        }
+    }
+
     /// The refusal of the event that begins with this line.
     pub(crate) fn at_line(stop: Stop, line: u64) -> ReplayError
         ensures { result ≡ error_at stop line }
@@ -27,7 +38,6 @@ impl ReplayError {
         match stop {
             Stop::NoMemory => ReplayError::NoMemory,
             Stop::Script => ReplayError::Script(line),
-            Stop::Read => ReplayError::Read,
             Stop::Write => ReplayError::Write,
         }
     }
@@ -57,13 +67,3 @@ impl fmt::Display for ReplayError {
 }
 
 impl Error for ReplayError {}
-
-/// Why an event whose step was refused isn't replayed.
-pub(crate) fn stop_of(e: StepError) -> Stop
-    ensures { result ≡ stop_of_step e }
-{
-    match e {
-        StepError::NoMemory => Stop::NoMemory,
-        StepError::MomentTooLarge | StepError::Worn => Stop::Script,
-    }
-}

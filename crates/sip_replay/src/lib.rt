@@ -14,6 +14,7 @@ mod due;
 mod error;
 pub mod laws;
 mod playback;
+mod stop;
 
 pub use error::ReplayError;
 pub use playback::replay;

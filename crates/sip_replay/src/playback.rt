@@ -12,17 +12,17 @@ ghost use Rattle.sip_replay.specs.Refusals.{IsRefused, Refuses, TakingStops};
 ghost use Rattle.sip_replay.specs.Replays.{server_with, IsLawfulReplay, IsReplay, Plays, PlaysNext};
 
 use crate::due::fire_due;
-use crate::error::{ReplayError, stop_of};
+use crate::error::ReplayError;
+use crate::stop::Stop;
 use model_bounds::bounds::every_history_is_bounded;
 use model_bounds::model::laws::every_run_has_access;
 use model_bounds::model::runs::runs_join;
 use sip_config_types::Config;
 use sip_event::{Boot, StepOut};
 use sip_policy::Rules;
-use sip_replay_script::{
-    Gathered, Line, Lines, PrintRoom, Stop, TellingReader, TellingWriter, hand_on, next_line,
-    print_step,
-};
+use sip_replay_print::{PrintRoom, print_step};
+use sip_replay_script::laws::cut_event_is_none;
+use sip_replay_script::{Gathered, Line, Lines, TellingReader, TellingWriter, hand_on, next_line};
 use sip_run::engine::{Engine, StepError};
 use sip_run::{event_moment, take_datagram, take_event};
 use sip_timers::Timers;
@@ -122,11 +122,12 @@ fn take_next<T: Timers, R: Rules, I: TellingReader, W: TellingWriter>(
     ensures asked { later lines.new.asks (I.asked reader.new) ≡ later lines.old.asks (I.asked reader.old) }
     ensures less { lines.new.asks ≤ lines.old.asks }
 {
+    cut_event_is_none();
     let first = lines.number() + 1;
     let line = match next_line(alloc, lines, reader, bytes) {
         Ok(Some(line)) => line,
         Ok(None) => return Ok(false),
-        Err(stop) => return Err(ReplayError::at_line(stop, first)),
+        Err(stop) => return Err(ReplayError::unread(stop, first)),
     };
     match take_line(alloc, engine, &line, bytes, room, writer) {
         Ok(()) => {}
@@ -151,10 +152,7 @@ fn take_line<T: Timers, R: Rules, W: TellingWriter>(
         (W.contents writer.new) (GaveUp (W.has_failed writer.new) (W.called writer.new))) }
 {
     fire_due(alloc, engine, line_moment(line), writer, room)?;
-    let out = match own_step(engine, line, bytes) {
-        Ok(out) => out,
-        Err(e) => return Err(stop_of(e)),
-    };
+    let out = own_step(engine, line, bytes)?;
     print_step(alloc, writer, room, &out)?;
     Ok(())
 }

@@ -12,14 +12,15 @@ use Rattle.sip_replay_script.specs.declared.read_stop.ReadStop.{ReadStop}
 use Rattle.sip_replay_script.specs.declared.read_stop.ReadStop.TheVariants as stops
 use Rattle.sip_replay_script.specs.Script.{line_of, datagram_at}
 use Rattle.sip_replay_script.specs.Lines.{Reading, IsLine, IsLong, IsUnfinished, HasNoLine, LineStops, is_end, pending}
-use Rattle.sip_replay_script.specs.Events.{ended, is_dot, said, BeginsEvent, BeginsLine, EndsAs, StopsAt, StopsIn, SaysDatagram, SaysEvent, IsCutDatagram, IsCutEvent, IsCutShort, IsDamaged, IsLongDatagram, IsNoEvent, IsOtherLine, GivesSaid, DatagramStops, EventStops, ReadStops, stop_of}
+use Rattle.sip_replay_script.specs.Events.{ended, is_dot, said, BeginsEvent, BeginsLine, EndsAs, StopsAt, StopsIn, SaysDatagram, SaysEvent, IsCutDatagram, IsCutEvent, IsCutLine, IsCutShort, IsDamaged, IsLongDatagram, IsNoEvent, IsOtherLine, GivesSaid, DatagramStops, FirstStops, ReadStops}
+use Rattle.sip_replay_script.specs.Recorded.{IsCutRecord}
 use Rattle.sip_uri.specs.Host.{is_not}
 use Rattle.sip_uri.proofs.Tests.{and_both, drop_front}
 use Rattle.sip_replay_script.proofs.LineEnds.{ends_add}
 use Rattle.sip_replay_script.proofs.Datagrams.{behind, behind_any, says_more}
-use Rattle.sip_replay_script.proofs.CutEvents.{cut_at, cut_event, head_is, no_line, not_nil}
+use Rattle.sip_replay_script.proofs.CutEvents.{cut_at, head_is, no_line, not_nil}
 use Rattle.sip_replay_script.proofs.OneReading.{no_refusal}
-use Rattle.sip_replay_script.proofs.WrittenEvents.{no_bytes, no_end}
+use Rattle.sip_replay_script.proofs.WrittenEvents.{no_end, recorded_says}
 use Rattle.sip_replay_script.proofs.Samples.{HasSample}
 use Rattle.sip_replay_script.proofs.CutLines.{DatagramLine, FaultLine, HexLine, Says, TimeLine, datagram_says_some, datagram_sample, fault_says_some, fault_sample, hex_says_some, hex_sample, line_cases, time_says_some, time_sample}
 
@@ -117,7 +118,7 @@ all_behind p (x ∷ xs) ys e = all_behind p xs ys (and_both (p x) (list_all p (x
 some_more : (xs : List ℕ) (b : ℕ) (ys : List ℕ) → xs ++ b ∷ ys ≢ []
 some_more xs b ys e = absurd (omega (arith, ap length e, length-append xs (b ∷ ys)))
 
-cut_with : (rest tail : List ℕ) (said : Line) → rest ≢ [] → IsLine (rest ++ tail) → line_of (rest ++ tail) ≡ Some said → IsCutEvent rest
+cut_with : (rest tail : List ℕ) (said : Line) → rest ≢ [] → IsLine (rest ++ tail) → line_of (rest ++ tail) ≡ Some said → IsCutRecord rest
 cut_with rest tail (Whole event) begun is_line says = record {
   more = tail ++ 10 ∷ [];
   event = event;
@@ -133,17 +134,14 @@ cut_with rest tail (Head head) begun is_line says = record {
   says = inr (record {
     line = rest ++ tail;
     head = head;
-    rest = 46 ∷ 10 ∷ [];
-    bytes = [];
     is_line = is_line;
     text_is = sym (append_assoc rest tail (10 ∷ 46 ∷ 10 ∷ [])) ∙ sym (append_assoc (rest ++ tail) (10 ∷ []) (46 ∷ 10 ∷ []));
     says = says;
-    lines = no_bytes;
     event_is = refl;
   });
 }
 
-cut_by : (rest sample : List ℕ) → rest ≢ [] → IsLine rest → list_all (is_not 10) sample ≡ true → EndsAs rest sample → IsCutEvent rest
+cut_by : (rest sample : List ℕ) → rest ≢ [] → IsLine rest → list_all (is_not 10) sample ≡ true → EndsAs rest sample → IsCutRecord rest
 cut_by rest sample begun is_line single e =
     let none : count_by is_end e.tail ≡ 0 = no_end e.tail (all_behind (is_not 10) e.front e.tail (ap (list_all (is_not 10)) (sym e.cut) ∙ single)) in
     let sum : count_by is_end (rest ++ e.tail) ≡ count_by is_end rest + count_by is_end e.tail = ends_add rest e.tail in
@@ -151,10 +149,10 @@ cut_by rest sample begun is_line single e =
     let s : Says (rest ++ e.tail) = says_some (rest ++ e.tail) e.begins.says in
     cut_with rest e.tail s.said begun (record { short = e.begins.short; single = omega (arith, none, sum, first) }) s.says
 
--- the front of such a line was cut
-cut_line : (rest : List ℕ) → rest ≢ [] → IsLine rest → BeginsLine rest → IsCutEvent rest
+-- the front of such a line was cut, in a record
+cut_record : (rest : List ℕ) → rest ≢ [] → IsLine rest → BeginsLine rest → IsCutRecord rest
 unfolding EndsSo
-cut_line rest begun is_line b =
+cut_record rest begun is_line b =
     elim (ends_so rest b) [
       | inl d ↦ cut_by rest _ begun is_line refl d
       | inr other ↦ elim other [
@@ -165,6 +163,16 @@ cut_line rest begun is_line b =
         ]
       ]
     ]
+
+-- what was cut in a record was cut
+pub cut_says : (rest : List ℕ) → IsCutRecord rest → IsCutEvent rest
+cut_says rest c = record { more = c.more; event = c.event; begun = c.begun; cut = c.cut; says = recorded_says (rest ++ c.more) c.event c.says }
+
+pub line_recorded : (rest : List ℕ) → IsCutLine rest → IsCutRecord rest
+line_recorded rest c = cut_record rest c.begun c.is_line c.begins
+
+cut_line : (rest : List ℕ) → IsCutLine rest → IsCutEvent rest
+cut_line rest c = cut_says rest (line_recorded rest c)
 
 -- ---- what no text behind it mends
 
@@ -264,7 +272,7 @@ line_ends behind c other = record {
 ending : (behind : List ℕ) → IsCutDatagram behind → Ending behind
 ending behind c = elim (cases_Bool (is_dot c.more)) [ inl dot ↦ dot_ends behind c dot | inr other ↦ line_ends behind c other ]
 
-line_begun : (line behind rest : List ℕ) → rest ≡ ended line ++ behind → rest ≢ []
+pub line_begun : (line behind rest : List ℕ) → rest ≡ ended line ++ behind → rest ≢ []
 line_begun line behind rest cut e = absurd (omega (arith, ap length (sym e ∙ cut), length-append (ended line) behind, length-append line (10 ∷ [])))
 
 head_cut : (line : List ℕ) (head : DatagramHead) (rest behind : List ℕ) → IsLine line → line_of line ≡ Some (Head head) → rest ≡ ended line ++ behind → IsCutDatagram behind → IsCutEvent rest
@@ -305,43 +313,43 @@ said_head_stops F old mid before middle head stops.Cut s h =
 said_head_stops F old mid before middle head stops.Read s h = h
 
 -- a line cut
-unfinished : (F : Type 0) (rest seen : List ℕ) (stop : ReadStop) → IsUnfinished seen rest → StopsIn seen stop → ReadStops F (Some rest) stop
+unfinished : (F : Type 0) (rest seen : List ℕ) (stop : ReadStop) → IsUnfinished seen rest → StopsIn seen stop → FirstStops F (Some rest) stop
 unfinished F rest seen stops.NoMemory u h = tt
 unfinished F rest seen stops.Damaged u h = record {
   none = inl ((λ e. u.begun (sym u.all ∙ e)), subst HasNoLine (sym u.all) (no_line seen u.is_line.single));
   no_front = λ c. h (subst BeginsLine u.all (begun_line rest (subst IsLine (sym u.all) u.is_line) c));
 }
-unfinished F rest seen stops.Cut u h = subst IsCutEvent (sym u.all) (cut_line seen u.begun u.is_line h)
+unfinished F rest seen stops.Cut u h = subst IsCutLine (sym u.all) (record { begun = u.begun; is_line = u.is_line; begins = h })
 unfinished F rest seen stops.Read u h = absurd h
 
-not_known : (F : Type 0) (seen : List ℕ) (stop : ReadStop) → StopsIn seen stop → ReadStops F None stop
+not_known : (F : Type 0) (seen : List ℕ) (stop : ReadStop) → StopsIn seen stop → FirstStops F None stop
 not_known F seen stops.NoMemory h = tt
 not_known F seen stops.Damaged h = tt
 not_known F seen stops.Cut h = tt
 not_known F seen stops.Read h = absurd h
 
 -- no line at all
-pub no_line_stops : (F : Type 0) (script : Option (List ℕ)) (seen : List ℕ) (old new : ReadStop) → LineStops F script seen old → StopsAt seen old new → ReadStops F script new
-no_line_stops F script seen stops.NoMemory new h s = subst (λ (stop : ReadStop). ReadStops F script stop) (sym s) tt
-no_line_stops F None seen stops.Damaged new h s = subst (λ (stop : ReadStop). ReadStops F None stop) (sym s) tt
-no_line_stops F (Some rest) seen stops.Damaged new h s = subst (λ (stop : ReadStop). ReadStops F (Some rest) stop) (sym s) (long_damaged rest h)
+pub no_line_stops : (F : Type 0) (script : Option (List ℕ)) (seen : List ℕ) (old new : ReadStop) → LineStops F script seen old → StopsAt seen old new → FirstStops F script new
+no_line_stops F script seen stops.NoMemory new h s = subst (λ (stop : ReadStop). FirstStops F script stop) (sym s) tt
+no_line_stops F None seen stops.Damaged new h s = subst (λ (stop : ReadStop). FirstStops F None stop) (sym s) tt
+no_line_stops F (Some rest) seen stops.Damaged new h s = subst (λ (stop : ReadStop). FirstStops F (Some rest) stop) (sym s) (long_damaged rest h)
 no_line_stops F None seen stops.Cut new h s = not_known F seen new s
 no_line_stops F (Some rest) seen stops.Cut new h s = unfinished F rest seen new h s
-no_line_stops F script seen stops.Read new h s = subst (λ (stop : ReadStop). ReadStops F script stop) (sym s) h
+no_line_stops F script seen stops.Read new h s = subst (λ (stop : ReadStop). FirstStops F script stop) (sym s) h
+
+-- nor an event then
+pub no_first_line : (F : Type 0) (script : Option (List ℕ)) (stop : ReadStop) → FirstStops F script stop → ReadStops F script stop
+no_first_line F script stops.NoMemory h = tt
+no_first_line F script stops.Damaged h = h
+no_first_line F None stops.Cut h = tt
+no_first_line F (Some rest) stops.Cut h = cut_line rest h
+no_first_line F script stops.Read h = h
 
 pub other_stop : (line : List ℕ) (stop : ReadStop) → (stop ≡ stops.Cut → ⊥) → StopsAt line stop stop
 other_stop line stops.NoMemory other = refl
 other_stop line stops.Damaged other = refl
 other_stop line stops.Cut other = absurd (other refl)
 other_stop line stops.Read other = refl
-
-pub script_stops : (F : Type 0) (script : Option (List ℕ)) (stop : ReadStop) → ReadStops F script stop → EventStops F script (stop_of stop)
-script_stops F script stops.NoMemory h = tt
-script_stops F None stops.Damaged h = tt
-script_stops F (Some rest) stops.Damaged h = h.none
-script_stops F None stops.Cut h = tt
-script_stops F (Some rest) stops.Cut h = cut_event h.event rest h.more h.says h.begun h.cut
-script_stops F script stops.Read h = h
 
 -- ---- an end of a sample, place by place
 

@@ -13,7 +13,7 @@ use Rattle.sip_event.specs.declared.event.Event.{Event}
 use Rattle.sip_replay_script.specs.declared.script.DatagramHead.{DatagramHead}
 use Rattle.sip_replay_script.specs.declared.script.Line.{Line}
 use Rattle.sip_replay_script.specs.declared.script.Line.TheVariants.{Head, Whole}
-use Rattle.sip_replay_script.specs.Script.{line_of, datagram_at, event_of, unstuffed, SaysAtOnce}
+use Rattle.sip_replay_script.specs.Script.{line_of, datagram_at, unstuffed, SaysAtOnce}
 use Rattle.sip_replay_script.specs.Lines.{Reading, BeginsWith, PassesLine, IsLine, IsLong, IsUnfinished, is_end, pending, left, GivesLine, IsOver, LineStops}
 use Rattle.sip_replay_script.specs.declared.read_stop.ReadStop.{ReadStop}
 use Rattle.sip_replay_script.specs.declared.read_stop.ReadStop.TheVariants as stops
@@ -200,7 +200,7 @@ given_passed old new rest line passes =
       fewer = omega (arith, ap length cut, both, size, asks);
     }
 
-dot_is : (line : List ℕ) → is_dot line ≡ true → line ≡ 46 ∷ []
+pub dot_is : (line : List ℕ) → is_dot line ≡ true → line ≡ 46 ∷ []
 dot_is line is = (bytes_eq-Decides line (46 ∷ [])).0 is
 
 -- the dot behind them
@@ -217,7 +217,7 @@ pub gathers_dot : (old mid new : Reading) (before middle : Option (List ℕ)) (b
 gathers_dot old mid new before middle bytes kept g all =
     gathers_all old all.mid new before middle middle kept (46 ∷ []) (gathers_lines old mid all.mid before middle bytes kept g all.lines) (given_passed all.mid new middle (46 ∷ []) all.dot) refl
 
-head_lines : (old mid new : Reading) (before middle : Option (List ℕ)) (line text : List ℕ) → GivesLine old mid before middle line → new.number ≡ mid.number + count_by is_end text → new.number ≡ old.number + count_by is_end (ended line ++ text)
+pub head_lines : (old mid new : Reading) (before middle : Option (List ℕ)) (line text : List ℕ) → GivesLine old mid before middle line → new.number ≡ mid.number + count_by is_end text → new.number ≡ old.number + count_by is_end (ended line ++ text)
 head_lines old mid new before middle line text given number =
     let one : count_by is_end (ended line) ≡ 1 = one_end line given.is_line in
     let sum : count_by is_end (ended line ++ text) ≡ count_by is_end (ended line) + count_by is_end text = ends_add (ended line) text in
@@ -225,7 +225,7 @@ head_lines old mid new before middle line text given number =
     omega (arith, number, first, one, sum)
 
 -- a line that begins a datagram, and its lines
-pub gives_head : (old mid new : Reading) (before middle after : Option (List ℕ)) (line bytes : List ℕ) (head : DatagramHead) (event : Event) → GivesLine old mid before middle line → line_of line ≡ Some (Head head)
+unfoldable pub gives_head : (old mid new : Reading) (before middle after : Option (List ℕ)) (line bytes : List ℕ) (head : DatagramHead) (event : Event) → GivesLine old mid before middle line → line_of line ≡ Some (Head head)
     → GivesDatagram mid new middle after bytes → left new ≤ left mid → event ≡ datagram_at head bytes → GivesEvent old new before after event
 gives_head old mid new before middle after line bytes head event given says d le is = record {
   text = ended line ++ d.text;
@@ -236,7 +236,7 @@ gives_head old mid new before middle after line bytes head event given says d le
 }
 
 -- a line that says an event by itself
-pub gives_whole : (old new : Reading) (before after : Option (List ℕ)) (line : List ℕ) (event : Event) → GivesLine old new before after line → line_of line ≡ Some (Whole event) → GivesEvent old new before after event
+unfoldable pub gives_whole : (old new : Reading) (before after : Option (List ℕ)) (line : List ℕ) (event : Event) → GivesLine old new before after line → line_of line ≡ Some (Whole event) → GivesEvent old new before after event
 gives_whole old new before after line event given says = record {
   text = ended line;
   says = inl (record { line = line; is_line = given.is_line; text_is = refl; says = says });
@@ -258,7 +258,7 @@ behind_any None b text h f = tt
 behind_any (Some xs) None text h f = absurd h
 behind_any (Some xs) (Some ys) text h f = f xs ys h
 
-nothing_left : (b c : Option (List ℕ)) → Keeps b c → IsAtEnd c → IfSome b (λ ys. ys ≡ [])
+pub nothing_left : (b c : Option (List ℕ)) → Keeps b c → IsAtEnd c → IfSome b (λ ys. ys ≡ [])
 nothing_left None c k e = tt
 nothing_left (Some ys) None k e = absurd k
 nothing_left (Some ys) (Some zs) k e = sym k ∙ e
@@ -359,9 +359,3 @@ keeps_added old new before after count lines adds unread number =
       number = number ∙ ap (λ n. old.number + n) (sym adds.counted);
       kept = adds.added ∙ sym (take_all 65508 (before ++ adds.whole) short);
     }
-
--- ---- an event, whose bytes were gathered or copied
-
-pub event_gathered : (old new : Reading) (before after : Option (List ℕ)) (line : Line) (bytes seen : List ℕ) (event : Event) → GivesEvent old new before after (event_of line bytes) → seen ≡ bytes → event ≡ event_of line seen
-    → GivesEvent old new before after event
-event_gathered old new before after line bytes seen event h same is = subst (λ e. GivesEvent old new before after e) (sym (is ∙ ap (event_of line) same)) h

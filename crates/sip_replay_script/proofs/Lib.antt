@@ -11,6 +11,7 @@ pub mod HeadLines
 pub mod Keeping
 pub mod LineEnds
 pub mod OneReading
+pub mod RecordTexts
 pub mod Samples
 pub mod Saying
 pub mod Written

@@ -38,7 +38,7 @@ pair_same a x b y e =
     (ap (λ (q : List ℕ × List ℕ). q.0) p, ap (λ (q : List ℕ × List ℕ). q.1) p)
 
 -- two texts that are the same begin with the same line
-same_line : (a b x y : List ℕ) → count_by is_end a ≡ 0 → count_by is_end b ≡ 0 → ended a ++ x ≡ ended b ++ y → (a ≡ b) × (x ≡ y)
+pub same_line : (a b x y : List ℕ) → count_by is_end a ≡ 0 → count_by is_end b ≡ 0 → ended a ++ x ≡ ended b ++ y → (a ≡ b) × (x ≡ y)
 same_line a b x y none_a none_b h =
     pair_same a x b y (sym (cut_again a x none_a) ∙ ap (split_at_byte 10) (sym (append_assoc a (10 ∷ []) x) ∙ h ∙ append_assoc b (10 ∷ []) y) ∙ cut_again b y none_b)
 
@@ -55,12 +55,12 @@ line_in_front n line rest is lt none =
     let one : count_by is_end (ended line) ≡ 1 = one_end line is in
     absurd (omega (arith, all, count, one))
 
-line_stands : (line rest : List ℕ) → IsLine line → HasNoLine (ended line ++ rest) → ⊥
+pub line_stands : (line rest : List ℕ) → IsLine line → HasNoLine (ended line ++ rest) → ⊥
 line_stands line rest is none = line_in_front 200001 line rest is (omega (arith, is.short)) none
 
 -- ---- the lines of a datagram
 
-dot_line : IsLine (46 ∷ [])
+pub dot_line : IsLine (46 ∷ [])
 dot_line = record { short = omega arith; single = refl }
 
 true_or_false : (b : Bool) → b ≡ true → b ≡ false → ⊥
@@ -140,7 +140,7 @@ whole_is a b e = cc
 head_is : (a b : DatagramHead) → Some (Head a) ≡ Some (Head b) → a ≡ b
 head_is a b e = cc
 
-not_both : (a : Event) (b : DatagramHead) → Some (Whole a) ≡ Some (Head b) → ⊥
+pub not_both : (a : Event) (b : DatagramHead) → Some (Whole a) ≡ Some (Head b) → ⊥
 not_both a b e = cc
 
 pub same_event : (text other more further : List ℕ) (event second : Event) → SaysEvent text event → SaysEvent other second → text ++ more ≡ other ++ further → (text ≡ other) × (event ≡ second)

@@ -24,6 +24,7 @@ use Rattle.sip_replay_script.specs.declared.script.Line.TheVariants.{Head, Whole
 use Rattle.sip_replay_script.specs.Lines.{is_end}
 use Rattle.sip_replay_script.specs.Script.{line_of}
 use Rattle.sip_replay_script.specs.Events.{SaysEvent, SaysDatagram, ended}
+use Rattle.sip_replay_script.specs.Recorded.{SaysRecorded}
 use Rattle.sip_replay_script.specs.EventText.{event_text, head_before, is_sayable, is_moment, HasTypes, IsAddr}
 
 -- ---- bytes that don't stand in a text
@@ -148,7 +149,7 @@ number_short n lt = length-decimal-le 20 n (omega arith) (omega (arith, lt)) lt
 pub time_says : (moment : ℕ) → moment < 2 ^ 62 → line_of (codes "time " ++ decimal moment) ≡ Some (Whole (Time moment))
 time_says moment lt = rw (below_again (2 ^ 62) moment lt (omega (arith, lt))) refl
 
-written_time : (moment : ℕ) → moment < 2 ^ 62 → SaysEvent (event_text (Time moment)) (Time moment)
+written_time : (moment : ℕ) → moment < 2 ^ 62 → SaysRecorded (event_text (Time moment)) (Time moment)
 written_time moment lt = inl (record {
   line = codes "time " ++ decimal moment;
   is_line = record {
@@ -190,7 +191,7 @@ module _ (moment : ℕ) (t : Ticket) (lt : moment < 2 ^ 62) (datagram : t.datagr
       ap (λ (l : List ℕ). codes "fault " ++ (decimal moment ++ 32 ∷ l)) (sym (append_assoc (decimal t.datagram) (47 ∷ decimal t.branch) (10 ∷ [])))
       ∙ ap (λ (l : List ℕ). codes "fault " ++ l) (sym (append_assoc (decimal moment) (32 ∷ (decimal t.datagram ++ 47 ∷ decimal t.branch)) (10 ∷ [])))
 
-  written_fault : SaysEvent (event_text (Fault moment t)) (Fault moment t)
+  written_fault : SaysRecorded (event_text (Fault moment t)) (Fault moment t)
   written_fault = inl (record {
     line = codes "fault " ++ (decimal moment ++ 32 ∷ (decimal t.datagram ++ 47 ∷ decimal t.branch));
     is_line = record { short = let few = fault_short in omega (arith, few); single = no_end (codes "fault " ++ (decimal moment ++ 32 ∷ (decimal t.datagram ++ 47 ∷ decimal t.branch))) fault_single };
@@ -209,6 +210,21 @@ no_bytes = record {
   text_is = refl;
   kept = refl;
 }
+
+-- what says an event as a record does says it
+pub recorded_says : (text : List ℕ) (event : Event) → SaysRecorded text event → SaysEvent text event
+recorded_says text event (inl w) = inl w
+recorded_says text event (inr e) = inr (record {
+  line = e.line;
+  head = e.head;
+  rest = 46 ∷ 10 ∷ [];
+  bytes = [];
+  is_line = e.is_line;
+  text_is = e.text_is;
+  says = e.says;
+  lines = no_bytes;
+  event_is = e.event_is;
+})
 
 pub head_more : (moment word : ℕ) (source : Addr) (rest more : List ℕ) → head_before moment word source rest ++ more ≡ head_before moment word source (rest ++ more)
 head_more moment word source rest more =
@@ -284,7 +300,7 @@ module _ (moment word : ℕ) (source : Addr) (lt : moment < 2 ^ 62) (fits : word
       let third : length (nonce_text word ++ rest) ≡ length (nonce_text word) + length rest = length-append (nonce_text word) rest in
       omega (arith, at, address, digits, first, second, third)
 
-  written_hex : (b : ℕ) (bytes : List ℕ) → IsBytes (b ∷ bytes) → length (b ∷ bytes) ≤ 65508 → SaysEvent (event_text (Datagram moment word source (b ∷ bytes))) (Datagram moment word source (b ∷ bytes))
+  written_hex : (b : ℕ) (bytes : List ℕ) → IsBytes (b ∷ bytes) → length (b ∷ bytes) ≤ 65508 → SaysRecorded (event_text (Datagram moment word source (b ∷ bytes))) (Datagram moment word source (b ∷ bytes))
   written_hex b bytes are few = inl (record {
     line = codes "hex " ++ head_before moment word source (32 ∷ encode_lower (b ∷ bytes));
     is_line = record {
@@ -298,12 +314,10 @@ module _ (moment word : ℕ) (source : Addr) (lt : moment < 2 ^ 62) (fits : word
     says = hex_says b bytes are;
   })
 
-  written_empty : SaysEvent (event_text (Datagram moment word source [])) (Datagram moment word source [])
+  written_empty : SaysRecorded (event_text (Datagram moment word source [])) (Datagram moment word source [])
   written_empty = inr (record {
     line = codes "datagram " ++ head_before moment word source [];
     head = record { at = moment; word = word; from = source };
-    rest = 46 ∷ 10 ∷ [];
-    bytes = [];
     is_line = record {
       short = let head : length (head_before moment word source []) ≤ 158 + 0 = head_short [] in omega (arith, head);
       single = no_end (codes "datagram " ++ head_before moment word source []) (head_single [] refl);
@@ -311,22 +325,24 @@ module _ (moment word : ℕ) (source : Addr) (lt : moment < 2 ^ 62) (fits : word
     text_is = ap (λ (l : List ℕ). codes "datagram " ++ l)
         (sym (append_assoc (head_before moment word source []) (10 ∷ []) (46 ∷ 10 ∷ []) ∙ head_more moment word source [] (10 ∷ 46 ∷ 10 ∷ [])));
     says = head_says;
-    lines = no_bytes;
     event_is = refl;
   })
 
 written_datagram : (moment word : ℕ) (source : Addr) (bytes : List ℕ) → moment < 2 ^ 62 → word < 2 ^ 128 → IsSource source → IsBytes bytes → length bytes ≤ 65508
-    → SaysEvent (event_text (Datagram moment word source bytes)) (Datagram moment word source bytes)
+    → SaysRecorded (event_text (Datagram moment word source bytes)) (Datagram moment word source bytes)
 written_datagram moment word source [] lt fits from are few = written_empty moment word source lt fits from
 written_datagram moment word source (b ∷ bytes) lt fits from are few = written_hex moment word source lt fits from b bytes are few
 
 moment_is : (moment : ℕ) → is_moment moment ≡ true → moment < 2 ^ 62
 moment_is moment e = ltb-true moment (2 ^ 62) e
 
-pub written_says : (event : Event) → HasTypes event → is_sayable event ≡ true → SaysEvent (event_text event) event
-written_says (Datagram moment word source bytes) is e =
+pub written_recorded : (event : Event) → HasTypes event → is_sayable event ≡ true → SaysRecorded (event_text event) event
+written_recorded (Datagram moment word source bytes) is e =
     let whole = and_both (is_moment moment) (not (source.port == 0) && nat_le (length bytes) 65508) e in
     let rest = and_both (not (source.port == 0)) (nat_le (length bytes) 65508) whole.1 in
     written_datagram moment word source bytes (moment_is moment whole.0) is.0 (is_source source is.1 rest.0) is.2 (leb-true (length bytes) 65508 rest.1)
-written_says (Time moment) is e = written_time moment (moment_is moment e)
-written_says (Fault moment t) is e = written_fault moment t (moment_is moment e) is.0 is.1
+written_recorded (Time moment) is e = written_time moment (moment_is moment e)
+written_recorded (Fault moment t) is e = written_fault moment t (moment_is moment e) is.0 is.1
+
+pub written_says : (event : Event) → HasTypes event → is_sayable event ≡ true → SaysEvent (event_text event) event
+written_says event is e = recorded_says (event_text event) event (written_recorded event is e)

@@ -1,10 +1,8 @@
 -- What a reader and a writer may tell of their calls.
-use Rattle.std.specs.Prelude.{◌≡◌, ◌≢◌, ◌+◌, ◌<◌, ◌≤◌, ◌^◌, ◌-◌, ◌⊎◌, ⊤, ℕ, List, ◌++◌, length, Option, option_map, IfSome, IfOk, Result}
+use Rattle.std.specs.Prelude.{◌≡◌, ◌≢◌, ◌+◌, ◌<◌, ◌≤◌, ◌^◌, ◌-◌, ◌⊎◌, ℕ, List, ◌++◌, length, Option, option_map, IfSome, IfOk, Result}
 use Rattle.std.specs.declared.io.ErrorKind.{ErrorKind}
 use Rattle.std.specs.declared.io.ErrorKind.TheVariants.{Interrupted}
 use Rattle.std.specs.Io.KnownBytes.{Appends}
-use Rattle.sip_replay_script.specs.declared.stop.Stop.{Stop}
-use Rattle.sip_replay_script.specs.declared.stop.Stop.TheVariants as stops
 
 -- so many calls later, where they are counted
 abbrev pub later : ℕ → Option ℕ → Option ℕ
@@ -28,12 +26,3 @@ pub record WritesFront (old new : Option (List ℕ)) (text : List ℕ) : Type 0 
   pub rest : List ℕ
   pub cut : text ≡ done ++ rest
   pub written : Appends old new done
-
--- ---- inside
-
--- printing stops for want of memory, or because the writer gave up
-abbrev pub PrintStops : Type 0 → Stop → Type 0
-PrintStops gave_up stops.NoMemory = ⊤
-PrintStops gave_up stops.Script = ⊥
-PrintStops gave_up stops.Read = ⊥
-PrintStops gave_up stops.Write = gave_up

@@ -14,8 +14,6 @@ use Rattle.sip_replay_script.specs.declared.event.Next.TheVariants.{Kept, Dot, U
 use Rattle.sip_replay_script.specs.declared.read_stop.ReadStop.{ReadStop}
 use Rattle.sip_replay_script.specs.declared.read_stop.ReadStop.TheVariants.{NoMemory, Damaged, Cut, Read}
 use Rattle.sip_replay_script.specs.Lines.{Reading, BeginsWith, IsLine, IsLong, IsUnended, HasNoLine, GivesLine, IsOver, PassesLine, is_end, pending, left}
-use Rattle.sip_replay_script.specs.declared.stop.Stop.{Stop}
-use Rattle.sip_replay_script.specs.declared.stop.Stop.TheVariants as stops
 use Rattle.sip_replay_script.specs.Script.{line_of, unstuffed, datagram_at}
 
 -- a line with its LF
@@ -248,22 +246,22 @@ DatagramStops spent script Damaged = IfSome script IsLongDatagram
 DatagramStops spent script Cut = IfSome script IsCutDatagram
 DatagramStops spent script Read = spent
 
+-- what is left is the front of a line that begins an event, without its LF
+pub record IsCutLine (rest : List ℕ) : Type 0 where
+  pub begun : rest ≢ []
+  pub is_line : IsLine rest
+  pub begins : BeginsLine rest
+
+-- why no first line of an event
+abbrev pub FirstStops : Type 0 → Option (List ℕ) → ReadStop → Type 0
+FirstStops spent script NoMemory = ⊤
+FirstStops spent script Damaged = IfSome script IsDamaged
+FirstStops spent script Cut = IfSome script IsCutLine
+FirstStops spent script Read = spent
+
 -- why no event: what is left is damaged, or is an event's text that was cut; or memory ran out, or the reader stopped
 abbrev pub ReadStops : Type 0 → Option (List ℕ) → ReadStop → Type 0
 ReadStops spent script NoMemory = ⊤
 ReadStops spent script Damaged = IfSome script IsDamaged
 ReadStops spent script Cut = IfSome script IsCutEvent
 ReadStops spent script Read = spent
-
--- the same where both of these are the script's fault
-abbrev pub EventStops : Type 0 → Option (List ℕ) → Stop → Type 0
-EventStops spent script stops.NoMemory = ⊤
-EventStops spent script stops.Script = IfSome script IsNoEvent
-EventStops spent script stops.Read = spent
-EventStops spent script stops.Write = ⊥
-
-abbrev pub stop_of : ReadStop → Stop
-stop_of NoMemory = stops.NoMemory
-stop_of Damaged = stops.Script
-stop_of Cut = stops.Script
-stop_of Read = stops.Read

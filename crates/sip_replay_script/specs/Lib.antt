@@ -3,5 +3,5 @@ pub mod EventText
 pub mod Events
 pub mod Gathered
 pub mod Lines
-pub mod Print
+pub mod Recorded
 pub mod Script

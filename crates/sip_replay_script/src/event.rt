@@ -1,8 +1,8 @@
 ghost use Rattle.std.specs.Prelude.{◌≡◌, ◌≤◌, ◌++◌, ◌∷◌, [], ℕ, List, Option, Some, true, false, length, take, OnOk, IfOk, IfErr, IfSome, IfNone, MatchOption};
 ghost use Rattle.sip_replay_script.specs.Devices.{later};
 ghost use Rattle.sip_replay_script.specs.Events;
-ghost use Rattle.sip_replay_script.specs.Events.{BeginsOther, GivesEvent, GivesDatagram, GivesFirst, GivesSaid, GoesOnBy, KeepsAll, KeepsLines, EventStops};
-ghost use Rattle.sip_replay_script.specs.Events.{DatagramStops, ReadStops};
+ghost use Rattle.sip_replay_script.specs.Events.{BeginsOther, GivesEvent, GivesDatagram, GivesFirst, GivesSaid, GoesOnBy, KeepsAll, KeepsLines};
+ghost use Rattle.sip_replay_script.specs.Events.{DatagramStops, FirstStops, ReadStops};
 ghost use Rattle.sip_replay_script.specs.Lines.{left, pending, IsOver, IsSpent, PassesLine};
 ghost use Rattle.sip_replay_script.specs.Script;
 ghost use Rattle.sip_replay_script.specs.declared.script.Line.TheVariants.{Head};
@@ -14,75 +14,16 @@ use crate::gathered::{Gathered, KEPT};
 use crate::lines::Lines;
 use crate::read_stop::ReadStop;
 use crate::script::{DatagramHead, Line, head_at_once, line_of, time_at_once, unstuffed};
-use crate::stop::Stop;
 use sip_event::Event;
-use sip_text::{Bytes, same_bytes};
-use std::alloc::{AllocError, Global};
-use std::mem;
-
-/// The next event of a script; `None` at its end. What it is gathered in may be kept for the next. Refusals: `NoMemory`; `Cut`, where
-/// what is left is the front of a text that says an event, and not the whole of it; `Damaged`, where it begins with no event and is no
-/// such front; `Read`, where the reader failed or was asked 4,294,967,295 times.
-#[tactic(auto, using(crate::proofs::Datagrams::event_gathered))]
-pub fn next_event<R: TellingReader>(
-    alloc: Global,
-    lines: &mut Lines,
-    reader: &mut R,
-    room: &mut Vec<u8>,
-) -> Result<Option<Event>, ReadStop>
-    ensures given { IfOk result
-        (λ found. IfSome found (λ event. GivesEvent lines.old lines.new (R.remaining reader.old) (R.remaining reader.new) event)) }
-    ensures over { IfOk result (λ found. IfNone found (IsOver lines.old lines.new (R.remaining reader.old) (R.remaining reader.new))) }
-    ensures stopped { IfErr result (ReadStops (IsSpent (R.has_failed reader.new) lines.new.asks) (pending lines.old (R.remaining reader.old))) }
-    ensures asked { later lines.new.asks (R.asked reader.new) ≡ later lines.old.asks (R.asked reader.old) }
-    ensures less { lines.new.asks ≤ lines.old.asks }
-{
-    let mut bytes = Gathered::in_room(mem::replace(room, Vec::new(alloc)));
-    let Some(line) = read_line(alloc, lines, reader, &mut bytes)? else {
-        return Ok(None);
-    };
-    let event = event_at(alloc, line, bytes.as_slice())?;
-    *room = bytes.into_room();
-    Ok(Some(event))
-}
-
-/// The event that a line begins, a datagram with a copy of these bytes.
-fn event_at(alloc: Global, line: Line, bytes: &[u8]) -> Result<Event, AllocError>
-    ensures { IfOk result (λ event. event ≡ Script.event_of line bytes.now) }
-{
-    match line {
-        Line::Whole(event) => Ok(event),
-        Line::Head(head) => Ok(Event::Datagram {
-            at: head.at,
-            word: head.word,
-            from: head.from,
-            bytes: Bytes::copy(alloc, bytes)?,
-        }),
-    }
-}
+use sip_text::same_bytes;
+use std::alloc::Global;
 
 /// The line that begins the next event of a script; `None` at its end. Behind the head of a datagram its bytes are gathered, so
-/// that they are used from there. Refusals are those of `next_event`, of which `Cut` and `Damaged` are the script's fault here.
-pub fn next_line<R: TellingReader>(
-    alloc: Global,
-    lines: &mut Lines,
-    reader: &mut R,
-    bytes: &mut Gathered,
-) -> Result<Option<Line>, Stop>
-    ensures given { IfOk result (λ found. IfSome found
-        (λ line. GivesEvent lines.old lines.new (R.remaining reader.old) (R.remaining reader.new) (Script.event_of line bytes.new))) }
-    ensures over { IfOk result (λ found. IfNone found (IsOver lines.old lines.new (R.remaining reader.old) (R.remaining reader.new))) }
-    ensures stopped { IfErr result (EventStops (IsSpent (R.has_failed reader.new) lines.new.asks) (pending lines.old (R.remaining reader.old))) }
-    ensures asked { later lines.new.asks (R.asked reader.new) ≡ later lines.old.asks (R.asked reader.old) }
-    ensures less { lines.new.asks ≤ lines.old.asks }
-{
-    Ok(read_line(alloc, lines, reader, bytes)?)
-}
-
-/// The same, and whether it was cut. Most lines are such a head or a moment, and are read at once.
-#[inline(always)]
+/// that they are used from there. Most lines are such a head or a moment, and are read at once. Refusals: `NoMemory`; `Cut`, where
+/// what is left is the front of a text that says an event, and not the whole of it; `Damaged`, where it begins with no event and is no
+/// such front; `Read`, where the reader failed or was asked 4,294,967,295 times.
 #[tactic(auto, using(crate::proofs::Datagrams::at_once_fits))]
-fn read_line<R: TellingReader>(
+pub fn next_line<R: TellingReader>(
     alloc: Global,
     lines: &mut Lines,
     reader: &mut R,
@@ -150,7 +91,7 @@ fn any_line<R: TellingReader>(
 
 /// What the next line is to an event.
 #[derive(Drop)]
-enum First {
+pub(crate) enum First {
     /// There is none.
     Over,
     /// What it says as the first of an event.
@@ -158,13 +99,13 @@ enum First {
 }
 
 /// What the next line says as the first of an event.
-fn first_line<R: TellingReader>(
+pub(crate) fn first_line<R: TellingReader>(
     alloc: Global,
     lines: &mut Lines,
     reader: &mut R,
 ) -> Result<First, ReadStop>
     ensures given { IfOk result (λ first. GivesFirst first lines.old lines.new (R.remaining reader.old) (R.remaining reader.new)) }
-    ensures stopped { IfErr result (ReadStops (IsSpent (R.has_failed reader.new) lines.new.asks) (pending lines.old (R.remaining reader.old))) }
+    ensures stopped { IfErr result (FirstStops (IsSpent (R.has_failed reader.new) lines.new.asks) (pending lines.old (R.remaining reader.old))) }
     ensures asked { later lines.new.asks (R.asked reader.new) ≡ later lines.old.asks (R.asked reader.old) }
     ensures less { lines.new.asks ≤ lines.old.asks }
 {
@@ -185,7 +126,7 @@ fn parted_line<R: TellingReader>(
     reader: &mut R,
 ) -> Result<First, ReadStop>
     ensures given { IfOk result (λ first. GivesFirst first lines.old lines.new (R.remaining reader.old) (R.remaining reader.new)) }
-    ensures stopped { IfErr result (ReadStops (IsSpent (R.has_failed reader.new) lines.new.asks) (pending lines.old (R.remaining reader.old))) }
+    ensures stopped { IfErr result (FirstStops (IsSpent (R.has_failed reader.new) lines.new.asks) (pending lines.old (R.remaining reader.old))) }
     ensures asked { later lines.new.asks (R.asked reader.new) ≡ later lines.old.asks (R.asked reader.old) }
     ensures less { lines.new.asks ≤ lines.old.asks }
 {
@@ -328,7 +269,7 @@ fn keep_other(lines: &mut Lines, bytes: &mut Gathered) -> Result<Next, ReadStop>
 }
 
 /// Whether a line ends a datagram.
-fn is_dot(line: &[u8]) -> bool
+pub(crate) fn is_dot(line: &[u8]) -> bool
     ensures { result ≡ Events.is_dot line.now }
 {
     line == b".".as_slice()

@@ -1,7 +1,6 @@
 ghost use Rattle.std.specs.Prelude.{◌≡◌, [], ◌∷◌, codes, true, Some, None};
 ghost use Rattle.sip_event.specs.declared.event.Event.TheVariants.{Datagram, Time, Fault};
 ghost use Rattle.sip_replay_script.specs.EventText.{event_text};
-ghost use Rattle.sip_replay_script.specs.Print.{head_text};
 ghost use Rattle.sip_replay_script.specs.Script.{line_of};
 ghost use Rattle.sip_replay_script.specs.declared.script.Line.TheVariants.{Whole};
 
@@ -10,17 +9,6 @@ pub fn line_of_example()
     ensures time { line_of (codes "time 5") ≡ Some (Whole (Time 5)) }
     ensures failed { line_of (codes "fault 70 3/1") ≡ Some (Whole (Fault 70 (record { datagram = 3; branch = 1 }))) }
     ensures zero { line_of (codes "time 05") ≡ None }
-{}
-
-/// The line before the two bytes of a packet.
-pub fn head_text_example()
-    ensures { head_text 1000
-        (record {
-          to = record { ip = 127 ∷ 0 ∷ 0 ∷ 1 ∷ []; port = 5062 };
-          bytes = codes "OK";
-          ticket = record { datagram = 1; branch = 0 };
-          again = true;
-        }) ≡ codes "packet 1000 127.0.0.1:5062 1/0 again 2\n" }
 {}
 
 /// What is written of a datagram, of one without bytes, of a moment and of a fault.

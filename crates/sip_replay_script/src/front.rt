@@ -7,7 +7,7 @@ use sip_uri::Addr;
 
 /// Puts a byte in front of a place; where it stands.
 #[inline(always)]
-pub(crate) fn put_byte(room: &mut [u8], end: usize, byte: u8) -> usize
+pub fn put_byte(room: &mut [u8], end: usize, byte: u8) -> usize
     requires { (1 ≤ end) × (end ≤ length room.old) }
     ensures text { drop result room.new ≡ byte ∷ drop end room.old }
     ensures place { result + 1 ≡ end }
@@ -19,7 +19,7 @@ pub(crate) fn put_byte(room: &mut [u8], end: usize, byte: u8) -> usize
 
 /// Puts a word in front of a place; where it begins.
 #[inline(always)]
-pub(crate) fn put_word(room: &mut [u8], end: usize, word: &[u8]) -> usize
+pub fn put_word(room: &mut [u8], end: usize, word: &[u8]) -> usize
     requires { (length word.now ≤ end) × (end ≤ length room.old) }
     ensures text { drop result room.new ≡ word.now ++ drop end room.old }
     ensures place { result + length word.now ≡ end }
@@ -54,7 +54,7 @@ fn put_pair(room: &mut [u8], end: usize, number: u8) -> usize
 
 /// Puts a number in decimal in front of a place; where it begins.
 #[inline(always)]
-pub(crate) fn put_number(room: &mut [u8], end: usize, number: u64) -> usize
+pub fn put_number(room: &mut [u8], end: usize, number: u64) -> usize
     requires { (20 ≤ end) × (end ≤ length room.old) }
     ensures text { drop result room.new ≡ decimal number ++ drop end room.old }
     ensures within { (result ≤ end) × (end ≤ result + 20) }
@@ -74,7 +74,7 @@ pub(crate) fn put_number(room: &mut [u8], end: usize, number: u64) -> usize
 
 /// Puts an address as `IP:PORT` in front of a place; where it begins.
 #[inline(always)]
-pub(crate) fn put_addr(room: &mut [u8], end: usize, addr: Addr) -> usize
+pub fn put_addr(room: &mut [u8], end: usize, addr: Addr) -> usize
     requires { (104 ≤ end) × (end ≤ length room.old) }
     ensures text { drop result room.new ≡ addr_text addr ++ drop end room.old }
     ensures within { (result ≤ end) × (end ≤ result + 104) }

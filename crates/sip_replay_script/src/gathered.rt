@@ -158,15 +158,6 @@ fn grow(room: &mut Vec<u8>, wanted: usize) -> Result<(), AllocError>
 }
 
 impl Gathered {
-    /// No bytes, in room that was used before.
-    pub(crate) fn in_room(room: Vec<u8>) -> Self
-        ensures { result ≡ [] }
-    {
-        let mut room = room;
-        room.truncate(KEPT);
-        Gathered { room, count: 0 }
-    }
-
     /// No bytes, and no room.
     pub fn new(alloc: Global) -> Self
         ensures { result ≡ [] }
@@ -182,12 +173,6 @@ impl Gathered {
         ensures { self.new ≡ [] }
     {
         self.count = 0;
-    }
-
-    /// The room, whatever stands in it.
-    pub(crate) fn into_room(self) -> Vec<u8> {
-        let Gathered { room, count: _ } = self;
-        room
     }
 
     /// The bytes.

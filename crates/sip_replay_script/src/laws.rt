@@ -2,6 +2,7 @@ ghost use Rattle.std.specs.Prelude.{◌≡◌, ◌≢◌, ◌∷◌, ◌++◌, �
 ghost use Rattle.sip_event.specs.declared.event.Event.{Event};
 ghost use Rattle.sip_replay_script.specs.EventText.{event_text, is_sayable, HasTypes};
 ghost use Rattle.sip_replay_script.specs.Events.{SaysEvent, SaysEvents, IsNoEvent};
+ghost use Rattle.sip_replay_script.specs.Recorded.{SaysRecord, SaysRecorded};
 
 /// A script says its next event in one way: where it begins with a text that says one, no other text that it
 /// begins with says an event, and this text no other event.
@@ -32,4 +33,11 @@ pub fn texts_join()
 /// What is written of an event says that event, and so no other.
 pub fn written_event_is_read()
     ensures { (event : Event) → HasTypes event → is_sayable event ≡ true → SaysEvent (event_text event) event }
+{}
+
+/// It says it as a record does, and what says events so says them.
+pub fn written_event_is_recorded()
+    ensures written { (event : Event) → HasTypes event → is_sayable event ≡ true → SaysRecorded (event_text event) event }
+    ensures one { (text : List ℕ) (event : Event) → SaysRecorded text event → SaysEvent text event }
+    ensures all { (events : List Event) (text : List ℕ) → SaysRecord events text → SaysEvents events text }
 {}

@@ -1,8 +1,8 @@
-//! The text of a script and of what a replay prints: lines are read as events, and steps are printed, through readers and writers
-//! that may fail at any call.
+//! The text of a script: lines are read as events, and events are written as lines, through readers and writers that may fail at any
+//! call.
 //!
-//! - Used: `sip_replay`, for each line of its script and each step that it prints.
-//! - Not here: the server.
+//! - Used: `sip_replay`, for each line of its script; `sip_record` and `sip_resume`, for each event that is recorded and taken again.
+//! - Not here: the server; how its steps are printed (`sip_replay_print`).
 //! - Tried: worked examples in `src/examples.rt`, as contracts that compute; `test_engine`.
 #![tactic(auto)]
 
@@ -16,21 +16,21 @@ mod gathered;
 mod head_line;
 pub mod laws;
 mod lines;
-mod packet_head;
-mod print;
+mod print_stop;
 mod read_stop;
+mod recorded;
 mod script;
-mod stop;
 mod writing;
 
 pub use device::{TellingReader, TellingWriter};
-pub use event::{next_event, next_line};
+pub use event::next_line;
 pub use event_text::{empty_text, fault_text, hex_front, time_text};
+pub use front::{put_addr, put_byte, put_number, put_word};
 pub use gathered::Gathered;
 pub use head_line::HeadLine;
 pub use lines::Lines;
-pub use print::{PrintRoom, print_step};
+pub use print_stop::PrintStop;
 pub use read_stop::ReadStop;
+pub use recorded::next_recorded;
 pub use script::{DatagramHead, Line, line_of};
-pub use stop::Stop;
 pub use writing::{hand_on, put};

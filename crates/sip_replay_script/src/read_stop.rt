@@ -1,8 +1,6 @@
 ghost use Rattle.std.specs.Prelude.{◌≡◌};
-ghost use Rattle.sip_replay_script.specs.Events.{stop_of};
 ghost use Rattle.sip_replay_script.specs.declared.read_stop.ReadStop.TheVariants.{NoMemory};
 
-use crate::stop::Stop;
 use std::alloc::{AllocError, AllocFailed};
 
 /// Why no line and no event is read.
@@ -31,17 +29,5 @@ impl<T: Drop> From<AllocFailed<T>> for ReadStop {
 
     fn from(_e: AllocFailed<T>) -> ReadStop {
         ReadStop::NoMemory
-    }
-}
-
-impl From<ReadStop> for Stop {
-    ghost from_gives = { λ stop e. e ≡ stop_of stop };
-
-    fn from(stop: ReadStop) -> Stop {
-        match stop {
-            ReadStop::NoMemory => Stop::NoMemory,
-            ReadStop::Damaged | ReadStop::Cut => Stop::Script,
-            ReadStop::Read => Stop::Read,
-        }
     }
 }

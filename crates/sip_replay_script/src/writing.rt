@@ -1,16 +1,16 @@
 ghost use Rattle.std.specs.Prelude.{◌≡◌, ◌≤◌, ◌<◌, [], ◌++◌, take, length, IfOk, OnOk, OnErr, IfErr};
 ghost use Rattle.std.specs.Io.KnownBytes.{Appends, Keeps};
-ghost use Rattle.sip_replay_script.specs.Devices.{later, GaveUp, PrintStops, WritesFront};
-ghost use Rattle.sip_replay_script.specs.declared.stop.Stop.TheVariants.{Write};
+ghost use Rattle.sip_replay_script.specs.Devices.{later, GaveUp, WritesFront};
+ghost use Rattle.sip_replay_script.specs.declared.print_stop.PrintStop.TheVariants.{Write};
 
 use crate::device::TellingWriter;
-use crate::stop::Stop;
+use crate::print_stop::PrintStop;
 use std::io::ErrorKind;
 
 /// One write: how many bytes it took, 0 where it was interrupted.
 #[inline(always)]
 #[tactic(auto, using(crate::proofs::Fronts::appends_none, crate::proofs::Written::appends_nothing))]
-fn put_some<W: TellingWriter>(writer: &mut W, rest: &[u8]) -> Result<usize, Stop>
+fn put_some<W: TellingWriter>(writer: &mut W, rest: &[u8]) -> Result<usize, PrintStop>
     requires { 0 < length rest.now }
     ensures within { IfOk result (λ n. n ≤ length rest.now) }
     ensures bytes { IfOk result (λ n. Appends (W.contents writer.old) (W.contents writer.new) (take n rest.now)) }
@@ -19,11 +19,11 @@ fn put_some<W: TellingWriter>(writer: &mut W, rest: &[u8]) -> Result<usize, Stop
     ensures failed { IfErr result (λ stop. (stop ≡ Write) × W.has_failed writer.new) }
 {
     match writer.give(rest) {
-        Ok(0) => Err(Stop::Write),
+        Ok(0) => Err(PrintStop::Write),
         Ok(count) => Ok(count),
         Err(e) => match e.kind() {
             ErrorKind::Interrupted => Ok(0),
-            _ => Err(Stop::Write),
+            _ => Err(PrintStop::Write),
         },
     }
 }
@@ -31,7 +31,7 @@ fn put_some<W: TellingWriter>(writer: &mut W, rest: &[u8]) -> Result<usize, Stop
 /// Writes a text whole, whatever parts the writer takes at a time. Mostly it takes the whole.
 #[inline(always)]
 #[tactic(auto, using(crate::proofs::Fronts::appends_all, crate::proofs::Fronts::nothing_of, crate::proofs::Fronts::appends_rest, crate::proofs::Fronts::front_rest, crate::proofs::Fronts::front_nothing))]
-pub fn put<W: TellingWriter>(writer: &mut W, text: &[u8]) -> Result<(), Stop>
+pub fn put<W: TellingWriter>(writer: &mut W, text: &[u8]) -> Result<(), PrintStop>
     ensures ok { OnOk result (Appends (W.contents writer.old) (W.contents writer.new) text.now) }
     ensures front { OnErr result (WritesFront (W.contents writer.old) (W.contents writer.new) text.now) }
     ensures failed { IfErr result (λ stop. (stop ≡ Write) × GaveUp (W.has_failed writer.new) (W.called writer.new)) }
@@ -49,7 +49,7 @@ pub fn put<W: TellingWriter>(writer: &mut W, text: &[u8]) -> Result<(), Stop>
 /// The same, part by part.
 #[inline(never)]
 #[tactic(auto, using(crate::proofs::Fronts::appends_all, crate::proofs::Written::appends_nothing, crate::proofs::Fronts::front_of, crate::proofs::Fronts::front_kept, crate::proofs::Calls::later_more))]
-fn put_parts<W: TellingWriter>(writer: &mut W, text: &[u8]) -> Result<(), Stop>
+fn put_parts<W: TellingWriter>(writer: &mut W, text: &[u8]) -> Result<(), PrintStop>
     ensures ok { OnOk result (Appends (W.contents writer.old) (W.contents writer.new) text.now) }
     ensures front { OnErr result (WritesFront (W.contents writer.old) (W.contents writer.new) text.now) }
     ensures failed { IfErr result (λ stop. (stop ≡ Write) × GaveUp (W.has_failed writer.new) (W.called writer.new)) }
@@ -61,52 +61,12 @@ fn put_parts<W: TellingWriter>(writer: &mut W, text: &[u8]) -> Result<(), Stop>
         }
         done += put_some(writer, &text[done..])?;
     }
-    Err(Stop::Write)
-}
-
-/// Writes a text whole, as `put` does: what it stops for, printing stops for.
-#[inline(always)]
-pub fn put_one<W: TellingWriter>(writer: &mut W, text: &[u8]) -> Result<(), Stop>
-    ensures ok { OnOk result (Appends (W.contents writer.old) (W.contents writer.new) text.now) }
-    ensures front { OnErr result (WritesFront (W.contents writer.old) (W.contents writer.new) text.now) }
-    ensures stopped { IfErr result (PrintStops (GaveUp (W.has_failed writer.new) (W.called writer.new))) }
-{
-    match put(writer, text) {
-        Ok(()) => Ok(()),
-        Err(stop) => Err(stop),
-    }
-}
-
-/// Writes three texts, one after the other.
-#[inline(always)]
-#[tactic(auto, using(crate::proofs::Written::appends_both, crate::proofs::Fronts::front_first, crate::proofs::Fronts::front_second))]
-pub fn put_three<W: TellingWriter>(
-    writer: &mut W,
-    first: &[u8],
-    second: &[u8],
-    third: &[u8],
-) -> Result<(), Stop>
-    ensures ok { OnOk result (Appends (W.contents writer.old) (W.contents writer.new) (first.now ++ second.now ++ third.now)) }
-    ensures front { OnErr result (WritesFront (W.contents writer.old) (W.contents writer.new) (first.now ++ second.now ++ third.now)) }
-    ensures stopped { IfErr result (PrintStops (GaveUp (W.has_failed writer.new) (W.called writer.new))) }
-{
-    match put(writer, first) {
-        Ok(()) => {}
-        Err(stop) => return Err(stop),
-    }
-    match put(writer, second) {
-        Ok(()) => {}
-        Err(stop) => return Err(stop),
-    }
-    match put(writer, third) {
-        Ok(()) => Ok(()),
-        Err(stop) => Err(stop),
-    }
+    Err(PrintStop::Write)
 }
 
 /// Has the writer hand on what it holds back.
 #[tactic(auto, using(crate::proofs::Written::keeps_both, crate::proofs::Written::keeps_itself, crate::proofs::Calls::later_more))]
-pub fn hand_on<W: TellingWriter>(writer: &mut W) -> Result<(), Stop>
+pub fn hand_on<W: TellingWriter>(writer: &mut W) -> Result<(), PrintStop>
     ensures kept { Keeps (W.contents writer.old) (W.contents writer.new) }
     ensures flushed { OnOk result (W.is_flushed writer.new) }
     ensures failed { IfErr result (λ stop. (stop ≡ Write) × GaveUp (W.has_failed writer.new) (W.called writer.new)) }
@@ -117,9 +77,9 @@ pub fn hand_on<W: TellingWriter>(writer: &mut W) -> Result<(), Stop>
             Ok(()) => return Ok(()),
             Err(e) => match e.kind() {
                 ErrorKind::Interrupted => {}
-                _ => return Err(Stop::Write),
+                _ => return Err(PrintStop::Write),
             },
         }
     }
-    Err(Stop::Write)
+    Err(PrintStop::Write)
 }

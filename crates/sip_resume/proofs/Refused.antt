@@ -12,7 +12,7 @@ use Rattle.sip_run.specs.engine.declared.error.StepError.TheVariants as step_err
 use Rattle.sip_run.specs.engine.StepError.{refusal_at, is_too_large}
 use Rattle.sip_run.specs.Refusals.{RefusesStep, refusal_of_event}
 use Rattle.sip_replay_script.specs.Lines.{Reading, pending}
-use Rattle.sip_replay_script.specs.Events.{GivesEvent}
+use Rattle.sip_replay_script.specs.Recorded.{GivesRecorded}
 use Rattle.sip_resume.specs.Errors.{error_of_step}
 use Rattle.sip_resume.specs.Resumes.{IsNext, JournalAt, ResumeStops, Runs, StepStops, UnreadStops}
 use Rattle.sip_resume.specs.declared.error.ResumeError.{ResumeError}
@@ -60,10 +60,10 @@ next_bytes None b text h = tt
 next_bytes (Some xs) None text h = absurd h
 next_bytes (Some xs) (Some ys) text h = (ys, h)
 
-is_next : (part rest : Reading) (m r : Option (List ℕ)) (event : Event) → GivesEvent part rest m r event → IsNext (pending part m) event
-is_next part rest m r event given = record { text = given.text; says = given.says; begins = next_bytes (pending part m) (pending rest r) given.text given.consumes }
+is_next : (part rest : Reading) (m r : Option (List ℕ)) (event : Event) → GivesRecorded part rest m r event → IsNext (pending part m) event
+is_next part rest m r event g = record { text = g.given.text; says = g.recorded; begins = next_bytes (pending part m) (pending rest r) g.given.text g.given.consumes }
 
-pub step_refused : (F : Type 0) (server : Server) (old new : ProxyState) (part rest : Reading) (m r : Option (List ℕ)) (event : Event) (number : ℕ) (written : Option (Option (List ℕ))) (e : StepError) → GivesEvent part rest m r event
+pub step_refused : (F : Type 0) (server : Server) (old new : ProxyState) (part rest : Reading) (m r : Option (List ℕ)) (event : Event) (number : ℕ) (written : Option (Option (List ℕ))) (e : StepError) → GivesRecorded part rest m r event
     → Runs server old new [] (Some (event_moment event)) → StepStops (refusal_of_event new event) e → ResumeStops server old new F (pending part m) number written (error_of_step e)
 step_refused F server old new part rest m r event number written step_errors.NoMemory given runs h = (Some (event_moment event), runs)
 step_refused F server old new part rest m r event number written step_errors.MomentTooLarge given runs h = record { event = event; next = is_next part rest m r event given; runs = runs; refused = h }
@@ -76,7 +76,7 @@ step_told written step_errors.Worn = refl
 
 -- it was taken, and not told
 pub untold : (F : Type 0) (server : Server) (old new : ProxyState) (part rest : Reading) (m r : Option (List ℕ)) (event : Event) (number : ℕ) (written : Option (Option (List ℕ))) (e : ResumeError) → e ≡ errors.Journal
-    → GivesEvent part rest m r event → Runs server old new (event ∷ []) None → written ≡ None → ResumeStops server old new F (pending part m) number written e
+    → GivesRecorded part rest m r event → Runs server old new (event ∷ []) None → written ≡ None → ResumeStops server old new F (pending part m) number written e
 untold F server old new part rest m r event number written e is given runs failed =
     subst (λ (x : ResumeError). ResumeStops server old new F (pending part m) number written x) (sym is)
     (record { event = event; next = is_next part rest m r event given; runs = runs; failed = failed })

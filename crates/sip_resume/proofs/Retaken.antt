@@ -11,8 +11,9 @@ use Rattle.model_bounds.specs.state.declared.proxy_state.ProxyState.{ProxyState}
 use Rattle.sip_replay_script.specs.Lines.{Reading, IsOver, is_end, pending}
 use Rattle.sip_replay_script.specs.declared.read_stop.ReadStop.{ReadStop}
 use Rattle.sip_replay_script.specs.declared.read_stop.ReadStop.TheVariants as stops
-use Rattle.sip_replay_script.specs.Events.{ReadStops, SaysEvents, GivesEvent, IsCutEvent}
-use Rattle.sip_replay_script.proofs.Saying.{says_all, says_one}
+use Rattle.sip_replay_script.specs.Recorded.{RecordStops, SaysRecord, GivesRecorded, IsCutRecord}
+use Rattle.sip_replay_script.proofs.RecordTexts.{record_all, record_one}
+use Rattle.sip_replay_script.proofs.Saying.{says_all}
 use Rattle.sip_record.specs.Record.{Notes}
 use Rattle.sip_record.proofs.Noting.{notes_nothing, notes_both}
 use Rattle.sip_resume.specs.Errors.{end_at}
@@ -26,7 +27,7 @@ use Rattle.sip_resume.proofs.Running.{RunsJoin, RunsOn, runs_nothing, runs_on_no
 pub record Resumes (server : Server) (first state : ProxyState) (old new : Reading) (before after : Option (List ℕ)) (written half : Option (Option (List ℕ))) (lines : ℕ) (last : Option StepOut) : Type 0 where
   pub events : List Event
   pub text : List ℕ
-  pub says : SaysEvents events text
+  pub says : SaysRecord events text
   pub consumes : Consumes (pending old before) (pending new after) text
   pub number : new.number ≡ old.number + count_by is_end text
   pub counted : lines ≡ count_by is_end text
@@ -58,14 +59,14 @@ lines_are old new text none is = omega (arith, none, is)
 resumes_more : RunsJoin → (server : Server) (first mid new : ProxyState) (old part rest : Reading) (before middle after : Option (List ℕ)) (written half whole : Option (Option (List ℕ))) (lines : ℕ) (last : Option StepOut) (out : StepOut)
     → old.number ≡ 0 → Resumes server first mid old part before middle written half lines last → TakesNext server mid new part rest middle after half whole out → Resumes server first new old rest before after written whole rest.number (Some out)
 resumes_more join server first mid new old part rest before middle after written half whole lines last out none h next =
-    let number : rest.number ≡ old.number + count_by is_end (h.text ++ next.gives.text) = numbers_add old.number part.number rest.number h.text next.gives.text h.number next.gives.number in
+    let number : rest.number ≡ old.number + count_by is_end (h.text ++ next.gives.given.text) = numbers_add old.number part.number rest.number h.text next.gives.given.text h.number next.gives.given.number in
     record {
       events = h.events ++ next.event ∷ [];
-      text = h.text ++ next.gives.text;
-      says = says_all h.events (next.event ∷ []) h.text next.gives.text h.says (says_one next.gives.text next.event next.gives.says);
-      consumes = Consumes-trans (pending old before) (pending part middle) (pending rest after) h.text next.gives.text h.consumes next.gives.consumes;
+      text = h.text ++ next.gives.given.text;
+      says = record_all h.events (next.event ∷ []) h.text next.gives.given.text h.says (record_one next.gives.given.text next.event next.gives.recorded);
+      consumes = Consumes-trans (pending old before) (pending part middle) (pending rest after) h.text next.gives.given.text h.consumes next.gives.given.consumes;
       number = number;
-      counted = lines_are old.number rest.number (h.text ++ next.gives.text) none number;
+      counted = lines_are old.number rest.number (h.text ++ next.gives.given.text) none number;
       run = runs_on_one join server first mid new h.events next.event out h.run.runs next.takes;
       noted = notes_both says_all written half whole h.events (next.event ∷ []) h.noted next.noted;
     }
@@ -80,7 +81,7 @@ resumes_next join server then_server first mid new old part rest before middle a
 
 -- the next event, taken and told
 pub takes_next : (server : Server) (old new : ProxyState) (part rest : Reading) (middle after : Option (List ℕ)) (written written_then : Option (Option (List ℕ))) (event : Event) (out : StepOut)
-    → GivesEvent part rest middle after event → TakesOwn server old new event out → Notes written written_then (event ∷ []) → TakesNext server old new part rest middle after written written_then out
+    → GivesRecorded part rest middle after event → TakesOwn server old new event out → Notes written written_then (event ∷ []) → TakesNext server old new part rest middle after written written_then out
 takes_next server old new part rest middle after written written_then event out gives takes noted = record { event = event; gives = gives; takes = takes; noted = noted }
 
 -- ---- the end of a record
@@ -177,19 +178,19 @@ empty_of (Some xs) (Some ys) k e = inl (sym k ∙ e)
 over_ends : (old new : Reading) (before after : Option (List ℕ)) → IsOver old new before after → IfSome (pending old before) EndsHere
 over_ends old new before after h = empty_of (pending old before) (pending new after) h.kept h.at_end
 
-cut_ends : (rest : Option (List ℕ)) → IfSome rest IsCutEvent → IfSome rest EndsHere
+cut_ends : (rest : Option (List ℕ)) → IfSome rest IsCutRecord → IfSome rest EndsHere
 cut_ends None h = tt
 cut_ends (Some rest) h = inr h
 
 -- no event is read, and the record ends there
-pub ends_so : (F : Type 0) (script : Option (List ℕ)) (stop : ReadStop) (first : ℕ) (u : Unit {0}) → ReadStops F script stop → Ok u ≡ end_at stop first → IfSome script EndsHere
+pub ends_so : (F : Type 0) (script : Option (List ℕ)) (stop : ReadStop) (first : ℕ) (u : Unit {0}) → RecordStops F script stop → Ok u ≡ end_at stop first → IfSome script EndsHere
 ends_so F script stops.NoMemory first u h e = absurd cc
 ends_so F script stops.Damaged first u h e = absurd cc
 ends_so F script stops.Cut first u h e = cut_ends script h
 ends_so F script stops.Read first u h e = absurd cc
 
 -- or why it isn't taken further
-pub stops_so : (F : Type 0) (script : Option (List ℕ)) (number : ℕ) (stop : ReadStop) (first : ℕ) (e : ResumeError) → first ≡ number + 1 → ReadStops F script stop → Err e ≡ end_at stop first → UnreadStops F script number e
+pub stops_so : (F : Type 0) (script : Option (List ℕ)) (number : ℕ) (stop : ReadStop) (first : ℕ) (e : ResumeError) → first ≡ number + 1 → RecordStops F script stop → Err e ≡ end_at stop first → UnreadStops F script number e
 stops_so F script number stops.NoMemory first e is h same = let this : errors.NoMemory ≡ e = cc in subst (λ (x : ResumeError). UnreadStops F script number x) this tt
 stops_so F script number stops.Damaged first e is h same = let this : errors.Damaged first ≡ e = cc in subst (λ (x : ResumeError). UnreadStops F script number x) this (h, is)
 stops_so F script number stops.Cut first e is h same = absurd cc

@@ -13,8 +13,8 @@ use std::fmt;
 pub enum ResumeError {
     /// Memory ran out.
     NoMemory,
-    /// The lines that begin with this one, counted from 1 behind the first line of the record, say no event, and aren't the front of
-    /// one event's text.
+    /// The lines that begin with this one, counted from 1 behind the first line of the record, say no event as a record does, and
+    /// aren't the front of what says one.
     Damaged(u64),
     /// The reader failed, or was asked 4,294,967,295 times.
     Read,

@@ -4,8 +4,8 @@ ghost use Rattle.sip_event.specs.declared.event.StepOut.{StepOut};
 ghost use Rattle.model_bounds.specs.state.declared.proxy_state.ProxyState.{ProxyState};
 ghost use Rattle.model_bounds.specs.state.declared.server.Server.{Server};
 ghost use Rattle.model_bounds.specs.state.State.{first_state};
-ghost use Rattle.model_bounds.specs.model.Run.{IsRun};
-ghost use Rattle.sip_resume.specs.Resumes.{IsOneRun, Runs};
+ghost use Rattle.model_bounds.specs.model.Run.{IsRun, Link};
+ghost use Rattle.sip_resume.specs.Resumes.{IsOneRun};
 
 use model_bounds::bounds::every_history_is_bounded;
 use model_bounds::model::laws::every_run_has_access;
@@ -19,8 +19,9 @@ use model_bounds::model::runs::runs_join;
 /// (`access`).
 pub fn restart_is_one_run()
     ensures { (server : Server) (first : ℕ) (state last : ProxyState) (events more : List Event) (until : Option ℕ)
-        → (before : Runs server (first_state first) state events None) → (behind : Runs server state last more until)
-        → IsOneRun server first events more until before.steps behind.steps before.history behind.history last }
+        (steps further : List StepOut) (history later : List Link)
+        → IsRun server (first_state first) events None steps history state → IsRun server state more until further later last
+        → IsOneRun server first events more until steps further history later last }
 {
     every_run_has_access();
     every_history_is_bounded();

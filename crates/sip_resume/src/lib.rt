@@ -1,7 +1,7 @@
 //! A server brought to where a record leads: the events that the record says are taken again, nothing of which is sent, so that a
 //! run goes on behind them.
 //!
-//! - Used: `sipd_command`, where `serve` is to go on from a record.
+//! - Used: `sipd_start`, where `serve` is to go on from a record.
 //! - Not here: what writes a record (`sip_record`), and what prints what a record led to (`sip_replay`).
 //! - Tried: `test_serve`, and over sockets `tests/serve.py`.
 //!

@@ -5,8 +5,8 @@ ghost use Rattle.sip_run.specs.Due.{NothingDueBy};
 ghost use Rattle.sip_run.specs.Refusals.{refusal_of_event};
 ghost use Rattle.sip_run.specs.engine.StepError.{refusal_at};
 ghost use Rattle.sip_replay_script.specs.Devices.{later};
-ghost use Rattle.sip_replay_script.specs.Events.{GivesEvent};
 ghost use Rattle.sip_replay_script.specs.Lines.{pending, IsSpent};
+ghost use Rattle.sip_replay_script.specs.Recorded.{GivesRecorded};
 ghost use Rattle.sip_record.specs.Record.{Notes};
 ghost use Rattle.sip_resume.specs.Errors;
 ghost use Rattle.sip_resume.specs.Resumes.{EndsHere, IsResumed, IsUnresumed, JournalAt, ResumeStops, Runs, StepStops, TakesNext, TakesOwn, UnreadStops};
@@ -17,7 +17,7 @@ use model_bounds::model::runs::runs_join;
 use sip_event::{Event, StepOut};
 use sip_policy::Rules;
 use sip_record::Journal;
-use sip_replay_script::{Lines, ReadStop, TellingReader, next_event};
+use sip_replay_script::{Lines, ReadStop, TellingReader, next_recorded};
 use sip_run::engine::{Engine, StepError};
 use sip_run::{event_moment, fire_next, take_event};
 use sip_timers::Timers;
@@ -33,11 +33,12 @@ pub struct Resumed {
 }
 
 /// Takes the events of a record, which stand behind its first line, so that a server goes on from where they lead: what is due by the
-/// moment of each happens first, nothing that is handed out is sent, and each is told to the journal. A record that was cut in its
-/// last event is taken up to the last whole one: what is left then is the front of a text that says one event. Refusals: `NoMemory`;
-/// `Damaged` with the line from which on what is left begins with no event and is no such front; `Read`, where the reader failed or was
-/// asked 4,294,967,295 times; `Step`, where the server refuses the next event: its moment is 2^62 ms or more, or a datagram's number
-/// would be; `Journal`. The engine has taken some of the events then.
+/// moment of each happens first, nothing that is handed out is sent, and each is told to the journal. A record says an event in one
+/// line, but a datagram without bytes in two, of which the second is `.`. One that was cut in its last event is taken up to the last
+/// whole one: what is left then is the front of such a text of one event. Refusals: `NoMemory`; `Damaged` with the line from which on
+/// what is left begins with no such text and is no such front; `Read`, where the reader failed or was asked 4,294,967,295 times;
+/// `Step`, where the server refuses the next event: its moment is 2^62 ms or more, or a datagram's number would be; `Journal`. The
+/// engine has taken some of the events then.
 pub fn resume<T: Timers, R: Rules, I: TellingReader, J: Journal>(
     alloc: Global,
     engine: &mut Engine<T, R>,
@@ -50,13 +51,14 @@ pub fn resume<T: Timers, R: Rules, I: TellingReader, J: Journal>(
     ensures refused { IfErr result (IsUnresumed engine.old.server engine.old.state engine.new.state
         (I.has_failed reader.new ⊎ (I.asked reader.new ≡ later 4294967295 (I.asked reader.old)))
         (I.remaining reader.old) (J.written journal.old) (J.written journal.new)) }
+    ensures whole { ¬ (result ≡ Err Refusal.Journal) → J.faulted journal.new ≡ J.faulted journal.old }
+    ensures said { result ≡ Err Refusal.Journal → J.faulted journal.new ≡ true }
 {
     runs_join();
     let mut lines = Lines::new(alloc)?;
-    let mut line = Vec::new(alloc);
     let mut taken = 0;
     let mut last = None;
-    while let Some(out) = resume_next(alloc, engine, &mut lines, &mut line, reader, journal)? {
+    while let Some(out) = resume_next(alloc, engine, &mut lines, reader, journal)? {
         taken = lines.number();
         last = Some(out);
     }
@@ -68,7 +70,6 @@ fn resume_next<T: Timers, R: Rules, I: TellingReader, J: Journal>(
     alloc: Global,
     engine: &mut Engine<T, R>,
     lines: &mut Lines,
-    line: &mut Vec<u8>,
     reader: &mut I,
     journal: &mut J,
 ) -> Result<Option<StepOut>, ResumeError>
@@ -81,9 +82,11 @@ fn resume_next<T: Timers, R: Rules, I: TellingReader, J: Journal>(
         (IsSpent (I.has_failed reader.new) lines.new.asks) (pending lines.old (I.remaining reader.old)) lines.old.number
         (J.written journal.new)) }
     ensures told { IfErr result (JournalAt (J.written journal.old) (J.written journal.new)) }
+    ensures whole { ¬ (result ≡ Err Refusal.Journal) → J.faulted journal.new ≡ J.faulted journal.old }
+    ensures said { result ≡ Err Refusal.Journal → J.faulted journal.new ≡ true }
     ensures asked { later lines.new.asks (I.asked reader.new) ≡ later lines.old.asks (I.asked reader.old) }
 {
-    let Some(event) = read_next(alloc, lines, line, reader)? else {
+    let Some(event) = read_next(alloc, lines, reader)? else {
         return Ok(None);
     };
     let out = take_in_turn(engine, &event)?;
@@ -95,18 +98,17 @@ fn resume_next<T: Timers, R: Rules, I: TellingReader, J: Journal>(
 fn read_next<I: TellingReader>(
     alloc: Global,
     lines: &mut Lines,
-    line: &mut Vec<u8>,
     reader: &mut I,
 ) -> Result<Option<Event>, ResumeError>
     ensures given { IfOk result
-        (λ found. IfSome found (λ event. GivesEvent lines.old lines.new (I.remaining reader.old) (I.remaining reader.new) event)) }
+        (λ found. IfSome found (λ event. GivesRecorded lines.old lines.new (I.remaining reader.old) (I.remaining reader.new) event)) }
     ensures over { IfOk result (λ found. IfNone found (IfSome (pending lines.old (I.remaining reader.old)) EndsHere)) }
     ensures refused { IfErr result (UnreadStops (IsSpent (I.has_failed reader.new) lines.new.asks) (pending lines.old (I.remaining reader.old))
         lines.old.number) }
     ensures asked { later lines.new.asks (I.asked reader.new) ≡ later lines.old.asks (I.asked reader.old) }
 {
     let first = lines.number() + 1;
-    match next_event(alloc, lines, reader, line) {
+    match next_recorded(alloc, lines, reader) {
         Ok(found) => Ok(found),
         Err(stop) => {
             end_at(stop, first)?;
@@ -161,6 +163,8 @@ fn note<J: Journal>(journal: &mut J, event: &Event) -> Result<(), ResumeError>
     ensures noted { OnOk result (Notes (J.written journal.old) (J.written journal.new) (event.now ∷ [])) }
     ensures refused { IfErr result (λ e. e ≡ Refusal.Journal) }
     ensures told { OnErr result (J.written journal.new ≡ None) }
+    ensures whole { OnOk result (J.faulted journal.new ≡ J.faulted journal.old) }
+    ensures said { OnErr result (J.faulted journal.new ≡ true) }
 {
     match event {
         Event::Datagram {

@@ -1,2 +1,5 @@
 pub mod Exits
+pub mod Files
 pub mod Summary
+pub mod CommandLine
+pub mod Commands

@@ -1,14 +1,23 @@
-use crate::call::{
-    Call, CheckCall, DecideCall, RecordFault, RecordPlace, ReplayCall, ReportCall, ServeCall,
-    UserCall,
-};
+ghost use Rattle.std.specs.Prelude.{◌≡◌, List, false, map, codes, IfOk, IfErr, string_bytes};
+ghost use Rattle.std.specs.Borrow.{Bor};
+ghost use Rattle.clap.specs.Words.{Text, app_of, rule_of};
+ghost use Rattle.sipd_arguments.specs.CommandLine as Definitions;
+ghost use Rattle.sipd_arguments.specs.CommandLine.{Asks};
+ghost use Rattle.sipd_arguments.specs.Commands.{IsCommand, IsComplaint, IsText};
+
+use crate::call::Call;
 use crate::exit::Exit;
+use crate::matches::call_of;
 use clap::error::ErrorKind;
-use clap::{Arg, ArgAction, ArgGroup, ArgMatches, Command, value_parser};
+use clap::{Arg, ArgAction, Command, value_parser};
 use std::alloc::{AllocError, Global};
 
 /// The words of `--record-fault`.
 const RECORD_FAULTS: &[&str] = &["go-on", "end"];
+
+/// What is said of that option where no record is made.
+const NO_RECORD: &str =
+    "error: '--record-fault <WORD>' is for a record: '--record <FILE>' or '--records <FOLDER>'\n\nFor more information, try '--help'.\n";
 
 /// What a command line says.
 #[derive(Drop)]
@@ -19,7 +28,10 @@ pub enum Parsed {
 }
 
 /// `--NAME VALUE`.
-fn option<'a>(alloc: Global, name: &'a str, value: &'a str, help: &'a str) -> Arg<'a> {
+fn option<'a>(alloc: Global, name: &'a str, value: &'a str, help: &'a str) -> Arg<'a>
+    ensures rule { rule_of result ≡ Definitions.option name.entry.now }
+    ensures local { result.global ≡ false }
+{
     Arg::new(alloc, name)
         .long(name)
         .value_name(value)
@@ -28,7 +40,10 @@ fn option<'a>(alloc: Global, name: &'a str, value: &'a str, help: &'a str) -> Ar
 }
 
 /// `--NAME`.
-fn flag<'a>(alloc: Global, name: &'a str, help: &'a str) -> Arg<'a> {
+fn flag<'a>(alloc: Global, name: &'a str, help: &'a str) -> Arg<'a>
+    ensures rule { rule_of result ≡ Definitions.flag name.entry.now }
+    ensures local { result.global ≡ false }
+{
     Arg::new(alloc, name)
         .long(name)
         .help(help)
@@ -36,7 +51,10 @@ fn flag<'a>(alloc: Global, name: &'a str, help: &'a str) -> Arg<'a> {
 }
 
 /// A word at its place.
-fn word<'a>(alloc: Global, name: &'a str, place: usize, help: &'a str) -> Arg<'a> {
+fn word<'a>(alloc: Global, name: &'a str, place: usize, help: &'a str) -> Arg<'a>
+    ensures rule { rule_of result ≡ Definitions.word name.entry.now place }
+    ensures local { result.global ≡ false }
+{
     Arg::new(alloc, name)
         .index(place)
         .value_name(name)
@@ -46,61 +64,82 @@ fn word<'a>(alloc: Global, name: &'a str, place: usize, help: &'a str) -> Arg<'a
 }
 
 /// `--config FILE`.
-fn config_argument<'a>(alloc: Global, required: bool) -> Arg<'a> {
-    option(alloc, "config", "FILE", "The configuration file").required(required)
+fn config_argument<'a>(alloc: Global) -> Arg<'a>
+    ensures rule { rule_of result ≡ Definitions.option (codes "config") }
+    ensures local { result.global ≡ false }
+{
+    option(alloc, "config", "FILE", "The configuration file")
 }
 
-fn check_command<'a>(alloc: Global) -> Result<Command<'a>, AllocError> {
+fn check_command<'a>(alloc: Global) -> Result<Command<'a>, AllocError>
+    ensures { IfOk result (IsCommand Definitions.check_command) }
+{
     let show = "Print what was understood, or what is wrong and where";
     Command::new(alloc, "check")
         .about("Checks a configuration")
-        .arg(config_argument(alloc, true))?
+        .arg(config_argument(alloc).required(true))?
         .arg(flag(alloc, "show", show))
 }
 
-fn replay_command<'a>(alloc: Global) -> Result<Command<'a>, AllocError> {
-    let record = "Replay this record of a server instead of standard input, with its configuration";
+/// `--record FILE`, of a record that is there.
+fn old_record_argument<'a>(alloc: Global) -> Result<Arg<'a>, AllocError>
+    ensures { IfOk result (λ arg. (rule_of arg ≡ Definitions.tied (Definitions.option (codes "record"))) × (arg.global ≡ false)) }
+{
+    let help = "Replay this record of a server instead of standard input, with its configuration";
+    option(alloc, "record", "FILE", help).requires_arg("config")
+}
+
+fn replay_command<'a>(alloc: Global) -> Result<Command<'a>, AllocError>
+    ensures { IfOk result (IsCommand Definitions.replay_command) }
+{
     Command::new(alloc, "replay")
         .about(
             "Replays a script from standard input, with the sample configuration or that of a file",
         )
-        .arg(config_argument(alloc, false))?
-        .arg(option(alloc, "record", "FILE", record).requires_arg("config")?)
+        .arg(config_argument(alloc))?
+        .arg(old_record_argument(alloc)?)
 }
 
 /// `--turns N`.
-fn turns_argument<'a>(alloc: Global) -> Arg<'a> {
+fn turns_argument<'a>(alloc: Global) -> Arg<'a>
+    ensures rule { rule_of result ≡ Definitions.number_from 0 4294967295 (Definitions.option (codes "turns")) }
+    ensures local { result.global ≡ false }
+{
     let help = "How many turns to serve; until it is ended, if not given";
     option(alloc, "turns", "N", help).value_parser(value_parser!(u32))
 }
 
 /// `--record FILE`.
-fn record_argument<'a>(alloc: Global) -> Arg<'a> {
+fn record_argument<'a>(alloc: Global) -> Arg<'a>
+    ensures rule { rule_of result ≡ Definitions.option (codes "record") }
+    ensures local { result.global ≡ false }
+{
     let help = "Record what is heard in this new file";
     option(alloc, "record", "FILE", help)
 }
 
-/// `--records FOLDER`.
-fn records_argument<'a>(alloc: Global) -> Arg<'a> {
+/// `--records FOLDER`, which is never beside `--record`.
+fn records_argument<'a>(alloc: Global) -> Result<Arg<'a>, AllocError>
+    ensures { IfOk result (λ arg. (rule_of arg ≡ Definitions.tied (Definitions.option (codes "records"))) × (arg.global ≡ false)) }
+{
     let help = "Record it in a new file of this folder, and go on from the newest record there";
-    option(alloc, "records", "FOLDER", help)
+    option(alloc, "records", "FOLDER", help).conflicts_with("record")
 }
 
-/// One of these two, which an option on the record needs.
-fn record_group<'a>(alloc: Global) -> Result<ArgGroup<'a>, AllocError> {
-    ArgGroup::new(alloc, "place").arg("record")?.arg("records")
-}
-
-/// `--record-fault WORD`.
-fn record_fault_argument<'a>(alloc: Global) -> Result<Arg<'a>, AllocError> {
+/// `--record-fault WORD`. That a record is made is looked at behind the parse (`lacks_record`): a group of these options would
+/// keep the parse from saying what it found.
+fn record_fault_argument<'a>(alloc: Global) -> Arg<'a>
+    ensures rule { (words : Bor (List (Bor Text))) × (rule_of result ≡ Definitions.among words (Definitions.option (codes "record-fault"))) }
+    ensures local { result.global ≡ false }
+{
     let help = "What to do where it can't be written: go-on without it, or end";
-    option(alloc, "record-fault", "WORD", help)
-        .value_parser(RECORD_FAULTS)
-        .requires_arg("place")
+    option(alloc, "record-fault", "WORD", help).value_parser(RECORD_FAULTS)
 }
 
 /// `--resume OLD`.
-fn resume_argument<'a>(alloc: Global) -> Result<Arg<'a>, AllocError> {
+fn resume_argument<'a>(alloc: Global) -> Result<Arg<'a>, AllocError>
+    ensures { IfOk result (λ arg. (rule_of arg ≡ Definitions.tied (Definitions.option (codes "resume"))) × (arg.global ≡ false)) }
+{
     let help = "Go on from where this record leads";
     option(alloc, "resume", "OLD", help)
         .requires_arg("record")?
@@ -108,75 +147,102 @@ fn resume_argument<'a>(alloc: Global) -> Result<Arg<'a>, AllocError> {
 }
 
 /// `--per-source N`.
-fn per_source_argument<'a>(alloc: Global) -> Arg<'a> {
+fn per_source_argument<'a>(alloc: Global) -> Arg<'a>
+    ensures rule { rule_of result ≡ Definitions.number_from 1 1000000 (Definitions.option (codes "per-source")) }
+    ensures local { result.global ≡ false }
+{
     let help = "Hear at most so many datagrams a second from one address";
     option(alloc, "per-source", "N", help).value_parser(value_parser!(u32).range(1..=1_000_000))
 }
 
-fn serve_command<'a>(alloc: Global) -> Result<Command<'a>, AllocError> {
+fn serve_command<'a>(alloc: Global) -> Result<Command<'a>, AllocError>
+    ensures { IfOk result (λ c. (words : Bor (List (Bor Text))) × IsCommand (Definitions.serve_command words) c) }
+{
     Command::new(alloc, "serve")
         .about("Serves at the address of a configuration")
-        .arg(config_argument(alloc, true))?
+        .arg(config_argument(alloc).required(true))?
         .arg(turns_argument(alloc))?
         .arg(record_argument(alloc))?
-        .arg(records_argument(alloc))?
-        .group(record_group(alloc)?)?
-        .arg(record_fault_argument(alloc)?)?
+        .arg(records_argument(alloc)?)?
+        .arg(record_fault_argument(alloc))?
         .arg(resume_argument(alloc)?)?
         .arg(per_source_argument(alloc))
 }
 
 /// `--minute M`.
-fn minute_argument<'a>(alloc: Global) -> Arg<'a> {
+fn minute_argument<'a>(alloc: Global) -> Arg<'a>
+    ensures rule { rule_of result ≡ Definitions.number_from 0 1439 (Definitions.option (codes "minute")) }
+    ensures local { result.global ≡ false }
+{
     let help = "The minute of the office's day, 0 to 1439; now, if not given";
     option(alloc, "minute", "M", help).value_parser(value_parser!(u16).range(0..=1439))
 }
 
-fn decide_command<'a>(alloc: Global) -> Result<Command<'a>, AllocError> {
+fn decide_command<'a>(alloc: Global) -> Result<Command<'a>, AllocError>
+    ensures { IfOk result (IsCommand Definitions.decide_command) }
+{
     let user = "The proven user; nobody, if not given";
     Command::new(alloc, "decide")
         .about("Tells which rule would decide, and where a call would go")
-        .arg(config_argument(alloc, true))?
+        .arg(config_argument(alloc).required(true))?
         .arg(option(alloc, "user", "NAME", user))?
         .arg(minute_argument(alloc))?
         .arg(word(alloc, "METHOD", 1, "A method, or register or list"))?
         .arg(word(alloc, "TARGET", 2, "USER@HOST or a SIP URI"))
 }
 
-fn report_command<'a>(alloc: Global) -> Result<Command<'a>, AllocError> {
-    let rule = option(alloc, "rule", "ID", "Lines that this rule decided");
+/// `--rule ID`.
+fn rule_argument<'a>(alloc: Global) -> Arg<'a>
+    ensures rule { rule_of result ≡ Definitions.number_from 0 4294967295 (Definitions.option (codes "rule")) }
+    ensures local { result.global ≡ false }
+{
+    let help = "Lines that this rule decided";
+    option(alloc, "rule", "ID", help).value_parser(value_parser!(u32))
+}
+
+fn report_command<'a>(alloc: Global) -> Result<Command<'a>, AllocError>
+    ensures { IfOk result (IsCommand Definitions.report_command) }
+{
     Command::new(alloc, "report")
         .about("Makes a table of audit lines from standard input")
-        .arg(config_argument(alloc, false))?
+        .arg(config_argument(alloc))?
         .arg(option(alloc, "user", "NAME", "Lines of this user"))?
-        .arg(rule.value_parser(value_parser!(u32)))?
+        .arg(rule_argument(alloc))?
         .arg(flag(alloc, "denied", "Denials alone"))?
         .arg(flag(alloc, "csv", "Comma-separated values"))
 }
 
 /// `--realm R`.
-fn realm_argument<'a>(alloc: Global) -> Result<Arg<'a>, AllocError> {
+fn realm_argument<'a>(alloc: Global) -> Result<Arg<'a>, AllocError>
+    ensures { IfOk result (λ arg. (rule_of arg ≡ Definitions.tied (Definitions.option (codes "realm"))) × (arg.global ≡ false)) }
+{
     let help = "The realm of the configuration; needed without --config alone";
     option(alloc, "realm", "R", help).required_unless_present("config")
 }
 
 /// `--sha256`.
-fn sha256_argument<'a>(alloc: Global) -> Result<Arg<'a>, AllocError> {
+fn sha256_argument<'a>(alloc: Global) -> Result<Arg<'a>, AllocError>
+    ensures { IfOk result (λ arg. (rule_of arg ≡ Definitions.tied (Definitions.flag (codes "sha256"))) × (arg.global ≡ false)) }
+{
     let help = "The digest by SHA-256, too; with --config its users say whether";
     flag(alloc, "sha256", help).conflicts_with("config")
 }
 
-fn user_command<'a>(alloc: Global) -> Result<Command<'a>, AllocError> {
+fn user_command<'a>(alloc: Global) -> Result<Command<'a>, AllocError>
+    ensures { IfOk result (IsCommand Definitions.user_command) }
+{
     Command::new(alloc, "user")
         .about("Makes a user's table, with the password from standard input")
         .arg(word(alloc, "NAME", 1, "The user"))?
-        .arg(config_argument(alloc, false))?
+        .arg(config_argument(alloc))?
         .arg(realm_argument(alloc)?)?
         .arg(sha256_argument(alloc)?)
 }
 
 /// The commands that the program knows.
-fn commands<'a>(alloc: Global) -> Result<Command<'a>, AllocError> {
+fn commands<'a>(alloc: Global) -> Result<Command<'a>, AllocError>
+    ensures { IfOk result (λ c. (words : Bor (List (Bor Text))) × (app_of c ≡ Definitions.program words)) }
+{
     Command::new(alloc, "sipd")
         .version("0.1.0")
         .about("A SIP registrar and proxy")
@@ -189,132 +255,32 @@ fn commands<'a>(alloc: Global) -> Result<Command<'a>, AllocError> {
         .subcommand(user_command(alloc)?)
 }
 
-/// The text that an argument names.
-fn text_of(
-    alloc: Global,
-    matches: &ArgMatches<'_>,
-    name: &str,
-) -> Result<Option<String>, AllocError> {
-    match matches.get_str(name) {
-        Some(text) => Ok(Some(String::from_str(alloc, text)?)),
-        None => Ok(None),
+/// Why a command line isn't taken, or the text that it asks for.
+fn answer_to(alloc: Global, e: &clap::Error) -> Result<Parsed, Exit>
+    ensures text { IfOk result IsText }
+    ensures refused { IfErr result IsComplaint }
+{
+    let text = e.to_string(alloc)?;
+    match e.kind() {
+        ErrorKind::OutOfMemory => Err(Exit::Memory),
+        ErrorKind::DisplayHelp | ErrorKind::DisplayVersion => Ok(Parsed::Text(text)),
+        _ => Err(Exit::Usage(text)),
     }
 }
 
-/// The text that an argument names which is required.
-fn required_text(
-    alloc: Global,
-    matches: &ArgMatches<'_>,
-    name: &str,
-) -> Result<String, AllocError> {
-    String::from_str(alloc, matches.get_str(name).unwrap_or(""))
-}
-
-fn check_call(alloc: Global, matches: &ArgMatches<'_>) -> Result<CheckCall, AllocError> {
-    Ok(CheckCall {
-        config: required_text(alloc, matches, "config")?,
-        show: matches.get_flag("show"),
-    })
-}
-
-fn replay_call(alloc: Global, matches: &ArgMatches<'_>) -> Result<ReplayCall, AllocError> {
-    Ok(ReplayCall {
-        config: text_of(alloc, matches, "config")?,
-        record: text_of(alloc, matches, "record")?,
-    })
-}
-
-fn record_fault_of(matches: &ArgMatches<'_>) -> RecordFault {
-    match matches.get_str("record-fault") {
-        Some("end") => RecordFault::End,
-        _ => RecordFault::GoOn,
-    }
-}
-
-/// Where a server is to record; two places at once aren't taken.
-fn record_place(
-    alloc: Global,
-    matches: &ArgMatches<'_>,
-) -> Result<Option<RecordPlace>, AllocError> {
-    if let Some(folder) = text_of(alloc, matches, "records")? {
-        return Ok(Some(RecordPlace::Folder(folder)));
-    }
-    let resume = text_of(alloc, matches, "resume")?;
-    match text_of(alloc, matches, "record")? {
-        Some(path) => Ok(Some(RecordPlace::File { path, resume })),
-        None => Ok(None),
-    }
-}
-
-fn serve_call(alloc: Global, matches: &ArgMatches<'_>) -> Result<ServeCall, AllocError> {
-    Ok(ServeCall {
-        config: required_text(alloc, matches, "config")?,
-        turns: matches.get_one::<u32>("turns"),
-        record: record_place(alloc, matches)?,
-        record_fault: record_fault_of(matches),
-        per_source: matches.get_one::<u32>("per-source"),
-    })
-}
-
-fn decide_call(alloc: Global, matches: &ArgMatches<'_>) -> Result<DecideCall, AllocError> {
-    Ok(DecideCall {
-        config: required_text(alloc, matches, "config")?,
-        user: text_of(alloc, matches, "user")?,
-        minute: matches.get_one::<u16>("minute"),
-        method: required_text(alloc, matches, "METHOD")?,
-        target: required_text(alloc, matches, "TARGET")?,
-    })
-}
-
-fn report_call(alloc: Global, matches: &ArgMatches<'_>) -> Result<ReportCall, AllocError> {
-    Ok(ReportCall {
-        config: text_of(alloc, matches, "config")?,
-        user: text_of(alloc, matches, "user")?,
-        rule: matches.get_one::<u32>("rule"),
-        denied: matches.get_flag("denied"),
-        csv: matches.get_flag("csv"),
-    })
-}
-
-fn user_call(alloc: Global, matches: &ArgMatches<'_>) -> Result<UserCall, AllocError> {
-    Ok(UserCall {
-        name: required_text(alloc, matches, "NAME")?,
-        config: text_of(alloc, matches, "config")?,
-        realm: text_of(alloc, matches, "realm")?,
-        sha256: matches.get_flag("sha256"),
-    })
-}
-
-/// What a command asks for.
-fn call_of(alloc: Global, matches: &ArgMatches<'_>) -> Result<Call, AllocError> {
-    let Some((name, inner)) = matches.subcommand() else {
-        // A command is required.
-        return Ok(Call::Replay(ReplayCall {
-            config: None,
-            record: None,
-        }));
+/// What the words say, the program's own name first: a call, by the commands and options that the program has
+/// (`specs/CommandLine`), or the text of help or of the version. Refusals: `Memory`; `Usage`, with a complaint.
+pub fn parse(alloc: Global, words: &[String]) -> Result<Parsed, Exit>
+    ensures asked { IfOk result (Asks (map string_bytes words.now)) }
+    ensures refused { IfErr result IsComplaint }
+{
+    let matches = match commands(alloc)?.try_get_matches_from(words) {
+        Ok(matches) => matches,
+        Err(e) => return answer_to(alloc, &e),
     };
-    Ok(match name {
-        "check" => Call::Check(check_call(alloc, inner)?),
-        "serve" => Call::Serve(serve_call(alloc, inner)?),
-        "decide" => Call::Decide(decide_call(alloc, inner)?),
-        "report" => Call::Report(report_call(alloc, inner)?),
-        "user" => Call::User(user_call(alloc, inner)?),
-        _ => Call::Replay(replay_call(alloc, inner)?),
-    })
-}
-
-/// What the words say, the program's own name first.
-pub fn parse(alloc: Global, words: &[String]) -> Result<Parsed, Exit> {
-    match commands(alloc)?.try_get_matches_from(words) {
-        Ok(matches) => Ok(Parsed::Call(call_of(alloc, &matches)?)),
-        Err(e) => {
-            let text = e.to_string(alloc)?;
-            match e.kind() {
-                ErrorKind::OutOfMemory => Err(Exit::Memory),
-                ErrorKind::DisplayHelp | ErrorKind::DisplayVersion => Ok(Parsed::Text(text)),
-                _ => Err(Exit::Usage(text)),
-            }
-        }
+    // A command is required, and the only other one is `help`: so it is a word on the record that stands alone.
+    match call_of(alloc, &matches)? {
+        Some(call) => Ok(Parsed::Call(call)),
+        None => Err(Exit::Usage(String::from_str(alloc, NO_RECORD)?)),
     }
 }

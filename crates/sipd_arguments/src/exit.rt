@@ -20,8 +20,8 @@ pub enum Exit {
     /// A fault of the system.
     Device(DeviceFault),
     Memory,
-    /// The process may have so many bytes of stack, which are too few.
-    Stack(u64),
+    /// The process may have so many bytes of stack, and more are needed.
+    Stack { bytes: u64, needed: u64 },
     /// What is asked can't be answered; the text says why.
     Question(String),
     /// A file that is to be a record has no first line of one.
@@ -44,7 +44,7 @@ impl Exit {
             Exit::Configuration(_) => 2,
             Exit::Script(_) | Exit::NoRecord | Exit::OtherConfiguration => 3,
             Exit::Device(_) | Exit::NewRecord | Exit::Recording => 4,
-            Exit::Memory | Exit::Stack(_) => 5,
+            Exit::Memory | Exit::Stack { .. } => 5,
         }
     }
 }
@@ -58,9 +58,9 @@ impl fmt::Display for Exit {
             Exit::Script(line) => write!(f, "sipd: script line {line}"),
             Exit::Device(fault) => write!(f, "{fault}sipd: device"),
             Exit::Memory => write!(f, "sipd: memory"),
-            Exit::Stack(bytes) => write!(
+            Exit::Stack { bytes, needed } => write!(
                 f,
-                "sipd: the stack may have {bytes} bytes, and 524288 are needed: ulimit -s, or LimitSTACK of the unit\nsipd: memory"
+                "sipd: the stack may have {bytes} bytes, and {needed} are needed: ulimit -s, or LimitSTACK of the unit\nsipd: memory"
             ),
             Exit::Question(text) => write!(f, "sipd: {text}"),
             Exit::NoRecord => write!(f, "sipd: no record"),
@@ -69,7 +69,7 @@ impl fmt::Display for Exit {
             }
             Exit::NewRecord => write!(
                 f,
-                "sipd: the record can't be made: its file is there already, or its folder isn't"
+                "sipd: the record can't be made: its file is there already, or its folder isn't, or may not be written, or has no hard links"
             ),
             Exit::Recording => write!(f, "sipd: the record can't be written"),
         }

@@ -1,3 +1,8 @@
+ghost use Rattle.std.specs.Prelude.{◌≡◌, ◌⊎◌, IfOk, IfErr, MatchResult};
+ghost use Rattle.sha2.specs.Sha256.{sha256};
+ghost use Rattle.sipd_arguments.specs.Files.{IsInForce, States, StatesNone};
+ghost use Rattle.sipd_arguments.specs.declared.exit.Exit.TheVariants.{Memory};
+
 use crate::exit::Exit;
 use sha2::{Digest, Sha256};
 use sip_config::read_config;
@@ -16,28 +21,46 @@ pub struct Stated {
     pub digest: [u8; 32],
 }
 
-/// The bytes of a file.
+impl Stated {
+    /// The bytes of a file, with their digest.
+    fn of(bytes: Vec<u8>) -> Self
+        ensures bytes { result.bytes ≡ bytes }
+        ensures digest { result.digest ≡ sha256 bytes.items }
+    {
+        let digest = Sha256::digest(bytes.as_slice());
+        Stated { bytes, digest }
+    }
+}
+
+/// The bytes of a file. What a file holds no clause can say.
 pub fn bytes_in<R: Files + AllocGlobal>(rt: &R, path: &str) -> Result<Vec<u8>, Exit> {
     Ok(fs::read(rt, path)?)
 }
 
-/// The configuration that the bytes of a file state.
-pub fn config_of_bytes(alloc: Global, bytes: &[u8]) -> Result<Config, Exit> {
+/// The configuration that the bytes of a file state: what `read_config` makes of them as UTF-8. A refusal has the number of the
+/// configuration's error, or is want of memory.
+pub fn config_of_bytes(alloc: Global, bytes: &[u8]) -> Result<Config, Exit>
+    ensures stated { IfOk result (States bytes.now) }
+    ensures refused { IfErr result (λ exit. (exit ≡ Memory) ⊎ StatesNone bytes.now exit) }
+{
     match str::from_utf8(bytes) {
         Ok(text) => Ok(read_config(alloc, text)?),
         Err(_) => Err(Exit::Configuration(BAD_TOML)),
     }
 }
 
-/// A file that states a configuration.
-pub fn stated_in<R: Files + AllocGlobal>(rt: &R, path: &str) -> Result<Stated, Exit> {
+/// A file that states a configuration, with the digest of the bytes that are handed out.
+pub fn stated_in<R: Files + AllocGlobal>(rt: &R, path: &str) -> Result<Stated, Exit>
+    ensures { IfOk result (λ stated. stated.digest ≡ sha256 stated.bytes.items) }
+{
     let bytes = bytes_in(rt, path)?;
-    let digest = Sha256::digest(bytes.as_slice());
-    Ok(Stated { bytes, digest })
+    Ok(Stated::of(bytes))
 }
 
 /// The configuration that a file states, or the sample without one.
-pub fn config_of<R: Files + AllocGlobal>(rt: &R, path: Option<&str>) -> Result<Config, Exit> {
+pub fn config_of<R: Files + AllocGlobal>(rt: &R, path: Option<&str>) -> Result<Config, Exit>
+    ensures { IfOk result (IsInForce path.entry) }
+{
     match path {
         Some(path) => {
             let bytes = bytes_in(rt, path)?;

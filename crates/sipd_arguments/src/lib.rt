@@ -1,7 +1,7 @@
 //! What the words of the command line ask for, the configuration that they name and what is printed of it, what is
 //! complained about, and the exit status. Nothing here knows the server.
 //!
-//! - Used: `sipd_command`.
+//! - Used: `sipd_tools`, `sipd_start`, `sipd_command`.
 //! - Not here: the carrying out of what is asked.
 //! - Tried: `test_server`.
 #![tactic(auto)]
@@ -11,6 +11,8 @@ mod commands;
 mod device_fault;
 mod exit;
 mod files;
+mod matches;
+mod printing;
 mod summary;
 
 pub use call::{
@@ -21,4 +23,5 @@ pub use commands::{Parsed, parse};
 pub use device_fault::DeviceFault;
 pub use exit::Exit;
 pub use files::{Stated, bytes_in, config_of, config_of_bytes, stated_in};
+pub use printing::print;
 pub use summary::summary_of;

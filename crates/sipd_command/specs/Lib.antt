@@ -1,5 +1,5 @@
 pub mod Exits
 pub mod Printing
-pub mod RecordNames
-pub mod StackLimit
+pub mod Starts
+pub mod Turns
 pub mod Waits

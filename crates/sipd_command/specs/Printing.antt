@@ -14,12 +14,12 @@ serving_text address = codes "sipd: serving " ++ addr_text address ++ codes "\n"
 abbrev pub turns_text : ℕ → List ℕ
 turns_text turns = codes "sipd: " ++ decimal turns ++ codes " turns\n"
 
--- what was written are the lines of some records, and no more
-pub record PrintsRecords (old new : Option (List ℕ)) : Type 0 where
-  pub records : List Record
-  pub written : Appends old new (lines_of records)
+-- what was written before the first turn: where a server is, then the lines of what was decided before it began
+abbrev pub start_text : Addr → List Record → List ℕ
+start_text address decided = serving_text address ++ lines_of decided
 
--- what was written is where a server is, then the lines of some records, then the number of its turns, and no more
-pub record PrintsServed (address : Addr) (turns : ℕ) (old new : Option (List ℕ)) : Type 0 where
+-- What was written is where a server is and the lines of what was decided before it began; then the lines of some records; then the
+-- number of its turns; and no more.
+pub record PrintsServed (address : Addr) (decided : List Record) (turns : ℕ) (old new : Option (List ℕ)) : Type 0 where
   pub records : List Record
-  pub written : Appends old new (serving_text address ++ lines_of records ++ turns_text turns)
+  pub written : Appends old new (start_text address decided ++ lines_of records ++ turns_text turns)

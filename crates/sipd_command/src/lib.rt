@@ -1,25 +1,15 @@
-//! The program's command line carried out: a configuration checked or asked, a script or a record replayed, phones served, a report
-//! or a user's table made.
+//! The program's command line carried out: a script or a record replayed, phones served; what else is asked for goes to `sipd_tools`.
 //!
 //! - Used: the program `sipd`, with its kinds of timers and rules.
-//! - Not here: the process's streams themselves.
-//! - Tried: `test_server`, `tests/serve.py`.
+//! - Not here: how a server that records begins (`sipd_start`); the process's streams themselves.
+//! - Tried: `test_server`, `tests/serve.py`, `tests/faults.py`.
 #![tactic(auto)]
 
-mod beginning;
 mod line_printer;
-mod making;
-mod not_resumed;
-mod old_record;
 mod printing;
 mod program;
-mod record_file;
-mod record_folder;
-mod recording;
 mod service;
 mod serving;
-mod stack_limit;
-mod tools;
 mod unheard;
 
 pub use program::{command, replay_script};

@@ -4,11 +4,11 @@ ghost use Rattle.sip_loop.specs.Printing.{Prints};
 ghost use Rattle.sip_record.specs.Recorder.{told};
 ghost use Rattle.sipd_command.specs.Printing.{serving_text, turns_text};
 
-use crate::printing::{print, print_records, serving_text, turns_text};
+use crate::printing::{print_records, serving_text, turns_text};
 use sip_audit::Record;
 use sip_loop::{AuditFault, AuditLog};
 use sip_uri::Addr;
-use sipd_arguments::{DeviceFault, Exit};
+use sipd_arguments::{DeviceFault, Exit, print};
 use std::alloc::Global;
 use std::io::Write;
 
@@ -20,7 +20,7 @@ pub struct LinePrinter<W: Write + Drop> {
     pub output: W,
     pub has_failed: bool,
     /// How the writer failed.
-    fault: DeviceFault,
+    pub fault: DeviceFault,
 }
 
 impl<W: Write + Drop> LinePrinter<W> {
@@ -45,7 +45,9 @@ impl<W: Write + Drop> LinePrinter<W> {
     }
 
     /// How the writer failed.
-    pub fn fault(&self) -> DeviceFault {
+    pub fn fault(&self) -> DeviceFault
+        ensures { result ≡ self.now.fault }
+    {
         self.fault
     }
 
@@ -79,12 +81,15 @@ fn fault_of(exit: Exit) -> (AuditFault, DeviceFault) {
 impl<W: Write + Drop> AuditLog for LinePrinter<W> {
     ghost printed = { λ p. told p.has_failed (W.contents p.output) };
 
+    ghost faulted = { λ p. p.has_failed };
+
     fn print(&mut self, records: &[Record]) -> Result<(), AuditFault>
         ensures printed { OnOk result (Prints (told self.old.has_failed (W.contents self.old.output))
             (told self.new.has_failed (W.contents self.new.output)) records.now) }
         ensures failed { OnErr result (told self.new.has_failed (W.contents self.new.output) ≡ None) }
         ensures still { OnOk result (self.old.has_failed ≡ false) }
         ensures going { OnOk result (self.new.has_failed ≡ false) }
+        ensures said { OnErr result (self.new.has_failed ≡ true) }
     {
         if self.has_failed {
             return Err(AuditFault::Device);

@@ -6,17 +6,9 @@ ghost use Rattle.sipd_command.specs.Printing;
 use sip_audit::{Record, line_of};
 use sip_text::Bytes;
 use sip_uri::{Addr, addr_text};
-use sipd_arguments::Exit;
+use sipd_arguments::{Exit, print};
 use std::alloc::{AllocError, Global};
 use std::io::Write;
-
-/// Writes a text whole, and hands it on.
-pub fn print<W: Write>(text: &[u8], output: &mut W) -> Result<(), Exit>
-    ensures { OnOk result (Appends (W.contents output.old) (W.contents output.new) text.now) }
-{
-    output.write_all(text)?;
-    Ok(output.flush()?)
-}
 
 /// A record's line, with its end.
 fn record_text(alloc: Global, record: &Record) -> Result<Bytes, AllocError>

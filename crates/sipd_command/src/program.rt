@@ -1,18 +1,18 @@
 ghost use Rattle.std.specs.Prelude.{◌≡◌, ◌≤◌};
 ghost use Rattle.sipd_command.specs.Exits;
 
-use crate::old_record::old_record;
-use crate::printing::print;
 use crate::serving::serve_file;
-use crate::tools::{check, decide, make_report, make_user};
 use sip_event::Boot;
 use sip_policy::Rules;
 use sip_record::RecordMark;
 use sip_replay::{ReplayError, replay};
 use sip_timers::Timers;
 use sipd_arguments::{
-    Call, DeviceFault, Exit, Parsed, ReplayCall, config_of, config_of_bytes, parse, stated_in,
+    Call, DeviceFault, Exit, Parsed, ReplayCall, config_of, config_of_bytes, parse, print,
+    stated_in,
 };
+use sipd_start::open_record;
+use sipd_tools::{check, decide, make_report, make_user};
 use std::alloc::Global;
 use std::io::{Read, Write};
 use std::net::Net;
@@ -71,7 +71,7 @@ fn replay_record<T: Timers, P: Rules, R: Files + AllocGlobal, W: Write, C: Write
     let alloc = rt.alloc();
     let stated = stated_in(rt, config)?;
     let config = config_of_bytes(alloc, stated.bytes.as_slice())?;
-    let mut record = old_record(rt, alloc, path, &stated.digest)?;
+    let mut record = open_record(rt, alloc, path, &stated.digest)?;
     if record.head.mark == RecordMark::Broken {
         let _ = writeln!(
             complaints,
@@ -146,8 +146,8 @@ fn run<
 }
 
 /// Does what the words of a command line say, the program's own name first, on these kinds of timers and rules, and gives
-/// the exit status: 0 done, 1 usage, 2 configuration, 3 script, 4 device, 5 memory. What it complains about is one line,
-/// but for the text on usage.
+/// the exit status: 0 done, 1 usage, 2 configuration, 3 script, 4 device, 5 memory. The last line that it complains of says
+/// why, but for the text on usage.
 pub fn command<
     T: Timers,
     P: Rules,

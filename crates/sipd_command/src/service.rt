@@ -1,26 +1,28 @@
-ghost use Rattle.std.specs.Prelude.{◌≡◌, ◌++◌, false, OnOk, IsOk, IfSome};
+ghost use Rattle.std.specs.Prelude.{◌≡◌, ◌^◌, ◌-◌, ◌⊎◌, [], false, None, IfErr, IfNone, IfSome, OnOk};
 ghost use Rattle.std.specs.Io.KnownBytes.{Appends};
-ghost use Rattle.sip_loop.specs.Printing.{lines_of};
+ghost use Rattle.sip_record.specs.Record.{Notes};
+ghost use Rattle.sip_record.specs.Recorder.{told};
+ghost use Rattle.sip_loop.specs.Serving.{kept, told_by};
 ghost use Rattle.sipd_command.specs.Exits;
-ghost use Rattle.sipd_command.specs.Printing.{PrintsRecords, PrintsServed, serving_text};
+ghost use Rattle.sipd_command.specs.Printing.{PrintsServed, start_text};
+ghost use Rattle.sipd_command.specs.Turns.{AreTurns, EndsBehindStart, EndsTurn, EndsWithin, IsTurn, IsUnstarted, Serves, ServesCounted};
 ghost use Rattle.sipd_command.specs.Waits;
 
 use crate::line_printer::LinePrinter;
-use crate::recording::{Unrecorded, WatchedJournal};
 use crate::unheard::tell_unheard;
-use rand::rngs::StdRng;
+use rand_core::Rng;
 use sip_audit::Record;
 use sip_guard::Guard;
 use sip_loop::{AuditFault, AuditLog, ServeError, serve};
-use sip_loop_link::{Clock, SteadyClock, UdpLink};
+use sip_loop_link::{Clock, Link};
 use sip_policy::Rules;
 use sip_replay::engine::Engine;
 use sip_timers::Timers;
 use sip_uri::Addr;
 use sipd_arguments::{DeviceFault, Exit};
+use sipd_start::{Unrecorded, WatchedJournal};
 use std::alloc::Global;
 use std::io::Write;
-use std::rt;
 
 /// The longest wait before a turn, in milliseconds.
 const LONGEST: u64 = 1000;
@@ -33,13 +35,13 @@ const SECOND: u64 = 1000;
 
 /// A server, and what drives it.
 #[derive(Drop)]
-pub struct Service<'a, T: Timers, P: Rules, R: rt::Clock, J: WatchedJournal> {
+pub struct Service<T: Timers, P: Rules, L: Link, C: Clock, J: WatchedJournal, N: Rng + Drop> {
     pub engine: Engine<T, P>,
-    pub link: Guard<UdpLink, SteadyClock<'a, R>>,
+    pub link: Guard<L, C>,
     pub journal: J,
-    pub clock: SteadyClock<'a, R>,
-    pub words: StdRng,
-    pub told: Told,
+    pub clock: C,
+    pub words: N,
+    pub said: Said,
 }
 
 /// Where it serves, what was decided before and may not have been printed, and how many turns there are; as many as come where none
@@ -53,7 +55,7 @@ pub struct Serving<'a> {
 
 /// What was complained about and looked at.
 #[derive(Clone, Copy)]
-pub struct Told {
+pub struct Said {
     /// Whether it was said that the journal failed.
     pub fault: bool,
     /// When it was last said what wasn't heard, in milliseconds.
@@ -62,10 +64,10 @@ pub struct Told {
     pub looked: u64,
 }
 
-impl Told {
+impl Said {
     /// Nothing yet.
-    pub fn new() -> Told {
-        Told {
+    pub fn new() -> Said {
+        Said {
             fault: false,
             unheard: 0,
             looked: 0,
@@ -73,15 +75,15 @@ impl Told {
     }
 }
 
-/// How the program ends where a server can't go on.
-fn exit_of_serve(e: ServeError) -> Exit
-    ensures { result ≡ Exits.exit_of_serve e }
+/// How the program ends where a server can't go on, printing having failed by this fault, if it did.
+fn exit_of_serve(e: ServeError, fault: DeviceFault) -> Exit
+    ensures { result ≡ Exits.exit_of_serve e fault }
 {
     match e {
         ServeError::NoMemory => Exit::Memory,
         ServeError::Link | ServeError::Step => Exit::Device(DeviceFault::Other),
         ServeError::Journal => Exit::Recording,
-        ServeError::Audit => Exit::Device(DeviceFault::OutputClosed),
+        ServeError::Audit => Exit::Device(fault),
     }
 }
 
@@ -96,13 +98,12 @@ fn wait_before(due: Option<u64>, now: u64) -> u64
 }
 
 /// Looks at the journal, once a second at most.
-fn look<T: Timers, P: Rules, R: rt::Clock, J: WatchedJournal>(
-    service: &mut Service<'_, T, P, R, J>,
-    now: u64,
-) {
-    if now.saturating_sub(service.told.looked) >= SECOND {
-        service.told.looked = now;
-        service.journal.look();
+fn look<J: WatchedJournal>(journal: &mut J, said: &mut Said, now: u64)
+    ensures noted { Notes (J.written journal.old) (J.written journal.new) [] }
+{
+    if now.saturating_sub(said.looked) >= SECOND {
+        said.looked = now;
+        journal.look();
     }
 }
 
@@ -121,20 +122,19 @@ fn fault_text(why: Unrecorded, goes_on: bool) -> &'static str {
 }
 
 /// Says once that the journal failed; where the server goes on without it, in its first line, too.
-fn say_fault<T: Timers, P: Rules, R: rt::Clock, J: WatchedJournal, C: Write>(
-    service: &mut Service<'_, T, P, R, J>,
-    complaints: &mut C,
-) {
-    if service.told.fault {
+fn say_fault<J: WatchedJournal, M: Write>(journal: &mut J, said: &mut Said, complaints: &mut M)
+    ensures noted { Notes (J.written journal.old) (J.written journal.new) [] }
+{
+    if said.fault {
         return;
     }
-    let Some(why) = service.journal.why_failed() else {
+    let Some(why) = journal.why_failed() else {
         return;
     };
-    service.told.fault = true;
-    let goes_on = service.journal.goes_on();
+    said.fault = true;
+    let goes_on = journal.goes_on();
     let _ = complaints.write_all(fault_text(why, goes_on).as_bytes());
-    if goes_on && !service.journal.mark_broken() {
+    if goes_on && !journal.mark_broken() {
         let _ = complaints.write_all(
             b"sipd: the record can't be marked as broken: let no start go on from it\n",
         );
@@ -142,54 +142,52 @@ fn say_fault<T: Timers, P: Rules, R: rt::Clock, J: WatchedJournal, C: Write>(
 }
 
 /// Says what wasn't heard, once a minute at most.
-fn say_unheard<T: Timers, P: Rules, R: rt::Clock, J: WatchedJournal, C: Write>(
-    service: &mut Service<'_, T, P, R, J>,
+fn say_unheard<L: Link, C: Clock, M: Write>(
+    link: &mut Guard<L, C>,
+    said: &mut Said,
     now: u64,
-    complaints: &mut C,
-) {
-    if now.saturating_sub(service.told.unheard) < MINUTE {
+    complaints: &mut M,
+)
+    ensures link { link.new.link ≡ link.old.link }
+{
+    if now.saturating_sub(said.unheard) < MINUTE {
         return;
     }
-    if tell_unheard(&mut service.link, complaints) {
-        service.told.unheard = now;
-    }
-}
-
-/// What came of serving, with what the printer knows of its own fault.
-fn end_of_turn<V: Drop, W: Write + Drop>(
-    served: Result<V, ServeError>,
-    printer: &LinePrinter<W>,
-) -> Result<(), Exit>
-    ensures served { OnOk result (IsOk served) }
-    ensures printed { OnOk result (printer.now.has_failed ≡ false) }
-{
-    match served {
-        Ok(_) => {
-            if printer.has_failed() {
-                Err(Exit::Device(printer.fault()))
-            } else {
-                Ok(())
-            }
-        }
-        Err(ServeError::Audit) => Err(Exit::Device(printer.fault())),
-        Err(e) => Err(exit_of_serve(e)),
+    if tell_unheard(link, complaints) {
+        said.unheard = now;
     }
 }
 
 /// Waits for a datagram until something is due, and lets the server do one turn, in which it prints its records; complains about a
 /// record that can't be written, and about what wasn't heard.
-fn do_turn<T: Timers, P: Rules, R: rt::Clock, J: WatchedJournal, W: Write + Drop, C: Write>(
+fn do_turn<
+    T: Timers,
+    P: Rules,
+    L: Link,
+    C: Clock,
+    J: WatchedJournal,
+    N: Rng + Drop,
+    O: Write + Drop,
+    M: Write,
+>(
     alloc: Global,
-    service: &mut Service<'_, T, P, R, J>,
-    printer: &mut LinePrinter<W>,
-    complaints: &mut C,
+    service: &mut Service<T, P, L, C, J, N>,
+    printer: &mut LinePrinter<O>,
+    complaints: &mut M,
 ) -> Result<(), Exit>
-    ensures { OnOk result (PrintsRecords (W.contents printer.old.output) (W.contents printer.new.output)) }
+    ensures server { service.new.engine.server ≡ service.old.engine.server }
+    ensures failed { OnOk result (printer.new.has_failed ≡ printer.old.has_failed) }
+    ensures turn { OnOk result (IsTurn service.old.engine.server service.old.engine.state service.new.engine.state
+        (record { devices = told_by service.old.link.link.heard service.old.link.link.given (C.readings service.old.clock) (kept (J.written service.old.journal) (J.faulted service.old.journal)) (kept (told printer.old.has_failed (O.contents printer.old.output)) printer.old.has_failed) (N.stream service.old.words); waits = service.old.link.link.waits })
+        (record { devices = told_by service.new.link.link.heard service.new.link.link.given (C.readings service.new.clock) (kept (J.written service.new.journal) (J.faulted service.new.journal)) (kept (told printer.new.has_failed (O.contents printer.new.output)) printer.new.has_failed) (N.stream service.new.words); waits = service.new.link.link.waits })) }
+    ensures ended { IfErr result (EndsTurn service.old.engine.server service.old.engine.state service.new.engine.state
+        (record { devices = told_by service.old.link.link.heard service.old.link.link.given (C.readings service.old.clock) (kept (J.written service.old.journal) (J.faulted service.old.journal)) (kept (told printer.old.has_failed (O.contents printer.old.output)) printer.old.has_failed) (N.stream service.old.words); waits = service.old.link.link.waits })
+        (record { devices = told_by service.new.link.link.heard service.new.link.link.given (C.readings service.new.clock) (kept (J.written service.new.journal) (J.faulted service.new.journal)) (kept (told printer.new.has_failed (O.contents printer.new.output)) printer.new.has_failed) (N.stream service.new.words); waits = service.new.link.link.waits }) printer.new.fault) }
 {
     let now = service.clock.now();
-    look(service, now);
+    look(&mut service.journal, &mut service.said, now);
     let wait = wait_before(service.engine.next_due(), now);
-    service.link.link_mut().wait(wait);
+    service.link.wait(wait);
     let served = serve(
         alloc,
         &mut service.engine,
@@ -200,21 +198,39 @@ fn do_turn<T: Timers, P: Rules, R: rt::Clock, J: WatchedJournal, W: Write + Drop
         &mut service.words,
         1,
     );
-    say_fault(service, complaints);
-    say_unheard(service, now, complaints);
-    end_of_turn(served, printer)
+    say_fault(&mut service.journal, &mut service.said, complaints);
+    say_unheard(&mut service.link, &mut service.said, now, complaints);
+    match served {
+        Ok(_) => Ok(()),
+        Err(e) => Err(exit_of_serve(e, printer.fault())),
+    }
 }
 
 /// Does so many turns.
-#[tactic(auto, using(crate::proofs::Printed::prints_none))]
-fn do_turns<T: Timers, P: Rules, R: rt::Clock, J: WatchedJournal, W: Write + Drop, C: Write>(
+fn do_turns<
+    T: Timers,
+    P: Rules,
+    L: Link,
+    C: Clock,
+    J: WatchedJournal,
+    N: Rng + Drop,
+    O: Write + Drop,
+    M: Write,
+>(
     alloc: Global,
-    service: &mut Service<'_, T, P, R, J>,
+    service: &mut Service<T, P, L, C, J, N>,
     turns: u64,
-    printer: &mut LinePrinter<W>,
-    complaints: &mut C,
+    printer: &mut LinePrinter<O>,
+    complaints: &mut M,
 ) -> Result<(), Exit>
-    ensures { OnOk result (PrintsRecords (W.contents printer.old.output) (W.contents printer.new.output)) }
+    ensures server { service.new.engine.server ≡ service.old.engine.server }
+    ensures failed { OnOk result (printer.new.has_failed ≡ printer.old.has_failed) }
+    ensures turns { OnOk result (AreTurns turns service.old.engine.server service.old.engine.state service.new.engine.state
+        (record { devices = told_by service.old.link.link.heard service.old.link.link.given (C.readings service.old.clock) (kept (J.written service.old.journal) (J.faulted service.old.journal)) (kept (told printer.old.has_failed (O.contents printer.old.output)) printer.old.has_failed) (N.stream service.old.words); waits = service.old.link.link.waits })
+        (record { devices = told_by service.new.link.link.heard service.new.link.link.given (C.readings service.new.clock) (kept (J.written service.new.journal) (J.faulted service.new.journal)) (kept (told printer.new.has_failed (O.contents printer.new.output)) printer.new.has_failed) (N.stream service.new.words); waits = service.new.link.link.waits })) }
+    ensures ended { IfErr result (EndsWithin turns service.old.engine.server service.old.engine.state service.new.engine.state
+        (record { devices = told_by service.old.link.link.heard service.old.link.link.given (C.readings service.old.clock) (kept (J.written service.old.journal) (J.faulted service.old.journal)) (kept (told printer.old.has_failed (O.contents printer.old.output)) printer.old.has_failed) (N.stream service.old.words); waits = service.old.link.link.waits })
+        (record { devices = told_by service.new.link.link.heard service.new.link.link.given (C.readings service.new.clock) (kept (J.written service.new.journal) (J.faulted service.new.journal)) (kept (told printer.new.has_failed (O.contents printer.new.output)) printer.new.has_failed) (N.stream service.new.words); waits = service.new.link.link.waits }) printer.new.fault) }
 {
     for _ in 0..turns {
         do_turn(alloc, service, printer, complaints)?;
@@ -223,12 +239,13 @@ fn do_turns<T: Timers, P: Rules, R: rt::Clock, J: WatchedJournal, W: Write + Dro
 }
 
 /// Prints where it serves, and the records that were decided before it was begun and may not have been printed.
-fn print_start<W: Write + Drop>(
+fn print_start<O: Write + Drop>(
     address: Addr,
     records: &[Record],
-    printer: &mut LinePrinter<W>,
+    printer: &mut LinePrinter<O>,
 ) -> Result<(), Exit>
-    ensures { OnOk result (Appends (W.contents printer.old.output) (W.contents printer.new.output) (serving_text address ++ lines_of records.now)) }
+    ensures printed { OnOk result (Appends (O.contents printer.old.output) (O.contents printer.new.output) (start_text address records.now)) }
+    ensures failed { OnOk result (printer.new.has_failed ≡ false) }
 {
     printer.print_serving(address)?;
     match printer.print(records) {
@@ -238,47 +255,111 @@ fn print_start<W: Write + Drop>(
     }
 }
 
-/// Prints the start, does so many turns, and says then that they are over.
-fn serve_counted<T: Timers, P: Rules, R: rt::Clock, J: WatchedJournal, W: Write + Drop, C: Write>(
+/// Prints the start, and does so many turns.
+fn serve_on<
+    T: Timers,
+    P: Rules,
+    L: Link,
+    C: Clock,
+    J: WatchedJournal,
+    N: Rng + Drop,
+    O: Write + Drop,
+    M: Write,
+>(
     alloc: Global,
-    service: &mut Service<'_, T, P, R, J>,
+    service: &mut Service<T, P, L, C, J, N>,
     served: &Serving<'_>,
-    turns: u32,
-    printer: &mut LinePrinter<W>,
-    complaints: &mut C,
+    turns: u64,
+    printer: &mut LinePrinter<O>,
+    complaints: &mut M,
 ) -> Result<(), Exit>
-    ensures { OnOk result (PrintsServed served.now.address turns (W.contents printer.old.output) (W.contents printer.new.output)) }
+    ensures server { service.new.engine.server ≡ service.old.engine.server }
+    ensures served { OnOk result (Serves served.now.address served.now.decided.now turns service.old.engine.server service.old.engine.state service.new.engine.state
+        (record { devices = told_by service.old.link.link.heard service.old.link.link.given (C.readings service.old.clock) (kept (J.written service.old.journal) (J.faulted service.old.journal)) (kept (told printer.old.has_failed (O.contents printer.old.output)) printer.old.has_failed) (N.stream service.old.words); waits = service.old.link.link.waits })
+        (record { devices = told_by service.new.link.link.heard service.new.link.link.given (C.readings service.new.clock) (kept (J.written service.new.journal) (J.faulted service.new.journal)) (kept (told printer.new.has_failed (O.contents printer.new.output)) printer.new.has_failed) (N.stream service.new.words); waits = service.new.link.link.waits })
+        (O.contents printer.old.output) (O.contents printer.new.output)) }
+    ensures ended { IfErr result (λ exit. IsUnstarted service.old.engine.state service.new.engine.state
+        (record { devices = told_by service.old.link.link.heard service.old.link.link.given (C.readings service.old.clock) (kept (J.written service.old.journal) (J.faulted service.old.journal)) (kept (told printer.old.has_failed (O.contents printer.old.output)) printer.old.has_failed) (N.stream service.old.words); waits = service.old.link.link.waits })
+        (record { devices = told_by service.new.link.link.heard service.new.link.link.given (C.readings service.new.clock) (kept (J.written service.new.journal) (J.faulted service.new.journal)) (kept (told printer.new.has_failed (O.contents printer.new.output)) printer.new.has_failed) (N.stream service.new.words); waits = service.new.link.link.waits })
+        ⊎ EndsBehindStart served.now.address served.now.decided.now turns service.old.engine.server service.old.engine.state service.new.engine.state
+        (record { devices = told_by service.old.link.link.heard service.old.link.link.given (C.readings service.old.clock) (kept (J.written service.old.journal) (J.faulted service.old.journal)) (kept (told printer.old.has_failed (O.contents printer.old.output)) printer.old.has_failed) (N.stream service.old.words); waits = service.old.link.link.waits })
+        (record { devices = told_by service.new.link.link.heard service.new.link.link.given (C.readings service.new.clock) (kept (J.written service.new.journal) (J.faulted service.new.journal)) (kept (told printer.new.has_failed (O.contents printer.new.output)) printer.new.has_failed) (N.stream service.new.words); waits = service.new.link.link.waits })
+        (O.contents printer.old.output) printer.new.fault exit) }
 {
     print_start(served.address, served.decided, printer)?;
-    do_turns(alloc, service, u64::from(turns), printer, complaints)?;
+    do_turns(alloc, service, turns, printer, complaints)
+}
+
+/// Does the same for so many turns, and says then that they are over.
+fn serve_counted<
+    T: Timers,
+    P: Rules,
+    L: Link,
+    C: Clock,
+    J: WatchedJournal,
+    N: Rng + Drop,
+    O: Write + Drop,
+    M: Write,
+>(
+    alloc: Global,
+    service: &mut Service<T, P, L, C, J, N>,
+    served: &Serving<'_>,
+    turns: u32,
+    printer: &mut LinePrinter<O>,
+    complaints: &mut M,
+) -> Result<(), Exit>
+    ensures served { OnOk result (ServesCounted served.now.address served.now.decided.now turns service.old.engine.server service.old.engine.state service.new.engine.state
+        (record { devices = told_by service.old.link.link.heard service.old.link.link.given (C.readings service.old.clock) (kept (J.written service.old.journal) (J.faulted service.old.journal)) (kept (told printer.old.has_failed (O.contents printer.old.output)) printer.old.has_failed) (N.stream service.old.words); waits = service.old.link.link.waits })
+        (record { devices = told_by service.new.link.link.heard service.new.link.link.given (C.readings service.new.clock) (kept (J.written service.new.journal) (J.faulted service.new.journal)) (kept (told printer.new.has_failed (O.contents printer.new.output)) printer.new.has_failed) (N.stream service.new.words); waits = service.new.link.link.waits })
+        (O.contents printer.old.output) (O.contents printer.new.output)) }
+    ensures printed { OnOk result (PrintsServed served.now.address served.now.decided.now turns (O.contents printer.old.output) (O.contents printer.new.output)) }
+{
+    serve_on(
+        alloc,
+        service,
+        served,
+        u64::from(turns),
+        printer,
+        complaints,
+    )?;
     printer.print_turns(turns)
 }
 
-/// Prints the start, and does turns as long as the process goes on.
-fn serve_on<T: Timers, P: Rules, R: rt::Clock, J: WatchedJournal, W: Write + Drop, C: Write>(
-    alloc: Global,
-    service: &mut Service<'_, T, P, R, J>,
-    served: &Serving<'_>,
-    printer: &mut LinePrinter<W>,
-    complaints: &mut C,
-) -> Result<(), Exit> {
-    print_start(served.address, served.decided, printer)?;
-    do_turns(alloc, service, u64::MAX, printer, complaints)
-}
-
 /// Serves at an address, for so many turns, or until the process is ended. Prints where it serves, what was decided before, the
-/// record of each decision before what it decides is sent, and the number of turns at their end; nothing else.
-pub fn serve_turns<T: Timers, P: Rules, R: rt::Clock, J: WatchedJournal, W: Write + Drop, C: Write>(
+/// record of each decision before what it decides is sent, and the number of turns at their end; nothing else. Each turn waits as long as
+/// nothing is due, a second at most, and is one of `sip_loop::serve`.
+pub fn serve_turns<
+    T: Timers,
+    P: Rules,
+    L: Link,
+    C: Clock,
+    J: WatchedJournal,
+    N: Rng + Drop,
+    O: Write + Drop,
+    M: Write,
+>(
     alloc: Global,
-    service: &mut Service<'_, T, P, R, J>,
+    service: &mut Service<T, P, L, C, J, N>,
     served: &Serving<'_>,
-    printer: &mut LinePrinter<W>,
-    complaints: &mut C,
+    printer: &mut LinePrinter<O>,
+    complaints: &mut M,
 ) -> Result<(), Exit>
-    ensures { IfSome served.now.turns (λ n. OnOk result (PrintsServed served.now.address n (W.contents printer.old.output) (W.contents printer.new.output))) }
+    ensures served { IfSome served.now.turns (λ turns. OnOk result (ServesCounted served.now.address served.now.decided.now turns
+        service.old.engine.server service.old.engine.state service.new.engine.state
+        (record { devices = told_by service.old.link.link.heard service.old.link.link.given (C.readings service.old.clock) (kept (J.written service.old.journal) (J.faulted service.old.journal)) (kept (told printer.old.has_failed (O.contents printer.old.output)) printer.old.has_failed) (N.stream service.old.words); waits = service.old.link.link.waits })
+        (record { devices = told_by service.new.link.link.heard service.new.link.link.given (C.readings service.new.clock) (kept (J.written service.new.journal) (J.faulted service.new.journal)) (kept (told printer.new.has_failed (O.contents printer.new.output)) printer.new.has_failed) (N.stream service.new.words); waits = service.new.link.link.waits })
+        (O.contents printer.old.output) (O.contents printer.new.output))) }
+    ensures printed { IfSome served.now.turns (λ turns. OnOk result (PrintsServed served.now.address served.now.decided.now turns (O.contents printer.old.output) (O.contents printer.new.output))) }
+    ensures ended { IfNone served.now.turns (IfErr result (λ exit. IsUnstarted service.old.engine.state service.new.engine.state
+        (record { devices = told_by service.old.link.link.heard service.old.link.link.given (C.readings service.old.clock) (kept (J.written service.old.journal) (J.faulted service.old.journal)) (kept (told printer.old.has_failed (O.contents printer.old.output)) printer.old.has_failed) (N.stream service.old.words); waits = service.old.link.link.waits })
+        (record { devices = told_by service.new.link.link.heard service.new.link.link.given (C.readings service.new.clock) (kept (J.written service.new.journal) (J.faulted service.new.journal)) (kept (told printer.new.has_failed (O.contents printer.new.output)) printer.new.has_failed) (N.stream service.new.words); waits = service.new.link.link.waits })
+        ⊎ EndsBehindStart served.now.address served.now.decided.now (2 ^ 64 - 1) service.old.engine.server service.old.engine.state service.new.engine.state
+        (record { devices = told_by service.old.link.link.heard service.old.link.link.given (C.readings service.old.clock) (kept (J.written service.old.journal) (J.faulted service.old.journal)) (kept (told printer.old.has_failed (O.contents printer.old.output)) printer.old.has_failed) (N.stream service.old.words); waits = service.old.link.link.waits })
+        (record { devices = told_by service.new.link.link.heard service.new.link.link.given (C.readings service.new.clock) (kept (J.written service.new.journal) (J.faulted service.new.journal)) (kept (told printer.new.has_failed (O.contents printer.new.output)) printer.new.has_failed) (N.stream service.new.words); waits = service.new.link.link.waits })
+        (O.contents printer.old.output) printer.new.fault exit)) }
 {
     match served.turns {
         Some(turns) => serve_counted(alloc, service, served, turns, printer, complaints),
-        None => serve_on(alloc, service, served, printer, complaints),
+        None => serve_on(alloc, service, served, u64::MAX, printer, complaints),
     }
 }

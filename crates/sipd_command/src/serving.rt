@@ -1,25 +1,24 @@
-ghost use Rattle.std.specs.Prelude.{◌≡◌, map, IfOk};
+ghost use Rattle.std.specs.Prelude.{◌≡◌, IfOk, IfSome, OnOk};
+ghost use Rattle.sip_guard.specs.Guard.{link_told};
+ghost use Rattle.sipd_start.specs.Boots.{behind_secret};
+ghost use Rattle.sipd_command.specs.Printing.{PrintsServed};
+ghost use Rattle.sipd_command.specs.Starts.{bound_address, guard_over, hop_addresses};
 
-use crate::beginning::{Again, Beginning, Begun, begin_again, begin_anew, new_boot, secret};
 use crate::line_printer::LinePrinter;
-use crate::making::{check_free, place_of};
-use crate::record_file::mark_file;
-use crate::recording::WatchedJournal;
-use crate::service::{Service, Serving, Told, serve_turns};
-use crate::stack_limit::check_stack;
+use crate::service::{Said, Service, Serving, serve_turns};
 use rand::rngs::StdRng;
+use rand_core::Rng;
 use sip_audit::Record;
 use sip_config_types::Config;
 use sip_guard::{Guard, Limit};
-use sip_loop_link::{SteadyClock, UdpLink};
+use sip_loop_link::{Clock, Link, SteadyClock, UdpLink};
 use sip_policy::Rules;
-use sip_record::{NoJournal, RecordMark};
+use sip_record::NoJournal;
 use sip_replay::engine::Engine;
 use sip_timers::Timers;
 use sip_uri::Addr;
-use sipd_arguments::{
-    DeviceFault, Exit, RecordPlace, ServeCall, Stated, config_of_bytes, stated_in,
-};
+use sipd_arguments::{DeviceFault, Exit, ServeCall, config_of_bytes, stated_in};
+use sipd_start::{Beginning, Begun, WatchedJournal, begin, check_stack, new_boot, secret};
 use std::alloc::{AllocError, Global};
 use std::io::{ErrorKind, Write};
 use std::net::Net;
@@ -27,40 +26,21 @@ use std::random::RandomSource;
 use std::rt;
 use std::rt::Files;
 
-/// What a server is reached by, before it starts.
+/// What a server of one start serves with, beside its engine and its journal.
 #[derive(Drop)]
-struct Bound {
-    link: UdpLink,
+struct Start<L: Link, N: Rng + Drop> {
+    link: L,
     address: Addr,
     /// The IP addresses of the configured hops, which are heard however much they send.
     hops: Vec<[u8; 4]>,
-}
-
-/// What a server of one start serves with, beside its engine and its journal.
-#[derive(Drop)]
-struct Start<'a, R> {
-    rt: &'a R,
-    bound: Bound,
-    words: StdRng,
+    words: N,
     per_source: Option<u32>,
     turns: Option<u32>,
 }
 
-impl<'a, R> Start<'a, R> {
-    fn new(rt: &'a R, call: &ServeCall, bound: Bound, words: StdRng) -> Self {
-        Start {
-            rt,
-            bound,
-            words,
-            per_source: call.per_source,
-            turns: call.turns,
-        }
-    }
-}
-
 /// Where a configuration says that a server is bound.
 fn address_of(config: &Config) -> Addr
-    ensures { result ≡ record { ip = config.now.own.ip; port = config.now.bound_port } }
+    ensures { result ≡ bound_address config.now }
 {
     Addr {
         ip: config.own.ip,
@@ -70,7 +50,7 @@ fn address_of(config: &Config) -> Addr
 
 /// The IP addresses of the hops of a configuration, in their order.
 fn hops_of(alloc: Global, config: &Config) -> Result<Vec<[u8; 4]>, AllocError>
-    ensures { IfOk result (λ hops. hops.items ≡ map (λ hop. hop.address.ip) config.now.hops) }
+    ensures { IfOk result (λ hops. hops.items ≡ hop_addresses config.now) }
 {
     let mut hops = Vec::new(alloc);
     for hop in config.hops.as_slice() {
@@ -79,16 +59,10 @@ fn hops_of(alloc: Global, config: &Config) -> Result<Vec<[u8; 4]>, AllocError>
     Ok(hops)
 }
 
-/// The address of a configuration, bound.
-fn bind<R: Net + AllocGlobal>(rt: &R, config: &Config) -> Result<Bound, Exit> {
-    let address = address_of(config);
-    let hops = hops_of(rt.alloc(), config)?;
+/// A socket that is bound to an address.
+fn bind<R: Net + AllocGlobal>(rt: &R, address: Addr) -> Result<UdpLink, Exit> {
     match UdpLink::bind(rt, rt.alloc(), address) {
-        Ok(link) => Ok(Bound {
-            link,
-            address,
-            hops,
-        }),
+        Ok(link) => Ok(link),
         Err(e) if e.kind() == ErrorKind::PermissionDenied => {
             Err(Exit::Device(DeviceFault::NoRightToPort))
         }
@@ -96,11 +70,32 @@ fn bind<R: Net + AllocGlobal>(rt: &R, config: &Config) -> Result<Bound, Exit> {
     }
 }
 
+/// What a server starts with over a link, as a command line and a configuration say.
+fn start_of<L: Link, N: Rng + Drop>(
+    alloc: Global,
+    call: &ServeCall,
+    config: &Config,
+    link: L,
+    words: N,
+) -> Result<Start<L, N>, AllocError>
+    ensures { IfOk result (λ start. (start.link ≡ link) × (start.address ≡ bound_address config.now) × (start.hops.items ≡ hop_addresses config.now)
+        × (start.words ≡ words) × (start.per_source ≡ call.now.per_source) × (start.turns ≡ call.now.turns)) }
+{
+    Ok(Start {
+        link,
+        address: address_of(config),
+        hops: hops_of(alloc, config)?,
+        words,
+        per_source: call.per_source,
+        turns: call.turns,
+    })
+}
+
 /// A clock for a server that is at a moment, whatever the wall clock says; complains where that is behind.
-fn clock_from<'a, R: rt::Clock, C: Write>(
+fn clock_from<'a, R: rt::Clock, M: Write>(
     rt: &'a R,
     moment: u64,
-    complaints: &mut C,
+    complaints: &mut M,
 ) -> SteadyClock<'a, R> {
     let clock = SteadyClock::from(rt, moment);
     let behind = clock.behind();
@@ -113,93 +108,74 @@ fn clock_from<'a, R: rt::Clock, C: Write>(
     clock
 }
 
-/// Serves with an engine whose events are told to a journal, and that hears so many datagrams a second from one address. Prints
-/// first what was decided before and may not have been printed.
-fn serve_with<
-    'a,
-    T: Timers,
-    P: Rules,
-    R: rt::Clock + AllocGlobal,
-    J: WatchedJournal,
-    W: Write + Drop,
-    C: Write,
->(
-    start: Start<'a, R>,
+/// The service of a start: over its link a guard hears so many datagrams a second from one address as are asked for, and hops always.
+/// The guard's keys are drawn first.
+fn service_of<T: Timers, P: Rules, L: Link, C: Clock, J: WatchedJournal, N: Rng + Drop>(
+    alloc: Global,
+    start: Start<L, N>,
     engine: Engine<T, P>,
     journal: J,
-    decided: &[Record],
-    printer: &mut LinePrinter<W>,
-    complaints: &mut C,
-) -> Result<(), Exit> {
+    watch: C,
+    clock: C,
+) -> Result<Service<T, P, L, C, J, N>, AllocError>
+    ensures engine { IfOk result (λ service. service.engine ≡ engine) }
+    ensures journal { IfOk result (λ service. service.journal ≡ journal) }
+    ensures clock { IfOk result (λ service. service.clock ≡ clock) }
+    ensures words { IfOk result (λ service. N.stream service.words ≡ behind_secret (N.stream start.words)) }
+    ensures guard { IfOk result (λ service. service.link ≡ guard_over start.hops.items start.per_source (link_told (L.heard start.link) (L.fresh start.link) (L.aside start.link)
+        (L.given start.link) (L.held start.link) (L.waits start.link) (L.receives start.link) (L.failures start.link)) (C.readings watch)) }
+{
     let Start {
-        rt,
-        bound,
+        link,
+        hops,
         mut words,
         per_source,
-        turns,
+        ..
     } = start;
-    let alloc = rt.alloc();
-    let Bound {
-        link,
-        address,
-        hops,
-    } = bound;
     let limit = per_source.and_then(Limit::of_rate);
     let keys = secret(&mut words);
-    let link = Guard::new(alloc, keys, link, SteadyClock::new(rt), limit, hops)?;
-    let clock = clock_from(rt, engine.moment(), complaints);
-    let mut service = Service {
+    let link = Guard::new(alloc, keys, link, watch, limit, hops)?;
+    Ok(Service {
         engine,
         link,
         journal,
         clock,
         words,
-        told: Told::new(),
-    };
+        said: Said::new(),
+    })
+}
+
+/// Serves with an engine whose events are told to a journal. Prints first what was decided before and may not have been printed.
+fn serve_with<
+    T: Timers,
+    P: Rules,
+    R: rt::Clock + AllocGlobal,
+    L: Link,
+    J: WatchedJournal,
+    N: Rng + Drop,
+    W: Write + Drop,
+    M: Write,
+>(
+    rt: &R,
+    start: Start<L, N>,
+    engine: Engine<T, P>,
+    journal: J,
+    decided: &[Record],
+    printer: &mut LinePrinter<W>,
+    complaints: &mut M,
+) -> Result<(), Exit>
+    ensures { IfSome start.turns (λ turns. OnOk result (PrintsServed start.address decided.now turns (W.contents printer.old.output) (W.contents printer.new.output))) }
+{
+    let alloc = rt.alloc();
+    let clock = clock_from(rt, engine.moment(), complaints);
     let serving = Serving {
-        address,
+        address: start.address,
         decided,
-        turns,
+        turns: start.turns,
     };
+    let watch = SteadyClock::new(rt);
+    let mut service = service_of(alloc, start, engine, journal, watch, clock)?;
     serve_turns(alloc, &mut service, &serving, printer, complaints)
-}
-
-/// Says that a record is gone on from, in its first line, so that no other start does.
-fn leave<R: Files, C: Write>(rt: &R, old: &str, complaints: &mut C) {
-    if mark_file(rt, old, RecordMark::Left).is_err() {
-        let _ = writeln!(
-            complaints,
-            "sipd: {old} can't be marked as left: let no other start go on from it"
-        );
-    }
-}
-
-/// A server that records: one that goes on from where an older record leads, if there is one and it can be had, or one that starts
-/// anew.
-fn begin<'a, T: Timers, P: Rules, R: Files + AllocGlobal, C: Write>(
-    beginning: &Beginning<'a, R>,
-    words: &mut StdRng,
-    complaints: &mut C,
-) -> Result<Begun<'a, T, P, R>, Exit> {
-    check_free(beginning.rt, beginning.place)?;
-    let Some(old) = &beginning.place.old else {
-        return begin_anew(beginning, words);
-    };
-    let old = old.as_str();
-    match begin_again(beginning, old, words)? {
-        Again::Resumed(begun, lines) => {
-            leave(beginning.rt, old, complaints);
-            let _ = writeln!(complaints, "sipd: goes on behind {lines} lines of {old}");
-            Ok(begun)
-        }
-        Again::Not(why) => {
-            let _ = writeln!(
-                complaints,
-                "sipd: {old} isn't resumed: {why}; bindings, dialogs, open calls and nonces are lost"
-            );
-            begin_anew(beginning, words)
-        }
-    }
 }
 
 /// Serves and records.
@@ -207,43 +183,33 @@ fn serve_recorded<
     T: Timers,
     P: Rules,
     R: Files + rt::Clock + AllocGlobal,
+    L: Link,
     W: Write + Drop,
-    C: Write,
+    M: Write,
 >(
-    mut start: Start<'_, R>,
-    stated: &Stated,
-    wanted: &RecordPlace,
-    call: &ServeCall,
+    beginning: &Beginning<'_, R>,
+    rt: &R,
+    mut start: Start<L, StdRng>,
     printer: &mut LinePrinter<W>,
-    complaints: &mut C,
+    complaints: &mut M,
 ) -> Result<(), Exit> {
-    let rt = start.rt;
-    let place = place_of(rt, wanted)?;
-    let beginning = Beginning {
-        rt,
-        stated,
-        place: &place,
-        fault: call.record_fault,
-    };
     let Begun {
         engine,
         record,
         last,
-    } = begin::<T, P, R, C>(&beginning, &mut start.words, complaints)?;
+    } = begin::<T, P, R, _, M>(beginning, &mut start.words, complaints)?;
     let decided = match &last {
         Some(out) => out.records.as_slice(),
         None => &[],
     };
-    match record {
-        Some(record) => serve_with(start, engine, record, decided, printer, complaints),
-        None => {
-            let _ = writeln!(
-                complaints,
-                "sipd: the record can't be written; nothing is recorded"
-            );
-            serve_with(start, engine, NoJournal, decided, printer, complaints)
-        }
+    if let Some(record) = record {
+        return serve_with(rt, start, engine, record, decided, printer, complaints);
     }
+    let _ = writeln!(
+        complaints,
+        "sipd: the record can't be written; nothing is recorded"
+    );
+    serve_with(rt, start, engine, NoJournal, decided, printer, complaints)
 }
 
 /// Serves with the configuration of a file.
@@ -252,24 +218,24 @@ pub fn serve_file<
     P: Rules,
     R: Files + Net + rt::Clock + RandomSource + AllocGlobal,
     W: Write,
-    C: Write,
->(rt: &R, call: &ServeCall, output: &mut W, complaints: &mut C) -> Result<(), Exit> {
+    M: Write,
+>(rt: &R, call: &ServeCall, output: &mut W, complaints: &mut M) -> Result<(), Exit> {
     check_stack(rt)?;
     let alloc = rt.alloc();
     let stated = stated_in(rt, call.config.as_str())?;
     let config = config_of_bytes(alloc, stated.bytes.as_slice())?;
-    let bound = bind(rt, &config)?;
-    let mut words: StdRng = rand::make_rng(rt)?;
+    let link = bind(rt, address_of(&config))?;
+    let words: StdRng = rand::make_rng(rt)?;
+    let mut start = start_of(alloc, call, &config, link, words)?;
     let mut printer = LinePrinter::new(alloc, output);
     match &call.record {
         None => {
-            let engine = Engine::<T, P>::open(alloc, config, new_boot(&mut words))?;
-            let start = Start::new(rt, call, bound, words);
-            serve_with(start, engine, NoJournal, &[], &mut printer, complaints)
+            let engine = Engine::<T, P>::open(alloc, config, new_boot(&mut start.words))?;
+            serve_with(rt, start, engine, NoJournal, &[], &mut printer, complaints)
         }
         Some(place) => {
-            let start = Start::new(rt, call, bound, words);
-            serve_recorded::<T, P, R, _, C>(start, &stated, place, call, &mut printer, complaints)
+            let beginning = Beginning::new(rt, &stated, place, call.record_fault)?;
+            serve_recorded::<T, P, R, _, _, M>(&beginning, rt, start, &mut printer, complaints)
         }
     }
 }

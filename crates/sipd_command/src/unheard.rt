@@ -1,7 +1,8 @@
+ghost use Rattle.std.specs.Prelude.{◌≡◌};
+
 use sip_guard::{Guard, Unheard};
-use sip_loop_link::{SteadyClock, UdpLink};
+use sip_loop_link::{Clock, Link};
 use std::io::Write;
-use std::rt;
 
 /// Writes how much of whom wasn't heard, in a line.
 fn write_unheard<C: Write>(unheard: &Unheard, complaints: &mut C) {
@@ -16,10 +17,9 @@ fn write_unheard<C: Write>(unheard: &Unheard, complaints: &mut C) {
 }
 
 /// Says how much of whom wasn't heard, and counts anew; whether something wasn't.
-pub fn tell_unheard<R: rt::Clock, C: Write>(
-    link: &mut Guard<UdpLink, SteadyClock<'_, R>>,
-    complaints: &mut C,
-) -> bool {
+pub fn tell_unheard<L: Link, C: Clock, M: Write>(link: &mut Guard<L, C>, complaints: &mut M) -> bool
+    ensures { link.new.link ≡ link.old.link }
+{
     let Some(unheard) = link.unheard() else {
         return false;
     };

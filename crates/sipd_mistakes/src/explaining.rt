@@ -1,3 +1,9 @@
+ghost use Rattle.std.specs.Prelude.{◌≡◌, IfOk};
+ghost use Rattle.sip_config.specs.ConfigError.{words_of};
+ghost use Rattle.sip_config.specs.declared.error.ConfigError.TheVariants.{BadToml};
+ghost use Rattle.sipd_mistakes.specs.Mistakes;
+ghost use Rattle.sipd_mistakes.specs.Mistakes.{Tells, TellsFault, error_of};
+
 use crate::fault::{Cause, Fault, fault_of, items_of, version_of};
 use crate::faulty_keys::{strayed, unknown_key};
 use crate::headers::wrong_header;
@@ -86,10 +92,44 @@ fn put_known(text: &mut Bytes, whole: &Table, kind: Kind) -> Result<(), AllocErr
     Ok(())
 }
 
-/// Adds the key of a fault behind a word.
-fn put_key(text: &mut Bytes, before: &[u8], fault: &Fault<'_>) -> Result<(), AllocError> {
-    text.extend(before)?;
-    text.extend(fault.key.as_bytes())
+/// The word in front of the key of a fault.
+fn word_of(cause: Cause) -> &'static [u8]
+    ensures { result.now ≡ Mistakes.word_of cause }
+{
+    match cause {
+        Cause::Missing(_) => b"missing: ",
+        Cause::Unknown => b"not known: ",
+        Cause::TooMany(_) => b"too many of ",
+        Cause::Bad(_)
+        | Cause::NoTables
+        | Cause::Twice
+        | Cause::TwiceId
+        | Cause::UnknownHop
+        | Cause::UnknownGroup => b"bad value of ",
+    }
+}
+
+/// Why it is one, where that is always the same.
+fn reason_of(cause: Cause) -> &'static [u8]
+    ensures { result.now ≡ Mistakes.reason_of cause }
+{
+    match cause {
+        Cause::Twice | Cause::TwiceId => b"; one before has the same",
+        Cause::UnknownHop => b"; no [[hop]] has this name",
+        Cause::UnknownGroup => b"; no [[user]] is in this group",
+        Cause::Missing(_) | Cause::Unknown | Cause::TooMany(_) | Cause::Bad(_) | Cause::NoTables =>
+            b"",
+    }
+}
+
+/// What is wrong with a key.
+fn told(alloc: Global, cause: Cause, key: &[u8]) -> Result<Bytes, AllocError>
+    ensures { IfOk result (λ text. text ≡ Mistakes.told cause key.now) }
+{
+    let mut text = Bytes::copy(alloc, word_of(cause))?;
+    text.extend(key)?;
+    text.extend(reason_of(cause))?;
+    Ok(text)
 }
 
 /// Adds the key that may be the missing one, if there is one.
@@ -126,7 +166,6 @@ fn put_missing(
     fault: &Fault<'_>,
     wanted: Wanted,
 ) -> Result<(), AllocError> {
-    put_key(text, b"missing: ", fault)?;
     put_misspelt(text, source.whole, fault)?;
     put_strayed(text, source, fault)?;
     put_wanted(text, wanted)
@@ -157,60 +196,29 @@ fn put_wrong_header(text: &mut Bytes, source: &[u8]) -> Result<(), AllocError> {
     put_header(text, wrong.wanted, true)
 }
 
-/// Adds what is wrong, and what would do.
-fn put_cause(text: &mut Bytes, source: Source<'_>, fault: &Fault<'_>) -> Result<(), AllocError> {
+/// Adds what would do.
+fn put_cure(text: &mut Bytes, source: Source<'_>, fault: &Fault<'_>) -> Result<(), AllocError> {
     match fault.cause {
         Cause::Missing(wanted) => put_missing(text, source, fault, wanted),
-        Cause::Bad(wanted) => {
-            put_key(text, b"bad value of ", fault)?;
-            put_wanted(text, wanted)
-        }
-        Cause::Unknown => {
-            put_key(text, b"not known: ", fault)?;
-            put_known(text, source.whole, fault.kind)
-        }
+        Cause::Bad(wanted) => put_wanted(text, wanted),
+        Cause::Unknown => put_known(text, source.whole, fault.kind),
         Cause::NoTables => {
-            put_key(text, b"bad value of ", fault)?;
-            put_key(text, b"; wanted: one or more tables [[", fault)?;
+            text.extend(b"; wanted: one or more tables [[")?;
+            text.extend(fault.key.as_bytes())?;
             text.extend(b"]]")
         }
         Cause::TooMany(most) => {
-            put_key(text, b"too many of ", fault)?;
             text.extend(b"; wanted: at most ")?;
             text.push_decimal(u64::from(most))
         }
-        Cause::Twice => {
-            put_key(text, b"bad value of ", fault)?;
-            text.extend(b"; one before has the same")
-        }
-        Cause::UnknownHop => {
-            put_key(text, b"bad value of ", fault)?;
-            text.extend(b"; no [[hop]] has this name")
-        }
-        Cause::UnknownGroup => {
-            put_key(text, b"bad value of ", fault)?;
-            text.extend(b"; no [[user]] is in this group")
-        }
+        Cause::Twice | Cause::TwiceId | Cause::UnknownHop | Cause::UnknownGroup => Ok(()),
     }
 }
 
-/// What is wrong with a text that is TOML.
-fn explain_table(
-    alloc: Global,
-    source: &str,
-    whole: &Table,
-    error: ConfigError,
-) -> Result<Bytes, AllocError> {
+/// What would do in place of a fault, and the end of the line.
+fn cure(alloc: Global, source: Source<'_>, fault: &Fault<'_>) -> Result<Bytes, AllocError> {
     let mut text = Bytes::new(alloc);
-    let Some(fault) = fault_of(whole, error) else {
-        return Ok(text);
-    };
-    let source = Source {
-        text: source.as_bytes(),
-        whole,
-    };
-    put_place(&mut text, source, &fault)?;
-    put_cause(&mut text, source, &fault)?;
+    put_cure(&mut text, source, fault)?;
     if fault.kind == Kind::Head {
         put_wrong_header(&mut text, source.text)?;
     }
@@ -218,27 +226,101 @@ fn explain_table(
     Ok(text)
 }
 
-/// What is wrong with a text that isn't TOML.
-fn explain_toml(alloc: Global, source: &str, error: &toml::de::Error) -> Result<Bytes, AllocError> {
+/// The line and the table of a fault.
+fn place(alloc: Global, source: Source<'_>, fault: &Fault<'_>) -> Result<Bytes, AllocError> {
     let mut text = Bytes::new(alloc);
-    let Some(span) = error.span() else {
-        return Err(AllocError);
-    };
-    text.extend(b"line ")?;
-    text.push_decimal(line_at(source.as_bytes(), span.start) as u64)?;
-    text.extend(b": not TOML: ")?;
-    text.extend(error.message().as_bytes())?;
-    put_wrong_header(&mut text, source.as_bytes())?;
+    put_place(&mut text, source, fault)?;
+    Ok(text)
+}
+
+/// What a refusal is called, where no fault is found.
+fn plain(alloc: Global, error: ConfigError) -> Result<Bytes, AllocError>
+    ensures { IfOk result (λ text. text ≡ Mistakes.plain error) }
+{
+    let mut text = Bytes::copy(alloc, name_of(error))?;
     text.push(b'\n')?;
     Ok(text)
 }
 
+fn name_of(error: ConfigError) -> &'static [u8]
+    ensures { result.now ≡ words_of error }
+{
+    match error {
+        ConfigError::NoMemory => b"out of memory",
+        ConfigError::BadToml => b"not TOML",
+        ConfigError::MissingKey => b"a key is missing",
+        ConfigError::BadValue => b"a bad value or an unknown key",
+        ConfigError::DuplicateRule => b"two rules have the same id",
+        ConfigError::UnknownHop => b"a rule names an unknown hop",
+        ConfigError::UnknownGroup => b"a rule names an unknown group",
+        ConfigError::TooMany => b"a list is too long",
+    }
+}
+
+/// The line of a fault.
+fn fault_line(alloc: Global, source: Source<'_>, fault: &Fault<'_>) -> Result<Bytes, AllocError>
+    ensures { IfOk result (TellsFault (error_of fault.now.cause)) }
+{
+    let mut text = place(alloc, source, fault)?;
+    let told = told(alloc, fault.cause, fault.key.as_bytes())?;
+    let cure = cure(alloc, source, fault)?;
+    text.extend(told.as_slice())?;
+    text.extend(cure.as_slice())?;
+    Ok(text)
+}
+
+/// What is wrong with a text that is TOML.
+#[tactic(auto, using(crate::proofs::Telling::tells_plain, crate::proofs::Telling::tells_fault))]
+fn explain_table(
+    alloc: Global,
+    source: &str,
+    whole: &Table,
+    error: ConfigError,
+) -> Result<Bytes, AllocError>
+    ensures { IfOk result (Tells error) }
+{
+    let Some(fault) = fault_of(whole, error) else {
+        return plain(alloc, error);
+    };
+    let source = Source {
+        text: source.as_bytes(),
+        whole,
+    };
+    fault_line(alloc, source, &fault)
+}
+
+/// What is wrong with a text that isn't TOML, behind the line.
+fn toml_fault(alloc: Global, source: &[u8], error: &toml::de::Error) -> Result<Bytes, AllocError> {
+    let mut text = Bytes::copy(alloc, error.message().as_bytes())?;
+    put_wrong_header(&mut text, source)?;
+    text.push(b'\n')?;
+    Ok(text)
+}
+
+/// What is wrong with a text that isn't TOML.
+fn explain_toml(alloc: Global, source: &[u8], error: &toml::de::Error) -> Result<Bytes, AllocError>
+    ensures { IfOk result (Tells BadToml) }
+{
+    let Some(span) = error.span() else {
+        return Err(AllocError);
+    };
+    let mut text = Bytes::new(alloc);
+    put_line(&mut text, Some(line_at(source, span.start)))?;
+    text.extend(b"not TOML: ")?;
+    text.extend(toml_fault(alloc, source, error)?.as_slice())?;
+    Ok(text)
+}
+
 /// Of the text of a configuration that is refused with this error, as a line: the line, the table and the key of its
-/// first fault, what is wrong with it, and what would do; empty where no fault is found. It is advice: what counts is the
-/// error. `AllocError` is the only refusal.
-pub fn explain(alloc: Global, text: &str, error: ConfigError) -> Result<Bytes, AllocError> {
-    match toml::table_from_str(alloc, text) {
-        Ok(table) => explain_table(alloc, text, &table, error),
-        Err(e) => explain_toml(alloc, text, &e),
+/// first fault, what is wrong with it, and what would do. What it tells is this refusal, whatever is found: where no fault is,
+/// its name alone. `AllocError` is the only refusal.
+#[tactic(auto, using(crate::proofs::Telling::tells_plain))]
+pub fn explain(alloc: Global, text: &str, error: ConfigError) -> Result<Bytes, AllocError>
+    ensures { IfOk result (Tells error) }
+{
+    match (toml::table_from_str(alloc, text), error) {
+        (Ok(table), _) => explain_table(alloc, text, &table, error),
+        (Err(e), ConfigError::BadToml) => explain_toml(alloc, text.as_bytes(), &e),
+        (Err(_), _) => plain(alloc, error),
     }
 }

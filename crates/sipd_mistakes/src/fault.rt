@@ -1,3 +1,6 @@
+ghost use Rattle.std.specs.Prelude.{◌≡◌, IfSome};
+ghost use Rattle.sipd_mistakes.specs.Mistakes.{error_of};
+
 use crate::faulty_keys::fault_of_unknown;
 use crate::faulty_lists::long_list;
 use crate::faulty_names::{second_id, unknown_group, unknown_hop};
@@ -22,6 +25,8 @@ pub(crate) enum Cause {
     TooMany(u32),
     /// Another table before has the same.
     Twice,
+    /// Another rule before has the same number.
+    TwiceId,
     /// It names a hop that isn't configured.
     UnknownHop,
     /// It names a group that no user is in.
@@ -58,7 +63,9 @@ pub(crate) fn version_of(whole: &Table) -> i64 {
 }
 
 /// What a file is refused for as this error.
-pub(crate) fn fault_of(whole: &Table, error: ConfigError) -> Option<Fault<'_>> {
+pub(crate) fn fault_of(whole: &Table, error: ConfigError) -> Option<Fault<'_>>
+    ensures { IfSome result (λ f. error_of f.cause ≡ error) }
+{
     match error {
         ConfigError::MissingKey => fault_of_value(whole, error),
         ConfigError::BadValue => match fault_of_value(whole, error) {

@@ -1,3 +1,7 @@
+ghost use Rattle.std.specs.Prelude.{◌≡◌, IfSome};
+ghost use Rattle.sipd_mistakes.specs.Mistakes.{error_of};
+ghost use Rattle.sip_config.specs.declared.error.ConfigError.TheVariants.{BadValue};
+
 use crate::fault::{Cause, Fault, items_of, version_of};
 use crate::keys::{KINDS, Kind};
 use toml::Table;
@@ -12,7 +16,9 @@ pub(crate) fn unknown_key(version: i64, kind: Kind, table: &Table) -> Option<&st
     None
 }
 
-fn unknown_in(version: i64, kind: Kind, at: usize, table: &Table) -> Option<Fault<'_>> {
+fn unknown_in(version: i64, kind: Kind, at: usize, table: &Table) -> Option<Fault<'_>>
+    ensures { IfSome result (λ f. error_of f.cause ≡ BadValue) }
+{
     let key = unknown_key(version, kind, table)?;
     Some(Fault {
         kind,
@@ -22,7 +28,9 @@ fn unknown_in(version: i64, kind: Kind, at: usize, table: &Table) -> Option<Faul
     })
 }
 
-fn unknown_of_kind(whole: &Table, version: i64, kind: Kind) -> Option<Fault<'_>> {
+fn unknown_of_kind(whole: &Table, version: i64, kind: Kind) -> Option<Fault<'_>>
+    ensures { IfSome result (λ f. error_of f.cause ≡ BadValue) }
+{
     for (at, item) in items_of(whole, kind).iter().enumerate() {
         if let Some(table) = item.as_table() {
             if let Some(fault) = unknown_in(version, kind, at, table) {
@@ -34,7 +42,9 @@ fn unknown_of_kind(whole: &Table, version: i64, kind: Kind) -> Option<Fault<'_>>
 }
 
 /// The first key that isn't known.
-pub(crate) fn fault_of_unknown(whole: &Table) -> Option<Fault<'_>> {
+pub(crate) fn fault_of_unknown(whole: &Table) -> Option<Fault<'_>>
+    ensures { IfSome result (λ f. error_of f.cause ≡ BadValue) }
+{
     let version = version_of(whole);
     if let Some(fault) = unknown_in(version, Kind::Head, 0, whole) {
         return Some(fault);

@@ -1,3 +1,7 @@
+ghost use Rattle.std.specs.Prelude.{◌≡◌, IfSome};
+ghost use Rattle.sipd_mistakes.specs.Mistakes.{error_of};
+ghost use Rattle.sip_config.specs.declared.error.ConfigError.TheVariants.{TooMany};
+
 use crate::fault::{Cause, Fault, items_of};
 use crate::keys::Kind;
 use toml::Table;
@@ -13,7 +17,9 @@ fn is_over(table: &Table, key: &str, most: u32) -> bool {
 }
 
 /// The first user in too many groups.
-fn many_groups(whole: &Table) -> Option<Fault<'static>> {
+fn many_groups(whole: &Table) -> Option<Fault<'static>>
+    ensures { IfSome result (λ f. error_of f.cause ≡ TooMany) }
+{
     for (at, item) in items_of(whole, Kind::User).iter().enumerate() {
         if let Some(table) = item.as_table() {
             if is_over(table, "groups", 16) {
@@ -39,7 +45,9 @@ const LISTS: [(&str, u32); 5] = [
 ];
 
 /// The first list that is too long.
-pub(crate) fn long_list(whole: &Table) -> Option<Fault<'static>> {
+pub(crate) fn long_list(whole: &Table) -> Option<Fault<'static>>
+    ensures { IfSome result (λ f. error_of f.cause ≡ TooMany) }
+{
     for (key, most) in &LISTS {
         if is_over(whole, key, *most) {
             return Some(Fault {

@@ -1,3 +1,7 @@
+ghost use Rattle.std.specs.Prelude.{◌≡◌, IfSome};
+ghost use Rattle.sipd_mistakes.specs.Mistakes.{error_of};
+ghost use Rattle.sip_config.specs.declared.error.ConfigError.TheVariants.{DuplicateRule, UnknownHop, UnknownGroup};
+
 use crate::fault::{Cause, Fault, items_of};
 use crate::keys::Kind;
 use crate::wanted::{hop_named, text_at};
@@ -12,7 +16,9 @@ fn id_at(table: &Table) -> i64 {
 }
 
 /// A fault of a rule.
-fn rule_fault(at: usize, key: &'static str, cause: Cause) -> Option<Fault<'static>> {
+fn rule_fault(at: usize, key: &'static str, cause: Cause) -> Option<Fault<'static>>
+    ensures { IfSome result (λ f. f.cause ≡ cause) }
+{
     Some(Fault {
         kind: Kind::Rule,
         number: at.saturating_add(1),
@@ -36,12 +42,14 @@ fn has_id_before(rules: &[Value], before: usize, id: i64) -> bool {
 }
 
 /// The first rule whose number one before has.
-pub(crate) fn second_id(whole: &Table) -> Option<Fault<'static>> {
+pub(crate) fn second_id(whole: &Table) -> Option<Fault<'static>>
+    ensures { IfSome result (λ f. error_of f.cause ≡ DuplicateRule) }
+{
     let rules = items_of(whole, Kind::Rule);
     for (at, item) in rules.iter().enumerate() {
         if let Some(table) = item.as_table() {
             if has_id_before(rules, at, id_at(table)) {
-                return rule_fault(at, "id", Cause::Twice);
+                return rule_fault(at, "id", Cause::TwiceId);
             }
         }
     }
@@ -61,7 +69,9 @@ fn has_name(whole: &Table, kind: Kind, name: &[u8]) -> bool {
 }
 
 /// The first rule whose hop isn't configured.
-pub(crate) fn unknown_hop(whole: &Table) -> Option<Fault<'static>> {
+pub(crate) fn unknown_hop(whole: &Table) -> Option<Fault<'static>>
+    ensures { IfSome result (λ f. error_of f.cause ≡ UnknownHop) }
+{
     for (at, item) in items_of(whole, Kind::Rule).iter().enumerate() {
         if let Some(table) = item.as_table() {
             if let Some(name) = hop_named(text_at(table, "verdict")) {
@@ -106,7 +116,9 @@ fn has_member(whole: &Table, group: &[u8]) -> bool {
 }
 
 /// The first rule whose group has no member.
-pub(crate) fn unknown_group(whole: &Table) -> Option<Fault<'static>> {
+pub(crate) fn unknown_group(whole: &Table) -> Option<Fault<'static>>
+    ensures { IfSome result (λ f. error_of f.cause ≡ UnknownGroup) }
+{
     for (at, item) in items_of(whole, Kind::Rule).iter().enumerate() {
         if let Some(table) = item.as_table() {
             if let Some((b"group", name)) = split_once(text_at(table, "who"), b' ') {

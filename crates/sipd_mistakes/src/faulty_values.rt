@@ -1,3 +1,6 @@
+ghost use Rattle.std.specs.Prelude.{◌≡◌, IfSome};
+ghost use Rattle.sipd_mistakes.specs.Mistakes.{error_of};
+
 use crate::fault::{Cause, Fault, items_of, version_of};
 use crate::keys::{KINDS, Key, Kind};
 use crate::wanted::{Wanted, text_at};
@@ -6,7 +9,9 @@ use sip_text::{same_bytes, same_no_case};
 use toml::{Table, Value};
 
 /// What a key of a table is refused for as this error.
-fn cause_at(whole: &Table, table: &Table, key: &Key, error: ConfigError) -> Option<Cause> {
+fn cause_at(whole: &Table, table: &Table, key: &Key, error: ConfigError) -> Option<Cause>
+    ensures { IfSome result (λ cause. error_of cause ≡ error) }
+{
     match (table.get(key.name()), error) {
         (None, ConfigError::MissingKey) => {
             if key.is_needed() {
@@ -68,12 +73,16 @@ fn fault_of_key(
     table: &Table,
     key: &Key,
     error: ConfigError,
-) -> Option<Fault<'static>> {
+) -> Option<Fault<'static>>
+    ensures { IfSome result (λ f. error_of f.cause ≡ error) }
+{
     let cause = match cause_at(whole, table, key, error) {
         Some(cause) => cause,
         None => {
-            let is_first = matches!(key.wanted(), Wanted::Name | Wanted::Host);
-            if !is_first || error != ConfigError::BadValue {
+            let ConfigError::BadValue = error else {
+                return None;
+            };
+            if !matches!(key.wanted(), Wanted::Name | Wanted::Host) {
                 return None;
             }
             if !is_twice(kind, items_of(whole, kind), at, table) {
@@ -97,7 +106,9 @@ fn fault_of_table(
     at: usize,
     table: &Table,
     error: ConfigError,
-) -> Option<Fault<'static>> {
+) -> Option<Fault<'static>>
+    ensures { IfSome result (λ f. error_of f.cause ≡ error) }
+{
     for key in kind.keys() {
         if let Some(fault) = fault_of_key(whole, kind, at, table, key, error) {
             return Some(fault);
@@ -107,12 +118,9 @@ fn fault_of_table(
 }
 
 /// The first table of a kind that is refused for a key.
-fn fault_by_key(
-    whole: &Table,
-    kind: Kind,
-    key: &Key,
-    error: ConfigError,
-) -> Option<Fault<'static>> {
+fn fault_by_key(whole: &Table, kind: Kind, key: &Key, error: ConfigError) -> Option<Fault<'static>>
+    ensures { IfSome result (λ f. error_of f.cause ≡ error) }
+{
     for (at, item) in items_of(whole, kind).iter().enumerate() {
         if let Some(table) = item.as_table() {
             if let Some(fault) = fault_of_key(whole, kind, at, table, key, error) {
@@ -123,7 +131,9 @@ fn fault_by_key(
     None
 }
 
-fn fault_by_keys(whole: &Table, kind: Kind, error: ConfigError) -> Option<Fault<'static>> {
+fn fault_by_keys(whole: &Table, kind: Kind, error: ConfigError) -> Option<Fault<'static>>
+    ensures { IfSome result (λ f. error_of f.cause ≡ error) }
+{
     for key in kind.keys() {
         if let Some(fault) = fault_by_key(whole, kind, key, error) {
             return Some(fault);
@@ -132,7 +142,9 @@ fn fault_by_keys(whole: &Table, kind: Kind, error: ConfigError) -> Option<Fault<
     None
 }
 
-fn fault_by_tables(whole: &Table, kind: Kind, error: ConfigError) -> Option<Fault<'static>> {
+fn fault_by_tables(whole: &Table, kind: Kind, error: ConfigError) -> Option<Fault<'static>>
+    ensures { IfSome result (λ f. error_of f.cause ≡ error) }
+{
     for (at, item) in items_of(whole, kind).iter().enumerate() {
         if let Some(table) = item.as_table() {
             if let Some(fault) = fault_of_table(whole, kind, at, table, error) {
@@ -144,7 +156,9 @@ fn fault_by_tables(whole: &Table, kind: Kind, error: ConfigError) -> Option<Faul
 }
 
 /// What the list of tables of a kind is refused for itself: it isn't a list, or has no users.
-fn fault_of_list(whole: &Table, kind: Kind, error: ConfigError) -> Option<Fault<'static>> {
+fn fault_of_list(whole: &Table, kind: Kind, error: ConfigError) -> Option<Fault<'static>>
+    ensures { IfSome result (λ f. error_of f.cause ≡ error) }
+{
     let is_users = kind == Kind::User;
     let cause = match (whole.get(kind.list_key()), error) {
         (None, ConfigError::MissingKey) if is_users => Cause::Missing(Wanted::Users),
@@ -164,7 +178,9 @@ fn fault_of_list(whole: &Table, kind: Kind, error: ConfigError) -> Option<Fault<
 }
 
 /// The first table of a kind that is refused as this error.
-fn fault_of_kind(whole: &Table, kind: Kind, error: ConfigError) -> Option<Fault<'static>> {
+fn fault_of_kind(whole: &Table, kind: Kind, error: ConfigError) -> Option<Fault<'static>>
+    ensures { IfSome result (λ f. error_of f.cause ≡ error) }
+{
     if let Some(fault) = fault_of_list(whole, kind, error) {
         return Some(fault);
     }
@@ -176,7 +192,9 @@ fn fault_of_kind(whole: &Table, kind: Kind, error: ConfigError) -> Option<Fault<
 }
 
 /// The first key that is missing, or that holds what it may not hold.
-pub(crate) fn fault_of_value(whole: &Table, error: ConfigError) -> Option<Fault<'static>> {
+pub(crate) fn fault_of_value(whole: &Table, error: ConfigError) -> Option<Fault<'static>>
+    ensures { IfSome result (λ f. error_of f.cause ≡ error) }
+{
     if let Some(fault) = fault_of_table(whole, Kind::Head, 0, whole, error) {
         return Some(fault);
     }

@@ -1,7 +1,7 @@
 //! What is wrong with a configuration that is refused: the line, the table and the key of its first fault, or where it isn't UTF-8,
-//! and what would do. It is advice: what counts is the refusal itself.
+//! and what would do. The refusal itself is handed in, and no other is told; the place is advice.
 //!
-//! - Used: `sipd_command`, for `check --show`.
+//! - Used: `sipd_tools`, for `check --show`.
 //! - Not here: the refusal (`sip_config`), whose values are checked anew here; what a configuration that is taken says
 //!   (`sipd_questions`).
 //! - Tried: `tests/mistakes.py`, fifty changed files.

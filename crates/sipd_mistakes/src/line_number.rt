@@ -1,3 +1,6 @@
+ghost use Rattle.std.specs.Prelude.{◌≡◌, count_by};
+ghost use Rattle.sipd_mistakes.specs.Encoding.{is_line_end, line_of};
+
 use crate::fault::Fault;
 use crate::keys::Kind;
 use sip_text::{same_bytes, split_once, without_blanks, without_front_blanks};
@@ -96,16 +99,24 @@ pub(crate) fn line_number(text: &[u8], fault: &Fault<'_>) -> Option<usize> {
     search.header
 }
 
-/// The number of the line that a byte of a text is in, from 1.
-pub(crate) fn line_at(text: &[u8], place: usize) -> usize {
-    let mut number = 1usize;
-    for (at, byte) in text.iter().enumerate() {
-        if at >= place {
-            return number;
-        }
+/// How many lines end in some bytes.
+#[tactic(auto, using(crate::proofs::LineEnds::ends_more, crate::proofs::LineEnds::ends_same, std::proofs::lemmas::List::take_all))]
+fn ends_in(bytes: &[u8]) -> usize
+    ensures { result ≡ count_by is_line_end bytes.now }
+{
+    let mut ends = 0;
+    for byte in bytes {
         if *byte == b'\n' {
-            number = number.saturating_add(1);
+            ends += 1;
         }
     }
-    number
+    ends
+}
+
+/// The number of the line that a byte of a text is in, from 1.
+#[tactic(auto, using(crate::proofs::LineEnds::line_number))]
+pub(crate) fn line_at(text: &[u8], place: usize) -> usize
+    ensures { result ≡ line_of text.now place }
+{
+    ends_in(&text[..place.min(text.len())]).saturating_add(1)
 }

@@ -1,7 +1,7 @@
 //! What is asked of a configuration without a server: who may call whom, and where the call goes; the table of a user who is
 //! to be added; what a file was understood to say, and what of that is seldom meant.
 //!
-//! - Used: `sipd_command`, for `decide`, `user` and `check --show`.
+//! - Used: `sipd_tools`, for `decide`, `user`, `check` and `check --show`.
 //! - Not here: the decision of a running server (`sip_core`), which is the same definition; reading a file (`sip_config`), and what is
 //!   wrong with one that is refused (`sipd_mistakes`).
 //! - Tried: worked examples in `src/examples.rt`, as contracts that compute; `test_server`.

@@ -57,7 +57,7 @@ reported_more q a before r s b c after more t u h takes =
     }
 
 -- all was given
-all_given : (a b c : Option (List ℕ)) (done : List (List ℕ)) → GivesFronts a b done → Keeps b c → IsAtEnd c → GivesFronts a (Some []) done
+pub all_given : (a b c : Option (List ℕ)) (done : List (List ℕ)) → GivesFronts a b done → Keeps b c → IsAtEnd c → GivesFronts a (Some []) done
 all_given None b c done h k e = tt
 all_given (Some xs) None c done h k e = absurd h
 all_given (Some xs) (Some ys) None done h k e = absurd k

@@ -8,3 +8,4 @@ pub mod Lines
 pub mod Report
 pub mod Steps
 pub mod Examples
+pub mod Refusals

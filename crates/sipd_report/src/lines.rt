@@ -1,11 +1,15 @@
-ghost use Rattle.std.specs.Prelude.{◌≡◌, ◌≤◌, ◌<◌, ◌+◌, ◌++◌, [], true, false, length, take, vec_len, count_by, IfOk, OnOk, MatchOption};
+ghost use Rattle.std.specs.Prelude.{◌≡◌, ◌≤◌, ◌<◌, ◌+◌, ◌++◌, [], true, false, length, take, vec_len, count_by, IfOk, IfErr, OnOk, MatchOption};
 ghost use Rattle.std.specs.Io.KnownBytes.{Consumes, Keeps, IsAtEnd};
+ghost use Rattle.sip_replay_script.specs.Devices.{later};
+ghost use Rattle.sip_replay_script.specs.Lines.{IsSpent};
 ghost use Rattle.sipd_report.specs.Lines.{is_end, pending, left, EndsAt, EndsLine, GoesOn, GivesLine, IsOver};
+ghost use Rattle.sipd_report.specs.Refusals.{ReadStops};
 
 use crate::error::ReportError;
 use memchr::memchr;
+use sip_replay_script::TellingReader;
 use std::alloc::{AllocError, Global};
-use std::io::{ErrorKind, Read};
+use std::io::ErrorKind;
 use std::marker::Model;
 
 /// The most bytes of a line that are kept: one more than an audit line has.
@@ -51,7 +55,7 @@ impl Lines {
 
     /// The front of the next line, without its LF: 200,001 bytes of it at most; or nothing at the end of the input.
     #[tactic(auto, using(crate::proofs::Ends::gathers_nothing))]
-    pub(crate) fn next<R: Read>(
+    pub(crate) fn next<R: TellingReader>(
         &mut self,
         reader: &mut R,
         line: &mut Vec<u8>,
@@ -59,6 +63,9 @@ impl Lines {
         ensures given { IfOk result (λ more. more ≡ true → GivesLine self.old self.new (R.remaining reader.old) (R.remaining reader.new)
             line.new.items) }
         ensures over { IfOk result (λ more. more ≡ false → IsOver self.old self.new (R.remaining reader.old) (R.remaining reader.new)) }
+        ensures stopped { IfErr result (ReadStops (IsSpent (R.has_failed reader.new) self.new.asks)) }
+        ensures asked { later self.new.asks (R.asked reader.new) ≡ later self.old.asks (R.asked reader.old) }
+        ensures less { self.new.asks ≤ self.old.asks }
     {
         line.clear();
         loop {
@@ -72,11 +79,14 @@ impl Lines {
     }
 
     /// Whether there is an unread byte; if all were given, the reader is asked.
-    fn fill<R: Read>(&mut self, reader: &mut R) -> Result<bool, ReportError>
+    fn fill<R: TellingReader>(&mut self, reader: &mut R) -> Result<bool, ReportError>
         ensures kept { OnOk result (Keeps (pending self.old (R.remaining reader.old)) (pending self.new (R.remaining reader.new))) }
         ensures some { IfOk result (λ some. some ≡ true → 1 ≤ length self.new.unread) }
         ensures end { IfOk result (λ some. some ≡ false → IsAtEnd (pending self.new (R.remaining reader.new))) }
         ensures fewer { OnOk result (left self.new ≤ left self.old) }
+        ensures stopped { IfErr result (ReadStops (IsSpent (R.has_failed reader.new) self.new.asks)) }
+        ensures asked { later self.new.asks (R.asked reader.new) ≡ later self.old.asks (R.asked reader.old) }
+        ensures less { self.new.asks ≤ self.old.asks }
     {
         if self.start < self.end {
             return Ok(true);
@@ -93,6 +103,7 @@ impl Lines {
         ensures short { OnOk result (length line.new.items ≤ 200001) }
         ensures ends { IfOk result (λ ended. ended ≡ true → EndsLine self.old self.new line.old.items line.new.items) }
         ensures goes_on { IfOk result (λ ended. ended ≡ false → GoesOn self.old self.new line.old.items line.new.items) }
+        ensures asks { self.new.asks ≡ self.old.asks }
     {
         let unread = &self.buffer[self.start..self.end];
         match end_of_line(unread) {
@@ -125,8 +136,8 @@ fn is_begun(line: &[u8]) -> bool
 }
 
 /// How many bytes the reader gave, 0 at its end.
-#[tactic(auto, using(crate::proofs::Ends::keeps_both, crate::proofs::Ends::keeps_itself, crate::proofs::Ends::keeps_consumes))]
-fn read_some<R: Read>(
+#[tactic(auto, using(crate::proofs::Ends::keeps_both, crate::proofs::Ends::keeps_itself, crate::proofs::Ends::keeps_consumes, crate::proofs::Asking::later_less))]
+fn read_some<R: TellingReader>(
     reader: &mut R,
     buffer: &mut Vec<u8>,
     asks: &mut u32,
@@ -135,11 +146,14 @@ fn read_some<R: Read>(
     ensures within { IfOk result (λ count. count ≤ vec_len buffer.new) }
     ensures bytes { IfOk result (λ count. Consumes (R.remaining reader.old) (R.remaining reader.new) (take count buffer.new.items)) }
     ensures end { IfOk result (λ count. count ≡ 0 → 0 < vec_len buffer.new → IsAtEnd (R.remaining reader.new)) }
+    ensures less { asks.new ≤ asks.old }
     ensures lesser { OnOk result (asks.new < asks.old) }
+    ensures asked { later asks.new (R.asked reader.new) ≡ later asks.old (R.asked reader.old) }
+    ensures stopped { IfErr result (ReadStops (IsSpent (R.has_failed reader.new) asks.new)) }
 {
     while *asks > 0 {
         *asks -= 1;
-        match reader.read(buffer.as_mut_slice()) {
+        match reader.ask(buffer.as_mut_slice()) {
             Ok(count) => return Ok(count),
             Err(e) => match e.kind() {
                 ErrorKind::Interrupted => {}

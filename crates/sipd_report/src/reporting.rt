@@ -1,7 +1,10 @@
-ghost use Rattle.std.specs.Prelude.{◌≡◌, true, false, IfOk, OnOk};
+ghost use Rattle.std.specs.Prelude.{◌≡◌, ◌≤◌, ◌⊎◌, true, false, IfOk, IfErr, OnOk};
 ghost use Rattle.std.specs.Io.KnownBytes.{Appends, Keeps};
+ghost use Rattle.sip_replay_script.specs.Devices.{later, GaveUp};
+ghost use Rattle.sip_replay_script.specs.Lines.{IsSpent};
 ghost use Rattle.sipd_report.specs.Cells;
 ghost use Rattle.sipd_report.specs.Lines.{IsOver};
+ghost use Rattle.sipd_report.specs.Refusals.{IsAsked, IsRefused, LineStops, TextStops};
 ghost use Rattle.sipd_report.specs.Report.{Reports, ending_text as ending_text_of};
 ghost use Rattle.sipd_report.specs.Steps as Definitions;
 ghost use Rattle.sipd_report.specs.Steps.{TakesLine};
@@ -15,9 +18,9 @@ use crate::query::{Form, Query};
 use crate::row::cells_of;
 use crate::tally::Tally;
 use sip_audit::Record;
+use sip_replay_script::{TellingReader, TellingWriter, hand_on, put};
 use sip_text::Bytes;
 use std::alloc::{AllocError, Global};
-use std::io::{Read, Write};
 
 /// Writes what an audit says: the names of the columns, then a row for each record that is asked for, in its order, and in
 /// a table how often each user, rule and outcome came among these, in the order in which they came first, how many lines there
@@ -26,21 +29,26 @@ use std::io::{Read, Write};
 /// not; one of more than 200,000 bytes is no audit line. Times are those of a clock `offset` minutes ahead of UTC; where
 /// that would be before 1970, the start of 1970. Keeps one line, and each user, rule and outcome that came.
 ///
-/// Answers how many lines are no audit lines, which CSV doesn't tell. Refusals: `NoMemory`; `Read`, where the reader fails or
-/// was asked 4,294,967,295 times; `Write`. What was written before a refusal stays.
+/// Answers how many lines are no audit lines, which CSV doesn't tell; all is handed on then. Refusals: `NoMemory`; `Read`, where
+/// the reader fails or was asked 4,294,967,295 times; `Write`. What was written before a refusal stays: a front of the report,
+/// at `Read` of whole rows.
 #[tactic(auto, using(crate::proofs::Reported::reported_first))]
-pub fn report<I: Read, W: Write>(
+pub fn report<I: TellingReader, W: TellingWriter>(
     alloc: Global,
     query: &Query<'_>,
     input: &mut I,
     output: &mut W,
 ) -> Result<u64, ReportError>
-    ensures { IfOk result (Reports query.now (I.remaining input.old) (W.contents output.old) (W.contents output.new)) }
+    ensures reported { IfOk result (Reports query.now (I.remaining input.old) (W.contents output.old) (W.contents output.new)) }
+    ensures flushed { OnOk result (W.is_flushed output.new) }
+    ensures refused { IfErr result (IsRefused query.now (I.remaining input.old) (W.contents output.old) (W.contents output.new)
+        (I.has_failed input.new ⊎ (I.asked input.new ≡ later 4294967295 (I.asked input.old))) (GaveUp (W.has_failed output.new) (W.called output.new))) }
+    ensures asked { IsAsked 4294967295 (I.asked input.old) (I.asked input.new) }
 {
     let mut lines = Lines::new(alloc)?;
     let mut line = Vec::new(alloc);
     let mut tally = Tally::new(alloc);
-    put(output, &heading(alloc, query.form)?)?;
+    begin(alloc, query.form, output)?;
     while take_next(
         alloc, query, &mut lines, &mut line, &mut tally, input, output,
     )? {}
@@ -56,8 +64,17 @@ fn heading(alloc: Global, form: Form) -> Result<Bytes, AllocError>
     row_text(alloc, form, &names)
 }
 
+/// Writes that row.
+fn begin<W: TellingWriter>(alloc: Global, form: Form, output: &mut W) -> Result<(), ReportError>
+    ensures written { OnOk result (Appends (W.contents output.old) (W.contents output.new) (Cells.row_text form Cells.column_names)) }
+    ensures stopped { IfErr result (TextStops (W.contents output.old) (W.contents output.new) (Cells.row_text form Cells.column_names)
+        (GaveUp (W.has_failed output.new) (W.called output.new))) }
+{
+    write(output, &heading(alloc, form)?)
+}
+
 /// Takes the next line, if there is one.
-fn take_next<I: Read, W: Write>(
+fn take_next<I: TellingReader, W: TellingWriter>(
     alloc: Global,
     query: &Query<'_>,
     lines: &mut Lines,
@@ -71,6 +88,10 @@ fn take_next<I: Read, W: Write>(
     ensures over { IfOk result (λ more. more ≡ false → IsOver lines.old lines.new (I.remaining input.old) (I.remaining input.new)) }
     ensures counted { IfOk result (λ more. more ≡ false → tally.new ≡ tally.old) }
     ensures silent { IfOk result (λ more. more ≡ false → W.contents output.new ≡ W.contents output.old) }
+    ensures stopped { IfErr result (LineStops query.now lines.old lines.new (I.remaining input.old) (I.remaining input.new)
+        (W.contents output.old) (W.contents output.new) (IsSpent (I.has_failed input.new) lines.new.asks) (GaveUp (W.has_failed output.new) (W.called output.new))) }
+    ensures asked { later lines.new.asks (I.asked input.new) ≡ later lines.old.asks (I.asked input.old) }
+    ensures less { lines.new.asks ≤ lines.old.asks }
 {
     if !lines.next(input, line)? {
         return Ok(false);
@@ -80,7 +101,7 @@ fn take_next<I: Read, W: Write>(
 }
 
 /// Counts a line, and writes its row if its record is asked for.
-fn take_line<W: Write>(
+fn take_line<W: TellingWriter>(
     alloc: Global,
     query: &Query<'_>,
     line: &[u8],
@@ -89,6 +110,8 @@ fn take_line<W: Write>(
 ) -> Result<(), ReportError>
     ensures counted { OnOk result (tally.new ≡ Definitions.after_line query.now line.now tally.old) }
     ensures written { OnOk result (Appends (W.contents output.old) (W.contents output.new) (Definitions.line_text query.now line.now)) }
+    ensures stopped { IfErr result (TextStops (W.contents output.old) (W.contents output.new) (Definitions.line_text query.now line.now)
+        (GaveUp (W.has_failed output.new) (W.called output.new))) }
 {
     tally.add_line();
     if line.is_empty() {
@@ -105,7 +128,7 @@ fn take_line<W: Write>(
 }
 
 /// Counts a record and writes its row, if it is asked for.
-fn take_record<W: Write>(
+fn take_record<W: TellingWriter>(
     alloc: Global,
     query: &Query<'_>,
     record: &Record,
@@ -114,35 +137,43 @@ fn take_record<W: Write>(
 ) -> Result<(), ReportError>
     ensures counted { OnOk result (tally.new ≡ Definitions.with_asked query.now «record».now tally.old) }
     ensures written { OnOk result (Appends (W.contents output.old) (W.contents output.new) (Definitions.record_text query.now «record».now)) }
+    ensures stopped { IfErr result (TextStops (W.contents output.old) (W.contents output.new) (Definitions.record_text query.now «record».now)
+        (GaveUp (W.has_failed output.new) (W.called output.new))) }
 {
     if !query.asks_for(record) {
         return Ok(());
     }
     tally.add_record(alloc, record)?;
     let cells = cells_of(alloc, query.form, query.offset, record)?;
-    put(output, &row_text(alloc, query.form, &cells)?)
+    write(output, &row_text(alloc, query.form, &cells)?)
 }
 
 /// Writes what stands behind the rows, and hands all on.
-fn finish<W: Write>(
+#[tactic(auto, using(crate::proofs::Fronts::front_of_all))]
+fn finish<W: TellingWriter>(
     alloc: Global,
     form: Form,
     tally: &Tally,
     output: &mut W,
 ) -> Result<(), ReportError>
-    ensures { OnOk result (Appends (W.contents output.old) (W.contents output.new) (ending_text_of form tally.now)) }
+    ensures written { OnOk result (Appends (W.contents output.old) (W.contents output.new) (ending_text_of form tally.now)) }
+    ensures flushed { OnOk result (W.is_flushed output.new) }
+    ensures stopped { IfErr result (TextStops (W.contents output.old) (W.contents output.new) (ending_text_of form tally.now)
+        (GaveUp (W.has_failed output.new) (W.called output.new))) }
 {
-    put(output, &ending_text(alloc, form, tally)?)?;
-    match output.flush() {
+    write(output, &ending_text(alloc, form, tally)?)?;
+    match hand_on(output) {
         Ok(()) => Ok(()),
         Err(_) => Err(ReportError::Write),
     }
 }
 
-fn put<W: Write>(output: &mut W, text: &Bytes) -> Result<(), ReportError>
-    ensures { OnOk result (Appends (W.contents output.old) (W.contents output.new) text.now) }
+fn write<W: TellingWriter>(output: &mut W, text: &Bytes) -> Result<(), ReportError>
+    ensures written { OnOk result (Appends (W.contents output.old) (W.contents output.new) text.now) }
+    ensures stopped { IfErr result (TextStops (W.contents output.old) (W.contents output.new) text.now
+        (GaveUp (W.has_failed output.new) (W.called output.new))) }
 {
-    match output.write_all(text.as_slice()) {
+    match put(output, text.as_slice()) {
         Ok(()) => Ok(()),
         Err(_) => Err(ReportError::Write),
     }

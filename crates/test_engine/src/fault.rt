@@ -1,5 +1,5 @@
 use sip_replay::engine::StepError;
-use sip_replay_script::{ReadStop, Stop};
+use sip_replay_script::{PrintStop, ReadStop};
 use std::alloc::{AllocError, AllocFailed};
 use std::io;
 
@@ -47,12 +47,11 @@ impl From<io::Error> for Fault {
     }
 }
 
-impl From<Stop> for Fault {
-    fn from(stop: Stop) -> Fault {
+impl From<PrintStop> for Fault {
+    fn from(stop: PrintStop) -> Fault {
         match stop {
-            Stop::NoMemory => Fault::Memory,
-            Stop::Script => Fault::Script,
-            Stop::Read | Stop::Write => Fault::Device,
+            PrintStop::NoMemory => Fault::Memory,
+            PrintStop::Write => Fault::Device,
         }
     }
 }

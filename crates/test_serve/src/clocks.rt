@@ -5,19 +5,38 @@ use crate::datagrams::{
     TIMED_OUT, TRYING,
 };
 use crate::trial::{Trial, is, over_memory};
+use sip_audit::Record;
+use sip_loop::{AuditFault, AuditLog};
 use sip_loop_link::Sending::Went;
 use sip_loop_link::{Given, MemoryLink, Sending};
 use std::alloc::Global;
 
+/// A log that keeps the moment and the datagram's number of what was printed on it last, where that was one record.
+#[derive(Clone, Copy, Drop)]
+struct LastPrinted {
+    one: Option<(u64, u64)>,
+}
+
+impl AuditLog for LastPrinted {
+    ghost use Rattle.std.specs.Prelude.{Option, false};
+
+    ghost printed = { λ _. Option.Some Option.None };
+
+    ghost faulted = { λ _. false };
+
+    fn print(&mut self, records: &[Record]) -> Result<(), AuditFault> {
+        self.one = match records {
+            [record] => Some((record.at, record.number)),
+            _ => None,
+        };
+        Ok(())
+    }
+}
+
 /// Whether a turn is served, and what its one record says of the moment and of the datagram's number is this.
 fn is_recorded(trial: &mut Trial<MemoryLink>, at: u64, number: u64) -> bool {
-    match trial.serve(1) {
-        Ok(served) => match served.records.as_slice() {
-            [record] => record.at == at && record.number == number,
-            _ => false,
-        },
-        Err(_) => false,
-    }
+    let mut log = LastPrinted { one: None };
+    trial.serve_on(&mut log, 1).is_ok() && log.one == Some((at, number))
 }
 
 /// A reading that goes back counts as the greatest so far: a datagram is taken then, and nothing goes again but at its moment.

@@ -6,9 +6,12 @@ use crate::datagrams::{
 };
 use crate::trial::{Trial, over_memory};
 use sip_audit::Record;
-use sip_loop::{AuditFault, AuditLog, ServeError, Served};
+use sip_event::Ticket;
+use sip_loop::{AuditFault, AuditLog, ServeError};
 use sip_loop_link::Sending::{Failed, Went};
 use sip_loop_link::{MemoryLink, Sending};
+use sip_record::{Journal, JournalFault};
+use sip_uri::Addr;
 use std::alloc::{AllocError, Global};
 
 /// A datagram of this number has none.
@@ -96,9 +99,11 @@ pub fn copy_fails_beside_another(alloc: Global) -> bool {
 struct Closed;
 
 impl AuditLog for Closed {
-    ghost use Rattle.std.specs.Prelude.{Option};
+    ghost use Rattle.std.specs.Prelude.{Option, true};
 
     ghost printed = { λ _. Option.None };
+
+    ghost faulted = { λ _. true };
 
     fn print(&mut self, _records: &[Record]) -> Result<(), AuditFault> {
         Err(AuditFault::Device)
@@ -117,10 +122,50 @@ pub fn closed_log(alloc: Global) -> bool {
     }
 }
 
+/// A record that nothing can be written to any more.
+#[derive(Clone, Copy, Drop)]
+struct Full;
+
+impl Journal for Full {
+    ghost use Rattle.std.specs.Prelude.{Option, true};
+
+    ghost written = { λ _. Option.None };
+
+    ghost faulted = { λ _. true };
+
+    fn heard(
+        &mut self,
+        _at: u64,
+        _word: u128,
+        _from: Addr,
+        _bytes: &[u8],
+    ) -> Result<(), JournalFault> {
+        Err(JournalFault)
+    }
+
+    fn passed(&mut self, _at: u64) -> Result<(), JournalFault> {
+        Err(JournalFault)
+    }
+
+    fn failed(&mut self, _at: u64, _ticket: Ticket) -> Result<(), JournalFault> {
+        Err(JournalFault)
+    }
+}
+
+/// A datagram can't be recorded: its event was taken, and nothing was sent.
+pub fn full_record(alloc: Global) -> bool {
+    match called(alloc, &[], &[]) {
+        Ok(mut trial) => {
+            is_refused(&trial.serve_told(&mut Full), ServeError::Journal, 7) && trial.gave(0, &[])
+        }
+        Err(_) => false,
+    }
+}
+
 /// Whether serving was refused so, by a refusal of this number.
-fn is_refused(answer: &Result<Served, ServeError>, refusal: ServeError, number: u8) -> bool {
+fn is_refused(answer: &Result<(), ServeError>, refusal: ServeError, number: u8) -> bool {
     match answer {
-        Ok(_) => false,
+        Ok(()) => false,
         Err(e) => *e == refusal && e.number() == number,
     }
 }

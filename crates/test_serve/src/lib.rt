@@ -13,11 +13,11 @@ mod trial;
 
 use clocks::{clock_goes_back, clock_jumps};
 use failing::{
-    both_sends_fail, closed_log, copy_fails_beside_another, final_send_fails, numbers_worn,
-    receive_fails, trying_send_fails,
+    both_sends_fail, closed_log, copy_fails_beside_another, final_send_fails, full_record,
+    numbers_worn, receive_fails, trying_send_fails,
 };
 use on_loopback::{call_on_loopback, loopback};
-use resuming::{call_goes_on, cut_record, damaged_record};
+use resuming::{call_goes_on, cut_record, damaged_dot, damaged_record};
 use std::io;
 use std::net::Net;
 use test_forms::tell;
@@ -34,6 +34,7 @@ pub fn tell_all<R: Print + AllocGlobal + Net>(rt: &R) -> io::Result<()> {
         copy_fails_beside_another(alloc),
     )?;
     tell(rt, "closed_log", closed_log(alloc))?;
+    tell(rt, "full_record", full_record(alloc))?;
     tell(rt, "receive_fails", receive_fails(alloc))?;
     tell(rt, "numbers_worn", numbers_worn(alloc))?;
     tell(rt, "clock_goes_back", clock_goes_back(alloc))?;
@@ -41,6 +42,7 @@ pub fn tell_all<R: Print + AllocGlobal + Net>(rt: &R) -> io::Result<()> {
     tell(rt, "call_goes_on", call_goes_on(alloc))?;
     tell(rt, "cut_record", cut_record(alloc))?;
     tell(rt, "damaged_record", damaged_record(alloc))?;
+    tell(rt, "damaged_dot", damaged_dot(alloc))?;
     tell(rt, "loopback", loopback(rt, alloc))?;
     tell(rt, "call_on_loopback", call_on_loopback(rt, alloc))
 }

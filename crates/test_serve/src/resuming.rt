@@ -74,13 +74,13 @@ pub fn cut_record(alloc: Global) -> bool {
         )
         && is_taken(
             alloc,
-            b"time 5\ndatagram 6 127.0.0.1:5082 00000000000000000000000000000001\nOPTIONS\n.",
+            b"time 5\ndatagram 6 127.0.0.1:5082 00000000000000000000000000000001\n.",
             1,
         )
 }
 
-/// A record that is damaged is refused with the line, within and at its end, with LF and without: also where a moment is 2^62, or a
-/// datagram's port 0.
+/// A record that is damaged is refused with the line, within and at its end, with LF and without: also where a moment is 2^62, a
+/// datagram's port 0, or its bytes stand in lines, as those of no record do.
 pub fn damaged_record(alloc: Global) -> bool {
     is_damaged(alloc, b"xyz", 1)
         && is_damaged(alloc, b"time 5\nxyz", 2)
@@ -89,4 +89,31 @@ pub fn damaged_record(alloc: Global) -> bool {
         && is_damaged(alloc, b"time 5\ntime 07", 2)
         && is_damaged(alloc, b"time 5\ntime 4611686018427387904", 2)
         && is_damaged(alloc, b"time 5\nhex 6 127.0.0.1:0", 2)
+        && is_damaged(
+            alloc,
+            b"time 5\ndatagram 6 127.0.0.1:5082 00000000000000000000000000000001\nOPTIONS\n.",
+            2,
+        )
+}
+
+/// So is one in which the dot of a datagram without bytes was changed: at its end, cut there too, and in front of others, of which one
+/// is such a datagram.
+pub fn damaged_dot(alloc: Global) -> bool {
+    is_damaged(
+        alloc,
+        b"datagram 6 127.0.0.1:5082 00000000000000000000000000000001\n/\n",
+        1,
+    ) && is_damaged(
+        alloc,
+        b"datagram 6 127.0.0.1:5082 00000000000000000000000000000001\n/",
+        1,
+    ) && is_damaged(
+        alloc,
+        b"datagram 6 127.0.0.1:5082 00000000000000000000000000000001\n/\ntime 7\n",
+        1,
+    ) && is_damaged(
+        alloc,
+        b"time 5\ndatagram 6 127.0.0.1:5082 00000000000000000000000000000001\n/\ndatagram 7 127.0.0.1:5082 00000000000000000000000000000002\n.\n",
+        2,
+    )
 }

@@ -3,10 +3,10 @@ use crate::datagrams::Datagram;
 use sip_config_types::sample;
 use sip_event::Boot;
 use sip_loop::engine::Engine;
-use sip_loop::{AuditLog, NoAudit, ServeError, Served, serve};
+use sip_loop::{AuditLog, NoAudit, ServeError, serve};
 use sip_loop_link::{Given, Link, MemoryClock, MemoryLink, Sending};
 use sip_policy_index::IndexedRules;
-use sip_record::{OnFault, Recorder};
+use sip_record::{Journal, OnFault, Recorder};
 use sip_resume::{ResumeError, resume};
 use sip_timers_wheel::WheelTimers;
 use std::alloc::{AllocError, Global};
@@ -54,16 +54,12 @@ impl<L: Link> Trial<L> {
         })
     }
 
-    pub fn serve(&mut self, turns: u32) -> Result<Served, ServeError> {
+    pub fn serve(&mut self, turns: u32) -> Result<(), ServeError> {
         self.serve_on(&mut NoAudit, turns)
     }
 
     /// Serves, and prints decisions on this.
-    pub fn serve_on<A: AuditLog>(
-        &mut self,
-        audit: &mut A,
-        turns: u32,
-    ) -> Result<Served, ServeError> {
+    pub fn serve_on<A: AuditLog>(&mut self, audit: &mut A, turns: u32) -> Result<(), ServeError> {
         serve(
             self.alloc,
             &mut self.engine,
@@ -73,6 +69,20 @@ impl<L: Link> Trial<L> {
             &mut self.clock,
             &mut self.words,
             turns,
+        )
+    }
+
+    /// Serves for one turn, and tells events to this.
+    pub fn serve_told<J: Journal>(&mut self, journal: &mut J) -> Result<(), ServeError> {
+        serve(
+            self.alloc,
+            &mut self.engine,
+            &mut self.link,
+            journal,
+            &mut NoAudit,
+            &mut self.clock,
+            &mut self.words,
+            1,
         )
     }
 

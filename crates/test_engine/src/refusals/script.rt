@@ -3,8 +3,10 @@ use crate::kinds::Server;
 use crate::refusals::take::take;
 use sip_config_types::Config;
 use sip_event::{Boot, Event};
-use sip_replay_script::{Lines, PrintRoom, next_event, print_step};
-use std::alloc::Global;
+use sip_replay_print::{PrintRoom, print_step};
+use sip_replay_script::{Gathered, Line, Lines, next_line};
+use sip_text::Bytes;
+use std::alloc::{AllocError, Global};
 use std::io::{Read, Write};
 
 /// What a replay starts with.
@@ -35,20 +37,34 @@ fn take_event<W: Write, M: Write>(
     Err(Fault::Script)
 }
 
+/// The event that a line begins, a datagram with a copy of these bytes.
+fn event_of(alloc: Global, line: Line, bytes: &Gathered) -> Result<Event, AllocError> {
+    match line {
+        Line::Whole(event) => Ok(event),
+        Line::Head(head) => Ok(Event::Datagram {
+            at: head.at,
+            word: head.word,
+            from: head.from,
+            bytes: Bytes::copy(alloc, bytes.as_slice())?,
+        }),
+    }
+}
+
 /// Takes the next event of a script, if there is one; how many of its steps were refused at first.
 fn take_next<I: Read, W: Write, M: Write>(
     alloc: Global,
     engine: &mut Server,
     lines: &mut Lines,
-    line: &mut Vec<u8>,
+    bytes: &mut Gathered,
     input: &mut I,
     output: &mut W,
     marks: &mut M,
 ) -> Result<Option<u64>, Fault> {
-    match next_event(alloc, lines, input, line)? {
-        Some(event) => Ok(Some(take_event(alloc, engine, &event, output, marks)?)),
-        None => Ok(None),
-    }
+    let Some(line) = next_line(alloc, lines, input, bytes)? else {
+        return Ok(None);
+    };
+    let event = event_of(alloc, line, bytes)?;
+    Ok(Some(take_event(alloc, engine, &event, output, marks)?))
 }
 
 /// Takes all events of a script; how many steps were refused at first.
@@ -56,14 +72,14 @@ fn take_all<I: Read, W: Write, M: Write>(
     alloc: Global,
     engine: &mut Server,
     lines: &mut Lines,
-    line: &mut Vec<u8>,
+    bytes: &mut Gathered,
     input: &mut I,
     output: &mut W,
     marks: &mut M,
 ) -> Result<u64, Fault> {
     let mut refused = 0u64;
     for _ in 0..u64::MAX {
-        match take_next(alloc, engine, lines, line, input, output, marks)? {
+        match take_next(alloc, engine, lines, bytes, input, output, marks)? {
             Some(more) => refused = refused.saturating_add(more),
             None => return Ok(refused),
         }
@@ -81,12 +97,12 @@ pub fn play<I: Read, W: Write, M: Write>(
 ) -> Result<u64, Fault> {
     let mut engine = Server::open(alloc, config, BOOT)?;
     let mut lines = Lines::new(alloc)?;
-    let mut line = Vec::new(alloc);
+    let mut bytes = Gathered::new(alloc);
     take_all(
         alloc,
         &mut engine,
         &mut lines,
-        &mut line,
+        &mut bytes,
         input,
         output,
         marks,

@@ -18,12 +18,13 @@ loop-out-preserved g c =
     let then : c.loop-out.engine.state.moment ≡ c.args.at = c.loop-out.invariant.1 in
     let stands : c.fire_one.new.engine.state.moment ≡ c.in-Some.out.at = fires.stands in
     let rises : c.loop-out.engine.state.moment ≤ c.fire_one.new.engine.state.moment = fires.rises in
-    let in_time : c.in-Some.out.at ≤ max c.loop-out.engine.state.moment c.args.at = fires.in_time in (
+    let in_time : c.in-Some.out.at ≤ max c.loop-out.engine.state.moment c.args.at = fires.in_time in
+    let at : c.in-Some.out.at ≡ c.args.at = omega (arith, then, stands, rises, in_time) in (
       c.fire_one.ensures.server ∙ c.loop-out.invariant.0,
       omega (arith, then, stands, rises, in_time),
       further_on c.args.engine.now.state c.loop-out.engine.state c.fire_one.new.engine.state c.loop-out.invariant.2 (fewer_further c.loop-out.engine.state c.fire_one.new.engine.state c.args.at c.loop-out.invariant.1 fires.fewer),
-      λ start first h. all_more c.args.engine.now.server start c.loop-out.engine.state c.fire_one.new.engine.state c.args.at c.in-Some.out first c.loop-out.waiting c.wait_for.new.waiting (c.loop-out.invariant.3 start first h) fires c.in_ok-wait_for.ensures.added,
-      λ start h. to_more c.args.engine.now.server start c.loop-out.engine.state c.fire_one.new.engine.state c.args.at c.in-Some.out (c.loop-out.invariant.4 start h) fires,
+      λ start first h. all_more c.args.engine.now.server start c.loop-out.engine.state c.fire_one.new.engine.state c.args.at c.in-Some.out first c.loop-out.waiting c.wait_for.new.waiting (c.loop-out.invariant.3 start first h) fires at c.in_ok-wait_for.ensures.added,
+      λ start h. to_more c.args.engine.now.server start c.loop-out.engine.state c.fire_one.new.engine.state c.args.at c.in-Some.out (c.loop-out.invariant.4 start h) fires at,
     )
 
 pub loop-out-smaller : goal.loop-out-smaller
@@ -53,4 +54,9 @@ returns-in_err-wait_for-clause-some g c =
     let p = err_from_is_err_and c.from_residual-in_err-wait_for.result c.from_residual-in_err-wait_for.ensures.1 in
     let fires : FiresOne c.args.engine.now.server c.loop-out.engine.state c.args.at c.in-Some.out c.fire_one.new.engine.state =
     subst (λ (s : Server). FiresOne s c.loop-out.engine.state c.args.at c.in-Some.out c.fire_one.new.engine.state) c.loop-out.invariant.0 (rw c.in-Some.is at c.in_ok-out.ensures.fired) in
-    rw p.1 (λ start h. to_more c.args.engine.now.server start c.loop-out.engine.state c.fire_one.new.engine.state c.args.at c.in-Some.out (c.loop-out.invariant.4 start h) fires)
+    let then : c.loop-out.engine.state.moment ≡ c.args.at = c.loop-out.invariant.1 in
+    let stands : c.fire_one.new.engine.state.moment ≡ c.in-Some.out.at = fires.stands in
+    let rises : c.loop-out.engine.state.moment ≤ c.fire_one.new.engine.state.moment = fires.rises in
+    let in_time : c.in-Some.out.at ≤ max c.loop-out.engine.state.moment c.args.at = fires.in_time in
+    let at : c.in-Some.out.at ≡ c.args.at = omega (arith, then, stands, rises, in_time) in
+    rw p.1 (λ start h. to_more c.args.engine.now.server start c.loop-out.engine.state c.fire_one.new.engine.state c.args.at c.in-Some.out (c.loop-out.invariant.4 start h) fires at)

@@ -3,6 +3,7 @@ use Rattle.std.proofs.lemmas.Result.{err_from_is_err_and}
 use Rattle.model_bounds.specs.model.Ends.{steps_left}
 use Rattle.model_bounds.specs.state.declared.server.Server.{Server}
 use Rattle.sip_loop.specs.Courses.{Breaks, Course, told_with, waiting_at}
+use Rattle.sip_loop.specs.Serving.{kept}
 use Rattle.sip_loop.proofs.Courses.{course_nothing, course_on}
 use Rattle.sip_loop.proofs.Handed.{breaks_on}
 use Rattle.sip_loop.proofs.due.pass_due.Goals as goal
@@ -14,7 +15,8 @@ loop-due-init g c = (
   refl,
   refl,
   λ others. course_nothing c.args.engine.now.server c.args.engine.now.state (waiting_at (Some c.args.at) [] c.args.engine.now.state.moment)
-      (told_with others (g.L.Link.given c.args.link.now) (g.J.Journal.written c.args.journal.now)) tt,
+      (told_with others (g.L.Link.given c.args.link.now) (kept (g.J.Journal.written c.args.journal.now) (g.J.Journal.faulted c.args.journal.now))) tt,
+  refl,
 )
 
 pub loop-due-preserved : goal.loop-due-preserved
@@ -25,11 +27,12 @@ loop-due-preserved g c = (
   c.serve_due.ensures.heard ∙ c.loop-due.invariant.3,
   λ others. course_on c.args.engine.now.server c.args.engine.now.state c.loop-due.engine.state c.serve_due.new.engine.state
       (waiting_at (Some c.args.at) [] c.args.engine.now.state.moment) (waiting_at (Some c.args.at) [] c.loop-due.engine.state.moment) (waiting_at (Some c.args.at) [] c.serve_due.new.engine.state.moment)
-      (told_with others (g.L.Link.given c.args.link.now) (g.J.Journal.written c.args.journal.now)) (told_with others (g.L.Link.given c.loop-due.link) (g.J.Journal.written c.loop-due.journal))
-      (told_with others (g.L.Link.given c.serve_due.new.link) (g.J.Journal.written c.serve_due.new.journal)) [] [] 0 0 0 0 tt (c.loop-due.invariant.4 others)
+      (told_with others (g.L.Link.given c.args.link.now) (kept (g.J.Journal.written c.args.journal.now) (g.J.Journal.faulted c.args.journal.now))) (told_with others (g.L.Link.given c.loop-due.link) (kept (g.J.Journal.written c.loop-due.journal) (g.J.Journal.faulted c.loop-due.journal)))
+      (told_with others (g.L.Link.given c.serve_due.new.link) (kept (g.J.Journal.written c.serve_due.new.journal) (g.J.Journal.faulted c.serve_due.new.journal))) [] [] 0 0 0 0 tt (c.loop-due.invariant.4 others)
       (subst (λ (s : Server). Course s c.loop-due.engine.state c.serve_due.new.engine.state (waiting_at (Some c.args.at) [] c.loop-due.engine.state.moment) (waiting_at (Some c.args.at) [] c.serve_due.new.engine.state.moment)
-      (told_with others (g.L.Link.given c.loop-due.link) (g.J.Journal.written c.loop-due.journal)) (told_with others (g.L.Link.given c.serve_due.new.link) (g.J.Journal.written c.serve_due.new.journal)) [] 0 0)
+      (told_with others (g.L.Link.given c.loop-due.link) (kept (g.J.Journal.written c.loop-due.journal) (g.J.Journal.faulted c.loop-due.journal))) (told_with others (g.L.Link.given c.serve_due.new.link) (kept (g.J.Journal.written c.serve_due.new.journal) (g.J.Journal.faulted c.serve_due.new.journal))) [] 0 0)
       c.loop-due.invariant.0 (c.in_ok-serve_due.ensures.goes others c.args.at (rw c.in-Some.is at c.due_by.ensures.in_time))),
+  c.serve_due.ensures.link_waits ∙ c.loop-due.invariant.5,
 )
 
 pub loop-due-smaller : goal.loop-due-smaller
@@ -44,10 +47,10 @@ returns-in_err-serve_due-clause-broken g c =
     rw (p.1, p.2)
     (λ others. breaks_on c.args.engine.now.server c.args.engine.now.state c.loop-due.engine.state c.serve_due.new.engine.state
     (waiting_at (Some c.args.at) [] c.args.engine.now.state.moment) (waiting_at (Some c.args.at) [] c.loop-due.engine.state.moment)
-    (told_with others (g.L.Link.given c.args.link.now) (g.J.Journal.written c.args.journal.now)) (told_with others (g.L.Link.given c.loop-due.link) (g.J.Journal.written c.loop-due.journal))
-    (told_with others (g.L.Link.given c.serve_due.new.link) (g.J.Journal.written c.serve_due.new.journal)) [] 0 0 0 c.in_err-serve_due.field-0.0 tt (c.loop-due.invariant.4 others)
+    (told_with others (g.L.Link.given c.args.link.now) (kept (g.J.Journal.written c.args.journal.now) (g.J.Journal.faulted c.args.journal.now))) (told_with others (g.L.Link.given c.loop-due.link) (kept (g.J.Journal.written c.loop-due.journal) (g.J.Journal.faulted c.loop-due.journal)))
+    (told_with others (g.L.Link.given c.serve_due.new.link) (kept (g.J.Journal.written c.serve_due.new.journal) (g.J.Journal.faulted c.serve_due.new.journal))) [] 0 0 0 c.in_err-serve_due.field-0.0 tt (c.loop-due.invariant.4 others)
     (subst (λ (s : Server). Breaks s c.loop-due.engine.state c.serve_due.new.engine.state (waiting_at (Some c.args.at) [] c.loop-due.engine.state.moment)
-    (told_with others (g.L.Link.given c.loop-due.link) (g.J.Journal.written c.loop-due.journal)) (told_with others (g.L.Link.given c.serve_due.new.link) (g.J.Journal.written c.serve_due.new.journal)) 0 c.in_err-serve_due.field-0.0)
+    (told_with others (g.L.Link.given c.loop-due.link) (kept (g.J.Journal.written c.loop-due.journal) (g.J.Journal.faulted c.loop-due.journal))) (told_with others (g.L.Link.given c.serve_due.new.link) (kept (g.J.Journal.written c.serve_due.new.journal) (g.J.Journal.faulted c.serve_due.new.journal))) 0 c.in_err-serve_due.field-0.0)
     c.loop-due.invariant.0 (c.in_err-serve_due.ensures.broken others c.args.at (rw c.in-Some.is at c.due_by.ensures.in_time))))
 
 pub returns-in_err-serve_due-clause-not_link : goal.returns-in_err-serve_due-clause-not_link

@@ -1,9 +1,11 @@
-use Rattle.std.proofs.Common.{◌∙◌, inl, inr, [], ap, sym, subst}
+use Rattle.std.proofs.Common.{◌≡◌, ◌∙◌, inl, inr, ℕ, [], ap, arith, sym, subst}
 use Rattle.std.proofs.lemmas.Result.{err_from_is_err_and}
 use Rattle.model_bounds.specs.state.declared.server.Server.{Server}
+use Rattle.model_bounds.specs.steps_model.Step.{moment_of}
+use Rattle.sip_run.specs.Due.{NothingDueBy}
 use Rattle.sip_run.specs.engine.Engine.{Engine}
 use Rattle.sip_loop.specs.Courses.{HappensAll, HappensTo}
-use Rattle.sip_loop.proofs.WhatIsDue.{all_more, all_nothing, fewer_on, happens_nothing, takes_due, to_more}
+use Rattle.sip_loop.proofs.WhatIsDue.{all_first, fewer_on, happens_nothing, takes_due, to_more}
 use Rattle.sip_loop.proofs.due.take_due.Goals as goal
 
 pub returns-in_err-first-clause-refused : goal.returns-in_err-first-clause-refused
@@ -18,7 +20,7 @@ returns-in_err-wait_for-clause-refused g c =
     (inl (
       c.in_err-wait_for.ensures.refused,
       to_more c.args.engine.now.server c.args.engine.now.state c.args.engine.now.state c.fire_first.new.engine.state c.args.due c.in_ok-first.first
-          (record { outs = []; happens = happens_nothing c.args.engine.now.server c.args.engine.now.state c.args.due }) c.in_ok-first.ensures.fired,
+          (record { outs = []; happens = happens_nothing c.args.engine.now.server c.args.engine.now.state c.args.due }) c.in_ok-first.ensures.fired c.in_ok-first.ensures.at_first,
     ))
 
 pub returns-in_err-fire_rest-clause-refused : goal.returns-in_err-fire_rest-clause-refused
@@ -31,7 +33,7 @@ returns-in_err-fire_rest-clause-refused g c =
           (c.in_err-fire_rest.ensures.some c.args.engine.now.state
           (subst (λ (s : Server). HappensTo s c.args.engine.now.state c.fire_first.new.engine.state c.args.due) (sym c.fire_first.ensures.server)
           (to_more c.args.engine.now.server c.args.engine.now.state c.args.engine.now.state c.fire_first.new.engine.state c.args.due c.in_ok-first.first
-          (record { outs = []; happens = happens_nothing c.args.engine.now.server c.args.engine.now.state c.args.due }) c.in_ok-first.ensures.fired))),
+          (record { outs = []; happens = happens_nothing c.args.engine.now.server c.args.engine.now.state c.args.due }) c.in_ok-first.ensures.fired c.in_ok-first.ensures.at_first))),
     ))
 
 pub returns-clause-taken : goal.returns-clause-taken
@@ -40,10 +42,16 @@ returns-clause-taken g c =
     subst (λ (s : Server). HappensAll s c.args.engine.now.state c.fire_rest.new.engine.state c.args.due c.args.waiting.now c.fire_rest.new.waiting) c.fire_first.ensures.server
     (c.in_ok-fire_rest.ensures.fired c.args.engine.now.state c.args.waiting.now
     (subst (λ (s : Server). HappensAll s c.args.engine.now.state c.fire_first.new.engine.state c.args.due c.args.waiting.now c.wait_for.new.waiting) (sym c.fire_first.ensures.server)
-    (all_more c.args.engine.now.server c.args.engine.now.state c.args.engine.now.state c.fire_first.new.engine.state c.args.due c.in_ok-first.first c.args.waiting.now c.args.waiting.now c.wait_for.new.waiting
-    (all_nothing c.args.engine.now.server c.args.engine.now.state c.args.due c.args.waiting.now) c.in_ok-first.ensures.fired c.in_ok-wait_for.ensures.added))) in
+    (all_first c.args.engine.now.server c.args.engine.now.state c.fire_first.new.engine.state c.args.due c.in_ok-first.first c.args.waiting.now c.wait_for.new.waiting
+    c.in_ok-first.ensures.fired c.in_ok-first.ensures.at_first c.in_ok-wait_for.ensures.added))) in
     takes_due c.args.engine.now.server c.args.engine.now.state c.fire_rest.new.engine.state c.args.due c.args.waiting.now c.fire_rest.new.waiting
     all c.in_ok-first.ensures.not_refused c.in_ok-fire_rest.ensures.none_due c.in_ok-fire_rest.ensures.stays
+
+pub returns-clause-none_due : goal.returns-clause-none_due
+returns-clause-none_due g c =
+    let stays : c.fire_rest.new.engine.state.moment ≡ c.args.due = c.in_ok-fire_rest.ensures.stays in
+    let same : moment_of c.fire_rest.new.engine.state c.args.due ≡ c.fire_rest.new.engine.state.moment = omega (arith, stays) in
+    subst (λ (m : ℕ). NothingDueBy m c.fire_rest.new.engine.state) same c.in_ok-fire_rest.ensures.none_due
 
 pub returns-clause-fewer : goal.returns-clause-fewer
 returns-clause-fewer g c =

@@ -1,6 +1,7 @@
 use Rattle.std.proofs.Common.{inl, inr, refl}
 use Rattle.std.proofs.lemmas.Result.{err_from_is_err_and}
 use Rattle.sip_run.specs.engine.StepError.{refusal_at, refusal_of}
+use Rattle.sip_loop.proofs.FaultsLeaveNone.{arrival_leaves_none, silence_leaves_none}
 use Rattle.sip_loop.proofs.WhatIsDue.{ok_not_refused}
 use Rattle.sip_loop.proofs.Turning.{fails_arrival, fails_silence, takes_arrival, takes_silence}
 use Rattle.sip_loop.proofs.serving.take_event.Goals as goal
@@ -37,3 +38,13 @@ pub returns-in_ok-out-in-None-clause-taken : goal.returns-in_ok-out-in-None-clau
 returns-in_ok-out-in-None-clause-taken g c =
     takes_silence c.args.engine.now.server c.args.engine.now.state c.fire.new.self.state c.args.at (g.L.Link.heard c.args.link.now) (g.L.Link.heard c.receive.new.self) (g.W.Rng.stream c.args.words.now) c.in_ok-out-in-None.out
     (rw c.in-None.is at c.in_ok-from.ensures.tells) (ok_not_refused (refusal_at c.args.at) c.in_ok-out-in-None.out c.in_ok-out-in-None.ensures.refused) (c.in_ok-out-in-None.ensures.waited c.requires.none c.requires.none_again)
+
+pub returns-in_ok-out-in-Some-clause-none_left : goal.returns-in_ok-out-in-Some-clause-none_left
+returns-in_ok-out-in-Some-clause-none_left g c =
+    arrival_leaves_none c.no_deadline_passed.ensures.has_fired c.args.engine.now.server c.is_reached.ensures.first c.is_reached.ensures.history c.args.engine.now.state c.deliver.new.self.state c.args.at c.in_ok-out-in-Some.out c.is_reached.ensures.chain
+    c.next_word-word.result c.in-Some.from c.bytes.result.now c.in_ok-out-in-Some.ensures.step
+
+pub returns-in_ok-out-in-None-clause-none_left : goal.returns-in_ok-out-in-None-clause-none_left
+returns-in_ok-out-in-None-clause-none_left g c =
+    silence_leaves_none c.no_deadline_passed.ensures.has_fired c.args.engine.now.server c.is_reached.ensures.first c.is_reached.ensures.history c.args.engine.now.state c.fire.new.self.state c.args.at c.in_ok-out-in-None.out c.is_reached.ensures.chain
+    (c.in_ok-out-in-None.ensures.waited c.requires.none c.requires.none_again)

@@ -1,18 +1,15 @@
-use Rattle.std.proofs.Common.{subst, sym}
 use Rattle.std.proofs.lemmas.Result.{err_from_is_err_and}
 use Rattle.sip_replay_script.specs.Devices.{GaveUp}
 use Rattle.sip_replay_script.specs.Script.{event_of}
 use Rattle.sip_replay.proofs.Running.{plays_event}
-use Rattle.sip_replay.proofs.Stopping.{step_stops, taking_unfired, taking_refused, taking_unprinted}
-use Rattle.sip_replay.specs.Refusals.{StepStops}
-use Rattle.sip_run.specs.Refusals.{refusal_of_event}
+use Rattle.sip_replay.proofs.Stopping.{taking_unfired, taking_refused, taking_unprinted}
 use Rattle.sip_replay.proofs.playback.take_line.Goals as goal
 
 pub returns-clause-taken : goal.returns-clause-taken
 returns-clause-taken g c =
-    plays_event c.args.engine.now.server c.fire_due.new.engine.server c.args.engine.now.state c.fire_due.new.engine.state c.own_step.new.engine.state c.line_moment.result (event_of c.args.line.now c.args.bytes.now) c.in-Ok.out
+    plays_event c.args.engine.now.server c.fire_due.new.engine.server c.args.engine.now.state c.fire_due.new.engine.state c.own_step.new.engine.state c.line_moment.result (event_of c.args.line.now c.args.bytes.now) c.in_ok-out.out
     (g.W.TellingWriter.contents c.args.writer.now) (g.W.TellingWriter.contents c.fire_due.new.writer) (g.W.TellingWriter.contents c.print_step.new.writer)
-    c.fire_due.ensures.server (c.line_moment.ensures c.args.bytes.now) c.in_ok-fire_due.ensures.fired c.in-Ok.ensures.step c.in_ok-print_step.ensures.ok
+    c.fire_due.ensures.server (c.line_moment.ensures c.args.bytes.now) c.in_ok-fire_due.ensures.fired c.in_ok-fire_due.ensures.none_due c.in_ok-out.ensures.step c.in_ok-print_step.ensures.ok
 
 pub returns-in_err-fire_due-clause-stopped : goal.returns-in_err-fire_due-clause-stopped
 returns-in_err-fire_due-clause-stopped g c =
@@ -20,17 +17,16 @@ returns-in_err-fire_due-clause-stopped g c =
     rw (p.1, p.2) (taking_unfired c.args.engine.now.server c.args.engine.now.state c.line_moment.result (event_of c.args.line.now c.args.bytes.now) (g.W.TellingWriter.contents c.args.writer.now) (g.W.TellingWriter.contents c.fire_due.new.writer)
     (GaveUp (g.W.TellingWriter.has_failed c.fire_due.new.writer) (g.W.TellingWriter.called c.fire_due.new.writer)) c.in_err-fire_due.field-0.0 (c.line_moment.ensures c.args.bytes.now) c.in_err-fire_due.ensures.stopped)
 
-pub returns-in-Err-clause-stopped : goal.returns-in-Err-clause-stopped
-returns-in-Err-clause-stopped g c =
-    taking_refused c.args.engine.now.server c.args.engine.now.state c.fire_due.new.engine.state c.line_moment.result (event_of c.args.line.now c.args.bytes.now) (g.W.TellingWriter.contents c.args.writer.now) (g.W.TellingWriter.contents c.fire_due.new.writer)
-    (GaveUp (g.W.TellingWriter.has_failed c.fire_due.new.writer) (g.W.TellingWriter.called c.fire_due.new.writer)) c.stop_of.result (c.line_moment.ensures c.args.bytes.now) c.in_ok-fire_due.ensures.fired
-    (subst (λ stop. StepStops (refusal_of_event c.fire_due.new.engine.state (event_of c.args.line.now c.args.bytes.now)) stop) (sym c.stop_of.ensures)
-    (step_stops (refusal_of_event c.fire_due.new.engine.state (event_of c.args.line.now c.args.bytes.now)) c.in-Err.e c.in-Err.ensures.refused))
+pub returns-in_err-out-clause-stopped : goal.returns-in_err-out-clause-stopped
+returns-in_err-out-clause-stopped g c =
+    let p = err_from_is_err_and c.from_residual-in_err-out.result c.from_residual-in_err-out.ensures.1 in
+    rw (p.1, p.2) (taking_refused c.args.engine.now.server c.args.engine.now.state c.fire_due.new.engine.state c.line_moment.result (event_of c.args.line.now c.args.bytes.now) (g.W.TellingWriter.contents c.args.writer.now) (g.W.TellingWriter.contents c.fire_due.new.writer)
+    (GaveUp (g.W.TellingWriter.has_failed c.fire_due.new.writer) (g.W.TellingWriter.called c.fire_due.new.writer)) c.in_err-out.field-0.0 (c.line_moment.ensures c.args.bytes.now) c.in_ok-fire_due.ensures.fired c.in_err-out.ensures.refused)
 
 pub returns-in_err-print_step-clause-stopped : goal.returns-in_err-print_step-clause-stopped
 returns-in_err-print_step-clause-stopped g c =
     let p = err_from_is_err_and c.from_residual-in_err-print_step.result c.from_residual-in_err-print_step.ensures.1 in
-    rw (p.1, p.2) (taking_unprinted c.args.engine.now.server c.fire_due.new.engine.server c.args.engine.now.state c.fire_due.new.engine.state c.own_step.new.engine.state c.line_moment.result (event_of c.args.line.now c.args.bytes.now) c.in-Ok.out
+    rw (p.1, p.2) (taking_unprinted c.args.engine.now.server c.fire_due.new.engine.server c.args.engine.now.state c.fire_due.new.engine.state c.own_step.new.engine.state c.line_moment.result (event_of c.args.line.now c.args.bytes.now) c.in_ok-out.out
     (g.W.TellingWriter.contents c.args.writer.now) (g.W.TellingWriter.contents c.fire_due.new.writer) (g.W.TellingWriter.contents c.print_step.new.writer)
     (GaveUp (g.W.TellingWriter.has_failed c.print_step.new.writer) (g.W.TellingWriter.called c.print_step.new.writer)) c.in_err-print_step.field-0.0
-    c.fire_due.ensures.server (c.line_moment.ensures c.args.bytes.now) c.in_ok-fire_due.ensures.fired c.in-Ok.ensures.step c.in_err-print_step.ensures.front c.in_err-print_step.ensures.stopped)
+    c.fire_due.ensures.server (c.line_moment.ensures c.args.bytes.now) c.in_ok-fire_due.ensures.fired c.in_ok-fire_due.ensures.none_due c.in_ok-out.ensures.step c.in_err-print_step.ensures.front c.in_err-print_step.ensures.stopped)

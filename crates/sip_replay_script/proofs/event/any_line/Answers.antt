@@ -1,11 +1,11 @@
 use Rattle.std.proofs.Common.{subst, ◌∙◌, ap, Some, refl}
 use Rattle.std.proofs.lemmas.Result.{err_from_is_err_and}
-use Rattle.sip_replay_script.specs.Lines.{IsSpent}
+use Rattle.sip_replay_script.specs.Lines.{IsSpent, pending}
 use Rattle.sip_replay_script.specs.Script.{datagram_at}
 use Rattle.sip_replay_script.specs.Events.{GivesFirst}
 use Rattle.sip_replay_script.specs.declared.event.First.TheVariants.{Says}
 use Rattle.sip_replay_script.proofs.Datagrams.{said_head}
-use Rattle.sip_replay_script.proofs.Damaged.{said_head_stops, said_other}
+use Rattle.sip_replay_script.proofs.Damaged.{no_first_line, said_head_stops, said_other}
 use Rattle.sip_replay_script.proofs.event.any_line.Goals as goal
 
 pub returns-in_ok-gather-in-Says-Some-Head-clause-given : goal.returns-in_ok-gather-in-Says-Some-Head-clause-given
@@ -28,7 +28,8 @@ returns-in_err-gather-in-Says-Some-Head-clause-stopped g c =
 pub returns-in_err-first_line-clause-stopped : goal.returns-in_err-first_line-clause-stopped
 returns-in_err-first_line-clause-stopped g c =
     let p = err_from_is_err_and c.from_residual.result c.from_residual.ensures.1 in
-    rw (p.1, p.2) c.in_err-first_line.ensures.stopped
+    rw (p.1, p.2) (no_first_line (IsSpent (g.R.TellingReader.has_failed c.first_line.new.reader) c.first_line.new.lines.asks) (pending c.args.lines.now (g.R.TellingReader.remaining c.args.reader.now)) c.in_err-first_line.field-0.0
+    c.in_err-first_line.ensures.stopped)
 
 pub returns-in-Says-None-clause-stopped : goal.returns-in-Says-None-clause-stopped
 returns-in-Says-None-clause-stopped g c =

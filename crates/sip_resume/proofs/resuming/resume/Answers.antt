@@ -12,6 +12,7 @@ loop-last-init g c = (
   refl,
   resumes_nothing c.args.engine.now.server c.args.engine.now.state c.in_ok-lines.lines (g.I.TellingReader.remaining c.args.reader.now) (g.J.Journal.written c.args.journal.now),
   refl,
+  refl,
 )
 
 pub loop-last-preserved : goal.loop-last-preserved
@@ -22,6 +23,7 @@ loop-last-preserved g c = (
       (g.J.Journal.written c.loop-last.journal) (g.J.Journal.written c.resume_next.new.journal) c.loop-last.taken c.number-taken.result c.loop-last.last c.in-Some.out c.loop-last.invariant.0
       (ap (λ (r : Reading). r.number) c.in_ok-lines.ensures) c.number-taken.ensures.value c.loop-last.invariant.1 (rw c.in-Some.is at c.in_ok-out.ensures.taken),
   c.resume_next.ensures.asked ∙ c.loop-last.invariant.2,
+  c.in_ok-out.ensures.whole (λ e. cc) ∙ c.loop-last.invariant.3,
 )
 
 pub returns-in_err-lines-clause-refused : goal.returns-in_err-lines-clause-refused

@@ -10,6 +10,7 @@ invariant-loop-last g l =
     × Resumes l.initial.engine.server l.initial.engine.state l.engine.state l.initial.lines l.lines (g.I.TellingReader.remaining l.initial.reader) (g.I.TellingReader.remaining l.reader)
     (g.J.Journal.written l.initial.journal) (g.J.Journal.written l.journal) l.taken l.last
     × (later l.lines.asks (g.I.TellingReader.asked l.reader) ≡ later l.initial.lines.asks (g.I.TellingReader.asked l.initial.reader))
+    × (g.J.Journal.faulted l.journal ≡ g.J.Journal.faulted l.initial.journal)
 
 abbrev pub decreases-loop-last : goal.decreases-loop-last
 decreases-loop-last g l = left l.lines

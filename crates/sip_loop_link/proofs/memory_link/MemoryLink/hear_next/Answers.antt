@@ -1,7 +1,8 @@
 use Rattle.std.proofs.Common.{rules, ◌≡◌, ◌+◌, ◌<◌, sym, refl, ap, ◌∙◌, arith, length, Some, []}
 use Rattle.std.proofs.lemmas.List.{length-set}
 use Rattle.sip_loop_link.proofs.Turns.{hears_none, hears_some, first_some, some_posted, writable_next}
-use Rattle.sip_loop_link.specs.MemoryLink.{MemoryState}
+use Rattle.sip_loop_link.proofs.Aside.{fresh_noted}
+use Rattle.sip_loop_link.specs.MemoryLink.{IsFresh, MemoryState}
 use Rattle.sip_loop_link.specs.contracts.memory_link.MemoryLink.{the_view}
 use Rattle.sip_loop_link.specs.declared.posted.Posted.{Posted}
 use Rattle.sip_loop_link.proofs.memory_link.MemoryLink.hear_next.Goals as goal
@@ -22,7 +23,10 @@ invariant_of-self-2 c =
     let same : length c.note_silence-from.new.inbox.items ≡ length inside.inbox.items =
     ap length (c.note_silence-from.ensures.noted d) ∙ length-set inside.inbox.items inside.taken _
     in
-    (omega (arith, below, same), omega arith, omega (arith, c.self.invariant.2))
+    let fresh : IsFresh c.note_silence-from.new.inbox.items (inside.taken + 1) =
+    rw (c.note_silence-from.ensures.noted d) (fresh_noted inside.inbox.items inside.taken inside.silent d below)
+    in
+    (omega (arith, below, same), omega arith, omega (arith, c.self.invariant.2), λ e. (fresh, refl, omega arith))
 
 pub returns-clause-from : goal.returns-clause-from
 returns-clause-from c =
@@ -38,7 +42,7 @@ returns-clause-heard c =
     let d = some_posted in
     let all : c.len.result ≡ length inside.inbox.items = search rules in
     let below : inside.taken < length inside.inbox.items = grind (arith, c.self.invariant.0, all, c.if-self-len.false) in
-    let heard = hears_some inside.inbox.items inside.taken inside.silent d (the_view inside) below refl in
+    let heard = hears_some inside.inbox.items inside.taken inside.silent d (the_view inside) below refl refl in
     rw (sym c.self.view_is, c.note_silence-from.ensures.noted d) (ap (λ (link : MemoryState). record link { receives = inside.receives + 1 }) (sym heard))
 
 pub returns-clause-writable : goal.returns-clause-writable

@@ -1,0 +1,79 @@
+-- Lists: what stands at one place, what holds of some elements, and a history that is turned round.
+use Rattle.std.proofs.Common.{◌≡◌, ◌⊎◌, inl, inr, ◌∙◌, ℕ, zero, suc, ◌<◌, List, [], ◌∷◌, ◌++◌, length, flat_map, filter_map, reverse, Option, Some, None, refl, sym, ap, subst, arith, append_assoc, slice_index_or, Contains}
+use Rattle.std.specs.List.{AllByRecursion, cons_option}
+use Rattle.std.proofs.lemmas.List.{reverse-append}
+
+-- ---- places
+
+-- what stands at a place of a list is one thing
+same_at : {X : Type 0} (xs : List X) (x y : X) (k : ℕ) → k < length xs → slice_index_or xs k x ≡ x → slice_index_or xs k y ≡ y → x ≡ y
+same_at [] x y k lt e f = absurd (omega arith)
+same_at (z ∷ zs) x y zero lt e f = sym e ∙ f
+same_at (z ∷ zs) x y (suc k) lt e f = same_at zs x y k (omega arith) e f
+
+-- and so it is of lists that are one
+pub at_one_place : {X : Type 0} (xs ys : List X) (x y : X) → xs ≡ ys → (one : Contains xs x) (other : Contains ys y) → one.0 ≡ other.0 → x ≡ y
+at_one_place {X} xs ys x y same one other e =
+    same_at xs x y one.0 one.1 one.2 (subst (λ (zs : List X). slice_index_or zs one.0 y ≡ y) (sym same) (subst (λ (k : ℕ). slice_index_or ys k y ≡ y) (sym e) other.2))
+
+-- ---- elements
+
+-- an element of a list, by recursion
+abbrev pub IsIn : {X : Type 0} → X → List X → Type 0
+IsIn y [] = ⊥
+IsIn y (x ∷ xs) = (x ≡ y) ⊎ IsIn y xs
+
+-- membership by place is membership by recursion
+pub in_from_contains : {X : Type 0} (xs : List X) (y : X) → Contains xs y → IsIn y xs
+in_from_contains [] y h = let lt = h.1 in absurd (omega arith)
+in_from_contains (x ∷ xs) y h = by_place (λ there. in_from_contains xs y there) h.0 h.1 h.2 where
+  by_place : (Contains xs y → IsIn y xs) → (k : ℕ) → k < length (x ∷ xs) → slice_index_or (x ∷ xs) k y ≡ y → IsIn y (x ∷ xs)
+  by_place rest zero lt e = inl e
+  by_place rest (suc k) lt e = inr (rest (k, omega arith, e))
+
+-- what holds of all holds of each
+pub all_in : {X : Type 0} (P : X → Type 0) (xs : List X) (y : X) → AllByRecursion P xs → IsIn y xs → P y
+all_in P [] y all h = absurd h
+all_in P (x ∷ xs) y all (inl e) = subst P e all.0
+all_in P (x ∷ xs) y all (inr h) = all_in P xs y all.1 h
+
+-- what holds of two lists together holds of each
+pub all_left : {X : Type 0} (P : X → Type 0) (xs ys : List X) → AllByRecursion P (xs ++ ys) → AllByRecursion P xs
+all_left P [] ys h = tt
+all_left P (x ∷ xs) ys h = (h.0, all_left P xs ys h.1)
+
+pub all_right : {X : Type 0} (P : X → Type 0) (xs ys : List X) → AllByRecursion P (xs ++ ys) → AllByRecursion P ys
+all_right P [] ys h = h
+all_right P (x ∷ xs) ys h = all_right P xs ys h.1
+
+-- what holds of all, and of one more, holds of them together
+pub all_push : {X : Type 0} (P : X → Type 0) (xs : List X) (y : X) → AllByRecursion P xs → P y → AllByRecursion P (xs ++ y ∷ [])
+all_push P [] y all h = (h, tt)
+all_push P (x ∷ xs) y all h = (all.0, all_push P xs y all.1 h)
+
+-- what holds of all that is made holds of what one makes
+pub made_of : {X Y : Type 0} (P : Y → Type 0) (f : X → List Y) (xs : List X) (x : X) → IsIn x xs → AllByRecursion P (flat_map f xs) → AllByRecursion P (f x)
+made_of P f [] x there all = absurd there
+made_of {X} P f (z ∷ zs) x (inl e) all = subst (λ (w : X). AllByRecursion P (f w)) e (all_left P (f z) (flat_map f zs) all)
+made_of P f (z ∷ zs) x (inr later) all = made_of P f zs x later (all_right P (f z) (flat_map f zs) all)
+
+-- what holds of all that some make holds of it
+pub chosen_of : {X Y : Type 0} (P : Y → Type 0) (f : X → Option Y) (xs : List X) (x : X) (y : Y) → IsIn x xs → f x ≡ Some y → AllByRecursion P (filter_map f xs) → P y
+chosen_of P f [] x y there is all = absurd there
+chosen_of {X} {Y} P f (z ∷ zs) x y there is all = by_head (λ later rest. chosen_of P f zs x y later is rest) (f z) refl all there where
+  by_head : (IsIn x zs → AllByRecursion P (filter_map f zs) → P y) → (o : Option Y) → f z ≡ o → AllByRecursion P (cons_option o (filter_map f zs)) → (z ≡ x) ⊎ IsIn x zs → P y
+  by_head rest None e others (inl here) = absurd (let none : f x ≡ None = ap f (sym here) ∙ e in cc)
+  by_head rest None e others (inr later) = rest later others
+  by_head rest (Some w) e others (inl here) = let same : w ≡ y = (let some : f x ≡ Some w = ap f (sym here) ∙ e in cc) in subst P same others.0
+  by_head rest (Some w) e others (inr later) = rest later others.1
+
+-- ---- turned round
+
+-- a list that is turned round, in front of another
+abbrev pub onto : {X : Type 0} → List X → List X → List X
+onto [] later = later
+onto (x ∷ xs) later = onto xs (x ∷ later)
+
+-- a list with one more in front, turned round, in front of another
+pub turned_round : {X : Type 0} (x : X) (xs ys : List X) → reverse (x ∷ xs) ++ ys ≡ reverse xs ++ x ∷ ys
+turned_round {X} x xs ys = ap (λ (zs : List X). zs ++ ys) (reverse-append (x ∷ []) xs) ∙ append_assoc (reverse xs) (x ∷ []) ys

@@ -1,0 +1,310 @@
+-- Two runs, side by side, from their first steps on.
+use Rattle.std.proofs.Common.{◌≡◌, ◌≢◌, ◌⊎◌, inl, inr, ◌∙◌, ℕ, ◌≤◌, ◌==◌, Bool, true, false, List, [], ◌∷◌, ◌++◌, drop, reverse, append-nil, Option, Some, None, refl, sym, ap, ap₂, subst, arith}
+use Rattle.std.proofs.lemmas.Bool.Decides.{nat_tests}
+use Rattle.sip_event.specs.declared.event.Event.{Event}
+use Rattle.sip_event.specs.declared.event.Event.TheVariants.{Datagram, Time, Fault}
+use Rattle.sip_event.specs.declared.event.StepOut.{StepOut}
+use Rattle.sip_model.specs.state.declared.server.Server.{Server}
+use Rattle.sip_model.specs.state.declared.proxy_state.ProxyState.{ProxyState}
+use Rattle.sip_model.specs.state.SameState.{SameState}
+use Rattle.sip_model.specs.state.State.{first_state}
+use Rattle.sip_model.specs.steps_model.Step.{Act, Given, Passing, IsDeadline, IsResend, IsStep, NoneBy, NoneAgainBy, moment_of}
+use Rattle.sip_model.specs.Run.{Link, IsChain, IsPaced, IsRun, IsUpTo, event_moment, event_of, events_of, first_moment, next_moment, steps_of}
+use Rattle.model_ties.specs.Ties.{AreOne, ArePrompt, Due, IsPrompt, Label, PartAtTie, due_of, label_of, labels_of}
+use Rattle.model_ties.proofs.Lists.{onto, turned_round}
+use Rattle.model_ties.proofs.Firsts.{at_one_moment, nothing_happens}
+use Rattle.model_ties.proofs.Alike.{Sameness, happens_alike, one_due}
+use Rattle.model_ties.proofs.Reached.{Histories, step_one_way}
+use Rattle.model_ties.proofs.Steps.{one_given}
+
+-- ---- a history from its first step on
+
+-- a step comes next: it begins in a state, and time passes in it up to the first of the events that are left
+record ComesNext (server : Server) (state : ProxyState) (link : Link) (left : List Event) : Type 0 where
+  begins : link.before ≡ state
+  step : IsStep server link.before link.act link.out link.after
+  prompt : IsPrompt server link.before link.act link.out link.after
+  paced : IsUpTo (first_moment left None) link.act
+
+-- steps, the first one first, lead from one state to another
+abbrev Follows : Server → ProxyState → List Link → ProxyState → Type 0
+Follows server first [] last = last ≡ first
+Follows server first (link ∷ later) last = ComesNext server first link (events_of later) × Follows server link.after later last
+
+-- the moment of the event that comes next is that of the first of the events
+next_is : (act : Act) (events : List Event) → next_moment (first_moment events None) act ≡ first_moment (event_of act events) None
+next_is (Given event) events = refl
+next_is (Passing at) events = refl
+
+-- a history, turned round
+turned : (server : Server) (first middle last : ProxyState) (history later : List Link) → IsChain server first history middle → ArePrompt server history → IsPaced (first_moment (events_of later) None) history
+    → Follows server middle later last → Follows server first (onto history later) last
+turned server first middle last [] later chain prompt paced follows = subst (λ (s : ProxyState). Follows server s later last) chain follows
+turned server first middle last (link ∷ history) later chain prompt paced follows =
+    turned server first link.before last history (link ∷ later) chain.2 prompt.1
+    (subst (λ (o : Option ℕ). IsPaced o history) (next_is link.act (events_of later)) paced.1)
+    (record { begins = refl; step = chain.1; prompt = prompt.0; paced = paced.0 }, subst (λ (s : ProxyState). Follows server s later last) chain.0 follows)
+
+-- its events
+events_turned : (history later : List Link) → events_of (onto history later) ≡ reverse (events_of history) ++ events_of later
+events_turned [] later = refl
+events_turned (link ∷ history) later = events_turned history (link ∷ later) ∙ by_act link.act where
+  by_act : (act : Act) → reverse (events_of history) ++ event_of act (events_of later) ≡ reverse (event_of act (events_of history)) ++ events_of later
+  by_act (Given event) = sym (turned_round event (events_of history) (events_of later))
+  by_act (Passing at) = refl
+
+-- its steps
+steps_turned : (history later : List Link) → steps_of (onto history later) ≡ reverse (steps_of history) ++ steps_of later
+steps_turned [] later = refl
+steps_turned (link ∷ history) later = steps_turned history (link ∷ later) ∙ sym (turned_round link.out (steps_of history) (steps_of later))
+
+-- a chain behind another one
+joined_chain : (server : Server) (first middle last : ProxyState) (history later : List Link) → IsChain server first history middle → IsChain server middle later last → IsChain server first (later ++ history) last
+joined_chain server first middle last history [] before behind = subst (λ (s : ProxyState). IsChain server first history s) (sym behind) before
+joined_chain server first middle last history (link ∷ later) before behind = (behind.0, behind.1, joined_chain server first middle link.before history later before behind.2)
+
+-- ---- what comes next in both
+
+-- two moments up to which time passes before the next event are one
+one_moment : (left : List Event) (at when : ℕ) → IsUpTo (first_moment left None) (Passing at) → IsUpTo (first_moment left None) (Passing when) → at ≡ when
+one_moment [] at when h k = absurd h
+one_moment (event ∷ left) at when h k = h ∙ sym k
+
+-- nothing is due by the moment of an event that comes next
+none_due : (server : Server) (old : ProxyState) (event : Event) (out : StepOut) (new : ProxyState) → IsStep server old (Given event) out new → IsPrompt server old (Given event) out new
+    → NoneBy (moment_of old (event_moment event)) old.requests × NoneAgainBy (moment_of old (event_moment event)) old.requests
+none_due server old (Datagram at word from bytes) out new h prompt = (h.none_due, h.none_again)
+none_due server old (Time at) out new h prompt = (h.none_due, h.none_again_due)
+none_due server old (Fault at ticket) out new h prompt = prompt
+
+-- so time doesn't pass before it
+no_passing : (server : Server) (left right : ProxyState) → SameState left right → (event : Event) (at : ℕ) (out another : StepOut) (new newer : ProxyState) → IsStep server left (Given event) out new
+    → IsPrompt server left (Given event) out new → at ≡ event_moment event → IsDeadline server right at another newer ⊎ IsResend server right at another newer → ⊥
+no_passing server left right same event at out another new newer step prompt moment happens =
+    let none = none_due server left event out new step prompt in
+    let begins : left.moment ≡ right.moment = same.moment in
+    nothing_happens server right at (moment_of left (event_moment event)) another newer (subst (NoneBy (moment_of left (event_moment event))) same.requests none.0)
+    (subst (NoneAgainBy (moment_of left (event_moment event))) same.requests none.1) (omega (arith, begins, moment)) happens
+
+-- ---- which part
+
+same_branch : (o p : Option ℕ) → (o ≡ p) ⊎ (o ≢ p)
+same_branch None None = inl refl
+same_branch None (Some k) = inr (λ e. cc)
+same_branch (Some j) None = inr (λ e. cc)
+same_branch (Some j) (Some k) = by_test (j == k) refl where
+  by_test : (t : Bool) → (j == k) ≡ t → (Some j ≡ Some k) ⊎ (Some j ≢ Some k)
+  by_test true is = let same : j ≡ k = grind (arith, nat_tests) in inl (ap Some same)
+  by_test false is = inr (λ e. let same : j ≡ k = cc in grind (arith, nat_tests))
+
+same_kind : (t u : Bool) → (t ≡ u) ⊎ (t ≢ u)
+same_kind true true = inl refl
+same_kind false false = inl refl
+same_kind true false = inr (λ e. cc)
+same_kind false true = inr (λ e. cc)
+
+same_place : (j k : ℕ) → (j ≡ k) ⊎ (j ≢ k)
+same_place j k = by_test (j == k) refl where
+  by_test : (t : Bool) → (j == k) ≡ t → (j ≡ k) ⊎ (j ≢ k)
+  by_test true is = inl (grind (arith, nat_tests))
+  by_test false is = inr (λ e. grind (arith, nat_tests))
+
+-- what is due of its parts
+abbrev due_with : Bool → ℕ → Option ℕ → Due
+due_with kind request branch = record { is_deadline = kind; request = request; branch = branch }
+
+-- it is the same, or it isn't
+same_due : (d e : Due) → (d ≡ e) ⊎ (d ≢ e)
+same_due d e = by_parts (same_kind d.is_deadline e.is_deadline) (same_place d.request e.request) (same_branch d.branch e.branch) where
+  by_parts : (d.is_deadline ≡ e.is_deadline) ⊎ (d.is_deadline ≢ e.is_deadline) → (d.request ≡ e.request) ⊎ (d.request ≢ e.request) → (d.branch ≡ e.branch) ⊎ (d.branch ≢ e.branch) → (d ≡ e) ⊎ (d ≢ e)
+  by_parts (inl kinds) (inl requests) (inl branches) =
+      inl (ap₂ (λ (t : Bool) (k : ℕ). due_with t k d.branch) kinds requests ∙ ap (λ (o : Option ℕ). due_with e.is_deadline e.request o) branches)
+  by_parts (inr kinds) requests branches = inr (λ same. kinds (ap (λ (x : Due). x.is_deadline) same))
+  by_parts (inl kinds) (inr requests) branches = inr (λ same. requests (ap (λ (x : Due). x.request) same))
+  by_parts (inl kinds) (inl requests) (inr branches) = inr (λ same. branches (ap (λ (x : Due). x.branch) same))
+
+-- the first label of a list
+abbrev head_label : List Label → Option Label
+head_label [] = None
+head_label (x ∷ xs) = Some x
+
+label_first : {x y : Label} → Some x ≡ Some y → x ≡ y
+label_first e = cc
+
+-- ---- side by side
+
+module _ (sameness : Sameness)
+    (steps_same : (server : Server) (left right : ProxyState) (act : Act) (out : StepOut) (new : ProxyState) → SameState left right → left.moment ≤ out.at → IsStep server left act out new → IsStep server right act out new)
+    (histories : Histories)
+    (stands : (server : Server) (old new : ProxyState) (act : Act) (out : StepOut) → IsStep server old act out new → new.moment ≡ out.at)
+    (rises : (server : Server) (first : ℕ) (link : Link) (history : List Link) (last : ProxyState) → IsChain server (first_state first) (link ∷ history) last → link.before.moment ≤ last.moment)
+    (server : Server) (first : ℕ) (past : List Link) (start : ProxyState) (reached : IsChain server (first_state first) past start) where
+  -- two runs took the same steps so far; those that are left are the same, or part
+  abbrev Runs : List Link → List Link → List Link → ProxyState → ProxyState → Type 0
+  Runs walked one other last end = AreOne (steps_of one) (steps_of other) last end ⊎ PartAtTie server start (reverse (steps_of walked) ++ steps_of one) (reverse (steps_of walked) ++ steps_of other)
+
+  -- one more step, which was the same
+  with_one : (walked : List Link) (link twin : Link) (one other : List Link) (last end : ProxyState) → link.out ≡ twin.out → Runs (link ∷ walked) one other last end → Runs walked (link ∷ one) (twin ∷ other) last end
+  with_one walked link twin one other last end same (inl are) = inl (record { steps_are = ap₂ (λ (x : StepOut) (xs : List StepOut). x ∷ xs) same are.steps_are; state = are.state })
+  with_one walked link twin one other last end same (inr part) =
+      inr (subst (λ (xs : List StepOut). PartAtTie server start xs (reverse (steps_of walked) ++ steps_of (twin ∷ other))) (turned_round link.out (steps_of walked) (steps_of one))
+      (subst (λ (ys : List StepOut). PartAtTie server start (reverse (steps_of (link ∷ walked)) ++ steps_of one) ys)
+      (turned_round link.out (steps_of walked) (steps_of other) ∙ ap (λ (x : StepOut). reverse (steps_of walked) ++ x ∷ steps_of other) same) part))
+
+  -- a step on the way
+  walked_on : (walked : List Link) (state : ProxyState) (link : Link) (left : List Event) → IsChain server start walked state → ComesNext server state link left → IsChain server start (link ∷ walked) link.after
+  walked_on walked state link left chain next = (refl, next.step, subst (λ (s : ProxyState). IsChain server start walked s) (sym next.begins) chain)
+
+  -- from a first state on
+  from_first : (walked : List Link) (state : ProxyState) → IsChain server start walked state → IsChain server (first_state first) (walked ++ past) state
+  from_first walked state chain = joined_chain server (first_state first) start state past walked reached chain
+
+  -- two steps with one label are one
+  one_label : (left right : ProxyState) (act its : Act) (out another : StepOut) (new newer : ProxyState) (walked : List Link) → IsChain server start walked left → SameState left right
+      → IsStep server left act out new → IsStep server right its another newer → (prompt : IsPrompt server left act out new) (prompted : IsPrompt server right its another newer)
+      → label_of server left act out new prompt ≡ label_of server right its another newer prompted → (out ≡ another) × SameState new newer
+  one_label left right (Given event) (Given its) out another new newer walked chain same mine theirs prompt prompted e =
+      let events : event ≡ its = cc in
+      one_given sameness steps_same server left right same event out another new newer
+      (step_one_way histories server first (walked ++ past) left (from_first walked left chain) (Given event) out new mine)
+      mine (subst (λ (x : Event). IsStep server right (Given x) another newer) (sym events) theirs)
+  one_label left right (Given event) (Passing when) out another new newer walked chain same mine theirs prompt prompted e = absurd (cc)
+  one_label left right (Passing at) (Given its) out another new newer walked chain same mine theirs prompt prompted e = absurd (cc)
+  one_label left right (Passing at) (Passing when) out another new newer walked chain same mine theirs prompt prompted e =
+      let at_once : out.at ≡ another.at = at_one_moment server left right at when out another new newer same.requests prompt prompted in
+      let risen = rises server first (record { before = left; act = Passing at; out = out; after = new }) (walked ++ past) new (refl, mine, from_first walked left chain) in
+      let stood = stands server left new (Passing at) out mine in
+      let moment = same.moment in
+      let moved = happens_alike sameness server right left (sameness.turned left right same) when another newer (omega (arith, at_once, risen, stood, moment)) prompted in
+      let dues : due_of prompt ≡ due_of prompted = cc in
+      one_due sameness server left at when out another new newer at_once prompt moved.0 (dues ∙ sym moved.1)
+
+  -- the steps that come next in both, and what is left of both behind them if they are the same
+  module _ (walked : List Link) (link twin : Link) (one other : List Link) (last end : ProxyState) (here : IsChain server start walked link.before) (begin : SameState link.before twin.before)
+      (step : IsStep server link.before link.act link.out link.after)
+      (further : SameState link.after twin.after → events_of one ≡ events_of other → Runs (link ∷ walked) one other last end) where
+    -- both are the same
+    go_on : events_of one ≡ events_of other → (link.out ≡ twin.out) × SameState link.after twin.after → Runs walked (link ∷ one) (twin ∷ other) last end
+    go_on rest same = with_one walked link twin one other last end same.0 (further same.1 rest)
+
+    -- the first isn't before the moment of its state
+    later : link.before.moment ≤ link.out.at
+    later =
+        let risen = rises server first link (walked ++ past) link.after (refl, step, from_first walked link.before here) in
+        let at = stands server link.before link.after link.act link.out step in
+        omega (arith, risen, at)
+
+    -- something that is due happens in both
+    by_due : (at : ℕ) → IsDeadline server link.before at link.out link.after ⊎ IsResend server link.before at link.out link.after
+        → IsDeadline server twin.before at twin.out twin.after ⊎ IsResend server twin.before at twin.out twin.after → events_of one ≡ events_of other → Runs walked (link ∷ one) (twin ∷ other) last end
+    by_due at d its rest =
+        by_same (same_due (due_of d) (due_of moved.0)) where
+          at_once : link.out.at ≡ twin.out.at
+          at_once = at_one_moment server link.before twin.before at at link.out twin.out link.after twin.after begin.requests d its
+
+          moved : (x : IsDeadline server link.before at twin.out twin.after ⊎ IsResend server link.before at twin.out twin.after) × (due_of x ≡ due_of its)
+          moved =
+              happens_alike sameness server twin.before link.before (sameness.turned link.before twin.before begin) at twin.out twin.after
+              (let moment = begin.moment in omega (arith, later, at_once, moment)) its
+
+          by_same : (due_of d ≡ due_of moved.0) ⊎ (due_of d ≢ due_of moved.0) → Runs walked (link ∷ one) (twin ∷ other) last end
+          by_same (inl is) = go_on rest (one_due sameness server link.before at at link.out twin.out link.after twin.after at_once d moved.0 is)
+          by_same (inr differ) =
+              inr (record {
+                history = walked;
+                state = link.before;
+                chain = here;
+                at = at;
+                out = link.out;
+                new = link.after;
+                happens = d;
+                further = steps_of one;
+                other_out = twin.out;
+                other_new = twin.after;
+                other_happens = moved.0;
+                other_further = steps_of other;
+                at_once = at_once;
+                differ = differ;
+                steps_are = refl;
+                others_are = refl;
+              })
+
+    -- whatever comes next
+    by_acts : (act its : Act) → event_of act (events_of one) ≡ event_of its (events_of other) → IsStep server link.before act link.out link.after → IsStep server twin.before its twin.out twin.after
+        → IsPrompt server link.before act link.out link.after → IsPrompt server twin.before its twin.out twin.after → IsUpTo (first_moment (events_of one) None) act → IsUpTo (first_moment (events_of other) None) its
+        → Runs walked (link ∷ one) (twin ∷ other) last end
+    by_acts (Given event) (Given its) e mine theirs prompt prompted up upon =
+        let events : event ≡ its = cc in
+        let rest : events_of one ≡ events_of other = cc in
+        go_on rest
+        (one_given sameness steps_same server link.before twin.before begin event link.out twin.out link.after twin.after
+        (step_one_way histories server first (walked ++ past) link.before (from_first walked link.before here) (Given event) link.out link.after mine)
+        mine (subst (λ (x : Event). IsStep server twin.before (Given x) twin.out twin.after) (sym events) theirs))
+    by_acts (Given event) (Passing when) e mine theirs prompt prompted up upon =
+        absurd (no_passing server link.before twin.before begin event when link.out twin.out link.after twin.after mine prompt
+        (subst (λ (es : List Event). IsUpTo (first_moment es None) (Passing when)) (sym e) upon) prompted)
+    by_acts (Passing at) (Given its) e mine theirs prompt prompted up upon =
+        absurd (no_passing server twin.before link.before (sameness.turned link.before twin.before begin) its at twin.out link.out twin.after link.after theirs prompted
+        (subst (λ (es : List Event). IsUpTo (first_moment es None) (Passing at)) e up) prompt)
+    by_acts (Passing at) (Passing when) e mine theirs prompt prompted up upon =
+        let moments : at ≡ when = one_moment (events_of one) at when up (subst (λ (es : List Event). IsUpTo (first_moment es None) (Passing when)) (sym e) upon) in
+        by_due at prompt
+        (subst (λ (m : ℕ). IsDeadline server twin.before m twin.out twin.after ⊎ IsResend server twin.before m twin.out twin.after) (sym moments) prompted) e
+
+  -- one run is over, and the other goes on with a step: no
+  goes_no_further : (act : Act) (left : List Event) → [] ≡ event_of act left → IsUpTo (first_moment left None) act → ⊥
+  goes_no_further (Given event) left e up = cc
+  goes_no_further (Passing at) left e up = subst (λ (es : List Event). IsUpTo (first_moment es None) (Passing at)) (sym e) up
+
+  -- both, step by step
+  side_by_side : (one other walked : List Link) (left right last end : ProxyState) → IsChain server start walked left → SameState left right → Follows server left one last → Follows server right other end
+      → events_of one ≡ events_of other → Runs walked one other last end
+  side_by_side [] [] walked left right last end chain same h k e =
+      inl (record { steps_are = refl; state = subst (λ (s : ProxyState). SameState s end) (sym h) (subst (λ (s : ProxyState). SameState left s) (sym k) same) })
+  side_by_side [] (twin ∷ other) walked left right last end chain same h k e = absurd (goes_no_further twin.act (events_of other) e k.0.paced)
+  side_by_side (link ∷ one) [] walked left right last end chain same h k e = absurd (goes_no_further link.act (events_of one) (sym e) h.0.paced)
+  side_by_side (link ∷ one) (twin ∷ other) walked left right last end chain same h k e =
+      by_acts walked link twin one other last end
+      (subst (λ (s : ProxyState). IsChain server start walked s) (sym h.0.begins) chain)
+      (subst (λ (s : ProxyState). SameState s twin.before) (sym h.0.begins) (subst (λ (s : ProxyState). SameState left s) (sym k.0.begins) same))
+      h.0.step
+      (λ states rest. side_by_side one other (link ∷ walked) link.after twin.after last end (walked_on walked left link (events_of one) chain h.0) states h.1 k.1 rest)
+      link.act twin.act e h.0.step k.0.step h.0.prompt k.0.prompt h.0.paced k.0.paced
+
+  -- ---- where both let the same happen
+
+  -- two histories with the same labels took the same steps
+  pub labels_decide : (history its : List Link) (other_start last end : ProxyState) → SameState start other_start → IsChain server start history last → IsChain server other_start its end → (prompt : ArePrompt server history)
+      → (other_prompt : ArePrompt server its) → labels_of server history prompt ≡ labels_of server its other_prompt → AreOne (steps_of history) (steps_of its) last end
+  labels_decide [] [] other_start last end same chain other_chain prompt other_prompt e =
+      record { steps_are = refl; state = subst (λ (s : ProxyState). SameState s end) (sym chain) (subst (λ (s : ProxyState). SameState start s) (sym other_chain) same) }
+  labels_decide [] (twin ∷ its) other_start last end same chain other_chain prompt other_prompt e = absurd (cc)
+  labels_decide (link ∷ history) [] other_start last end same chain other_chain prompt other_prompt e = absurd (cc)
+  labels_decide (link ∷ history) (twin ∷ its) other_start last end same chain other_chain prompt other_prompt e =
+      let before : AreOne (steps_of history) (steps_of its) link.before twin.before =
+      labels_decide history its other_start link.before twin.before same chain.2 other_chain.2 prompt.1 other_prompt.1 (ap (drop 1) e) in
+      let step = one_label link.before twin.before link.act twin.act link.out twin.out link.after twin.after history chain.2 before.state chain.1 other_chain.1 prompt.0 other_prompt.0 (label_first (ap head_label e)) in
+      record {
+        steps_are = ap₂ (λ (x : StepOut) (xs : List StepOut). x ∷ xs) step.0 before.steps_are;
+        state = subst (λ (s : ProxyState). SameState s end) (sym chain.0) (subst (λ (s : ProxyState). SameState link.after s) (sym other_chain.0) step.1);
+      }
+
+  -- two whole runs
+  pub runs_part : (other_start last end : ProxyState) (events : List Event) (steps others : List StepOut) (history its : List Link) → SameState start other_start → IsRun server start events None steps history last
+      → IsRun server other_start events None others its end → ArePrompt server history → ArePrompt server its → AreOne steps others last end ⊎ PartAtTie server start steps others
+  runs_part other_start last end events steps others history its same run other_run prompt other_prompt =
+      by_either (side_by_side (onto history []) (onto its []) [] start other_start last end refl same
+      (turned server start last last history [] run.chain prompt run.paced refl) (turned server other_start end end its [] other_run.chain other_prompt other_run.paced refl)
+      (told history run.of_events ∙ sym (told its other_run.of_events))) where
+        told : (h : List Link) → reverse (events_of h) ≡ events → events_of (onto h []) ≡ events
+        told h is = events_turned h [] ∙ append-nil (reverse (events_of h)) ∙ is
+
+        taken : (h : List Link) (outs : List StepOut) → reverse (steps_of h) ≡ outs → steps_of (onto h []) ≡ outs
+        taken h outs is = steps_turned h [] ∙ append-nil (reverse (steps_of h)) ∙ is
+
+        by_either : AreOne (steps_of (onto history [])) (steps_of (onto its [])) last end ⊎ PartAtTie server start (steps_of (onto history [])) (steps_of (onto its []))
+            → AreOne steps others last end ⊎ PartAtTie server start steps others
+        by_either (inl are) = inl (record { steps_are = sym (taken history steps run.of_steps) ∙ are.steps_are ∙ taken its others other_run.of_steps; state = are.state })
+        by_either (inr part) =
+            inr (subst (λ (xs : List StepOut). PartAtTie server start xs others) (taken history steps run.of_steps)
+            (subst (λ (ys : List StepOut). PartAtTie server start (steps_of (onto history [])) ys) (taken its others other_run.of_steps) part))

@@ -1,0 +1,73 @@
+ghost use Rattle.std.specs.Prelude.{◌≡◌, ◌⊎◌, ℕ, List, None};
+ghost use Rattle.sip_event.specs.declared.event.Event.{Event};
+ghost use Rattle.sip_event.specs.declared.event.StepOut.{StepOut};
+ghost use Rattle.sip_event.specs.declared.packet.Ticket.{Ticket};
+ghost use Rattle.sip_model.specs.state.declared.server.Server.{Server};
+ghost use Rattle.sip_model.specs.state.declared.proxy_state.ProxyState.{ProxyState};
+ghost use Rattle.sip_model.specs.state.State.{first_state};
+ghost use Rattle.sip_model.specs.state.SameState.{SameState};
+ghost use Rattle.sip_model.specs.steps_model.Step.{IsFault, NoneAgainBy, NoneBy, moment_of};
+ghost use Rattle.sip_model.specs.Run.{Link, IsChain, IsRun, steps_of};
+ghost use Rattle.model_ties.specs.Ties.{AreOne, ArePrompt, PartAtTie, labels_of};
+
+use sip_dialog::laws::same_dialogs;
+use sip_location::laws::same_bindings;
+use sip_model::histories::{
+    dialogs_after_same, moment_rises, steps_same, steps_stand_at_their_moments,
+};
+use sip_model::order::requests_can_end;
+use sip_model::parts::steps_have_parts;
+use sip_state::laws::same_states;
+
+/// Two runs over the same events, from states that are the same, to which steps of the model led, take the same steps and come to
+/// states that are the same, or they part at a tie: up to some state their steps are the same, and then two things are due at one
+/// moment, the first at which anything is, of which each lets another one happen first. Nothing else is open: a step is all that
+/// it hands out, in its order, and all that it records. In both time passes only where something that is due happens, and all that
+/// is due by the moment of an event happens before it.
+pub fn runs_part_at_ties_alone()
+    ensures { (server : Server) (first : ℕ) (past : List Link) (start other_start last end : ProxyState) (events : List Event)
+        (steps others : List StepOut) (history its : List Link)
+        → IsChain server (first_state first) past start → SameState start other_start
+        → IsRun server start events None steps history last → IsRun server other_start events None others its end
+        → ArePrompt server history → ArePrompt server its
+        → AreOne steps others last end ⊎ PartAtTie server start steps others }
+{
+    same_bindings();
+    same_dialogs();
+    same_states();
+    dialogs_after_same();
+    moment_rises();
+    steps_same();
+    steps_stand_at_their_moments();
+    requests_can_end();
+    steps_have_parts();
+}
+
+/// The events that are taken, and what happens in between of what is due, decide everything, each in its order: two prompt histories from
+/// states that are the same, to which steps of the model led, whose steps are taken for the same, took the same steps, each with all
+/// that it hands out in the same order and all that it records, and came to states that are the same.
+pub fn order_decides()
+    ensures { (server : Server) (first : ℕ) (past : List Link) (start other_start last end : ProxyState) (history its : List Link)
+        → IsChain server (first_state first) past start → SameState start other_start
+        → IsChain server start history last → IsChain server other_start its end
+        → (prompt : ArePrompt server history) → (other_prompt : ArePrompt server its)
+        → labels_of server history prompt ≡ labels_of server its other_prompt → AreOne (steps_of history) (steps_of its) last end }
+{
+    same_bindings();
+    same_dialogs();
+    same_states();
+    dialogs_after_same();
+    moment_rises();
+    steps_same();
+    steps_stand_at_their_moments();
+    requests_can_end();
+    steps_have_parts();
+}
+
+/// A fault that comes once nothing is due leaves nothing due: what it sets off is later.
+pub fn fault_leaves_nothing_due()
+    ensures { (server : Server) (first : ℕ) (history : List Link) (old new : ProxyState) (at : ℕ) (ticket : Ticket) (out : StepOut)
+        → IsChain server (first_state first) history old → IsFault server old at ticket out new
+        → NoneBy (moment_of old at) old.requests → NoneAgainBy (moment_of old at) old.requests
+        → NoneBy new.moment new.requests × NoneAgainBy new.moment new.requests }
+{}

@@ -1,0 +1,2 @@
+pub mod Print
+pub mod Stops

@@ -1,7 +1,0 @@
-use Rattle.std.proofs.Common.{refl}
-use Rattle.std.specs.Fmt.{digits}
-use Rattle.sip_replay_script.proofs.examples.head_text_example.Goals as goal
-
-pub returns : goal.returns
-unfolding digits
-returns c = refl

@@ -1,0 +1,26 @@
+use Rattle.std.proofs.Common.{◌∙◌, ap, true}
+use Rattle.std.proofs.lemmas.Result.{IfOk-weaker}
+use Rattle.clap.specs.Words.{App}
+use Rattle.clap.specs.Simple.{app_of_fields}
+use Rattle.sipd_arguments.proofs.Building.{placed}
+use Rattle.sipd_arguments.proofs.commands.commands.Goals as goal
+
+pub returns : goal.returns
+returns c =
+    IfOk-weaker c.subcommand-6.result _ _ (λ r h. (
+      c.in_ok-serve_command.ensures.0,
+      placed _ _ _ _ r
+          (placed _ _ _ _ _
+          (placed _ _ _ _ _
+          (placed _ _ _ _ _
+          (placed _ _ _ _ _
+          (placed _ _ _ _ _
+          (ap app_of_fields c.subcommand_required.ensures ∙ ap (λ (a : App). record a { top = record a.top { subcommand_required = true } })
+          (ap app_of_fields c.about.ensures ∙ ap app_of_fields c.version.ensures ∙ ap (λ (a : App). record a { top = record a.top { has_version = true } }) c.new.ensures.app))
+          c.in_ok-check_command.ensures c.in_ok-subcommand.ensures)
+          c.in_ok-replay_command.ensures c.in_ok-subcommand-2.ensures)
+          c.in_ok-serve_command.ensures.1 c.in_ok-subcommand-3.ensures)
+          c.in_ok-decide_command.ensures c.in_ok-subcommand-4.ensures)
+          c.in_ok-report_command.ensures c.in_ok-subcommand-5.ensures)
+          c.in_ok-user_command.ensures h,
+    )) c.subcommand-6.ensures

@@ -1,0 +1,15 @@
+use Rattle.std.proofs.Common.{◌∙◌, ap, codes}
+use Rattle.std.proofs.lemmas.Result.{IfOk-weaker}
+use Rattle.clap.specs.Simple.{app_of_fields}
+use Rattle.clap.specs.declared.builder.command.Command.{Command}
+use Rattle.clap.specs.declared.builder.command.Command.TheOpen.{Command-F}
+use Rattle.sipd_arguments.proofs.Building.{begun, added}
+use Rattle.sipd_arguments.proofs.commands.replay_command.Goals as goal
+
+pub returns : goal.returns
+returns c =
+    IfOk-weaker c.arg-2.result _ _ (λ r h. added _ _ r _ _
+    (added _ _ _ _ _
+    (begun _ (codes "replay") (ap app_of_fields c.about.ensures ∙ c.new.ensures.app) (ap (λ (f : Command-F Command). f.has_globals) c.about.ensures ∙ c.new.ensures.local))
+    c.in_ok-arg.ensures c.config_argument.ensures.rule c.config_argument.ensures.local)
+    h c.in_ok-old_record_argument.ensures.0 c.in_ok-old_record_argument.ensures.1) c.arg-2.ensures

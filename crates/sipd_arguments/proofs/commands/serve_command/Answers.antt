@@ -1,0 +1,29 @@
+use Rattle.std.proofs.Common.{◌∙◌, ap, codes}
+use Rattle.std.proofs.lemmas.Result.{IfOk-weaker}
+use Rattle.clap.specs.Simple.{app_of_fields}
+use Rattle.clap.specs.declared.builder.arg.Arg.{Arg}
+use Rattle.clap.specs.declared.builder.command.Command.{Command}
+use Rattle.clap.specs.declared.builder.command.Command.TheOpen.{Command-F}
+use Rattle.sipd_arguments.proofs.Building.{begun, added, needed_rule}
+use Rattle.sipd_arguments.proofs.commands.serve_command.Goals as goal
+
+pub returns : goal.returns
+returns c =
+    IfOk-weaker c.arg-7.result _ _ (λ r h. (
+      c.record_fault_argument.ensures.rule.0,
+      added _ _ r _ _
+          (added _ _ _ _ _
+          (added _ _ _ _ _
+          (added _ _ _ _ _
+          (added _ _ _ _ _
+          (added _ _ _ _ _
+          (added _ _ _ _ _
+          (begun _ (codes "serve") (ap app_of_fields c.about.ensures ∙ c.new.ensures.app) (ap (λ (f : Command-F Command). f.has_globals) c.about.ensures ∙ c.new.ensures.local))
+          c.in_ok-arg.ensures (needed_rule _ _ _ c.required.ensures c.config_argument.ensures.rule) (ap (λ (x : Arg). x.global) c.required.ensures ∙ c.config_argument.ensures.local))
+          c.in_ok-arg-2.ensures c.turns_argument.ensures.rule c.turns_argument.ensures.local)
+          c.in_ok-arg-3.ensures c.record_argument.ensures.rule c.record_argument.ensures.local)
+          c.in_ok-arg-4.ensures c.in_ok-records_argument.ensures.0 c.in_ok-records_argument.ensures.1)
+          c.in_ok-arg-5.ensures c.record_fault_argument.ensures.rule.1 c.record_fault_argument.ensures.local)
+          c.in_ok-arg-6.ensures c.in_ok-resume_argument.ensures.0 c.in_ok-resume_argument.ensures.1)
+          h c.per_source_argument.ensures.rule c.per_source_argument.ensures.local,
+    )) c.arg-7.ensures

@@ -1,0 +1,213 @@
+-- The command line: the commands that the program knows, with their options, and what each asks for (this project's profile).
+use Rattle.std.specs.Prelude.{◌≡◌, ⊤, ℕ, pos, ◌^◌, Bool, true, false, ◌&&◌, not, nat_lt, if◌then◌else◌, List, [], ◌∷◌, codes, Option, Some, None, unwrap_or, option_map, option_and_then, is_some, string_bytes}
+use Rattle.std.specs.Str.{bytes_eq}
+use Rattle.std.specs.Str.Parse.{digits_value, without_leading_plus}
+use Rattle.std.specs.Option.{option_map_or}
+use Rattle.std.specs.Borrow.{Bor}
+use Rattle.clap.specs.Words.{App, Row, Rule, Shape, Text, new_app, new_rule, first_of, one_of, subcommand_of}
+use Rattle.clap.specs.ValueTests.{is_numeral}
+use Rattle.clap.specs.declared.builder.action.ArgAction.TheVariants.{Set, SetTrue}
+use Rattle.clap.specs.declared.builder.value_parser.ValueParser.TheVariants as parsers
+use Rattle.sipd_arguments.specs.declared.call.Call.{Call}
+use Rattle.sipd_arguments.specs.declared.call.Call.TheVariants as calls
+use Rattle.sipd_arguments.specs.declared.call.CheckCall.{CheckCall}
+use Rattle.sipd_arguments.specs.declared.call.ReplayCall.{ReplayCall}
+use Rattle.sipd_arguments.specs.declared.call.ServeCall.{ServeCall}
+use Rattle.sipd_arguments.specs.declared.call.DecideCall.{DecideCall}
+use Rattle.sipd_arguments.specs.declared.call.ReportCall.{ReportCall}
+use Rattle.sipd_arguments.specs.declared.call.UserCall.{UserCall}
+use Rattle.sipd_arguments.specs.declared.call.RecordFault.{RecordFault}
+use Rattle.sipd_arguments.specs.declared.call.RecordFault.TheVariants.{GoOn, End}
+use Rattle.sipd_arguments.specs.declared.call.RecordPlace.{RecordPlace}
+use Rattle.sipd_arguments.specs.declared.call.RecordPlace.TheVariants.{File, Folder}
+use Rattle.sipd_arguments.specs.declared.commands.Parsed.{Parsed}
+use Rattle.sipd_arguments.specs.declared.commands.Parsed.TheVariants as parsed
+
+-- ---- the options of each command
+
+-- `--NAME VALUE`
+abbrev pub option : Text → Rule
+option name = record (new_rule name) { long = Some name; value_names = 1; action = Some Set }
+
+-- `--NAME`
+abbrev pub flag : Text → Rule
+flag name = record (new_rule name) { long = Some name; action = Some SetTrue }
+
+-- a word at its place
+abbrev pub word : Text → ℕ → Rule
+word name place = record (new_rule name) { index = Some place; value_names = 1; required = true; action = Some Set }
+
+-- it has to be there
+abbrev pub needed : Rule → Rule
+needed r = record r { required = true }
+
+-- it is there with another one alone, or without it alone
+abbrev pub tied : Rule → Rule
+tied r = record r { is_free = false }
+
+-- its value is a number, from one to another
+abbrev pub number_from : ℕ → ℕ → Rule → Rule
+number_from low high r = record r { parser = Some (parsers.Signed (pos low) (pos high)) }
+
+-- its value is one of these words
+abbrev pub among : Bor (List (Bor Text)) → Rule → Rule
+among words r = record r { parser = Some (parsers.Names words) }
+
+abbrev pub command : Text → List Rule → Shape
+command name rules = record (new_app name).top { rules = rules }
+
+abbrev pub check_command : Shape
+check_command = command (codes "check") (needed (option (codes "config")) ∷ flag (codes "show") ∷ [])
+
+abbrev pub replay_command : Shape
+replay_command = command (codes "replay") (option (codes "config") ∷ tied (option (codes "record")) ∷ [])
+
+-- the words are those of `--record-fault`
+abbrev pub serve_command : Bor (List (Bor Text)) → Shape
+serve_command words = command (codes "serve")
+    (needed (option (codes "config"))
+    ∷ number_from 0 4294967295 (option (codes "turns"))
+    ∷ option (codes "record")
+    ∷ tied (option (codes "records"))
+    ∷ among words (option (codes "record-fault"))
+    ∷ tied (option (codes "resume"))
+    ∷ number_from 1 1000000 (option (codes "per-source"))
+    ∷ [])
+
+abbrev pub decide_command : Shape
+decide_command = command (codes "decide")
+    (needed (option (codes "config"))
+    ∷ option (codes "user")
+    ∷ number_from 0 1439 (option (codes "minute"))
+    ∷ word (codes "METHOD") 1
+    ∷ word (codes "TARGET") 2
+    ∷ [])
+
+abbrev pub report_command : Shape
+report_command = command (codes "report")
+    (option (codes "config")
+    ∷ option (codes "user")
+    ∷ number_from 0 4294967295 (option (codes "rule"))
+    ∷ flag (codes "denied")
+    ∷ flag (codes "csv")
+    ∷ [])
+
+abbrev pub user_command : Shape
+user_command = command (codes "user")
+    (word (codes "NAME") 1
+    ∷ option (codes "config")
+    ∷ tied (option (codes "realm"))
+    ∷ tied (flag (codes "sha256"))
+    ∷ [])
+
+-- the program: one of these commands has to be there
+abbrev pub program : Bor (List (Bor Text)) → App
+program words = record {
+  top = record (new_app (codes "sipd")).top { is_leaf = false; has_version = true; subcommand_required = true };
+  subs = check_command ∷ replay_command ∷ serve_command words ∷ decide_command ∷ report_command ∷ user_command ∷ [];
+}
+
+-- ---- what is said of an option
+
+-- its text; none where it isn't there
+abbrev pub text_at : Text → List Row → Option Text
+text_at = first_of
+
+-- the text of one that has to be there
+abbrev pub needed_text : Text → List Row → Text
+needed_text name rows = unwrap_or (first_of name rows) []
+
+-- a text as a number of so many bits
+abbrev pub number_in : ℕ → Text → Option ℕ
+number_in bits text =
+    let digits = without_leading_plus text in
+    if is_numeral digits && nat_lt (digits_value 10 digits) (2 ^ bits) then Some (digits_value 10 digits) else None
+
+-- its number; none where it isn't there
+abbrev pub number_at : ℕ → Text → List Row → Option ℕ
+number_at bits name rows = option_and_then (number_in bits) (one_of name rows)
+
+-- whether it is there
+abbrev pub is_on : Text → List Row → Bool
+is_on name rows = option_map_or (λ text. bytes_eq text (codes "true")) (one_of name rows) false
+
+-- ---- what each command asks for
+
+-- `check`
+pub record IsCheck (rows : List Row) (call : CheckCall) : Type 0 where
+  pub config : string_bytes call.config ≡ needed_text (codes "config") rows
+  pub show : call.show ≡ is_on (codes "show") rows
+
+-- `replay`
+pub record IsReplay (rows : List Row) (call : ReplayCall) : Type 0 where
+  pub config : option_map string_bytes call.config ≡ text_at (codes "config") rows
+  pub record_file : option_map string_bytes call.«record» ≡ text_at (codes "record") rows
+
+-- where a server is to record: in a new file of a folder, or in a file, going on from another one where that is named
+abbrev pub IsPlace : Option Text → Option Text → Option Text → Option RecordPlace → Type 0
+IsPlace (Some folder) file resume (Some (Folder path)) = string_bytes path ≡ folder
+IsPlace (Some folder) file resume place = ⊥
+IsPlace None (Some file) resume (Some (File path old)) = (string_bytes path ≡ file) × (option_map string_bytes old ≡ resume)
+IsPlace None (Some file) resume place = ⊥
+IsPlace None None resume place = place ≡ None
+
+-- whether it ends where its record can't be written
+abbrev pub ends : List Row → Bool
+ends rows = option_map_or (λ text. bytes_eq text (codes "end")) (first_of (codes "record-fault") rows) false
+
+abbrev pub fault_said : List Row → RecordFault
+fault_said rows = if ends rows then End else GoOn
+
+-- whether a word on the record stands where there is none
+abbrev pub lacks_record : List Row → Bool
+lacks_record rows = is_some (text_at (codes "record-fault") rows) && not (is_some (text_at (codes "record") rows)) && not (is_some (text_at (codes "records") rows))
+
+-- `serve`
+pub record IsServe (rows : List Row) (call : ServeCall) : Type 0 where
+  pub config : string_bytes call.config ≡ needed_text (codes "config") rows
+  pub turns : call.turns ≡ number_at 32 (codes "turns") rows
+  pub place : IsPlace (text_at (codes "records") rows) (text_at (codes "record") rows) (text_at (codes "resume") rows) call.«record»
+  pub fault : call.record_fault ≡ fault_said rows
+  pub per_source : call.per_source ≡ number_at 32 (codes "per-source") rows
+
+-- `decide`
+pub record IsDecide (rows : List Row) (call : DecideCall) : Type 0 where
+  pub config : string_bytes call.config ≡ needed_text (codes "config") rows
+  pub user : option_map string_bytes call.user ≡ text_at (codes "user") rows
+  pub minute : call.minute ≡ number_at 16 (codes "minute") rows
+  pub method : string_bytes call.method ≡ needed_text (codes "METHOD") rows
+  pub target : string_bytes call.target ≡ needed_text (codes "TARGET") rows
+
+-- `report`
+pub record IsReport (rows : List Row) (call : ReportCall) : Type 0 where
+  pub config : option_map string_bytes call.config ≡ text_at (codes "config") rows
+  pub user : option_map string_bytes call.user ≡ text_at (codes "user") rows
+  pub rule : call.rule ≡ number_at 32 (codes "rule") rows
+  pub denied : call.denied ≡ is_on (codes "denied") rows
+  pub csv : call.csv ≡ is_on (codes "csv") rows
+
+-- `user`
+pub record IsUser (rows : List Row) (call : UserCall) : Type 0 where
+  pub name : string_bytes call.name ≡ needed_text (codes "NAME") rows
+  pub config : option_map string_bytes call.config ≡ text_at (codes "config") rows
+  pub realm : option_map string_bytes call.realm ≡ text_at (codes "realm") rows
+  pub sha256 : call.sha256 ≡ is_on (codes "sha256") rows
+
+-- what a command with its options asks for; a word on the record stands beside a record
+abbrev pub IsCall : Text → List Row → Call → Type 0
+IsCall name rows (calls.Check call) = (name ≡ codes "check") × IsCheck rows call
+IsCall name rows (calls.Replay call) = (name ≡ codes "replay") × IsReplay rows call
+IsCall name rows (calls.Serve call) = (name ≡ codes "serve") × IsServe rows call × (lacks_record rows ≡ false)
+IsCall name rows (calls.Decide call) = (name ≡ codes "decide") × IsDecide rows call
+IsCall name rows (calls.Report call) = (name ≡ codes "report") × IsReport rows call
+IsCall name rows (calls.User call) = (name ≡ codes "user") × IsUser rows call
+
+-- the same of the command that a command line names, if it names one
+abbrev pub IsCallOf : Option (Text × List Row) → Call → Type 0
+IsCallOf None call = ⊥
+IsCallOf (Some named) call = IsCall named.0 named.1 call
+
+-- what the words of a command line ask for: a call, by the program's commands and options, or a text
+abbrev pub Asks : List Text → Parsed → Type 0
+Asks words (parsed.Text text) = ⊤
+Asks words (parsed.Call call) = (faults : Bor (List (Bor Text))) × IsCallOf (subcommand_of (program faults) words) call

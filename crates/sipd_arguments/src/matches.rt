@@ -1,0 +1,198 @@
+ghost use Rattle.std.specs.Prelude.{◌≡◌, codes, IfOk, IfSome, is_some, option_map, string_bytes};
+ghost use Rattle.clap.specs.Words.{found_of, rows_of, subcommand_rows_of};
+ghost use Rattle.sipd_arguments.specs.CommandLine as Definitions;
+ghost use Rattle.sipd_arguments.specs.CommandLine.{IsCall, IsCallOf, IsPlace};
+
+use crate::call::{
+    Call, CheckCall, DecideCall, RecordFault, RecordPlace, ReplayCall, ReportCall, ServeCall,
+    UserCall,
+};
+use clap::ArgMatches;
+use std::alloc::{AllocError, Global};
+
+/// The text of an option.
+#[tactic(auto, using(crate::proofs::Found::text_found))]
+fn text_of(
+    alloc: Global,
+    matches: &ArgMatches<'_>,
+    name: &str,
+) -> Result<Option<String>, AllocError>
+    ensures { IfOk result (λ text. option_map string_bytes text ≡ Definitions.text_at name.now (rows_of (found_of matches.now))) }
+{
+    match matches.get_str(name) {
+        Some(text) => Ok(Some(String::from_str(alloc, text)?)),
+        None => Ok(None),
+    }
+}
+
+/// The text of one that has to be there.
+#[tactic(auto, using(crate::proofs::Found::text_found))]
+fn needed_text(alloc: Global, matches: &ArgMatches<'_>, name: &str) -> Result<String, AllocError>
+    ensures { IfOk result (λ text. string_bytes text ≡ Definitions.needed_text name.now (rows_of (found_of matches.now))) }
+{
+    match matches.get_str(name) {
+        Some(text) => String::from_str(alloc, text),
+        None => String::from_str(alloc, ""),
+    }
+}
+
+/// The number of an option.
+fn number_of(matches: &ArgMatches<'_>, name: &str) -> Option<u32>
+    ensures { result ≡ Definitions.number_at 32 name.now (rows_of (found_of matches.now)) }
+{
+    matches.get_one::<u32>(name)
+}
+
+/// The minute of a day that an option says.
+fn minute_of(matches: &ArgMatches<'_>, name: &str) -> Option<u16>
+    ensures { result ≡ Definitions.number_at 16 name.now (rows_of (found_of matches.now)) }
+{
+    matches.get_one::<u16>(name)
+}
+
+/// Whether an option is there that has no value.
+fn is_on(matches: &ArgMatches<'_>, name: &str) -> bool
+    ensures { result ≡ Definitions.is_on name.now (rows_of (found_of matches.now)) }
+{
+    matches.get_one::<bool>(name).unwrap_or(false)
+}
+
+fn check_call(alloc: Global, matches: &ArgMatches<'_>) -> Result<CheckCall, AllocError>
+    ensures { IfOk result (Definitions.IsCheck (rows_of (found_of matches.now))) }
+{
+    Ok(CheckCall {
+        config: needed_text(alloc, matches, "config")?,
+        show: is_on(matches, "show"),
+    })
+}
+
+fn replay_call(alloc: Global, matches: &ArgMatches<'_>) -> Result<ReplayCall, AllocError>
+    ensures { IfOk result (Definitions.IsReplay (rows_of (found_of matches.now))) }
+{
+    Ok(ReplayCall {
+        config: text_of(alloc, matches, "config")?,
+        record: text_of(alloc, matches, "record")?,
+    })
+}
+
+/// What becomes of the server where its record can't be written.
+#[tactic(auto, using(crate::proofs::Found::text_found))]
+fn record_fault_of(matches: &ArgMatches<'_>) -> RecordFault
+    ensures { result ≡ Definitions.fault_said (rows_of (found_of matches.now)) }
+{
+    let Some(text) = matches.get_str("record-fault") else {
+        return RecordFault::GoOn;
+    };
+    if text == "end" {
+        RecordFault::End
+    } else {
+        RecordFault::GoOn
+    }
+}
+
+/// Where a server is to record; two places at once aren't taken.
+fn record_place(alloc: Global, matches: &ArgMatches<'_>) -> Result<Option<RecordPlace>, AllocError>
+    ensures { IfOk result (IsPlace (Definitions.text_at (codes "records") (rows_of (found_of matches.now)))
+        (Definitions.text_at (codes "record") (rows_of (found_of matches.now))) (Definitions.text_at (codes "resume") (rows_of (found_of matches.now)))) }
+{
+    if let Some(folder) = text_of(alloc, matches, "records")? {
+        return Ok(Some(RecordPlace::Folder(folder)));
+    }
+    let resume = text_of(alloc, matches, "resume")?;
+    match text_of(alloc, matches, "record")? {
+        Some(path) => Ok(Some(RecordPlace::File { path, resume })),
+        None => Ok(None),
+    }
+}
+
+/// Whether an option is there that has a value.
+#[tactic(auto, using(crate::proofs::Found::text_found))]
+fn has(matches: &ArgMatches<'_>, name: &str) -> bool
+    ensures { result ≡ is_some (Definitions.text_at name.now (rows_of (found_of matches.now))) }
+{
+    matches.get_str(name).is_some()
+}
+
+/// Whether a word on the record stands where there is none.
+fn lacks_record(matches: &ArgMatches<'_>) -> bool
+    ensures { result ≡ Definitions.lacks_record (rows_of (found_of matches.now)) }
+{
+    has(matches, "record-fault") && !has(matches, "record") && !has(matches, "records")
+}
+
+fn serve_call(alloc: Global, matches: &ArgMatches<'_>) -> Result<ServeCall, AllocError>
+    ensures { IfOk result (Definitions.IsServe (rows_of (found_of matches.now))) }
+{
+    Ok(ServeCall {
+        config: needed_text(alloc, matches, "config")?,
+        turns: number_of(matches, "turns"),
+        record: record_place(alloc, matches)?,
+        record_fault: record_fault_of(matches),
+        per_source: number_of(matches, "per-source"),
+    })
+}
+
+fn decide_call(alloc: Global, matches: &ArgMatches<'_>) -> Result<DecideCall, AllocError>
+    ensures { IfOk result (Definitions.IsDecide (rows_of (found_of matches.now))) }
+{
+    Ok(DecideCall {
+        config: needed_text(alloc, matches, "config")?,
+        user: text_of(alloc, matches, "user")?,
+        minute: minute_of(matches, "minute"),
+        method: needed_text(alloc, matches, "METHOD")?,
+        target: needed_text(alloc, matches, "TARGET")?,
+    })
+}
+
+fn report_call(alloc: Global, matches: &ArgMatches<'_>) -> Result<ReportCall, AllocError>
+    ensures { IfOk result (Definitions.IsReport (rows_of (found_of matches.now))) }
+{
+    Ok(ReportCall {
+        config: text_of(alloc, matches, "config")?,
+        user: text_of(alloc, matches, "user")?,
+        rule: number_of(matches, "rule"),
+        denied: is_on(matches, "denied"),
+        csv: is_on(matches, "csv"),
+    })
+}
+
+fn user_call(alloc: Global, matches: &ArgMatches<'_>) -> Result<UserCall, AllocError>
+    ensures { IfOk result (Definitions.IsUser (rows_of (found_of matches.now))) }
+{
+    Ok(UserCall {
+        name: needed_text(alloc, matches, "NAME")?,
+        config: text_of(alloc, matches, "config")?,
+        realm: text_of(alloc, matches, "realm")?,
+        sha256: is_on(matches, "sha256"),
+    })
+}
+
+/// What a command with its options asks for; nothing where it isn't one, or a word on the record stands where there is none.
+fn call_named(
+    alloc: Global,
+    name: &str,
+    matches: &ArgMatches<'_>,
+) -> Result<Option<Call>, AllocError>
+    ensures { IfOk result (λ call. IfSome call (IsCall name.now (rows_of (found_of matches.now)))) }
+{
+    Ok(match name {
+        "check" => Some(Call::Check(check_call(alloc, matches)?)),
+        "replay" => Some(Call::Replay(replay_call(alloc, matches)?)),
+        "serve" if lacks_record(matches) => None,
+        "serve" => Some(Call::Serve(serve_call(alloc, matches)?)),
+        "decide" => Some(Call::Decide(decide_call(alloc, matches)?)),
+        "report" => Some(Call::Report(report_call(alloc, matches)?)),
+        "user" => Some(Call::User(user_call(alloc, matches)?)),
+        _ => None,
+    })
+}
+
+/// What the command asks for that the words name.
+pub(crate) fn call_of(alloc: Global, matches: &ArgMatches<'_>) -> Result<Option<Call>, AllocError>
+    ensures { IfOk result (λ call. IfSome call (IsCallOf (subcommand_rows_of matches.now))) }
+{
+    match matches.subcommand() {
+        Some((name, inner)) => call_named(alloc, name, inner),
+        None => Ok(None),
+    }
+}

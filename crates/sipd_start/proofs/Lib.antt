@@ -1,0 +1,4 @@
+pub mod Beginnings
+pub mod FirstLines
+pub mod Refusals
+pub mod StackLines

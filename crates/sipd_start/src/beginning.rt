@@ -1,0 +1,381 @@
+ghost use Rattle.std.specs.Prelude.{◌≡◌, false, IfErr, IfNone, IfOk, IfSome, None, Ok, OnErr, OnOk};
+ghost use Rattle.sipd_arguments.specs.declared.call.RecordFault.TheVariants.{GoOn};
+ghost use Rattle.sipd_start.specs.Begins.{Begins, GoesOn, GoesOnFrom, GoesOnFromFile, IsLeftBehind, IsNotGoneOn};
+ghost use Rattle.sipd_start.specs.Begins.{IsNotResumed, IsOpened, LeadsTo, StartsAnew, StopsAt};
+ghost use Rattle.sipd_start.specs.Boots;
+ghost use Rattle.sipd_start.specs.Places.{IsPlaceOf};
+
+use crate::making::{Place, check_free, make_part, name_part, place_of, remove_part};
+use crate::not_resumed::{NotResumed, Stop, unread, untaken};
+use crate::old_record::{OldRecord, old_record, open_file};
+use crate::record_file::{RecordFile, mark_file};
+use rand_core::Rng;
+use sip_event::{Boot, StepOut};
+use sip_policy::Rules;
+use sip_record::{NoJournal, RecordHead, RecordMark, Recorder};
+use sip_replay_script::TellingReader;
+use sip_resume::engine::Engine;
+use sip_resume::{Resumed, resume};
+use sip_timers::Timers;
+use sipd_arguments::{Exit, RecordFault, RecordPlace, Stated, config_of_bytes};
+use std::io::Write;
+use std::rt::{Clock, Files};
+
+/// The number of the first datagram.
+const FIRST: u64 = 1;
+
+/// 2^64: what the high half of a secret counts.
+const HALF: u128 = 1 << 64;
+
+/// What a server that records is begun with.
+#[derive(Drop)]
+pub struct Beginning<'a, R> {
+    rt: &'a R,
+    /// The file of its configuration.
+    pub stated: &'a Stated,
+    /// Where the new record is made.
+    pub place: Place,
+    pub fault: RecordFault,
+}
+
+impl<'a, R: Files + Clock + AllocGlobal> Beginning<'a, R> {
+    /// The beginning of a server with the configuration of a file, whose record is wanted at a place; what to do where that can't be
+    /// written.
+    pub fn new(
+        rt: &'a R,
+        stated: &'a Stated,
+        wanted: &RecordPlace,
+        fault: RecordFault,
+    ) -> Result<Self, Exit>
+        ensures stated { IfOk result (λ beginning. beginning.stated.now ≡ stated.now) }
+        ensures place { IfOk result (λ beginning. IsPlaceOf wanted.now beginning.place) }
+        ensures fault { IfOk result (λ beginning. beginning.fault ≡ fault) }
+    {
+        let place = place_of(rt, wanted)?;
+        Ok(Beginning {
+            rt,
+            stated,
+            place,
+            fault,
+        })
+    }
+}
+
+/// A server that is begun.
+#[derive(Drop)]
+pub struct Begun<'a, T: Timers, P: Rules, R: Files> {
+    pub engine: Engine<T, P>,
+    /// The record into which its events go; none where it can't be written and the server goes on without it.
+    pub record: Option<Recorder<RecordFile<'a, R>>>,
+    /// The last step of the record from which it goes on: what it decided may not have been printed.
+    pub last: Option<StepOut>,
+}
+
+/// A server that goes on from a record, by so many of its lines.
+#[derive(Drop)]
+struct GoneOn<'a, T: Timers, P: Rules, R: Files> {
+    begun: Begun<'a, T, P, R>,
+    lines: u64,
+}
+
+/// The next two numbers of a source as one that nobody can guess, the high half first.
+pub fn secret<W: Rng>(words: &mut W) -> u128
+    ensures secret { result ≡ Boots.secret_from (W.stream words.old) }
+    ensures left { W.stream words.new ≡ Boots.behind_secret (W.stream words.old) }
+{
+    let high = words.next_u64();
+    let low = words.next_u64();
+    u128::from(high) * HALF + u128::from(low)
+}
+
+/// What a server starts with: the next number of a source is its word, its first number is 1, and a secret of the next two is what its
+/// tables are kept by.
+pub fn new_boot<W: Rng>(words: &mut W) -> Boot
+    ensures boot { result ≡ Boots.new_boot (W.stream words.old) }
+    ensures left { W.stream words.new ≡ Boots.behind_boot (W.stream words.old) }
+{
+    Boot {
+        word: words.next_u64(),
+        first: FIRST,
+        keys: secret(words),
+    }
+}
+
+/// What a server that goes on starts with: what the first line of its record says, and a new secret of its tables.
+fn boot_again<W: Rng>(head: &RecordHead, words: &mut W) -> Boot
+    ensures boot { result ≡ Boots.boot_again head.now (W.stream words.old) }
+    ensures left { W.stream words.new ≡ Boots.behind_secret (W.stream words.old) }
+{
+    Boot {
+        word: head.word,
+        first: head.first,
+        keys: secret(words),
+    }
+}
+
+/// A server that has just started, with the configuration that is stated.
+fn open<T: Timers, P: Rules, R: AllocGlobal>(
+    beginning: &Beginning<'_, R>,
+    boot: Boot,
+) -> Result<Engine<T, P>, Exit>
+    ensures { IfOk result (λ engine. IsOpened beginning.now.stated.now.bytes.items boot engine.server engine.state) }
+{
+    let alloc = beginning.rt.alloc();
+    let config = config_of_bytes(alloc, beginning.stated.bytes.as_slice())?;
+    Ok(Engine::open(alloc, config, boot)?)
+}
+
+/// The new record of a start, which hasn't its name yet.
+fn make<'a, R: Files + AllocGlobal>(
+    beginning: &Beginning<'a, R>,
+    boot: Boot,
+) -> Result<Recorder<RecordFile<'a, R>>, Exit>
+    ensures { IfOk result (λ r. r.has_failed ≡ false) }
+{
+    let head = RecordHead {
+        mark: RecordMark::Whole,
+        word: boot.word,
+        first: boot.first,
+        digest: beginning.stated.digest,
+    };
+    make_part(
+        beginning.rt,
+        &beginning.place,
+        &head,
+        beginning.stated,
+        beginning.fault,
+    )
+}
+
+/// Gives the new record its name, if all that was taken stands in it.
+fn name<'a, R: Files + AllocGlobal>(
+    beginning: &Beginning<'a, R>,
+    mut record: Recorder<RecordFile<'a, R>>,
+) -> Result<Recorder<RecordFile<'a, R>>, Exit>
+    ensures { IfOk result (λ r. r.has_failed ≡ false) }
+{
+    if record.has_failed() {
+        return Err(Exit::Recording);
+    }
+    name_part(beginning.rt, &beginning.place, &mut record.writer)?;
+    Ok(record)
+}
+
+/// The record with which a server goes on: the one that was made; or none, where it can't be written and the server is to go on
+/// without it. Nothing is left of one that wasn't made.
+fn settle<'a, R: Files + AllocGlobal>(
+    beginning: &Beginning<'a, R>,
+    made: Result<Recorder<RecordFile<'a, R>>, Exit>,
+) -> Result<Option<Recorder<RecordFile<'a, R>>>, Exit>
+    ensures same { IfOk result (λ settled. IfSome settled (λ r. made.entry ≡ Ok r)) }
+    ensures none { IfOk result (λ settled. IfNone settled (beginning.now.fault ≡ GoOn)) }
+{
+    let exit = match made {
+        Ok(record) => return Ok(Some(record)),
+        Err(exit) => exit,
+    };
+    remove_part(beginning.rt, &beginning.place);
+    match (exit, beginning.fault) {
+        (Exit::Recording, RecordFault::GoOn) => Ok(None),
+        (exit, _) => Err(exit),
+    }
+}
+
+/// A server that starts anew, and its record.
+fn begin_anew<'a, T: Timers, P: Rules, R: Files + AllocGlobal, W: Rng>(
+    beginning: &Beginning<'a, R>,
+    words: &mut W,
+) -> Result<Begun<'a, T, P, R>, Exit>
+    ensures anew { IfOk result (λ begun. StartsAnew beginning.now.stated.now.bytes.items (W.stream words.old) begun.engine.server
+        begun.engine.state begun.last) }
+    ensures left { W.stream words.new ≡ Boots.behind_boot (W.stream words.old) }
+    ensures whole { IfOk result (λ begun. IfSome begun.record (λ r. r.has_failed ≡ false)) }
+    ensures unrecorded { IfOk result (λ begun. IfNone begun.record (beginning.now.fault ≡ GoOn)) }
+{
+    let boot = new_boot(words);
+    let engine = open(beginning, boot)?;
+    let made = match make(beginning, boot) {
+        Ok(record) => name(beginning, record),
+        Err(exit) => Err(exit),
+    };
+    Ok(Begun {
+        engine,
+        record: settle(beginning, made)?,
+        last: None,
+    })
+}
+
+/// A server that has taken the events of a record, and records none.
+#[tactic(auto, using(crate::proofs::Beginnings::leads, crate::proofs::Refusals::stops_at, crate::proofs::Refusals::exits_at))]
+fn go_on_alone<'a, T: Timers, P: Rules, R: Files + AllocGlobal, I: TellingReader + Drop>(
+    beginning: &Beginning<'a, R>,
+    mut engine: Engine<T, P>,
+    mut old: OldRecord<I>,
+) -> Result<GoneOn<'a, T, P, R>, Stop>
+    ensures server { IfOk result (λ gone_on. gone_on.begun.engine.server ≡ engine.server) }
+    ensures resumed { IfOk result (λ gone_on. LeadsTo engine.server engine.state (I.remaining old.events)
+        gone_on.begun.engine.state gone_on.lines gone_on.begun.last) }
+    ensures unrecorded { IfOk result (λ gone_on. gone_on.begun.record ≡ None) }
+    ensures stops { IfErr result (StopsAt engine.server engine.state (I.remaining old.events)) }
+{
+    let alloc = beginning.rt.alloc();
+    match resume(alloc, &mut engine, &mut old.events, &mut NoJournal) {
+        Ok(Resumed { lines, last }) => {
+            let begun = Begun {
+                engine,
+                record: None,
+                last,
+            };
+            Ok(GoneOn { begun, lines })
+        }
+        Err(e) => Err(untaken(e)),
+    }
+}
+
+/// A server that has taken the events of a record, which stand in the new record, too. That has its name once it is whole, so that
+/// the older one is needed no more.
+#[tactic(auto, using(crate::proofs::Beginnings::leads, crate::proofs::Refusals::stops_at, crate::proofs::Refusals::exits_at))]
+fn go_on_recorded<'a, T: Timers, P: Rules, R: Files + AllocGlobal, I: TellingReader + Drop>(
+    beginning: &Beginning<'a, R>,
+    mut engine: Engine<T, P>,
+    mut record: Recorder<RecordFile<'a, R>>,
+    mut old: OldRecord<I>,
+) -> Result<GoneOn<'a, T, P, R>, Stop>
+    ensures server { IfOk result (λ gone_on. gone_on.begun.engine.server ≡ engine.server) }
+    ensures resumed { IfOk result (λ gone_on. LeadsTo engine.server engine.state (I.remaining old.events)
+        gone_on.begun.engine.state gone_on.lines gone_on.begun.last) }
+    ensures whole { IfOk result (λ gone_on. IfSome gone_on.begun.record (λ r. r.has_failed ≡ false)) }
+    ensures unrecorded { IfOk result (λ gone_on. IfNone gone_on.begun.record (beginning.now.fault ≡ GoOn)) }
+    ensures stops { IfErr result (StopsAt engine.server engine.state (I.remaining old.events)) }
+{
+    let alloc = beginning.rt.alloc();
+    match resume(alloc, &mut engine, &mut old.events, &mut record) {
+        Ok(Resumed { lines, last }) => {
+            let begun = Begun {
+                engine,
+                record: settle(beginning, name(beginning, record))?,
+                last,
+            };
+            Ok(GoneOn { begun, lines })
+        }
+        Err(e) => {
+            remove_part(beginning.rt, &beginning.place);
+            Err(untaken(e))
+        }
+    }
+}
+
+/// A server that goes on from a record that can be read.
+#[tactic(auto, using(crate::proofs::Refusals::exits_on))]
+fn go_on<'a, T: Timers, P: Rules, R: Files + AllocGlobal, I: TellingReader + Drop, W: Rng>(
+    beginning: &Beginning<'a, R>,
+    old: OldRecord<I>,
+    words: &mut W,
+) -> Result<GoneOn<'a, T, P, R>, Stop>
+    ensures goes_on { IfOk result (λ gone_on. GoesOn beginning.now.stated.now.bytes.items old.head (I.remaining old.events)
+        gone_on.begun.engine.server gone_on.begun.engine.state gone_on.lines gone_on.begun.last) }
+    ensures left { W.stream words.new ≡ Boots.behind_secret (W.stream words.old) }
+    ensures whole { IfOk result (λ gone_on. IfSome gone_on.begun.record (λ r. r.has_failed ≡ false)) }
+    ensures unrecorded { IfOk result (λ gone_on. IfNone gone_on.begun.record (beginning.now.fault ≡ GoOn)) }
+    ensures stopped { IfErr result (IsNotGoneOn beginning.now.stated.now.bytes.items old.head (I.remaining old.events)) }
+{
+    let boot = boot_again(&old.head, words);
+    let engine = open(beginning, boot)?;
+    match settle(beginning, make(beginning, boot))? {
+        Some(record) => go_on_recorded(beginning, engine, record, old),
+        None => go_on_alone(beginning, engine, old),
+    }
+}
+
+/// A server that goes on from where a record leads that some reader gives, if that is one of this configuration, and whole.
+#[tactic(auto, using(crate::proofs::Beginnings::goes_on_from, crate::proofs::Refusals::unread_so, crate::proofs::Refusals::marked_off, crate::proofs::Refusals::stopped_behind_so))]
+fn begin_from<'a, T: Timers, P: Rules, R: Files + AllocGlobal, I: TellingReader + Drop, W: Rng>(
+    beginning: &Beginning<'a, R>,
+    reader: I,
+    words: &mut W,
+) -> Result<GoneOn<'a, T, P, R>, Stop>
+    ensures goes_on { IfOk result (λ gone_on. GoesOnFrom beginning.now.stated.now.bytes.items beginning.now.stated.now.digest
+        (I.remaining reader) gone_on.begun.engine.server gone_on.begun.engine.state gone_on.lines gone_on.begun.last) }
+    ensures left { OnOk result (W.stream words.new ≡ Boots.behind_secret (W.stream words.old)) }
+    ensures left_behind { OnErr result (IsLeftBehind (W.stream words.old) (W.stream words.new)) }
+    ensures whole { IfOk result (λ gone_on. IfSome gone_on.begun.record (λ r. r.has_failed ≡ false)) }
+    ensures unrecorded { IfOk result (λ gone_on. IfNone gone_on.begun.record (beginning.now.fault ≡ GoOn)) }
+    ensures refused { IfErr result (IsNotResumed beginning.now.stated.now.bytes.items beginning.now.stated.now.digest (I.remaining reader)) }
+{
+    let alloc = beginning.rt.alloc();
+    let old = match old_record(alloc, reader, &beginning.stated.digest) {
+        Ok(old) => old,
+        Err(exit) => return Err(unread(exit)),
+    };
+    match old.head.mark {
+        RecordMark::Whole => go_on(beginning, old, words),
+        RecordMark::Broken => Err(Stop::NotResumed(NotResumed::Broken)),
+        RecordMark::Left => Err(Stop::NotResumed(NotResumed::Left)),
+    }
+}
+
+/// A server that goes on from where the record of a file leads, where it can. What the file holds no clause can say.
+#[tactic(auto, using(crate::proofs::Beginnings::goes_on_from_file))]
+fn begin_again<'a, T: Timers, P: Rules, R: Files + AllocGlobal, W: Rng>(
+    beginning: &Beginning<'a, R>,
+    old: &str,
+    words: &mut W,
+) -> Result<GoneOn<'a, T, P, R>, Stop>
+    ensures goes_on { IfOk result (λ gone_on. GoesOnFromFile beginning.now.stated.now.bytes.items beginning.now.stated.now.digest
+        (W.stream words.old) gone_on.begun.engine.server gone_on.begun.engine.state gone_on.begun.last (W.stream words.new)) }
+    ensures left_behind { OnErr result (IsLeftBehind (W.stream words.old) (W.stream words.new)) }
+    ensures whole { IfOk result (λ gone_on. IfSome gone_on.begun.record (λ r. r.has_failed ≡ false)) }
+    ensures unrecorded { IfOk result (λ gone_on. IfNone gone_on.begun.record (beginning.now.fault ≡ GoOn)) }
+{
+    match open_file(beginning.rt, beginning.rt.alloc(), old) {
+        Ok(reader) => begin_from(beginning, reader, words),
+        Err(exit) => Err(unread(exit)),
+    }
+}
+
+/// Says that a record is gone on from, in its first line, so that no other start does.
+fn leave<R: Files, C: Write>(rt: &R, old: &str, complaints: &mut C) {
+    if mark_file(rt, old, RecordMark::Left).is_err() {
+        let _ = writeln!(
+            complaints,
+            "sipd: {old} can't be marked as left: let no other start go on from it"
+        );
+    }
+}
+
+/// A server that records: one that goes on from where an older record leads, if there is one and it can be had, or one that starts
+/// anew. Where it goes on, `last` is the last step of that record; what it records isn't in it.
+#[tactic(auto, using(crate::proofs::Beginnings::begins_again, crate::proofs::Beginnings::begins_anew, crate::proofs::Beginnings::begins_alone))]
+pub fn begin<'a, T: Timers, P: Rules, R: Files + AllocGlobal, W: Rng, C: Write>(
+    beginning: &Beginning<'a, R>,
+    words: &mut W,
+    complaints: &mut C,
+) -> Result<Begun<'a, T, P, R>, Exit>
+    ensures begins { IfOk result (λ begun. Begins beginning.now.stated.now.bytes.items beginning.now.stated.now.digest (W.stream words.old)
+        begun.engine.server begun.engine.state begun.last (W.stream words.new)) }
+    ensures alone { beginning.now.place.old ≡ None → IfOk result (λ begun. StartsAnew beginning.now.stated.now.bytes.items
+        (W.stream words.old) begun.engine.server begun.engine.state begun.last) }
+    ensures whole { IfOk result (λ begun. IfSome begun.record (λ r. r.has_failed ≡ false)) }
+    ensures unrecorded { IfOk result (λ begun. IfNone begun.record (beginning.now.fault ≡ GoOn)) }
+{
+    check_free(beginning.rt, &beginning.place)?;
+    let Some(old) = &beginning.place.old else {
+        return begin_anew(beginning, words);
+    };
+    let old = old.as_str();
+    match begin_again(beginning, old, words) {
+        Ok(GoneOn { begun, lines }) => {
+            leave(beginning.rt, old, complaints);
+            let _ = writeln!(complaints, "sipd: goes on behind {lines} lines of {old}");
+            Ok(begun)
+        }
+        Err(Stop::NotResumed(why)) => {
+            let _ = writeln!(
+                complaints,
+                "sipd: {old} isn't resumed: {why}; bindings, dialogs, open calls and nonces are lost"
+            );
+            begin_anew(beginning, words)
+        }
+        Err(Stop::Exits(exit)) => Err(exit),
+    }
+}

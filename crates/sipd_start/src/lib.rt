@@ -1,0 +1,22 @@
+//! How a server that records begins: anew, or from where an older record leads; the files of its record, and whether the process may
+//! have the stack that it needs.
+//!
+//! - Used: `sipd_command`, before it serves, and for the record that is replayed.
+//! - Not here: the serving; what stands in a record (`sip_record`).
+//! - Tried: `tests/serve.py`, `tests/faults.py`.
+#![tactic(auto)]
+
+mod beginning;
+mod making;
+mod not_resumed;
+mod old_record;
+mod record_file;
+mod record_folder;
+mod recording;
+mod stack_limit;
+
+pub use beginning::{Beginning, Begun, begin, new_boot, secret};
+pub use old_record::{OldRecord, open_record};
+pub use record_file::RecordFile;
+pub use recording::{Unrecorded, WatchedJournal};
+pub use stack_limit::check_stack;

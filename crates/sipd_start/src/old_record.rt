@@ -1,0 +1,134 @@
+ghost use Rattle.std.specs.Prelude.{◌≡◌, ◌⊎◌, IfErr, IfOk, OnErr};
+ghost use Rattle.std.specs.Io.KnownBytes.{Keeps};
+ghost use Rattle.std.specs.IoError.{error_kind};
+ghost use Rattle.sip_replay_script.specs.Devices.{IsFault};
+ghost use Rattle.sipd_arguments.specs.declared.exit.Exit.TheVariants.{Memory};
+ghost use Rattle.sipd_start.specs.OldRecords.{IsFirstLine, IsOfConfiguration, IsReaderFault, IsRefused, IsRefusedFrom, ReadsByte, WasOpened};
+
+use sip_record::{RecordHead, read_head};
+use sip_replay_script::TellingReader;
+use sipd_arguments::Exit;
+use std::alloc::Global;
+use std::io::{BufReader, ErrorKind};
+use std::rt::Files;
+use std::{fs, io};
+
+/// The longest first line of a record, in bytes, with some room.
+const LONGEST_HEAD: usize = 200;
+
+/// A record that is read: what its first line says, and what reads the lines behind it.
+#[derive(Drop)]
+pub struct OldRecord<I: Drop> {
+    pub head: RecordHead,
+    pub events: I,
+}
+
+/// The next byte that a reader gives, if it isn't interrupted; none at its end.
+fn ask_byte<I: TellingReader>(reader: &mut I) -> io::Result<Option<u8>>
+    ensures read { IfOk result (ReadsByte (I.remaining reader.old) (I.remaining reader.new)) }
+    ensures kept { OnErr result (Keeps (I.remaining reader.old) (I.remaining reader.new)) }
+    ensures failed { IfErr result (λ e. IsFault (error_kind e) → I.has_failed reader.new) }
+{
+    let mut byte = [0u8; 1];
+    if reader.ask(&mut byte)? == 0 {
+        return Ok(None);
+    }
+    Ok(Some(byte[0]))
+}
+
+/// The next byte that a reader gives; none at its end.
+#[tactic(auto, using(crate::proofs::FirstLines::kept_on, crate::proofs::FirstLines::read_behind, crate::proofs::FirstLines::keeps_itself))]
+fn next_byte<I: TellingReader>(reader: &mut I) -> io::Result<Option<u8>>
+    ensures read { IfOk result (ReadsByte (I.remaining reader.old) (I.remaining reader.new)) }
+    ensures failed { IfErr result (λ e. IsFault (error_kind e) → I.has_failed reader.new) }
+{
+    for _ in 0..u32::MAX {
+        match ask_byte(reader) {
+            Err(e) if e.kind() == ErrorKind::Interrupted => {}
+            asked => return asked,
+        }
+    }
+    Err(io::Error::from(ErrorKind::Interrupted))
+}
+
+/// The first line of what is read, without its LF; what is longer than that of a record is cut, and what ends without LF is a line, too.
+#[tactic(auto, using(crate::proofs::FirstLines::at_limit))]
+fn first_line<I: TellingReader>(alloc: Global, reader: &mut I) -> Result<Vec<u8>, Exit>
+    ensures line { IfOk result (λ line. IsFirstLine (I.remaining reader.old) (I.remaining reader.new) line.items) }
+    ensures failed { IfErr result (λ exit. (exit ≡ Memory) ⊎ IsReaderFault (I.has_failed reader.new) exit) }
+{
+    let mut line = Vec::new(alloc);
+    for _ in 0..LONGEST_HEAD {
+        match next_byte(reader)? {
+            None => return Ok(line),
+            Some(byte) => {
+                if byte == b'\n' {
+                    return Ok(line);
+                }
+                line.push(byte)?;
+            }
+        }
+    }
+    Ok(line)
+}
+
+/// What the first line of a record says that was made with the configuration of this digest, whatever became of it. Refusals:
+/// `NoRecord`, `OtherConfiguration`; `Memory`; a fault of the reader.
+fn head_in<I: TellingReader>(
+    alloc: Global,
+    reader: &mut I,
+    digest: &[u8; 32],
+) -> Result<RecordHead, Exit>
+    ensures head { IfOk result (IsOfConfiguration (I.remaining reader.old) (I.remaining reader.new) digest.now) }
+    ensures refused { IfErr result (IsRefused (I.remaining reader.old) (I.remaining reader.new) (I.has_failed reader.new) digest.now) }
+{
+    let line = first_line(alloc, reader)?;
+    let Some(head) = read_head(line.as_slice()) else {
+        return Err(Exit::NoRecord);
+    };
+    if head.digest == *digest {
+        Ok(head)
+    } else {
+        Err(Exit::OtherConfiguration)
+    }
+}
+
+/// A record that is read by a reader, if it was made with the configuration of this digest, whatever became of it. Refused as `head_in`
+/// says.
+pub(crate) fn old_record<I: TellingReader + Drop>(
+    alloc: Global,
+    mut events: I,
+    digest: &[u8; 32],
+) -> Result<OldRecord<I>, Exit>
+    ensures taken { IfOk result (λ old. IsOfConfiguration (I.remaining events) (I.remaining old.events) digest.now old.head) }
+    ensures refused { IfErr result (IsRefusedFrom (I.remaining events) digest.now) }
+{
+    match head_in(alloc, &mut events, digest) {
+        Ok(head) => Ok(OldRecord { head, events }),
+        Err(exit) => Err(exit),
+    }
+}
+
+/// A file, to be read.
+pub(crate) fn open_file<R: Files>(
+    rt: &R,
+    alloc: Global,
+    path: &str,
+) -> Result<BufReader<R::File>, Exit> {
+    let file = fs::File::open(rt, path)?;
+    Ok(BufReader::new(alloc, file)?)
+}
+
+/// The record in a file, if it was made with the configuration of this digest, whatever became of it. What a file holds no clause can
+/// say: whatever it held, its first line says that head.
+pub fn open_record<R: Files>(
+    rt: &R,
+    alloc: Global,
+    path: &str,
+    digest: &[u8; 32],
+) -> Result<OldRecord<BufReader<R::File>>, Exit>
+    ensures { IfOk result (λ old. WasOpened digest.now old.head) }
+{
+    let events = open_file(rt, alloc, path)?;
+    old_record(alloc, events, digest)
+}

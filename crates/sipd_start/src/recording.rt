@@ -1,0 +1,80 @@
+ghost use Rattle.std.specs.Prelude.{◌≡◌, [], IfSome, Option};
+ghost use Rattle.sip_record.specs.Record.{Notes};
+
+use crate::record_file::RecordFile;
+use sip_record::{Journal, NoJournal, OnFault, RecordMark, Recorder};
+use std::rt::Files;
+
+/// Why nothing more is recorded.
+#[derive(Clone, Copy, PartialEq, Eq)]
+pub enum Unrecorded {
+    /// An event couldn't be written.
+    Unwritten,
+    /// Its file was taken away, or cut.
+    Gone,
+}
+
+/// A journal that says whether it has failed.
+pub trait WatchedJournal: Journal {
+    /// Looks whether what was written stands where it belongs. Where it doesn't, nothing is recorded from then on. One call of the
+    /// system.
+    fn look(&mut self)
+        ensures { Notes (Self.written self.old) (Self.written self.new) [] };
+
+    /// Why nothing more is recorded; none where it goes on.
+    fn why_failed(&self) -> Option<Unrecorded>
+        ensures { IfSome result (λ _. Self.written self.now ≡ Option.None) };
+
+    /// Whether the server goes on without it.
+    fn goes_on(&self) -> bool;
+
+    /// Says in its first line that it lacks events, so that no server goes on from it; whether it could.
+    fn mark_broken(&mut self) -> bool
+        ensures { Notes (Self.written self.old) (Self.written self.new) [] };
+}
+
+impl WatchedJournal for NoJournal {
+    fn look(&mut self) {}
+
+    fn why_failed(&self) -> Option<Unrecorded> {
+        None
+    }
+
+    fn goes_on(&self) -> bool {
+        true
+    }
+
+    fn mark_broken(&mut self) -> bool {
+        true
+    }
+}
+
+impl<'a, R: Files> WatchedJournal for Recorder<RecordFile<'a, R>> {
+    fn look(&mut self) {
+        if !self.has_failed && self.writer.is_lost() {
+            self.has_failed = true;
+        }
+    }
+
+    fn why_failed(&self) -> Option<Unrecorded> {
+        if !self.has_failed {
+            return None;
+        }
+        if self.writer.was_lost() {
+            Some(Unrecorded::Gone)
+        } else {
+            Some(Unrecorded::Unwritten)
+        }
+    }
+
+    fn goes_on(&self) -> bool {
+        match self.on_fault {
+            OnFault::GoOn => true,
+            OnFault::End => false,
+        }
+    }
+
+    fn mark_broken(&mut self) -> bool {
+        self.writer.mark(RecordMark::Broken).is_ok()
+    }
+}

@@ -1,0 +1,11 @@
+//! What the program does with a configuration and without a server: it is checked, shown and asked, a user's table and a report are
+//! made.
+//!
+//! - Used: `sipd_command`.
+//! - Not here: what is said (`sipd_mistakes`, `sipd_questions`, `sipd_report`).
+//! - Tried: `test_server`, `tests/mistakes.py`, `tests/faults.py`.
+#![tactic(auto)]
+
+mod tools;
+
+pub use tools::{check, decide, make_report, make_user};

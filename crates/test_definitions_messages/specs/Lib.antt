@@ -1,0 +1,3 @@
+pub mod Credentials
+pub mod Checks
+pub mod Edits

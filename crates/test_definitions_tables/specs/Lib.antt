@@ -1,0 +1,5 @@
+pub mod Policy
+pub mod Nonces
+pub mod Dialogs
+pub mod Bindings
+pub mod Places
