@@ -204,11 +204,12 @@ fn turn<T: Timers, R: Rules, L: Link, J: Journal, A: AuditLog, C: Clock, W: Rng>
 /// (`in_order`). Each valid new request outside a dialog is sent to exactly the unexpired bindings or the configured hop that the
 /// first matching rule gives its proven user; bindings change or are listed exactly as an allowed REGISTER says; every policy denial is a
 /// 403 whose Warning names that rule; all else sent belongs to an open request or a known dialog (`access` in `Serves`). Where the
-/// journal tells what it holds, that says exactly the events that were taken (`noted` there). No fault of the journal, or of the log, is
-/// passed over (`held`, `faulted`). Refusals, behind which what was sent stays sent and the engine goes on from where it is: `NoMemory`;
-/// `Journal`, where an event couldn't be told, which was taken, and of which nothing was given to the link; `Audit`, where the lines of one
-/// couldn't be printed, likewise; `Link`, where `receive` failed; `Step`, where a moment is 2^62 ms or more, or a datagram's number would
-/// be.
+/// journal tells what it holds, that says exactly the events that were taken (`noted` there). Where all turns were served, neither the
+/// journal nor the log answered a fault (`held`); where it ends before, one of them has failed just where the last event wasn't told to
+/// it, or its lines weren't printed (`faulted`). Refusals, behind which what was sent stays sent and the engine goes on from where it is:
+/// `NoMemory`; `Journal`, where an event couldn't be told, which was taken, and of which nothing was given to the link; `Audit`, where
+/// the lines of one couldn't be printed, likewise; `Link`, where `receive` failed; `Step`, where a moment is 2^62 ms or more, or a
+/// datagram's number would be.
 pub fn serve<T: Timers, R: Rules, L: Link, J: Journal, A: AuditLog, C: Clock, W: Rng>(
     alloc: Global,
     engine: &mut Engine<T, R>,
