@@ -2,7 +2,7 @@
 use Rattle.std.proofs.Common.{◌≡◌, ℕ, List, [], ◌++◌, Option, None, Result, Ok, Err, sym, subst}
 use Rattle.std.specs.Prelude.{OnOk, OnErr}
 use Rattle.sip_event.specs.declared.event.Event.{Event}
-use Rattle.sip_replay_script.proofs.Saying.{says_all}
+use Rattle.sip_replay_script.proofs.RecordTexts.{record_all}
 use Rattle.sip_record.specs.Record.{Notes}
 use Rattle.sip_record.proofs.Noting.{notes_nothing as nothing_noted, notes_both as both_noted}
 
@@ -13,7 +13,7 @@ pub notes_same : (old new : Option (Option (List ℕ))) → new ≡ old → Note
 notes_same old new same = subst (λ (o : Option (Option (List ℕ))). Notes old o []) (sym same) (nothing_noted old)
 
 pub notes_both : (old mid new : Option (Option (List ℕ))) (events more : List Event) → Notes old mid events → Notes mid new more → Notes old new (events ++ more)
-notes_both = both_noted says_all
+notes_both = both_noted record_all
 
 -- a journal that tells nothing says nothing wrong
 pub notes_untold : (old new : Option (Option (List ℕ))) (events : List Event) → new ≡ None → Notes old new events

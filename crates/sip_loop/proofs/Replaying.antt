@@ -2,6 +2,7 @@
 use Rattle.std.proofs.Common.{◌≡◌, ℕ, List, [], ◌∷◌, ◌++◌, Option, None, Some, refl, sym, ◌∙◌, ap, subst, append-nil}
 use Rattle.sip_event.specs.declared.event.Event.{Event}
 use Rattle.sip_record.specs.Record.{Notes, NotesText}
+use Rattle.sip_replay_script.proofs.RecordTexts.{record_says}
 use Rattle.sip_replay_script.specs.Events.{SaysEvents}
 use Rattle.model_bounds.specs.state.declared.server.Server.{Server}
 use Rattle.model_bounds.specs.state.declared.proxy_state.ProxyState.{ProxyState}
@@ -32,7 +33,7 @@ replays server old new before after done front all serves told was is =
       text = noted.text;
       events = gathered event_taken done;
       grown = noted.grown;
-      says = subst (λ (es : List Event). SaysEvents es noted.text) (sym told) noted.says;
+      says = subst (λ (es : List Event). SaysEvents es noted.text) (sym told) (record_says (gathered event_told done) noted.text noted.says);
       history = serves.history;
       is_run = serves.is_run;
       turns = serves.turns;

@@ -1,7 +1,7 @@
 -- What was noted, one event behind the other.
 use Rattle.std.proofs.Common.{ℕ, List, [], ◌++◌, Option, Some, None, refl, sym, ◌∙◌, ap, append_assoc, append-nil}
 use Rattle.sip_event.specs.declared.event.Event.{Event}
-use Rattle.sip_replay_script.specs.Events.{SaysEvents}
+use Rattle.sip_replay_script.specs.Recorded.{SaysRecord}
 use Rattle.sip_record.specs.Record.{Notes, NotesKnown}
 
 known_nothing : (old : Option (List ℕ)) → NotesKnown old old []
@@ -14,7 +14,7 @@ notes_nothing (Some old) = known_nothing old
 
 -- that texts which say events join
 abbrev pub TextsJoin : Type 0
-TextsJoin = (events others : List Event) (text more : List ℕ) → SaysEvents events text → SaysEvents others more → SaysEvents (events ++ others) (text ++ more)
+TextsJoin = (events others : List Event) (text more : List ℕ) → SaysRecord events text → SaysRecord others more → SaysRecord (events ++ others) (text ++ more)
 
 known_both : TextsJoin → (old mid new : Option (List ℕ)) (events more : List Event) → NotesKnown old mid events → NotesKnown mid new more → NotesKnown old new (events ++ more)
 known_both join None mid new events more a b = tt

@@ -9,9 +9,9 @@ use Rattle.sip_uri.proofs.Tests.{and_both}
 use Rattle.sip_event.specs.declared.event.Event.TheVariants.{Datagram}
 use Rattle.sip_event.specs.declared.event.Event.{Event}
 use Rattle.sip_replay_script.specs.Devices.{WritesFront}
-use Rattle.sip_replay_script.specs.Events.{SaysEvent}
+use Rattle.sip_replay_script.specs.Recorded.{SaysRecorded}
 use Rattle.sip_replay_script.specs.EventText.{event_text, datagram_text, head_before, is_moment, is_sayable, HasTypes}
-use Rattle.sip_replay_script.proofs.Saying.{says_one}
+use Rattle.sip_replay_script.proofs.RecordTexts.{record_one}
 use Rattle.sip_record.specs.Record.{Notes, NotesKnown}
 use Rattle.sip_record.specs.Recorder.{told, CantWrite, WritesEvent}
 
@@ -23,12 +23,12 @@ hex_text_is moment word source (b ∷ bytes) front line some fronts is = is ∙ 
 
 -- that what is written of an event is read as it
 abbrev pub IsRead : Type 0
-IsRead = (event : Event) → HasTypes event → is_sayable event ≡ true → SaysEvent (event_text event) event
+IsRead = (event : Event) → HasTypes event → is_sayable event ≡ true → SaysRecorded (event_text event) event
 
-written_known : (old new : Option (List ℕ)) (event : Event) → SaysEvent (event_text event) event → Appends old new (event_text event) → NotesKnown old new (event ∷ [])
+written_known : (old new : Option (List ℕ)) (event : Event) → SaysRecorded (event_text event) event → Appends old new (event_text event) → NotesKnown old new (event ∷ [])
 written_known None new event says h = tt
 written_known (Some front) None event says h = h
-written_known (Some front) (Some all) event says h = record { text = event_text event; says = says_one (event_text event) event says; grown = h }
+written_known (Some front) (Some all) event says h = record { text = event_text event; says = record_one (event_text event) event says; grown = h }
 
 on_ok : {X E : Type 0} (result : Result X E) {P : Type 0} → P → OnOk result P
 on_ok (Ok x) p = p

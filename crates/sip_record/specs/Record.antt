@@ -1,12 +1,12 @@
 -- What is written of the events that a server takes.
 use Rattle.std.specs.Prelude.{◌≡◌, ⊤, ℕ, List, ◌++◌, Option, Some, None}
 use Rattle.sip_event.specs.declared.event.Event.{Event}
-use Rattle.sip_replay_script.specs.Events.{SaysEvents}
+use Rattle.sip_replay_script.specs.Recorded.{SaysRecord}
 
--- the bytes of a record grew by lines that say these events
+-- the bytes of a record grew by lines that say these events, as a record says them
 pub record NotesText (front all : List ℕ) (events : List Event) : Type 0 where
   pub text : List ℕ
-  pub says : SaysEvents events text
+  pub says : SaysRecord events text
   pub grown : all ≡ front ++ text
 
 -- and so they did, where they were told; what is told stays told

@@ -5,16 +5,13 @@ ghost use Rattle.sip_record.specs.Record.{Notes};
 ghost use Rattle.sip_record.specs.RecordHead.{head_line, head_of, head_text, HasHeadTypes};
 
 use crate::record_head::RecordHead;
-use sip_replay_script::laws::texts_join;
 
 /// What was noted of some events, and then of others, was noted of both; and where nothing was written, nothing was noted.
 pub fn notes_join()
     ensures nothing { (old : Option (Option (List ℕ))) → Notes old old [] }
     ensures both { (old mid new : Option (Option (List ℕ))) (events more : List Event) → Notes old mid events → Notes mid new more
         → Notes old new (events ++ more) }
-{
-    texts_join();
-}
+{}
 
 /// What is written of a record's head is one line, which is read back as it.
 pub fn written_head_is_read()

@@ -12,7 +12,7 @@ use crate::types::{datagram_has_types, fault_has_types};
 use crate::writing::{write_datagram, write_fault, write_time};
 use sip_event::Ticket;
 use sip_replay_script::TellingWriter;
-use sip_replay_script::laws::written_event_is_read;
+use sip_replay_script::laws::written_event_is_recorded;
 use sip_uri::Addr;
 use std::alloc::{AllocError, Global};
 
@@ -89,7 +89,7 @@ impl<W: TellingWriter + Drop> Journal for Recorder<W> {
         ensures answer { result ≡ answer_of self.old.on_fault self.new.has_failed }
         ensures on_fault { self.new.on_fault ≡ self.old.on_fault }
     {
-        written_event_is_read();
+        written_event_is_recorded();
         datagram_has_types(at, word, from, bytes);
         if self.has_failed {
             return self.answer();
@@ -116,7 +116,7 @@ impl<W: TellingWriter + Drop> Journal for Recorder<W> {
         ensures answer { result ≡ answer_of self.old.on_fault self.new.has_failed }
         ensures on_fault { self.new.on_fault ≡ self.old.on_fault }
     {
-        written_event_is_read();
+        written_event_is_recorded();
         if self.has_failed {
             return self.answer();
         }
@@ -142,7 +142,7 @@ impl<W: TellingWriter + Drop> Journal for Recorder<W> {
         ensures answer { result ≡ answer_of self.old.on_fault self.new.has_failed }
         ensures on_fault { self.new.on_fault ≡ self.old.on_fault }
     {
-        written_event_is_read();
+        written_event_is_recorded();
         fault_has_types(at, ticket);
         if self.has_failed {
             return self.answer();

@@ -8,6 +8,7 @@ use Rattle.sip_event.specs.declared.event.StepOut.{StepOut}
 use Rattle.sip_replay_script.specs.Events.{SaysEvents}
 use Rattle.sip_replay_script.specs.Recorded.{SaysRecord}
 use Rattle.sip_replay_print.specs.Print.{printed}
+use Rattle.sip_replay_script.proofs.RecordTexts.{record_says}
 use Rattle.sip_replay_script.proofs.Saying.{says_all}
 use Rattle.model_bounds.specs.state.declared.proxy_state.ProxyState.{ProxyState}
 use Rattle.model_bounds.specs.state.declared.server.Server.{Server}
@@ -168,7 +169,7 @@ unserved_on join server first text steps turns old new before after e front more
     ap (λ (es : List Event). h.events ++ es) unserved.told_but_last ∙ sym (append_assoc h.events told (untold_in unserved.point.stage)) in
     subst (λ (l : List ℕ). RecordsFront server first (text ++ l) (steps ++ gathered steps_taken done)) (sym grown)
     (front_of server first (text ++ noted.text) (h.events ++ told) (untold_in unserved.point.stage) (ahead done) (steps ++ gathered steps_taken done) (unserved.serves.history ++ h.history) new
-    (says_all h.events told text noted.text h.says noted.says)
+    (says_all h.events told text noted.text h.says (record_says told noted.text noted.says))
     (subst (λ (es : List Event). IsRun server (first_state first) es (ahead done) (steps ++ gathered steps_taken done) (unserved.serves.history ++ h.history) new) events run)
     (prompt_both server h.history unserved.serves.history (prompt_turns server unserved.serves.history unserved.serves.turns) h.prompt))
 

@@ -13,7 +13,6 @@ use Rattle.sip_replay_script.specs.declared.read_stop.ReadStop.{ReadStop}
 use Rattle.sip_replay_script.specs.declared.read_stop.ReadStop.TheVariants as stops
 use Rattle.sip_replay_script.specs.Recorded.{RecordStops, SaysRecord, GivesRecorded, IsCutRecord}
 use Rattle.sip_replay_script.proofs.RecordTexts.{record_all, record_one}
-use Rattle.sip_replay_script.proofs.Saying.{says_all}
 use Rattle.sip_record.specs.Record.{Notes}
 use Rattle.sip_record.proofs.Noting.{notes_nothing, notes_both}
 use Rattle.sip_resume.specs.Errors.{end_at}
@@ -68,7 +67,7 @@ resumes_more join server first mid new old part rest before middle after written
       number = number;
       counted = lines_are old.number rest.number (h.text ++ next.gives.given.text) none number;
       run = runs_on_one join server first mid new h.events next.event out h.run.runs next.takes;
-      noted = notes_both says_all written half whole h.events (next.event ∷ []) h.noted next.noted;
+      noted = notes_both record_all written half whole h.events (next.event ∷ []) h.noted next.noted;
     }
 
 -- the same of the server as it is then
