@@ -263,7 +263,8 @@ def names_in_spec(item):
         bound = bound_in(part) | {item.name}
         if count and item.kind == "def":
             for pattern in patterns(part):
-                bound.update(one for one in re.findall(NAME, pattern) if not one[0].isupper() and one not in MAKERS)
+                unknown = lambda one: one not in here.imports and one not in here.items
+                bound.update(one for one in re.findall(NAME, pattern) if (not one[0].isupper() or unknown(one)) and one not in MAKERS)
                 bound.update(re.findall(rf"\{{\s*({NAME})\}}", pattern))
         yield from meanings(part, bound, here.imports, lambda name: here.items.get(name))
 

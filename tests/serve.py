@@ -5,6 +5,7 @@ it measures itself: a moment that it looks at may be later by that."""
 
 import os
 import re
+import select
 import signal
 import socket
 import subprocess
@@ -648,9 +649,85 @@ def guard(folder):
     assert 40 <= len(scanned) <= 40 + 20 * (passed + 2), (len(scanned), passed)
 
 
+def says(server, wanted, seconds=10):
+    """Waits until a server complains of this."""
+    said, until = b"", time.monotonic() + seconds
+    while wanted.encode() not in said:
+        ready, _, _ = select.select([server.stderr], [], [], max(0, until - time.monotonic()))
+        assert ready, (wanted, said)
+        said += os.read(server.stderr.fileno(), 65536)
+    return said.decode()
+
+
+def rewritten(config, change):
+    """Writes a file anew, in the place of the old one."""
+    with open(config) as source:
+        text = change(source.read())
+    with open(config + ".new", "w") as made:
+        made.write(text)
+    os.rename(config + ".new", config)
+
+
+IN_FORCE = "sipd: the configuration's file is in force\n"
+
+
+def changed(folder):
+    """A configuration changes while people phone: who is new registers, who is gone isn't reached, and a standing call is hung up."""
+    config = office(folder, free_port())
+    server, port = started(PROGRAM, config, "--reload")
+    alice, bob = phones(port)
+    carol = Phone("carol", phone.md5("carol:office:tea"), ("127.0.0.1", port))
+    assert alice.register() == [401, 200] and bob.register() == [401, 200]
+    refused = carol.register()
+    assert refused == [401, 401], refused
+    dialog = established(alice, bob)
+    bob_is = re.compile(r'\[\[user\]\]\nname = "bob"\na1 = "\w+"\n')
+    carol_is = f'[[user]]\nname = "carol"\na1 = "{phone.md5("carol:office:tea")}"\n'
+    rewritten(config, lambda text: bob_is.sub(carol_is, text))
+    says(server, IN_FORCE)
+    assert carol.register() == [401, 200]
+    refused = bob.register()
+    assert refused == [401, 401], refused
+    hung_up(alice, bob, dialog)
+    alice.invite(bob.address)
+    refused = alice.hear()
+    assert refused.status == 404, refused.start
+    assert carol.register() == [401, 200]
+    printed, complaints = stopped(server)
+    assert complaints == "", complaints
+    lines = [re.sub(r"^\d+ \d+ ", "", line) for line in printed.splitlines()]
+    assert lines.count("REGISTER carol carol@127.0.0.1 register 1 answer 200") == 2, lines
+
+
+def not_taken(folder):
+    """What isn't taken is said once, and what was in force stays: another realm, a file that is no configuration, one that is gone, one
+    that changes without end; what is taken behind that is."""
+    config = office(folder, free_port())
+    server, port = started(PROGRAM, config, "--reload")
+    alice, _ = phones(port)
+    with open(config) as source:
+        text = source.read()
+    rewritten(config, lambda text: text.replace('realm = "office"', 'realm = "home"'))
+    says(server, "sipd: the configuration's file isn't taken: realm can't change while the server runs; what was in force stays\n")
+    rewritten(config, lambda text: "version = \n")
+    says(server, "; what was in force stays\n")
+    os.remove(config)
+    says(server, "sipd: the configuration's file is gone; what was in force stays\n")
+    for number in range(10):
+        with open(config, "w") as made:
+            made.write(text + f"# {number}\n")
+        time.sleep(0.3)
+    said = says(server, IN_FORCE)
+    assert said == IN_FORCE, said
+    assert alice.register() == [401, 200]
+    time.sleep(2.5)
+    _, complaints = stopped(server)
+    assert complaints == "", complaints
+
+
 TRIALS = (
     call, another_address, turns, timer_a, guarded_timer, failed_send, drawn_anew, stop_and_continue, bad_starts, closed_output, record, restart, no_count_twice, not_resumed,
-    full_device, full_start, lost_record, folder_of_records, clock_behind, small_stack, guard,
+    full_device, full_start, lost_record, folder_of_records, clock_behind, small_stack, guard, changed, not_taken,
 )
 
 

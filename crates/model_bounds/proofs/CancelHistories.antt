@@ -1,5 +1,5 @@
 -- Over every history: each CANCEL goes out at most eleven times for each of its first sendings.
-use Rattle.std.proofs.Common.{◌≡◌, ℕ, ◌+◌, ◌*◌, ◌≤◌, Bool, true, false, ◌&&◌, ◌==◌, List, [], ◌∷◌, refl, sym, ap, subst, ◌∙◌, arith, bytes_eq}
+use Rattle.std.proofs.Common.{count_by, ◌≡◌, ℕ, ◌+◌, ◌*◌, ◌≤◌, Bool, true, false, ◌&&◌, ◌==◌, List, [], ◌∷◌, refl, sym, ap, subst, ◌∙◌, arith, bytes_eq}
 use Rattle.std.proofs.lemmas.Slice.Eq.{bytes_eq-Decides}
 use Rattle.sip_dialog.specs.Addresses.{is_same_addr}
 use Rattle.sip_event.specs.declared.packet.Packet.{Packet}
@@ -8,7 +8,7 @@ use Rattle.sip_model.specs.state.declared.open_request.OpenRequest.{OpenRequest}
 use Rattle.sip_model.specs.state.declared.proxy_state.ProxyState.{ProxyState}
 use Rattle.sip_model.specs.state.State.{first_state}
 use Rattle.sip_model.specs.steps_model.Step.{originals, retransmissions}
-use Rattle.sip_model.specs.Run.{Link, IsChain}
+use Rattle.sip_model.specs.Run.{Link, under, IsChain}
 use Rattle.sip_model.specs.Parts.{HasParts, next_after}
 use Rattle.model_bounds.specs.Cancels.{begins_cancel, says_same, handed_out, first_sendings, IsOwnCancel, GoOutElevenTimes}
 use Rattle.model_bounds.proofs.FinalsHistory.{PartsLaw}
@@ -49,12 +49,12 @@ module _ (laws : AreCopyLaws) (parts : PartsLaw) (server : Server) (first : ℕ)
       subst (λ (s : ProxyState). Holds p server [] s.next s.requests laws is_test) (sym chain)
       (record { stands = record { numbered = record { differ = λ n. omega arith; are_below = λ n high. refl }; fine = tt }; few = omega arith })
   chain_holds (link ∷ history) last chain =
-      let made : HasParts server link.before link.act link.out link.after = parts server link.before link.act link.out link.after chain.1 in
+      let made : HasParts (under server link.config) link.before link.act link.out link.after = parts (under server link.config) link.before link.act link.out link.after chain.1 in
       let before : Holds p server history link.before.next link.before.requests laws is_test = chain_holds history link.before chain.2 in
-      let well : IsWell laws (says_same p) is_test server (next_after link.before link.act) link.before.requests link.after.requests (originals link.out.packets) (retransmissions link.out.packets) =
-      parts_well laws (says_same p) is_test server link.before link.act link.after.moment link.before.requests link.after.requests (originals link.out.packets) (retransmissions link.out.packets) made.none_passed made.parts before.stands in
+      let well : IsWell laws (says_same p) is_test (under server link.config) (next_after link.before link.act) link.before.requests link.after.requests (originals link.out.packets) (retransmissions link.out.packets) =
+      parts_well laws (says_same p) is_test (under server link.config) link.before link.act link.after.moment link.before.requests link.after.requests (originals link.out.packets) (retransmissions link.out.packets) made.none_passed made.parts before.stands in
       let few = before.few in
-      let fewer = well.fewer in
+      let fewer : total laws (says_same p) is_test server link.after.requests + count_by (says_same p) (retransmissions link.out.packets) ≤ total laws (says_same p) is_test server link.before.requests + 10 * count_by (says_same p) (originals link.out.packets) = well.fewer in
       subst (λ (s : ProxyState). Holds p server (link ∷ history) s.next s.requests laws is_test) (sym chain.0) (record {
         stands = subst (λ (n : ℕ). Stands n link.after.requests) (sym made.is_next) well.stands;
         few = omega (arith, few, fewer, count_parts (says_same p) (λ (q : Packet). q.again) link.out.packets);

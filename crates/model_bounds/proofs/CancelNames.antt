@@ -8,6 +8,7 @@ use Rattle.sip_message_fields.specs.Values.{first_value}
 use Rattle.sip_message_form.specs.declared.message.Message.{Message}
 use Rattle.sip_message_form.specs.Text.{text_of}
 use Rattle.sip_edit.specs.OwnRequests.{ack_with, cancel_of}
+use Rattle.sip_config_types.specs.declared.config.Config.{Config}
 use Rattle.sip_event.specs.declared.packet.Packet.{Packet}
 use Rattle.sip_model.specs.state.declared.server.Server.{Server}
 use Rattle.sip_model.specs.state.declared.branch.Phase.{Phase}
@@ -22,7 +23,7 @@ use Rattle.sip_model.specs.context_model.Sending.{request_of, to_branch, branch_
 use Rattle.sip_model.specs.context_model.Branches.{Change, is_same_branch, turned, phased, with_phase, with_final, marked_branch, marked, given_up, after_upward, upward_list, best_upward, is_cancellable, cancel_branch, held_branch, with_cancel, with_cancels, settled, heard, relayed_provisional, further, linger, final_of, acks_of, told_to, relayed_success, with_answer, target_responded, cancel_responded, responded, target_overdue, branch_overdue, other_heard}
 use Rattle.sip_model.specs.steps_model.Effect.{change_packets, upward_packets}
 use Rattle.sip_model.specs.steps_model.Step.{Act, IsOverdue, OfSide, OfBranch, originals}
-use Rattle.sip_model.specs.Run.{Link}
+use Rattle.sip_model.specs.Run.{Link, under}
 use Rattle.sip_model.specs.Parts.{IsChangeAt, ByResponse, ByDeadline, ByFault, ByCancel}
 use Rattle.model_bounds.specs.Cancels.{begins_cancel, BranchName, is_named, is_own_cancel, AreCancelsOf, NoMore, Another, OneMore}
 use Rattle.model_bounds.proofs.FinalsLists.{contained_behind, contains_first}
@@ -78,6 +79,27 @@ later_named server link history _ _ (OneMore name names p packets is rest) =
       is_its = is.is_its;
     })
     (later_named server link history names packets rest)
+
+-- said of the server under another configuration
+pub named_back : (server : Server) (config : Config) (history : List Link) (names : List BranchName) (packets : List Packet) → AreCancelsOf (under server config) history names packets → AreCancelsOf server history names packets
+named_back server config history _ _ NoMore = NoMore
+named_back server config history _ _ (Another names p packets other rest) = Another names p packets other (named_back server config history names packets rest)
+named_back server config history _ _ (OneMore name names p packets is rest) =
+    OneMore name names p packets
+    (record {
+      link = is.link;
+      request = is.request;
+      branch = is.branch;
+      is_there = is.is_there;
+      is_sent = is.is_sent;
+      is_open = is.is_open;
+      is_inside = is.is_inside;
+      is_target = is.is_target;
+      is_request = is.is_request;
+      is_branch = is.is_branch;
+      is_its = is.is_its;
+    })
+    (named_back server config history names packets rest)
 
 -- ---- branches that are kept
 

@@ -25,7 +25,7 @@ use Rattle.sip_model.specs.context_model.Retransmission.{IsResent, OfAnswer, OfR
 use Rattle.sip_model.specs.steps_model.Effect.{replaced, change_packets, upward_packets, ack_packet, method_of}
 use Rattle.sip_model.specs.steps_model.Step.{Act, Given, Passing, NoneBefore, originals, retransmissions}
 use Rattle.sip_model.specs.Order.{is_numbered, AreNumbered}
-use Rattle.sip_model.specs.Run.{Link, IsChain}
+use Rattle.sip_model.specs.Run.{Link, IsChain, under}
 use Rattle.sip_model.specs.Lives.{sent_first}
 use Rattle.sip_model.specs.Parts.{AreBegun, IsOpening, Answered, Sent, IsChangeAt, IsPart, Stays, Passes, Copies, TurnsAway, Opens, Changes, Resends, Acknowledges, AreParts, One, Two, HasParts, made_text, next_after}
 use Rattle.model_bounds.specs.Cancels.{begins_cancel, BranchName, is_named, is_own_cancel, AreCancelsOf, NoMore, HasOneCancelEach}
@@ -42,7 +42,7 @@ use Rattle.model_bounds.proofs.CancelTexts.{IsTest, answer_begins}
 use Rattle.model_bounds.proofs.CancelChanges.{IsFine, IsCounted, change_leaves}
 use Rattle.model_bounds.proofs.CancelOpenings.{tried_well, begun_each, unsent_kept}
 use Rattle.model_bounds.proofs.CancelParts.{Stands, IsWell, part_well, parts_well}
-use Rattle.model_bounds.proofs.CancelNames.{IsOther, by_branch, others_named, joined_named, later_named, cancels, IsNamedChange, change_settles, change_named, ups_other}
+use Rattle.model_bounds.proofs.CancelNames.{IsOther, by_branch, others_named, joined_named, later_named, named_back, cancels, IsNamedChange, change_settles, change_named, ups_other}
 
 -- ---- lists
 
@@ -392,17 +392,18 @@ module _ (laws : AreCopyLaws) (parts : PartsLaw) (server : Server) (first : ℕ)
         has_names = record { differ = λ d n. omega arith; below = λ d n high. refl; used = tt };
       })
   chain_holds (link ∷ history) last chain =
-      let made : HasParts server link.before link.act link.out link.after = parts server link.before link.act link.out link.after chain.1 in
+      let made : HasParts (under server link.config) link.before link.act link.out link.after = parts (under server link.config) link.before link.act link.out link.after chain.1 in
       let before : Holds server history link.before.next link.before.requests = chain_holds history link.before chain.2 in
-      let well : IsWell laws is_own_cancel own_test server (next_after link.before link.act) link.before.requests link.after.requests (originals link.out.packets) (retransmissions link.out.packets) =
-      parts_well laws is_own_cancel own_test server link.before link.act link.after.moment link.before.requests link.after.requests (originals link.out.packets) (retransmissions link.out.packets) made.none_passed made.parts before.stands in
-      let goes : Goes laws server link history before.names (next_after link.before link.act) link.after.requests (originals link.out.packets) =
-      parts_goes laws server link history before.names link.after.moment link.after.requests (originals link.out.packets) (retransmissions link.out.packets) made.none_passed made.parts
+      let well : IsWell laws is_own_cancel own_test (under server link.config) (next_after link.before link.act) link.before.requests link.after.requests (originals link.out.packets) (retransmissions link.out.packets) =
+      parts_well laws is_own_cancel own_test (under server link.config) link.before link.act link.after.moment link.before.requests link.after.requests (originals link.out.packets) (retransmissions link.out.packets) made.none_passed made.parts before.stands in
+      let goes : Goes laws (under server link.config) link history before.names (next_after link.before link.act) link.after.requests (originals link.out.packets) =
+      parts_goes laws (under server link.config) link history before.names link.after.moment link.after.requests (originals link.out.packets) (retransmissions link.out.packets) made.none_passed made.parts
       (λ p at. contains_of (originals link.out.packets) p at) before.stands before.has_names in
       subst (λ (s : ProxyState). Holds server (link ∷ history) s.next s.requests) (sym chain.0) (record {
         stands = subst (λ (n : ℕ). Stands n link.after.requests) (sym made.is_next) well.stands;
         names = goes.names ++ before.names;
-        are_all = joined_named server (link ∷ history) goes.names before.names (originals link.out.packets) (sent_first history) goes.are_all (later_named server link history before.names (sent_first history) before.are_all);
+        are_all = joined_named server (link ∷ history) goes.names before.names (originals link.out.packets) (sent_first history)
+            (named_back server link.config (link ∷ history) goes.names (originals link.out.packets) goes.are_all) (later_named server link history before.names (sent_first history) before.are_all);
         has_names = subst (λ (n : ℕ). HasNames (goes.names ++ before.names) n link.after.requests) (sym made.is_next) goes.holds;
       })
 

@@ -9,6 +9,7 @@ use Rattle.sip_message_form.specs.declared.message.Message.{Message}
 use Rattle.sip_event.specs.declared.packet.Packet.{Packet}
 use Rattle.sip_event.specs.declared.event.StepOut.{StepOut}
 use Rattle.sip_event.specs.declared.event.Event.TheVariants.{Datagram, Time, Fault}
+use Rattle.sip_config_types.specs.declared.config.Config.{Config}
 use Rattle.sip_model.specs.state.declared.server.Server.{Server}
 use Rattle.sip_model.specs.state.declared.branch.Branch.{Branch}
 use Rattle.sip_model.specs.state.declared.open_request.OpenRequest.{OpenRequest}
@@ -18,12 +19,13 @@ use Rattle.sip_model.specs.context_model.Branches.{Change, all_final}
 use Rattle.sip_model.specs.context_model.Retransmission.{IsResent, OfAnswer, OfRequest, resends_of, answer_due, branch_due}
 use Rattle.sip_model.specs.verdict_model.Verdict.{responding}
 use Rattle.sip_model.specs.steps_model.Step.{Act, Given, Passing, IsStep, IsOverdue, OfSide, OfBranch, NoneBefore, NoneAgainBefore, originals, retransmissions}
-use Rattle.sip_model.specs.Run.{Link, IsChain}
+use Rattle.sip_model.specs.Run.{Link, under, IsChain}
 use Rattle.sip_model.specs.Order.{HasFired, CanEnd}
 use Rattle.sip_model.specs.Parts.{HasParts}
 use Rattle.model_bounds.specs.Endings.{sets_timer_c, is_for_target, is_heard, hears, heard_last, IsBefore, EndsInTime, EndInTime}
 use Rattle.model_bounds.proofs.EndingLists.{parts_of_append, option_of_all, all_in, all_from_in, each_of_flat_map, each_of_filter_map}
-use Rattle.model_bounds.proofs.EndingTimes.{whole_time, IsFrom, request_later, deadlines_in_time}
+use Rattle.model_bounds.proofs.EndingTimes.{whole_time, IsFrom, IsInTime, request_later, deadlines_in_time}
+use Rattle.model_bounds.proofs.EndingChanges.{IsChanging}
 use Rattle.model_bounds.proofs.EndingParts.{origin_by, origin_of, origin_later, IsEnding, IsRecent, may_change, IsReady, parts_ending}
 
 -- ---- what is known of a history from below
@@ -142,6 +144,34 @@ heard_later : (t : Bool) (now earlier : ℕ) → earlier ≤ now → earlier ≤
 heard_later true now earlier le = le
 heard_later false now earlier le = omega arith
 
+-- ---- another configuration
+
+hears_same : (server : Server) (config : Config) (requests : List OpenRequest) (number : ℕ) (act : Act) → hears (under server config) requests number act ≡ hears server requests number act
+hears_same server config requests number (Given (Datagram at word from bytes)) = refl
+hears_same server config requests number (Given (Time at)) = refl
+hears_same server config requests number (Given (Fault at ticket)) = refl
+hears_same server config requests number (Passing at) = refl
+
+heard_same : (server : Server) (config : Config) (number : ℕ) (history : List Link) → heard_last (under server config) number history ≡ heard_last server number history
+heard_same server config number [] = refl
+heard_same server config number (link ∷ history) =
+    ap (λ (t : Bool). cond t link.out.at (heard_last (under server config) number history)) (hears_same server config link.before.requests number link.act)
+    ∙ ap (λ (n : ℕ). cond (hears server link.before.requests number link.act) link.out.at n) (heard_same server config number history)
+
+origin_same : (server : Server) (config : Config) (history : List Link) (r : OpenRequest) → origin_of (under server config) history r ≡ origin_of server history r
+origin_same server config history r = ap (λ (n : ℕ). cond (is_invite r) (max r.arrived_at n) r.arrived_at) (heard_same server config r.number history)
+
+ending_back : (server : Server) (config : Config) (history : List Link) (requests : List OpenRequest) → AllByRecursion (IsEnding (under server config) history) requests → AllByRecursion (IsEnding server history) requests
+ending_back server config history [] all = tt
+ending_back server config history (r ∷ rs) all = (subst (λ (n : ℕ). IsInTime (is_invite r) n r) (origin_same server config history r) all.0, ending_back server config history rs all.1)
+
+ready_under : (server : Server) (config : Config) (history : List Link) (now : ℕ) (requests : List OpenRequest) → AllByRecursion (IsReady server history now) requests → AllByRecursion (IsReady (under server config) history now) requests
+ready_under server config history now [] all = tt
+ready_under server config history now (r ∷ rs) all = (
+  record { changing = subst (λ (n : ℕ). IsChanging n now r r) (sym (origin_same server config history r)) all.0.changing; side_from = all.0.side_from },
+  ready_under server config history now rs all.1,
+)
+
 -- ---- histories
 
 module _ (have_parts : HaveParts) (waits : Always (λ server last. AllByRecursion Waits last.requests)) (can_end : Always (λ server last. AllByRecursion CanEnd last.requests))
@@ -151,20 +181,20 @@ module _ (have_parts : HaveParts) (waits : Always (λ server last. AllByRecursio
   heard_early server first [] last number chain = omega arith
   heard_early server first (link ∷ history) last number chain =
       let before : heard_last server number history ≤ link.before.moment = heard_early server first history link.before number chain.2 in
-      let later : link.before.moment ≤ link.out.at = step_later server link.before link.act link.out link.after (none_before server first history link.before chain.2) (none_again server first history link.before chain.2) chain.1 in
+      let later : link.before.moment ≤ link.out.at = step_later (under server link.config) link.before link.act link.out link.after (none_before server first history link.before chain.2) (none_again server first history link.before chain.2) chain.1 in
       let by : heard_last server number (link ∷ history) ≤ link.out.at = heard_by (hears server link.before.requests number link.act) link.out.at (heard_last server number history) (omega (arith, before, later)) in
-      let at : link.out.at ≡ link.after.moment = (have_parts server link.before link.act link.out link.after chain.1).is_at in
+      let at : link.out.at ≡ link.after.moment = (have_parts (under server link.config) link.before link.act link.out link.after chain.1).is_at in
       subst (λ (s : ProxyState). heard_last server number (link ∷ history) ≤ s.moment) (sym chain.0) (subst (λ (moment : ℕ). heard_last server number (link ∷ history) ≤ moment) at by)
 
   -- an open request that was in time before a step may change in it
-  ready_of_step : (server : Server) (first : ℕ) (link : Link) (history : List Link) → IsStep server link.before link.act link.out link.after → IsChain server (first_state first) history link.before
+  ready_of_step : (server : Server) (first : ℕ) (link : Link) (history : List Link) → IsStep (under server link.config) link.before link.act link.out link.after → IsChain server (first_state first) history link.before
       → AllByRecursion (IsEnding server history) link.before.requests → AllByRecursion (IsReady server (link ∷ history) link.after.moment) link.before.requests
   ready_of_step server first link history step chain before = all_from_in (IsReady server (link ∷ history) link.after.moment) link.before.requests (λ r there. ready r there) where
-    parts : HasParts server link.before link.act link.out link.after
-    parts = have_parts server link.before link.act link.out link.after step
+    parts : HasParts (under server link.config) link.before link.act link.out link.after
+    parts = have_parts (under server link.config) link.before link.act link.out link.after step
 
     later : link.before.moment ≤ link.out.at
-    later = step_later server link.before link.act link.out link.after (none_before server first history link.before chain) (none_again server first history link.before chain) step
+    later = step_later (under server link.config) link.before link.act link.out link.after (none_before server first history link.before chain) (none_again server first history link.before chain) step
 
     heard : (number : ℕ) → heard_last server number history ≤ heard_last server number (link ∷ history)
     heard number =
@@ -186,10 +216,12 @@ module _ (have_parts : HaveParts) (waits : Always (λ server last. AllByRecursio
   chain_ending : (server : Server) (first : ℕ) (history : List Link) (last : ProxyState) → IsChain server (first_state first) history last → AllByRecursion (IsEnding server history) last.requests
   chain_ending server first [] last chain = subst (λ (s : ProxyState). AllByRecursion (IsEnding server []) s.requests) (sym chain) tt
   chain_ending server first (link ∷ history) last chain =
-      let parts : HasParts server link.before link.act link.out link.after = have_parts server link.before link.act link.out link.after chain.1 in
+      let parts : HasParts (under server link.config) link.before link.act link.out link.after = have_parts (under server link.config) link.before link.act link.out link.after chain.1 in
       subst (λ (s : ProxyState). AllByRecursion (IsEnding server (link ∷ history)) s.requests) (sym chain.0)
-      (parts_ending server (link ∷ history) link.before link.act link.after.moment (recent_of_step server link history parts.is_at) link.before.requests
-      (ready_of_step server first link history chain.1 chain.2 (chain_ending server first history link.before chain.2)) link.after.requests (originals link.out.packets) (retransmissions link.out.packets) parts.parts)
+      (ending_back server link.config (link ∷ history) link.after.requests
+      (parts_ending (under server link.config) (link ∷ history) link.before link.act link.after.moment (recent_of_step (under server link.config) link history parts.is_at) link.before.requests
+      (ready_under server link.config (link ∷ history) link.after.moment link.before.requests
+      (ready_of_step server first link history chain.1 chain.2 (chain_ending server first history link.before chain.2))) link.after.requests (originals link.out.packets) (retransmissions link.out.packets) parts.parts))
 
   -- ---- the law
 
@@ -213,7 +245,7 @@ module _ (have_parts : HaveParts) (waits : Always (λ server last. AllByRecursio
     by_act (Passing at) f = omega (arith, not_passed, within)
 
   -- each step leaves the open requests in time
-  link_ends : (server : Server) (first : ℕ) (link : Link) (history : List Link) → IsStep server link.before link.act link.out link.after → IsChain server (first_state first) history link.before
+  link_ends : (server : Server) (first : ℕ) (link : Link) (history : List Link) → IsStep (under server link.config) link.before link.act link.out link.after → IsChain server (first_state first) history link.before
       → EndsInTime server history link
   link_ends server first link history step chain =
       record { others = all_from_in _ link.after.requests (λ r there is. other r there is); invites = all_from_in _ link.after.requests (λ r there is. invite r there is) } where

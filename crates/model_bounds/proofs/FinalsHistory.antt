@@ -7,7 +7,7 @@ use Rattle.sip_model.specs.state.declared.server.Server.{Server}
 use Rattle.sip_model.specs.state.declared.proxy_state.ProxyState.{ProxyState}
 use Rattle.sip_model.specs.state.State.{first_state}
 use Rattle.sip_model.specs.steps_model.Step.{Act, IsStep, originals, retransmissions}
-use Rattle.sip_model.specs.Run.{Link, IsChain}
+use Rattle.sip_model.specs.Run.{Link, under, IsChain}
 use Rattle.sip_model.specs.Lives.{sent_first}
 use Rattle.sip_model.specs.Parts.{HasParts}
 use Rattle.model_bounds.specs.Invites.{WasInvite}
@@ -50,12 +50,12 @@ chain_told later one parts server first [] last chain =
     subst (λ (s : ProxyState). AreTold (λ n. WasInvite n []) s.requests s.next []) (sym chain)
     (record { numbered = record { differ = λ n. omega arith; are_below = λ n high. refl }; none_later = λ n high. refl; each_one = λ n. inl (omega arith); fit = tt })
 chain_told later one parts server first (link ∷ history) last chain =
-    let made : HasParts server link.before link.act link.out link.after = parts server link.before link.act link.out link.after chain.1 in
+    let made : HasParts (under server link.config) link.before link.act link.out link.after = parts (under server link.config) link.before link.act link.out link.after chain.1 in
     let before = told_weaker (λ n. WasInvite n history) (λ n. WasInvite n (link ∷ history)) link.before.requests link.before.next (sent_first history) (invite_later link history)
     (chain_told later one parts server first history link.before chain.2) in
     subst (λ (s : ProxyState). AreTold (λ n. WasInvite n (link ∷ history)) s.requests s.next (sent_first (link ∷ history))) (sym chain.0)
     (subst (λ (n : ℕ). AreTold (λ k. WasInvite k (link ∷ history)) link.after.requests n (sent_first (link ∷ history))) (sym made.is_next)
-    (parts_told later one (λ n. WasInvite n (link ∷ history)) (sent_first history) server link.before link.act link.after.moment link.after.requests
+    (parts_told later one (λ n. WasInvite n (link ∷ history)) (sent_first history) (under server link.config) link.before link.act link.after.moment link.after.requests
     (originals link.out.packets) (retransmissions link.out.packets)
     (invite_now link history) made.parts before))
 

@@ -10,7 +10,7 @@ use Rattle.sip_model.specs.context_model.Branches.{acknowledged}
 use Rattle.sip_model.specs.context_model.Retransmission.{answers_again}
 use Rattle.sip_model.specs.steps_model.Effect.{replaced}
 use Rattle.sip_model.specs.steps_model.Step.{Act, NoneBefore, originals, retransmissions}
-use Rattle.sip_model.specs.Run.{Link, IsChain}
+use Rattle.sip_model.specs.Run.{Link, under, IsChain}
 use Rattle.model_bounds.specs.Copies.{is_copy_of, copies_of}
 use Rattle.sip_model.specs.Parts.{IsPart, Stays, Passes, Copies, TurnsAway, Opens, Changes, Resends, Acknowledges, AreParts, One, Two, HasParts, next_after}
 use Rattle.model_bounds.specs.Invites.{WasInvite}
@@ -137,7 +137,7 @@ chain_spent laws parts server first [] last chain =
     subst (λ (s : ProxyState). AreSpent (λ n. WasInvite n []) s.requests s.next (λ n. 0) (λ n. 0)) (sym chain)
     (record { numbered = record { differ = λ n. omega arith; are_below = λ n high. refl }; none_later = λ n high. refl; each_one = λ n. inl (omega arith); fit = tt })
 chain_spent laws parts server first (link ∷ history) last chain =
-    let made : HasParts server link.before link.act link.out link.after = parts server link.before link.act link.out link.after chain.1 in
+    let made : HasParts (under server link.config) link.before link.act link.out link.after = parts (under server link.config) link.before link.act link.out link.after chain.1 in
     let before = spent_weaker (λ n. WasInvite n history) (λ n. WasInvite n (link ∷ history)) link.before.requests link.before.next (λ n. finals_again n history)
     (λ n. copies_came n history) (invite_later link history)
     (chain_spent laws parts server first history link.before chain.2) in
@@ -146,7 +146,7 @@ chain_spent laws parts server first (link ∷ history) last chain =
     (subst (λ (k : ℕ). AreSpent (λ n. WasInvite n (link ∷ history)) link.after.requests k (λ n. finals_again n (link ∷ history)) (λ n. copies_came n (link ∷ history)))
     (sym made.is_next)
     (parts_spent laws (λ n. WasInvite n (link ∷ history)) (λ n. finals_again n history)
-    (λ n. copies_came n history) server link.before link.act link.after.moment link.after.requests (originals link.out.packets)
+    (λ n. copies_came n history) (under server link.config) link.before link.act link.after.moment link.after.requests (originals link.out.packets)
     (retransmissions link.out.packets) (invite_now link history) made.none_passed made.parts before))
 
 -- each number of a history is within the bound

@@ -21,7 +21,7 @@ use Rattle.sip_model.specs.context_model.Retransmission.{answer_due, branch_due,
 use Rattle.sip_model.specs.verdict_model.Verdict.{message_in}
 use Rattle.sip_model.specs.steps_model.Effect.{method_of}
 use Rattle.sip_model.specs.steps_model.Step.{Act, Given, Passing, IsStep, NoneAgainBefore, originals, retransmissions}
-use Rattle.sip_model.specs.Run.{Link, IsChain}
+use Rattle.sip_model.specs.Run.{Link, under, IsChain}
 use Rattle.sip_model.specs.Access.{IsSaidAt}
 use Rattle.sip_model.specs.Order.{AreRising, HasFired}
 use Rattle.sip_model.specs.Parts.{HasParts, next_after}
@@ -145,7 +145,7 @@ going_of Ended again sent unheard h = absurd (cc)
 
 -- What the laws of the model say, of every history.
 pub record AreModelLaws (server : Server) : Type 0 where
-  pub parts : (old : ProxyState) (act : Act) (out : StepOut) (new : ProxyState) → IsStep server old act out new → HasParts server old act out new
+  pub parts : (other : Server) (old : ProxyState) (act : Act) (out : StepOut) (new : ProxyState) → IsStep other old act out new → HasParts other old act out new
   pub rising : (first : ℕ) (history : List Link) (last : ProxyState) → IsChain server (first_state first) history last → AreRising last.requests
   pub none_again : (first : ℕ) (history : List Link) (last : ProxyState) → IsChain server (first_state first) history last → NoneAgainBefore last.moment last.requests
   pub has_fired : (first : ℕ) (history : List Link) (last : ProxyState) → IsChain server (first_state first) history last → AllByRecursion (λ (link : Link). HasFired link.act link.after) history
@@ -156,7 +156,7 @@ module _ (laws : AreCopyLaws) (server : Server) (model : AreModelLaws server) (f
   was_below [] last chain number w = absurd (none_was number w)
   was_below (link ∷ history) last chain number w = by_case (was_cases number link history w) (λ before. was_below history link.before chain.2 number before) where
     next : last.next ≡ next_after link.before link.act
-    next = ap (λ (s : ProxyState). s.next) chain.0 ∙ (model.parts link.before link.act link.out link.after chain.1).is_next
+    next = ap (λ (s : ProxyState). s.next) chain.0 ∙ (model.parts (under server link.config) link.before link.act link.out link.after chain.1).is_next
 
     by_case : IsInviteNow number link ⊎ WasInvite number history → (WasInvite number history → number < link.before.next) → number < last.next
     by_case (inl now) earlier =
@@ -196,11 +196,11 @@ module _ (laws : AreCopyLaws) (server : Server) (model : AreModelLaws server) (f
     fit = tt;
   })
   chain_holds (link ∷ history) last chain =
-      let parts : HasParts server link.before link.act link.out link.after = model.parts link.before link.act link.out link.after chain.1 in
+      let parts : HasParts (under server link.config) link.before link.act link.out link.after = model.parts (under server link.config) link.before link.act link.out link.after chain.1 in
       let adds : Adds link.after.moment (originals link.out.packets) (retransmissions link.out.packets) (λ n k. moments_of n k history) (λ n k. moments_of n k (link ∷ history)) =
       subst (λ (at : ℕ). Adds at (originals link.out.packets) (retransmissions link.out.packets) (λ n k. moments_of n k history) (λ n k. moments_of n k (link ∷ history))) parts.is_at (link_adds link history) in
       let holds : Holds (λ n. WasInvite n (link ∷ history)) (next_after link.before link.act) (λ n k. moments_of n k (link ∷ history)) link.after.requests =
-      parts_hold laws server link.before link.act link.after.moment (λ n. WasInvite n history) (λ n. WasInvite n (link ∷ history)) (link_tells link history) (link_says link history chain.2)
+      parts_hold laws (under server link.config) link.before link.act link.after.moment (λ n. WasInvite n history) (λ n. WasInvite n (link ∷ history)) (link_tells link history) (link_says link history chain.2)
       link.before.requests link.after.requests (originals link.out.packets) (retransmissions link.out.packets) (λ n k. moments_of n k history) (λ n k. moments_of n k (link ∷ history))
       parts.none_passed (model.rising first history link.before chain.2) parts.parts adds (chain_holds history link.before chain.2) in
       subst (λ (s : ProxyState). Holds (λ n. WasInvite n (link ∷ history)) s.next (λ n k. moments_of n k (link ∷ history)) s.requests) (sym chain.0)

@@ -16,6 +16,7 @@ ringing = record (first_state 6) { moment = 63000; requests = one_rings ∷ [] }
 abbrev pub cancelling : ℕ → Link
 cancelling at =
     record {
+      config = sample.config;
       before = ringing;
       act = Passing at;
       out = record { at = at; packets = to_branch one_rings first_ringing 0 false (cancel_of (request_of sample one_rings first_ringing)); records = [] };

@@ -1,14 +1,17 @@
-ghost use Rattle.std.specs.Prelude.{ℕ, List};
+ghost use Rattle.std.specs.Prelude.{ℕ, List, Option};
+ghost use Rattle.sip_event.specs.declared.event.StepOut.{StepOut};
 ghost use Rattle.sip_model.specs.state.declared.server.Server.{Server};
 ghost use Rattle.sip_model.specs.state.declared.proxy_state.ProxyState.{ProxyState};
 ghost use Rattle.sip_model.specs.state.State.{first_state};
 ghost use Rattle.sip_model.specs.Run.{Link, IsChain};
+ghost use Rattle.sip_model.specs.Periods.{Period, IsRunUnder};
 ghost use Rattle.model_bounds.specs.Bounds.{IsBounded};
 
 use crate::cancels::{cancels_go_out_so_often, one_cancel_for_each_branch};
 use crate::endings::requests_end_in_time;
 use crate::final_answers::{final_answers_go_again, one_final_answer_in_packets};
 use crate::sendings::requests_go_out_so_often;
+use sip_model::periods::runs_under_are_one;
 
 /// Every history is bounded, whatever comes and whatever fails: of each request at most one final answer goes to its
 /// caller, or several 2xx of an INVITE, and goes again as often as copies of the request come, to an INVITE ten times more
@@ -25,4 +28,15 @@ pub fn every_history_is_bounded()
     cancels_go_out_so_often();
     one_cancel_for_each_branch();
     requests_end_in_time();
+}
+
+/// So are runs under one configuration after the other, as a whole: a change of the configuration lets nothing go out more often, and
+/// nothing stay open longer.
+pub fn runs_under_are_bounded()
+    ensures { (server : Server) (first : ℕ) (periods : List Period) (until : Option ℕ) (steps : List StepOut) (history : List Link)
+        (last : ProxyState)
+        → IsRunUnder server (first_state first) periods until steps history last → IsBounded server history }
+{
+    every_history_is_bounded();
+    runs_under_are_one();
 }

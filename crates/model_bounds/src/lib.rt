@@ -15,5 +15,5 @@ pub mod sendings;
 
 /// Of `sip_model`.
 pub mod model {
-    pub use sip_model::{histories, laws, order, runs};
+    pub use sip_model::{histories, laws, order, periods, runs};
 }

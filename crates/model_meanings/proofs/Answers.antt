@@ -34,7 +34,8 @@ use Rattle.sip_model.specs.Run.{Link}
 use Rattle.model_meanings.specs.Requests.{IsBrought, WentToCaller, HasCome}
 use Rattle.model_meanings.specs.Dialogs.{Names, NamesFor, Begins, WasSentOn, Invite, AnswerToInvite, AnswerWithin, Within, IsAddressOf, OfCaller, OfBranch, Later}
 use Rattle.model_meanings.proofs.Lists.{all_append}
-use Rattle.model_meanings.proofs.Telling.{dialog_names, answer_names, names_alike, addresses_told, IsLesson}
+use Rattle.model_meanings.proofs.Requests.{sent_in, went_in}
+use Rattle.model_meanings.proofs.Telling.{dialog_names, answer_names, names_alike, IsTakenIn, addresses_told, IsLesson}
 use Rattle.model_meanings.proofs.Edits.{IsClosed, taught_kept, renewed_kept, learnt_kept, without_kept, after_invite_kept}
 
 -- ---- the method of a request
@@ -118,15 +119,15 @@ module _ (server : Server) (history : List Link) (link : Link) where
 
   -- an answer went to the caller of a request
   pub record IsUp (r : OpenRequest) (u : Upward) : Type 0 where
-    pub went : WentToCaller history r.number r.request r.source (text_of u.message)
+    pub went : WentToCaller (link ∷ []) r.number r.request r.source (text_of u.message)
     pub may_begin : MayBegin r.number u
 
-  module _ (now : ℕ) (r : OpenRequest) (came : Came server history r) where
+  module _ (taken : IsTakenIn server history link) (now : ℕ) (r : OpenRequest) (came : Came server history r) where
     -- it went where the request came from
-    went_there : (u : Upward) → IsUp r u → WentToCaller history came.a.number r.request came.a.from (text_of u.message)
+    went_there : (u : Upward) → IsUp r u → WentToCaller (link ∷ []) came.a.number r.request came.a.from (text_of u.message)
     went_there u up =
-        subst (λ (n : ℕ). WentToCaller history n r.request came.a.from (text_of u.message)) came.is_number
-        (subst (λ (f : Addr). WentToCaller history r.number r.request f (text_of u.message)) came.is_source up.went)
+        subst (λ (n : ℕ). WentToCaller (link ∷ []) n r.request came.a.from (text_of u.message)) came.is_number
+        (subst (λ (f : Addr). WentToCaller (link ∷ []) r.number r.request f (text_of u.message)) came.is_source up.went)
 
     -- the request is an INVITE
     invite_came : is_invite r ≡ true → bytes_eq (method_of r.request.start) (codes "INVITE") ≡ true
@@ -157,7 +158,9 @@ module _ (server : Server) (history : List Link) (link : Link) where
       };
       is_above_100 = above_100 u.status above;
       is_below_300 = below_300 u.status below;
-      has_gone = subst (λ (answer : Message). WentToCaller history came.a.number r.request came.a.from (text_of answer)) x.is_message (went_there u up);
+      has_gone =
+          subst (λ (answer : Message). WentToCaller history came.a.number r.request came.a.from (text_of answer)) x.is_message
+          (went_in history link came.a.number r.request came.a.from (text_of u.message) taken.is_there (went_there u up));
       names = subst (λ (answer : Message). NamesFor r.request answer id) x.is_message (answer_names r u.message id e);
     }
 
@@ -179,8 +182,9 @@ module _ (server : Server) (history : List Link) (link : Link) where
           all_append (IsAddressOf server history id) ((r.source ∷ option_to_list u.target) ++ addresses_of server r.request) (addresses_of server u.message)
           (all_append (IsAddressOf server history id) (r.source ∷ option_to_list u.target) (addresses_of server r.request)
           (OfCaller came.a r.request u.status x.response begins came.is_source, by_target u.target refl)
-          (addresses_told server history id r.request (Invite came.a r.request u.status x.response begins)))
-          (addresses_told server history id u.message (AnswerToInvite came.a r.request u.message came.is_brought (invite_came is) (went_there u up) (answer_names r u.message id e)));
+          (addresses_told server history link taken id r.request (Invite came.a r.request u.status x.response begins x.is_now)))
+          (addresses_told server history link taken id u.message
+          (AnswerToInvite came.a r.request u.message taken.is_there came.is_brought (invite_came is) (went_there u up) (answer_names r u.message id e)));
     } where
       x : IsRelayed r.number u
       x = up.may_begin below above
@@ -192,7 +196,7 @@ module _ (server : Server) (history : List Link) (link : Link) where
       by_target None at = tt
       by_target (Some address) at = (OfBranch came.a r.request u.status x.response begins (sym x.is_target ∙ at), tt)
 
-  module _ (T : Dialog → Type 0) (closed : IsClosed server history link T) where
+  module _ (T : Dialog → Type 0) (closed : IsClosed server history link T) (taken : IsTakenIn server history link) where
     module _ (now : ℕ) (r : OpenRequest) (came : Came server history r) where
       -- an answer to an INVITE that names a dialog
       invite_told : (u : Upward) (id : DialogId) (dialogs : List Dialog) → IsUp r u → is_invite r ≡ true → nat_le u.status 100 ≡ false → answered_dialog r u.message ≡ Some id
@@ -201,10 +205,11 @@ module _ (server : Server) (history : List Link) (link : Link) where
       invite_told u id dialogs up is above e h = by_test (nat_le u.status 299) refl where
         by_test : (t : Bool) → nat_le u.status 299 ≡ t
             → AllByRecursion T (cond t (learnt now (invite_answer server r u id) dialogs) (taught now id (addresses_of server u.message) dialogs))
-        by_test true below = learnt_kept server history link T closed now (invite_answer server r u id) dialogs (lesson_now now r came u id up is above below e) h
+        by_test true below = learnt_kept server history link T closed now (invite_answer server r u id) dialogs (lesson_now taken now r came u id up is above below e) h
         by_test false below =
             taught_kept server history link T closed now id (addresses_of server u.message) dialogs
-            (addresses_told server history id u.message (AnswerToInvite came.a r.request u.message came.is_brought (invite_came now r came is) (went_there now r came u up) (answer_names r u.message id e))) h
+            (addresses_told server history link taken id u.message
+            (AnswerToInvite came.a r.request u.message taken.is_there came.is_brought (invite_came taken now r came is) (went_there taken now r came u up) (answer_names r u.message id e))) h
 
       -- an answer to a request without a To tag
       first_told : (u : Upward) (dialogs : List Dialog) → IsUp r u → nat_le u.status 100 ≡ false → AllByRecursion T dialogs
@@ -228,7 +233,8 @@ module _ (server : Server) (history : List Link) (link : Link) where
         by_test true = without_kept server history link T closed now id dialogs h
         by_test false =
             taught_kept server history link T closed now id (addresses_of server u.message) dialogs
-            (addresses_told server history id u.message (AnswerWithin came.a r.request u.message came.is_brought (dialog_names r.request id e) (went_there now r came u up))) h
+            (addresses_told server history link taken id u.message
+            (AnswerWithin came.a r.request u.message taken.is_there came.is_brought (dialog_names r.request id e) (went_there taken now r came u up))) h
 
       -- any answer
       answer_told : (u : Upward) (dialogs : List Dialog) → IsUp r u → AllByRecursion T dialogs → AllByRecursion T (after_answer server now r u dialogs)
@@ -261,10 +267,13 @@ module _ (server : Server) (history : List Link) (link : Link) where
         leaving_told now change.request came (after_answers server now change.request change.upward dialogs) (answers_told now change.request came change.upward dialogs ups h)
 
     -- a request of a dialog that is sent on
-    pub request_told : (a : Arrival) (m : Message) (id : DialogId) (dialogs : List Dialog) → IsBrought history a m → dialog_of m ≡ Some id → WasSentOn server history a m
-        → AllByRecursion T dialogs
+    pub request_told : (a : Arrival) (m : Message) (id : DialogId) (dialogs : List Dialog) (brought : IsBrought history a m) → brought.link ≡ link → dialog_of m ≡ Some id
+        → WasSentOn server (link ∷ []) a m → AllByRecursion T dialogs
         → AllByRecursion T (after_request server a.now id m dialogs)
-    request_told a m id dialogs brought e sent h =
+    request_told a m id dialogs brought is_now e sent h =
         let names : Names m id = dialog_names m id e in
-        renewed_kept server history link T closed a.now id (addresses_of server m) dialogs (addresses_told server history id m (Within a m brought names sent))
-        (λ d same. Later a m brought (names_alike server history d id m same names) sent refl) h
+        let on : WasSentOn server history a m =
+        record { packet = sent.packet; is_there = sent_in history link sent.packet taken.is_there sent.is_there; is_text = sent.is_text; is_of_datagram = sent.is_of_datagram }
+        in
+        renewed_kept server history link T closed a.now id (addresses_of server m) dialogs (addresses_told server history link taken id m (Within a m brought is_now names sent))
+        (λ d same. Later a m brought (names_alike server history d id m same names) on refl) h

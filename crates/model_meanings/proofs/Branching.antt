@@ -24,7 +24,7 @@ use Rattle.sip_model.specs.state.Arrival.{Arrival}
 use Rattle.sip_model.specs.context_model.Sending.{begins_dialog, onward_as, request_of, branch_packets}
 use Rattle.sip_model.specs.context_model.Opening.{arriving, branch_to, branches_from}
 use Rattle.sip_model.specs.steps_model.Step.{Act, Given, moment_of, arrival_of}
-use Rattle.sip_model.specs.Run.{Link, IsChain}
+use Rattle.sip_model.specs.Run.{Link, under, IsChain}
 use Rattle.sip_model.specs.Bindings.{bindings_after}
 use Rattle.sip_model.specs.Access.{IsNewRequest, IsServed, Serves, Access, targets_on, branch_originals}
 use Rattle.model_meanings.specs.Packets.{BeginsWithLine, IsRequestTo, GoToTargets, NoMore, Goes, GoesNowhere}
@@ -111,21 +111,22 @@ valid_version own m method uri version e valid =
 
 -- what a step that is taken for a datagram serves
 serves_datagram : (server : Server) (history : List Link) (link : Link) (at word : ℕ) (from : Addr) (bytes : List ℕ) (m : Message) (method : List ℕ) (core : CoreFields)
-    → link.act ≡ Given (Datagram at word from bytes) → Serves server (bindings_after server history) link.before link.act link.out → IsNewRequest server link.before bytes m method core
-    → IsServed server (bindings_after server history) link.before (arrival_of link.before at word from) m method core link.out
+    → link.act ≡ Given (Datagram at word from bytes) → Serves (under server link.config) (bindings_after server history) link.before link.act link.out
+    → IsNewRequest (under server link.config) link.before bytes m method core
+    → IsServed (under server link.config) (bindings_after server history) link.before (arrival_of link.before at word from) m method core link.out
 serves_datagram server history link at word from bytes m method core is serves new =
-    (subst (λ (act : Act). Serves server (bindings_after server history) link.before act link.out) is serves) m method core new
+    (subst (λ (act : Act). Serves (under server link.config) (bindings_after server history) link.before act link.out) is serves) m method core new
 
 -- its packets go to the targets of the request
 pub step_goes : ((server : Server) (first : ℕ) (history : List Link) (last : ProxyState) → IsChain server (first_state first) history last → Access server history)
     → (server : Server) (first : ℕ) (link : Link) (history : List Link) (last : ProxyState) → IsChain server (first_state first) (link ∷ history) last
     → (at word : ℕ) (from : Addr) (bytes : List ℕ) → link.act ≡ Given (Datagram at word from bytes) → (m : Message) (method : List ℕ) (core : CoreFields)
-    → IsNewRequest server link.before bytes m method core
-    → GoToTargets link.before.next method 1 (targets_on server (bindings_after server history) link.before (moment_of link.before at) m method core) (branch_originals link.out.packets)
+    → IsNewRequest (under server link.config) link.before bytes m method core
+    → GoToTargets link.before.next method 1 (targets_on (under server link.config) (bindings_after server history) link.before (moment_of link.before at) m method core) (branch_originals link.out.packets)
 step_goes access server first link history last chain at word from bytes is m method core new =
     let served = serves_datagram server history link at word from bytes m method core is (access server first (link ∷ history) last chain).0.serves new in
     let version = valid_version server.config.own m method new.uri new.version new.is_request new.is_valid in
     let line : m.start ≡ Request method new.uri (codes "SIP/2.0") = new.is_request ∙ ap (Request method new.uri) version in
-    let targets : List Target = targets_on server (bindings_after server history) link.before (moment_of link.before at) m method core in
+    let targets : List Target = targets_on (under server link.config) (bindings_after server history) link.before (moment_of link.before at) m method core in
     subst (λ (packets : List Packet). GoToTargets link.before.next method 1 targets packets) (sym served.reaches)
-    (all_go server (arrival_of link.before at word from) m method new.uri line 1 targets)
+    (all_go (under server link.config) (arrival_of link.before at word from) m method new.uri line 1 targets)

@@ -45,6 +45,7 @@ use Rattle.model_meanings.proofs.Changes.{KeepNumbers, Tells, settled_kept, resp
 use Rattle.model_meanings.proofs.Requests.{WasSent, upward_went}
 use Rattle.model_meanings.proofs.Facts.{IsForBranch, IsKeyed, Facts, message_facts}
 use Rattle.model_meanings.proofs.Failures.{KeepsFailures, Refusing, IsHonest, responded_honest, overdue_honest, failed_honest, cancelled_honest, opening_honest, unsent_fail}
+use Rattle.model_meanings.proofs.Telling.{IsTakenIn}
 use Rattle.model_meanings.proofs.Edits.{IsClosed}
 use Rattle.model_meanings.proofs.Answers.{Came, came_of, MayBegin, IsUp, change_told, request_told}
 
@@ -149,40 +150,41 @@ module _ (server : Server) (history : List Link) where
 -- the state before a step, and what it is taken for, in the history that ends with it
 pub record IsHere (server : Server) (history : List Link) (link : Link) (old : ProxyState) (act : Act) : Type 0 where
   pub said : (a : Arrival) (bytes : List ℕ) (m : Message) (short : Bool) → IsSaidAt old act a bytes m short → IsBrought history a m
+  pub said_now : (a : Arrival) (bytes : List ℕ) (m : Message) (short : Bool) (is : IsSaidAt old act a bytes m short) → (said a bytes m short is).link ≡ link
   pub came : (a : Arrival) (bytes : List ℕ) (m : Message) (status : ℕ) (reason : List ℕ) (r : OpenRequest) (b : Branch) → IsSaidAt old act a bytes m false
       → m.start ≡ Status status reason
       → responding server old.requests m.fields ≡ Some (r, b) → b.is_cancel ≡ false → (x : CameFor server history r.number status m) × (x.branch ≡ b) × (x.link ≡ link)
   pub requests : AllByRecursion (HasCome history) old.requests
   pub failures : AllByRecursion KeepsFailures old.requests
 
-module _ (server : Server) (history : List Link) (link : Link) (T : Dialog → Type 0) (closed : IsClosed server history link T) where
+module _ (server : Server) (history : List Link) (link : Link) (T : Dialog → Type 0) (closed : IsClosed server history link T) (taken : IsTakenIn server history link) where
   -- a change of a request of a number that came, once its packets were sent
   honest_told : (now number : ℕ) (change : Change) (dialogs : List Dialog) → Came server history change.request → change.request.number ≡ number
       → IsHonest (MayBegin server history link number) change
-      → AllByRecursion (WasSent history) (change_packets change) → AllByRecursion T dialogs → AllByRecursion T (dialogs_after server now change dialogs)
+      → AllByRecursion (WasSent (link ∷ [])) (change_packets change) → AllByRecursion T dialogs → AllByRecursion T (dialogs_after server now change dialogs)
   honest_told now number change dialogs came same honest packets h =
-      change_told server history link T closed now change dialogs came
-      (all_both (λ (u : Upward). WentToCaller history change.request.number change.request.request change.request.source (text_of u.message)) (MayBegin server history link number) (IsUp server history link change.request)
+      change_told server history link T closed taken now change dialogs came
+      (all_both (λ (u : Upward). WentToCaller (link ∷ []) change.request.number change.request.request change.request.source (text_of u.message)) (MayBegin server history link number) (IsUp server history link change.request)
       (λ u went may. record { went = went; may_begin = subst (λ (n : ℕ). MayBegin server history link n u) (sym same) may }) change.upward
-      (upward_went history change change.request.number change.request.request change.request.source (record { is_number = refl; is_request = refl; is_source = refl }) packets) honest.upward) h
+      (upward_went (link ∷ []) change change.request.number change.request.request change.request.source (record { is_number = refl; is_request = refl; is_source = refl }) packets) honest.upward) h
 
   -- ---- a request that is sent to its branches
 
   -- what it makes of the dialogs
-  opening_told : (now : ℕ) (r : OpenRequest) (dialogs : List Dialog) → Came server history r → KeepsFailures r → AllByRecursion (WasSent history) (opening_packets server now r)
+  opening_told : (now : ℕ) (r : OpenRequest) (dialogs : List Dialog) → Came server history r → KeepsFailures r → AllByRecursion (WasSent (link ∷ [])) (opening_packets server now r)
       → AllByRecursion T dialogs
       → AllByRecursion T (forking_dialogs server now r dialogs)
   opening_told now r dialogs came fails packets h =
       let change : Change = opening server now r in
       let first : OpenRequest = tried now (trying server r) r in
-      let answers : AllByRecursion (WasSent history) (upward_packets r (trying server r) ++ change_packets change) =
-      all_left (WasSent history) (upward_packets r (trying server r) ++ change_packets change) (flat_map (branch_packets server false r) r.branches) packets
+      let answers : AllByRecursion (WasSent (link ∷ [])) (upward_packets r (trying server r) ++ change_packets change) =
+      all_left (WasSent (link ∷ [])) (upward_packets r (trying server r) ++ change_packets change) (flat_map (branch_packets server false r) r.branches) packets
       in
       honest_told now r.number change dialogs
       (settled_kept (Came server history) (came_kept server history) server now [] None first (came_tried server history now (trying server r) r came) (all_came server history now change.upward))
       (settled_kept (λ (x : OpenRequest). x.number ≡ r.number) (number_kept server history r.number) server now [] None first (tried_number (trying server r) r) (all_numbered server history r.number now change.upward))
       (opening_honest (MayBegin server history link r.number) (refuses server history link r.number) server now r fails)
-      (all_right (WasSent history) (upward_packets r (trying server r)) (change_packets change) answers) h where
+      (all_right (WasSent (link ∷ [])) (upward_packets r (trying server r)) (change_packets change) answers) h where
         tried_number : (us : List Upward) (x : OpenRequest) → (tried now us x).number ≡ x.number
         tried_number [] x = refl
         tried_number (u ∷ us) x = tried_number us (answered now u x)
@@ -200,7 +202,7 @@ module _ (server : Server) (history : List Link) (link : Link) (T : Dialog → T
 
     -- a response
     response_told : (a : Arrival) (bytes : List ℕ) (m : Message) (short : Bool) (r : OpenRequest) (b : Branch) (status : ℕ) (dialogs : List Dialog) → IsSaidAt old act a bytes m short
-        → IsForBranch server old m short r b status → AllByRecursion (WasSent history) (change_packets (responded server a.now r b status m)) → AllByRecursion T dialogs
+        → IsForBranch server old m short r b status → AllByRecursion (WasSent (link ∷ [])) (change_packets (responded server a.now r b status m)) → AllByRecursion T dialogs
         → AllByRecursion T (dialogs_after server a.now (responded server a.now r b status m) dialogs)
     response_told a bytes m short r b status dialogs said is packets h =
         let whole : IsSaidAt old act a bytes m false = subst (λ (t : Bool). IsSaidAt old act a bytes m t) is.is_whole said in
@@ -215,7 +217,7 @@ module _ (server : Server) (history : List Link) (link : Link) (T : Dialog → T
               record { response = m; came = x.0; is_now = x.2; is_message = refl; is_target = ap (λ (y : Branch). y.address) (sym x.1) }
 
     -- a CANCEL of the caller's
-    cancel_told : (now : ℕ) (r : OpenRequest) (dialogs : List Dialog) → IsIn r old.requests → AllByRecursion (WasSent history) (change_packets (cancelled server now r))
+    cancel_told : (now : ℕ) (r : OpenRequest) (dialogs : List Dialog) → IsIn r old.requests → AllByRecursion (WasSent (link ∷ [])) (change_packets (cancelled server now r))
         → AllByRecursion T dialogs
         → AllByRecursion T (dialogs_after server now (cancelled server now r) dialogs)
     cancel_told now r dialogs there packets h =
@@ -226,7 +228,7 @@ module _ (server : Server) (history : List Link) (link : Link) (T : Dialog → T
 
     -- a send that failed
     failed_told : (now : ℕ) (r : OpenRequest) (b : Branch) (dialogs : List Dialog) → IsIn r old.requests
-        → AllByRecursion (WasSent history) (change_packets (send_failed server now r b)) → AllByRecursion T dialogs
+        → AllByRecursion (WasSent (link ∷ [])) (change_packets (send_failed server now r b)) → AllByRecursion T dialogs
         → AllByRecursion T (dialogs_after server now (send_failed server now r b) dialogs)
     failed_told now r b dialogs there packets h =
         let change : Change = send_failed server now r b in
@@ -236,7 +238,7 @@ module _ (server : Server) (history : List Link) (link : Link) (T : Dialog → T
 
     -- a deadline
     overdue_told : (due : ℕ) (r : OpenRequest) (change : Change) (dialogs : List Dialog) → IsOverdue server due r change → IsIn r old.requests
-        → AllByRecursion (WasSent history) (change_packets change)
+        → AllByRecursion (WasSent (link ∷ [])) (change_packets change)
         → AllByRecursion T dialogs → AllByRecursion T (dialogs_after server due change dialogs)
     overdue_told due r change dialogs is there packets h =
         honest_told due r.number change dialogs (overdue_kept (Came server history) (came_kept server history) server due r change is (came_in r there) (all_came server history due change.upward))
@@ -245,18 +247,19 @@ module _ (server : Server) (history : List Link) (link : Link) (T : Dialog → T
 
     -- a verdict on a message
     verdict_told : (a : Arrival) (bytes : List ℕ) (m : Message) (short : Bool) (v : Verdict) (dialogs : List Dialog) → IsSaidAt old act a bytes m short → Facts server old a m short v
-        → AllByRecursion (WasSent history) (effect_of server a m v (counted a old)).originals → AllByRecursion T dialogs → AllByRecursion T (verdict_dialogs server a m v dialogs)
+        → AllByRecursion (WasSent (link ∷ [])) (effect_of server a m v (counted a old)).originals → AllByRecursion T dialogs → AllByRecursion T (verdict_dialogs server a m v dialogs)
     verdict_told a bytes m short (Respond r b status) dialogs said is sent h = response_told a bytes m short r b status dialogs said is sent h
     verdict_told a bytes m short (AckOn address id) dialogs said is sent h =
-        request_told server history link T closed a m id dialogs (here.said a bytes m short said) is (record { packet = ack_packet server a m address; is_there = sent.0; is_text = refl; is_of_datagram = refl }) h
+        request_told server history link T closed taken a m id dialogs (here.said a bytes m short said) (here.said_now a bytes m short said) is (record { packet = ack_packet server a m address; is_there = sent.0; is_text = refl; is_of_datagram = refl }) h
     verdict_told a bytes m short (Cancel None) dialogs said is sent h = h
     verdict_told a bytes m short (Cancel (Some r)) dialogs said is sent h =
-        cancel_told a.now r dialogs is.is_open (all_right (WasSent history) (replied server a m 200 [] [] (counted a old)).originals (change_packets (cancelled server a.now r)) sent) h
+        cancel_told a.now r dialogs is.is_open (all_right (WasSent (link ∷ [])) (replied server a m 200 [] [] (counted a old)).originals (change_packets (cancelled server a.now r)) sent) h
     verdict_told a bytes m short (InDialog address id) dialogs said is sent h =
         let r : OpenRequest = forking a m (dialog_branch server a.now m address ∷ []) in
         opening_told a.now r (after_request server a.now id m dialogs) (forking_came server history a m (dialog_branch server a.now m address ∷ []) (here.said a bytes m short said) is.0)
         (unsent_fail (MayBegin server history link r.number) (refuses server history link r.number) (dialog_branch server a.now m address ∷ [])) sent
-        (request_told server history link T closed a m id dialogs (here.said a bytes m short said) is.1 (within_sent server history a m address id is.1 sent) h)
+        (request_told server history link T closed taken a m id dialogs (here.said a bytes m short said) (here.said_now a bytes m short said) is.1
+        (within_sent server (link ∷ []) a m address id is.1 sent) h)
     verdict_told a bytes m short (Send q id Targets.NotFound) dialogs said is sent h = h
     verdict_told a bytes m short (Send q id Targets.Unavailable) dialogs said is sent h = h
     verdict_told a bytes m short (Send q id (Targets.Bindings targets)) dialogs said is sent h =
@@ -277,23 +280,23 @@ module _ (server : Server) (history : List Link) (link : Link) (T : Dialog → T
     -- a datagram
     datagram_told : (a : Arrival) (bytes : List ℕ) (dialogs : List Dialog)
         → ((m : Message) (short : Bool) → message_in (reading_of bytes) ≡ Some (m, short) → IsSaidAt old act a bytes m short)
-        → AllByRecursion (WasSent history) (option_map_or (λ x. effect_of server a x.0 x.1 (counted a old)) (verdict_of server old a bytes) (nothing (counted a old))).originals
+        → AllByRecursion (WasSent (link ∷ [])) (option_map_or (λ x. effect_of server a x.0 x.1 (counted a old)) (verdict_of server old a bytes) (nothing (counted a old))).originals
         → AllByRecursion T dialogs
         → AllByRecursion T (option_map_or (λ x. verdict_dialogs server a x.0 x.1 dialogs) (verdict_of server old a bytes) dialogs)
     datagram_told a bytes dialogs said sent h = by_message (message_in (reading_of bytes)) refl sent where
       by_message : (o : Option (Message × Bool)) → message_in (reading_of bytes) ≡ o
-          → AllByRecursion (WasSent history) (option_map_or (λ x. effect_of server a x.0 x.1 (counted a old)) (verdict_in server old a o) (nothing (counted a old))).originals
+          → AllByRecursion (WasSent (link ∷ [])) (option_map_or (λ x. effect_of server a x.0 x.1 (counted a old)) (verdict_in server old a o) (nothing (counted a old))).originals
           → AllByRecursion T (option_map_or (λ x. verdict_dialogs server a x.0 x.1 dialogs) (verdict_in server old a o) dialogs)
       by_message None is packets = h
       by_message (Some x) is packets = verdict_told a bytes x.0 x.1 (message_verdict server old a x.0 x.1) dialogs (said x.0 x.1 is) (message_facts server old a x.0 x.1) packets h
 
     -- a send of a packet failed
     fault_told : (now : ℕ) (ticket : Ticket) (o : Option OpenRequest) (dialogs : List Dialog) → ((r : OpenRequest) → o ≡ Some r → IsIn r old.requests)
-        → AllByRecursion (WasSent history) (failed_request server now ticket (record old { moment = now }) o).originals → AllByRecursion T dialogs
+        → AllByRecursion (WasSent (link ∷ [])) (failed_request server now ticket (record old { moment = now }) o).originals → AllByRecursion T dialogs
         → AllByRecursion T (fault_dialogs server now ticket o dialogs)
     fault_told now ticket None dialogs there sent h = h
     fault_told now ticket (Some r) dialogs there sent h = by_branch (find (is_failed ticket.branch) r.branches) sent where
-      by_branch : (o : Option Branch) → AllByRecursion (WasSent history) (failed_branch server now (record old { moment = now }) r o).originals
+      by_branch : (o : Option Branch) → AllByRecursion (WasSent (link ∷ [])) (failed_branch server now (record old { moment = now }) r o).originals
           → AllByRecursion T (branch_dialogs server now r o dialogs)
       by_branch None packets = h
       by_branch (Some b) packets = failed_told now r b dialogs (there r refl) packets h
@@ -301,17 +304,17 @@ module _ (server : Server) (history : List Link) (link : Link) (T : Dialog → T
   -- any step
   pub step_told : (old : ProxyState) (act : Act) (out : StepOut) (new : ProxyState) (step : IsStep server old act out new) (dialogs : List Dialog)
       → IsHere server history link old act
-      → AllByRecursion (WasSent history) (originals out.packets) → AllByRecursion T dialogs → AllByRecursion T (step_dialogs server old act out new step dialogs)
+      → AllByRecursion (WasSent (link ∷ [])) (originals out.packets) → AllByRecursion T dialogs → AllByRecursion T (step_dialogs server old act out new step dialogs)
   step_told old (Given (Datagram at word from bytes)) out new step dialogs here sent h =
       let a : Arrival = arrival_of old at word from in
       datagram_told old (Given (Datagram at word from bytes)) here a bytes dialogs (λ m short says. record { at = at; word = word; from = from; is_act = refl; is_arrival = refl; says = says })
-      (subst (AllByRecursion (WasSent history)) step.does.sends sent) h
+      (subst (AllByRecursion (WasSent (link ∷ []))) step.does.sends sent) h
   step_told old (Given (Time at)) out new step dialogs here sent h = h
   step_told old (Given (Fault at ticket)) out new step dialogs here sent h =
       fault_told old (Given (Fault at ticket)) here (moment_of old at) ticket (find (λ (r : OpenRequest). r.number == ticket.datagram) old.requests) dialogs
-      (λ r e. (found_in (λ (x : OpenRequest). x.number == ticket.datagram) old.requests r e).0) (subst (AllByRecursion (WasSent history)) step.does.sends sent) h
+      (λ r e. (found_in (λ (x : OpenRequest). x.number == ticket.datagram) old.requests r e).0) (subst (AllByRecursion (WasSent (link ∷ []))) step.does.sends sent) h
   step_told old (Passing at) out new (inl quiet) dialogs here sent h = h
   step_told old (Passing at) out new (inr (inl passed)) dialogs here sent h =
       overdue_told old (Passing at) here out.at passed.request passed.change dialogs passed.passes (in_from_contains old.requests passed.request passed.is_open)
-      (subst (AllByRecursion (WasSent history)) passed.does.sends sent) h
+      (subst (AllByRecursion (WasSent (link ∷ []))) passed.does.sends sent) h
   step_told old (Passing at) out new (inr (inr goes)) dialogs here sent h = h

@@ -37,7 +37,7 @@ use Rattle.sip_model.specs.context_model.Retransmission.{branch_next, resent_bra
 use Rattle.sip_model.specs.verdict_model.Verdict.{Bound, Refused, Verdict, Drop, Respond, Copy, AckOn, Cancel, Answer, InDialog, Challenge, Deny, Send, Register, is_full, message_verdict, message_in, verdict_in, verdict_of}
 use Rattle.sip_model.specs.steps_model.Effect.{method_of, replaced, opened, dialogs_after, nothing, counted, effect_of}
 use Rattle.sip_model.specs.steps_model.Step.{Act, Given, Passing, IsStep, IsOverdue, moment_of, arrival_of, is_failed, failed_branch, failed_request}
-use Rattle.sip_model.specs.Run.{Link, IsChain}
+use Rattle.sip_model.specs.Run.{Link, under, IsChain}
 use Rattle.sip_model.specs.Histories.{forking_dialogs, verdict_dialogs, branch_dialogs, fault_dialogs, step_dialogs, history_dialogs}
 use Rattle.sip_model.specs.Order.{is_numbered, AreNumbered, CanEnd}
 use Rattle.model_meanings.specs.Dialogs.{IsInviteOpen}
@@ -534,8 +534,8 @@ module _ (differ : (server : Server) (first : ℕ) (history : List Link) (last :
   chain_stands server first [] last h = tt
   chain_stands server first (link ∷ history) last h =
       let dialogs : List Dialog = history_dialogs server (first_state first) history link.before h.2 in
-      subst (λ (s : ProxyState). AllStand s.requests (step_dialogs server link.before link.act link.out link.after h.1 dialogs)) (sym h.0)
-      (step_stands server link.before (chain_open server first history link.before h.2) link.act link.out link.after h.1 dialogs (chain_stands server first history link.before h.2))
+      subst (λ (s : ProxyState). AllStand s.requests (step_dialogs (under server link.config) link.before link.act link.out link.after h.1 dialogs)) (sym h.0)
+      (step_stands (under server link.config) link.before (chain_open server first history link.before h.2) link.act link.out link.after h.1 dialogs (chain_stands server first history link.before h.2))
 
   -- each known dialog that no 2xx confirmed
   pub early_open : ((server : Server) (first : ℕ) (history : List Link) (last : ProxyState) (h : IsChain server (first_state first) history last)

@@ -36,7 +36,7 @@ use Rattle.sip_model.specs.context_model.Branches.{Change, with_phase, best_upwa
 use Rattle.sip_model.specs.verdict_model.Verdict.{Verdict, Drop, Respond, is_many, response_verdict, responding, by_start, message_verdict, verdict_in, verdict_of}
 use Rattle.sip_model.specs.steps_model.Effect.{dialogs_after}
 use Rattle.sip_model.specs.steps_model.Step.{Act, IsStep, arrival_of}
-use Rattle.sip_model.specs.Run.{Link, IsChain}
+use Rattle.sip_model.specs.Run.{Link, under, IsChain}
 use Rattle.sip_model.specs.Histories.{verdict_dialogs, step_dialogs, history_dialogs}
 use Rattle.sip_model.specs.Parts.{HasParts}
 use Rattle.model_meanings.specs.Dialogs.{IsNamed, Names, EndsDialog, WasToldAnew}
@@ -46,7 +46,8 @@ use Rattle.model_meanings.proofs.Requests.{later_there, sent_now}
 use Rattle.model_meanings.proofs.Edits.{IsClosed}
 use Rattle.model_meanings.proofs.Dialogs.{step_told}
 use Rattle.model_meanings.proofs.Same.{and_holds, known_in_both}
-use Rattle.model_meanings.proofs.Told.{later_begins, later_link, chain_here}
+use Rattle.model_meanings.proofs.Under.{begins_under, link_under}
+use Rattle.model_meanings.proofs.Told.{later_begins, later_link, chain_here, taken_now}
 
 -- ---- names
 
@@ -214,23 +215,26 @@ verdict_responds server old a m status reason r b start found many =
     ∙ ap (λ (t : Bool). cond t (Respond r b status) Drop) (or_second b.is_cancel (is_many (values_of Name.Via m.fields)) many)
 
 -- the step that ends a dialog leaves none of its name
-step_other : (server : Server) (link : Link) (id : DialogId) (h : EndsDialog server link id) (step : IsStep server link.before link.act link.out link.after) (dialogs : List Dialog)
-    → AllByRecursion (HasOther (id_in h.names.core h.names.tag)) (step_dialogs server link.before link.act link.out link.after step dialogs)
+step_other : (server : Server) (link : Link) (id : DialogId) (h : EndsDialog server link id) (step : IsStep (under server link.config) link.before link.act link.out link.after) (dialogs : List Dialog)
+    → AllByRecursion (HasOther (id_in h.names.core h.names.tag)) (step_dialogs (under server link.config) link.before link.act link.out link.after step dialogs)
 step_other server link id h step dialogs =
-    subst (λ (act : Act). (s : IsStep server link.before act link.out link.after) → AllByRecursion (HasOther (id_in h.names.core h.names.tag)) (step_dialogs server link.before act link.out link.after s dialogs))
+    subst (λ (act : Act). (s : IsStep by link.before act link.out link.after) → AllByRecursion (HasOther (id_in h.names.core h.names.tag)) (step_dialogs by link.before act link.out link.after s dialogs))
     (sym h.is_said.is_act) (λ s. of_datagram) step where
+      by : Server
+      by = under server link.config
+
       a : Arrival
       a = arrival_of link.before h.is_said.at h.is_said.word h.is_said.from
 
-      verdict : verdict_of server link.before a h.bytes ≡ Some (h.response, Respond h.request h.branch h.status)
+      verdict : verdict_of by link.before a h.bytes ≡ Some (h.response, Respond h.request h.branch h.status)
       verdict =
-          ap (verdict_in server link.before a) h.is_said.says
-          ∙ ap (λ (v : Verdict). Some (h.response, v)) (verdict_responds server link.before a h.response h.status h.reason h.request h.branch h.is_response h.is_for h.goes_on)
+          ap (verdict_in by link.before a) h.is_said.says
+          ∙ ap (λ (v : Verdict). Some (h.response, v)) (verdict_responds by link.before a h.response h.status h.reason h.request h.branch h.is_response h.is_for h.goes_on)
 
-      of_datagram : AllByRecursion (HasOther (id_in h.names.core h.names.tag)) (option_map_or (λ x. verdict_dialogs server a x.0 x.1 dialogs) (verdict_of server link.before a h.bytes) dialogs)
+      of_datagram : AllByRecursion (HasOther (id_in h.names.core h.names.tag)) (option_map_or (λ x. verdict_dialogs by a x.0 x.1 dialogs) (verdict_of by link.before a h.bytes) dialogs)
       of_datagram =
-          subst (λ (o : Option (Message × Verdict)). AllByRecursion (HasOther (id_in h.names.core h.names.tag)) (option_map_or (λ x. verdict_dialogs server a x.0 x.1 dialogs) o dialogs)) (sym verdict)
-          (success_other server a.now h.request h.branch h.status h.response (id_in h.names.core h.names.tag) dialogs h.is_accepting h.is_target h.is_first h.is_waiting h.is_bye (names_read h.request.request id h.names))
+          subst (λ (o : Option (Message × Verdict)). AllByRecursion (HasOther (id_in h.names.core h.names.tag)) (option_map_or (λ x. verdict_dialogs by a x.0 x.1 dialogs) o dialogs)) (sym verdict)
+          (success_other by a.now h.request h.branch h.status h.response (id_in h.names.core h.names.tag) dialogs h.is_accepting h.is_target h.is_first h.is_waiting h.is_bye (names_read h.request.request id h.names))
 
 -- ---- every history
 
@@ -239,7 +243,7 @@ abbrev ToldAnewIf : Server → List Link → List Link → DialogId → Dialog �
 ToldAnewIf server newer history id d = is_same_dialog d.id id ≡ true → WasToldAnew server newer history d.id
 
 -- that is kept by what a step tells
-anew_closed : (server : Server) (link : Link) (newer history : List Link) (id : DialogId) → IsClosed server history link (ToldAnewIf server (link ∷ newer) history id)
+anew_closed : (server : Server) (link : Link) (newer history : List Link) (id : DialogId) → IsClosed (under server link.config) history link (ToldAnewIf server (link ∷ newer) history id)
 anew_closed server link newer history id = record {
   on_taught = λ name addresses d same own was. was;
   on_renewed = λ now name addresses d same own had was. was;
@@ -249,8 +253,10 @@ anew_closed server link newer history id = record {
         invite = lesson.invite;
         status = lesson.status;
         response = lesson.response;
-        begins = lesson.begins;
-        is_newer = subst (λ (l : Link). Contains (link ∷ newer) l) (sym lesson.is_now) (Contains-append_left (link ∷ []) newer link (0, omega arith, refl));
+        begins = begins_under (under server link.config) server.config history answer.id lesson.a lesson.invite lesson.status lesson.response lesson.begins;
+        is_newer =
+            subst (λ (l : Link). Contains (link ∷ newer) l)
+            (sym (link_under (under server link.config) server.config history answer.id lesson.a lesson.invite lesson.status lesson.response lesson.begins ∙ lesson.is_now)) (Contains-append_left (link ∷ []) newer link (0, omega arith, refl));
       };
   on_again = λ answer d lesson same was. was;
 }
@@ -278,12 +284,12 @@ module _ (parts : (server : Server) (old : ProxyState) (act : Act) (out : StepOu
       → AllByRecursion (ToldAnewIf server newer (newer ++ link ∷ older) (id_in ends.names.core ends.names.tag)) (history_dialogs server (first_state first) (newer ++ link ∷ older) last h)
   chain_anew server first [] link older last h id ends =
       all_weaker (HasOther (id_in ends.names.core ends.names.tag)) (ToldAnewIf server [] (link ∷ older) (id_in ends.names.core ends.names.tag)) (λ d other same. absurd (contrary _ other same))
-      (step_dialogs server link.before link.act link.out link.after h.1 (history_dialogs server (first_state first) older link.before h.2))
+      (step_dialogs (under server link.config) link.before link.act link.out link.after h.1 (history_dialogs server (first_state first) older link.before h.2))
       (step_other server link id ends h.1 (history_dialogs server (first_state first) older link.before h.2))
   chain_anew server first (newest ∷ newer) link older last h id ends =
-      step_told server (newest ∷ newer ++ link ∷ older) newest (ToldAnewIf server (newest ∷ newer) (newest ∷ newer ++ link ∷ older) (id_in ends.names.core ends.names.tag))
-      (anew_closed server newest newer (newest ∷ newer ++ link ∷ older) (id_in ends.names.core ends.names.tag)) newest.before newest.act newest.out newest.after h.1
-      (history_dialogs server (first_state first) (newer ++ link ∷ older) newest.before h.2) (chain_here parts server first newest (newer ++ link ∷ older) h.2) (sent_now newest (newer ++ link ∷ older))
+      step_told (under server newest.config) (newest ∷ newer ++ link ∷ older) newest (ToldAnewIf server (newest ∷ newer) (newest ∷ newer ++ link ∷ older) (id_in ends.names.core ends.names.tag))
+      (anew_closed server newest newer (newest ∷ newer ++ link ∷ older) (id_in ends.names.core ends.names.tag)) (taken_now server newest (newer ++ link ∷ older)) newest.before newest.act newest.out newest.after h.1
+      (history_dialogs server (first_state first) (newer ++ link ∷ older) newest.before h.2) (chain_here parts server first newest (newer ++ link ∷ older) h.2) (sent_now newest [])
       (all_weaker (ToldAnewIf server newer (newer ++ link ∷ older) (id_in ends.names.core ends.names.tag)) (ToldAnewIf server (newest ∷ newer) (newest ∷ newer ++ link ∷ older) (id_in ends.names.core ends.names.tag))
       (λ d was same. later_anew server newest newer (newer ++ link ∷ older) d.id (was same)) (history_dialogs server (first_state first) (newer ++ link ∷ older) newest.before h.2)
       (chain_anew server first newer link older newest.before h.2 id ends))

@@ -19,7 +19,7 @@ use Rattle.sip_model.specs.verdict_model.Verdict.{Bound, Refused, Verdict, Drop,
 use Rattle.sip_model.specs.context_model.Opening.{arriving, branches_from, dialog_branch}
 use Rattle.sip_model.specs.context_model.Sending.{to_branch, branch_packets, ticket_branch, sent_of}
 use Rattle.sip_model.specs.steps_model.Step.{Act, Given, Passing, originals, arrival_of}
-use Rattle.sip_model.specs.Run.{Link}
+use Rattle.sip_model.specs.Run.{Link, under}
 use Rattle.sip_model.specs.Access.{has_address, answer_alone, answer_at_once, sent_to_branches, sent_at_once, sent_for, Access}
 use Rattle.model_meanings.proofs.Refused.{some_is_not_none, sends_alone, IsIdle}
 
@@ -104,15 +104,15 @@ no_longer {X} (y ∷ xs) x e = no_longer xs x (ap (λ (l : List X). drop 1 l) e)
 
 -- Where no request is open, a step sends for the first time what its datagram gets.
 pub none_open : (server : Server) (earlier : List Link) (link : Link) → link.before.requests ≡ [] → Access server (link ∷ earlier)
-    → originals link.out.packets ≡ sent_for server link.before link.act
+    → originals link.out.packets ≡ sent_for (under server link.config) link.before link.act
 none_open server earlier link none access =
-    sends_alone server (link ∷ earlier) link.before link.act link.out.at
-    (subst (λ (rs : List OpenRequest). AllByRecursion (IsIdle server (link ∷ earlier) link.before link.act link.out.at) rs) (sym none) tt) (originals link.out.packets) access.0.sent
+    sends_alone (under server link.config) (link ∷ earlier) link.before link.act link.out.at
+    (subst (λ (rs : List OpenRequest). AllByRecursion (IsIdle (under server link.config) (link ∷ earlier) link.before link.act link.out.at) rs) (sym none) tt) (originals link.out.packets) access.0.sent
 
 -- so nothing goes beside that
 pub nothing_beside : (server : Server) (earlier : List Link) (link : Link) (p : Packet) → p.again ≡ false → link.before.requests ≡ []
-    → link.out.packets ≡ sent_for server link.before link.act ++ p ∷ [] → Access server (link ∷ earlier) → ⊥
+    → link.out.packets ≡ sent_for (under server link.config) link.before link.act ++ p ∷ [] → Access server (link ∷ earlier) → ⊥
 nothing_beside server earlier link p first none packets access =
-    let gets : List Packet = sent_for server link.before link.act in
-    let all : originals (gets ++ p ∷ []) ≡ gets ++ p ∷ [] = firsts_are_originals (gets ++ p ∷ []) (all_append IsFirst gets (p ∷ []) (sent_first_only server link.before link.act) (first, tt)) in
+    let gets : List Packet = sent_for (under server link.config) link.before link.act in
+    let all : originals (gets ++ p ∷ []) ≡ gets ++ p ∷ [] = firsts_are_originals (gets ++ p ∷ []) (all_append IsFirst gets (p ∷ []) (sent_first_only (under server link.config) link.before link.act) (first, tt)) in
     no_longer gets p (sym all ∙ ap originals (sym packets) ∙ none_open server earlier link none access)

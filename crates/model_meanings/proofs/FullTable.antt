@@ -19,7 +19,7 @@ use Rattle.sip_model.specs.verdict_model.Verdict.{Registered, Bound, Refused, Ve
 use Rattle.sip_model.specs.context_model.Branches.{cancelled, acknowledged, responded, send_failed}
 use Rattle.sip_model.specs.steps_model.Effect.{Effect, replaced, opened, nothing, method_of, counted, effect_of, datagram_effect, registering, sending, cancelling, copied}
 use Rattle.sip_model.specs.steps_model.Step.{Act, Given, Passing, IsStep, is_failed, failed_branch, failed_request, fault_effect, arrival_of, moment_of}
-use Rattle.sip_model.specs.Run.{Link, IsChain}
+use Rattle.sip_model.specs.Run.{Link, under, IsChain}
 
 -- ---- the test
 
@@ -133,4 +133,4 @@ pub few_of_chain : (server : Server) (first : ℕ) (history : List Link) (last :
 few_of_chain server first [] last e = subst (λ (state : ProxyState). length state.requests ≤ 1024) (sym e) (omega arith)
 few_of_chain server first (link ∷ history) last chain =
     subst (λ (state : ProxyState). length state.requests ≤ 1024) (sym chain.0)
-    (few_by_step server link.before link.act link.out link.after chain.1 (few_of_chain server first history link.before chain.2))
+    (few_by_step (under server link.config) link.before link.act link.out link.after chain.1 (few_of_chain server first history link.before chain.2))

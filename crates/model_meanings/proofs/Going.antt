@@ -10,7 +10,7 @@ use Rattle.sip_model.specs.state.declared.proxy_state.ProxyState.{ProxyState}
 use Rattle.sip_model.specs.state.State.{first_state}
 use Rattle.sip_model.specs.state.Arrival.{Arrival}
 use Rattle.sip_model.specs.Access.{IsWithin}
-use Rattle.sip_model.specs.Run.{Link, IsChain}
+use Rattle.sip_model.specs.Run.{Link, under, IsChain}
 use Rattle.model_meanings.specs.Dialogs.{IsNamed, IsAddressOf, WasTold, GoesWhereTold}
 use Rattle.model_meanings.proofs.Lists.{in_from_contains, all_in}
 use Rattle.model_meanings.proofs.Telling.{named_alike, address_alike, request_alike}
@@ -38,10 +38,10 @@ pub within_goes : ((server : Server) (first : ℕ) (history : List Link) (last :
     → WasTold server history d)
     → (server : Server) (first : ℕ) (link : Link) (history : List Link) (last : ProxyState) → IsChain server (first_state first) (link ∷ history) last
     → (a : Arrival) (m : Message) (address : Addr)
-    → (h : IsWithin server link.before link.act a m address) → GoesWhereTold server history a.now h.id address
+    → (h : IsWithin (under server link.config) link.before link.act a m address) → GoesWhereTold server history a.now h.id address
 within_goes told server first link history last chain a m address h =
     let d : Dialog = h.is_known.dialog in
-    let later = not_before server link a m address h in
+    let later = not_before (under server link.config) link a m address h in
     let recent = h.is_known.is_recent in
     let was : WasTold server history d = told server first history link.before chain.2 d h.is_known.there (omega (arith, later, recent)) in
     let same : is_same_dialog h.id d.id ≡ true = same_back d.id h.id h.is_known.has_name in

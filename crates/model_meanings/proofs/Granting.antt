@@ -35,7 +35,7 @@ use Rattle.sip_policy.specs.declared.operation.Operation.{Operation}
 use Rattle.sip_model.specs.steps_model.Effect.{contact_fields, challenge_status, challenges_to, upward_packets, change_packets, opening_packets, ack_packet, effect_of, counted, nothing, datagram_effect}
 use Rattle.sip_model.specs.steps_model.Step.{Act, Given, IsStep, originals, arrival_of}
 use Rattle.sip_model.specs.Order.{is_numbered, AreNumbered}
-use Rattle.sip_model.specs.Run.{Link, IsChain}
+use Rattle.sip_model.specs.Run.{Link, under, IsChain}
 use Rattle.sip_model.specs.Access.{IsSaidAt}
 use Rattle.model_meanings.specs.Lists.{ListsInOrder}
 use Rattle.model_meanings.specs.Successes.{answer_here, IsRegistered, IsCancelling}
@@ -324,9 +324,9 @@ pub granted : ((server : Server) (first : ℕ) (history : List Link) (last : Pro
     → (server : Server) (first : ℕ) (link : Link) (history : List Link) (last : ProxyState) → IsChain server (first_state first) (link ∷ history) last
     → (a : Arrival) (bytes : List ℕ) (m : Message) (short : Bool) (extras : List Field) → IsSaidAt link.before link.act a bytes m short
     → Contains (originals link.out.packets) (answer_here server a m 200 extras)
-    → IsRegistered server link.before a m short (originals link.out.packets) ⊎ IsCancelling server link.before a m (originals link.out.packets)
+    → IsRegistered (under server link.config) link.before a m short (originals link.out.packets) ⊎ IsCancelling (under server link.config) link.before a m (originals link.out.packets)
 granted numbers server first link history last chain a bytes m short extras said there =
-    let step = subst (λ (act : Act). IsStep server link.before act link.out link.after) said.is_act chain.1 in
-    subst (λ (b : Arrival). IsRegistered server link.before b m short (originals link.out.packets) ⊎ IsCancelling server link.before b m (originals link.out.packets)) (sym said.is_arrival)
-    (by_datagram server link.before link.after link.out said.at said.word said.from bytes m short extras (numbers server first history link.before chain.2) step said.says
+    let step = subst (λ (act : Act). IsStep (under server link.config) link.before act link.out link.after) said.is_act chain.1 in
+    subst (λ (b : Arrival). IsRegistered (under server link.config) link.before b m short (originals link.out.packets) ⊎ IsCancelling (under server link.config) link.before b m (originals link.out.packets)) (sym said.is_arrival)
+    (by_datagram (under server link.config) link.before link.after link.out said.at said.word said.from bytes m short extras (numbers server first history link.before chain.2) step said.says
     (subst (λ (b : Arrival). Contains (originals link.out.packets) (answer_here server b m 200 extras)) said.is_arrival there))

@@ -20,6 +20,7 @@ pub mod Edits
 pub mod Answers
 pub mod Dialogs
 pub mod Same
+pub mod Under
 pub mod Told
 pub mod Ended
 pub mod Going
@@ -38,3 +39,7 @@ pub mod GivingUp
 pub mod Timing
 pub mod Taken
 pub mod Withheld
+pub mod Folding
+pub mod NotAsked
+pub mod TwoRuns
+pub mod OwnRules

@@ -14,7 +14,7 @@ use Rattle.sip_model.specs.state.Arrival.{Arrival}
 use Rattle.sip_model.specs.verdict_model.Verdict.{Verdict, Drop, Respond, Copy, AckOn, Cancel, Answer, InDialog, Challenge, Deny, Send, Register}
 use Rattle.sip_model.specs.steps_model.Examples.{sample, vault_effect}
 use Rattle.sip_model.specs.steps_model.Step.{Act}
-use Rattle.sip_model.specs.Run.{Link}
+use Rattle.sip_model.specs.Run.{Link, under}
 use Rattle.sip_model.specs.Histories.{Judged, judged_at, records_of, records_at}
 use Rattle.sip_model.specs.Access.{Access}
 use Rattle.model_meanings.specs.WrongRecords.{recorded_twice, recorded_later}
@@ -43,7 +43,7 @@ one_record server state act = by_found (judged_at server state act) where
 
 -- so a lawful one does
 pub at_most_one : (server : Server) (earlier : List Link) (link : Link) → Access server (link ∷ earlier) → length link.out.records ≤ 1
-at_most_one server earlier link access = by_list link.out.records (ap (λ (rs : List Record). drop 1 rs) access.0.records ∙ one_record server link.before link.act) where
+at_most_one server earlier link access = by_list link.out.records (ap (λ (rs : List Record). drop 1 rs) access.0.records ∙ one_record (under server link.config) link.before link.act) where
   by_list : (rs : List Record) → drop 1 rs ≡ [] → length rs ≤ 1
   by_list [] e = omega (arith)
   by_list (x ∷ rest) e = subst (λ (ys : List Record). suc (length ys) ≤ 1) (sym e) (omega (arith))

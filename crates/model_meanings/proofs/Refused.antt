@@ -16,7 +16,7 @@ use Rattle.sip_model.specs.state.State.{is_failure, is_final, is_answering, phas
 use Rattle.sip_model.specs.context_model.Branches.{is_ready, is_unheard}
 use Rattle.sip_model.specs.context_model.Sending.{request_of, to_branch}
 use Rattle.sip_model.specs.steps_model.Step.{Act, Given, Passing, originals}
-use Rattle.sip_model.specs.Run.{Link}
+use Rattle.sip_model.specs.Run.{Link, under}
 use Rattle.sip_model.specs.Access.{IsSaidAt, ComesNow, IsAckNow, NoAck, Acks, IsPassedOn, IsAnswerNow, NoAnswer, PassedOn, Best, EndsNow, ByResponse, BySilence, ByLaterSilence, ByCancel, ByFault, OthersEnded, IsHeardNow, IsCancelledNow, AreCancelsNow, IsForOpen, ForNone, ForOne, IsAllSent, sent_for, Access}
 
 -- ---- lists
@@ -97,10 +97,10 @@ module _ (server : Server) (history : List Link) (state : ProxyState) (act : Act
       sent.are_all ∙ ap (λ (xs : List Packet). sent_for server state act ++ xs) (idle_sends idle sent.others sent.are_owed) ∙ append-nil (sent_for server state act)
 
 -- and a step that sends nothing at once, in which each has nothing to send, sends nothing for the first time
-pub sends_nothing : (server : Server) (earlier : List Link) (link : Link) → AllByRecursion (IsIdle server (link ∷ earlier) link.before link.act link.out.at) link.before.requests
-    → sent_for server link.before link.act ≡ [] → Access server (link ∷ earlier) → originals link.out.packets ≡ []
+pub sends_nothing : (server : Server) (earlier : List Link) (link : Link) → AllByRecursion (IsIdle (under server link.config) (link ∷ earlier) link.before link.act link.out.at) link.before.requests
+    → sent_for (under server link.config) link.before link.act ≡ [] → Access server (link ∷ earlier) → originals link.out.packets ≡ []
 sends_nothing server earlier link idle gets access =
-    sends_alone server (link ∷ earlier) link.before link.act link.out.at idle (originals link.out.packets) access.0.sent ∙ gets
+    sends_alone (under server link.config) (link ∷ earlier) link.before link.act link.out.at idle (originals link.out.packets) access.0.sent ∙ gets
 
 -- ---- steps that are no datagram
 

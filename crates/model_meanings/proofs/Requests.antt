@@ -1,5 +1,5 @@
 -- Each open request of a history came in it.
-use Rattle.std.proofs.Common.{◌≡◌, ◌∙◌, ℕ, ◌≤◌, ◌+◌, ◌==◌, Bool, true, false, ◌&&◌, cond, List, [], ◌∷◌, ◌++◌, flat_map, Contains, Some, None, refl, sym, subst, arith, ap, bytes_eq, codes}
+use Rattle.std.proofs.Common.{◌≡◌, ◌∙◌, inl, inr, append-nil, ℕ, ◌≤◌, ◌+◌, ◌==◌, Bool, true, false, ◌&&◌, cond, List, [], ◌∷◌, ◌++◌, flat_map, Contains, Some, None, refl, sym, subst, arith, ap, bytes_eq, codes}
 use Rattle.std.specs.List.{AllByRecursion}
 use Rattle.std.proofs.lemmas.List.Elements.{Contains-append_left, Contains-append_right}
 use Rattle.sip_message_form.specs.declared.message.Message.{Message}
@@ -25,11 +25,11 @@ use Rattle.sip_model.specs.context_model.Opening.{arriving, closing, forking, tr
 use Rattle.sip_model.specs.steps_model.Effect.{method_of, replaced, upward_packets, change_packets, opening_packets}
 use Rattle.sip_model.specs.steps_model.Step.{Act, IsStep, originals}
 use Rattle.sip_model.specs.Access.{IsSaidAt}
-use Rattle.sip_model.specs.Run.{Link, IsChain}
+use Rattle.sip_model.specs.Run.{Link, under, IsChain}
 use Rattle.sip_model.specs.Lives.{sent_first}
 use Rattle.sip_model.specs.Parts.{AreBegun, made_text, IsOpening, Answered, Sent, IsChangeAt, IsPart, Stays, Passes, Copies, TurnsAway, Opens, Changes, Resends, Acknowledges, AreParts, One, Two, HasParts}
 use Rattle.model_meanings.specs.Requests.{IsBrought, WentToCaller, HasCome}
-use Rattle.model_meanings.proofs.Lists.{in_from_contains, all_in, all_append, all_left, all_right, all_every, all_weaker, all_mapped, all_from_in, contains_from_in}
+use Rattle.model_meanings.proofs.Lists.{IsIn, in_from_contains, all_in, all_append, all_left, all_right, all_every, all_weaker, all_mapped, all_from_in, contains_from_in}
 use Rattle.model_meanings.proofs.Changes.{KeepNumbers, Tells, settled_kept, change_kept, resent_kept, acknowledged_kept}
 
 -- ---- lists of open requests
@@ -332,7 +332,7 @@ pub later_sent : (link : Link) (history : List Link) (p : Packet) → Contains (
 later_sent link history p there = Contains-append_right (originals link.out.packets) (sent_first history) p there
 
 -- what came in it came in a longer one
-pub later_brought : (link : Link) (history : List Link) (a : Arrival) (m : Message) → IsBrought history a m → IsBrought (link ∷ history) a m
+abbrev pub later_brought : (link : Link) (history : List Link) (a : Arrival) (m : Message) → IsBrought history a m → IsBrought (link ∷ history) a m
 later_brought link history a m h = record { link = h.link; bytes = h.bytes; short = h.short; is_there = later_there link history h.link h.is_there; is_said = h.is_said }
 
 -- what went to a caller did
@@ -341,6 +341,29 @@ pub later_went : (link : Link) (history : List Link) (number : ℕ) (m : Message
 later_went link history number m from text h = record {
   packet = h.packet;
   is_there = later_sent link history h.packet h.is_there;
+  is_to_caller = h.is_to_caller;
+  is_text = h.is_text;
+  is_of_datagram = h.is_of_datagram;
+  is_of_no_branch = h.is_of_no_branch;
+}
+
+-- what a step of a history sent for the first time, the history did
+sent_by_one : (history : List Link) (link : Link) (p : Packet) → IsIn link history → Contains (originals link.out.packets) p → Contains (sent_first history) p
+sent_by_one [] link p h there = absurd h
+sent_by_one (x ∷ xs) link p (inl e) there =
+    Contains-append_left (originals x.out.packets) (sent_first xs) p (subst (λ (l : Link). Contains (originals l.out.packets) p) (sym e) there)
+sent_by_one (x ∷ xs) link p (inr h) there = later_sent x xs p (sent_by_one xs link p h there)
+
+pub sent_in : (history : List Link) (link : Link) (p : Packet) → Contains history link → Contains (sent_first (link ∷ [])) p → Contains (sent_first history) p
+sent_in history link p is there =
+    sent_by_one history link p (in_from_contains history link is) (subst (λ (ps : List Packet). Contains ps p) (append-nil (originals link.out.packets)) there)
+
+-- so what it sent to a caller
+pub went_in : (history : List Link) (link : Link) (number : ℕ) (m : Message) (from : Addr) (text : List ℕ) → Contains history link → WentToCaller (link ∷ []) number m from text
+    → WentToCaller history number m from text
+went_in history link number m from text is h = record {
+  packet = h.packet;
+  is_there = sent_in history link h.packet is h.is_there;
   is_to_caller = h.is_to_caller;
   is_text = h.is_text;
   is_of_datagram = h.is_of_datagram;
@@ -362,7 +385,7 @@ later_come link history r h = record {
 }
 
 -- the message of a step's datagram came in the history that ends with the step
-pub brought_now : (link : Link) (history : List Link) (a : Arrival) (bytes : List ℕ) (m : Message) (short : Bool) → IsSaidAt link.before link.act a bytes m short
+abbrev pub brought_now : (link : Link) (history : List Link) (a : Arrival) (bytes : List ℕ) (m : Message) (short : Bool) → IsSaidAt link.before link.act a bytes m short
     → IsBrought (link ∷ history) a m
 brought_now link history a bytes m short said = record { link = link; bytes = bytes; short = short; is_there = Contains-append_left (link ∷ []) history link (0, omega arith, refl); is_said = said }
 
@@ -377,7 +400,7 @@ pub chain_come : ((server : Server) (old : ProxyState) (act : Act) (out : StepOu
     → (server : Server) (first : ℕ) (history : List Link) (last : ProxyState) → IsChain server (first_state first) history last → AllByRecursion (HasCome history) last.requests
 chain_come parts server first [] last h = subst (λ (s : ProxyState). AllByRecursion (HasCome []) s.requests) (sym h) tt
 chain_come parts server first (link ∷ history) last h =
-    let has = parts server link.before link.act link.out link.after h.1 in
+    let has = parts (under server link.config) link.before link.act link.out link.after h.1 in
     subst (λ (s : ProxyState). AllByRecursion (HasCome (link ∷ history)) s.requests) (sym h.0)
-    (parts_come (link ∷ history) server link.before link.act link.after.moment (brought_now link history) link.before.requests link.after.requests (originals link.out.packets) _ has.parts (sent_now link history)
+    (parts_come (link ∷ history) (under server link.config) link.before link.act link.after.moment (brought_now link history) link.before.requests link.after.requests (originals link.out.packets) _ has.parts (sent_now link history)
     (all_weaker (HasCome history) (HasCome (link ∷ history)) (later_come link history) link.before.requests (chain_come parts server first history link.before h.2)))

@@ -1,5 +1,5 @@
 -- What is made of the known dialogs keeps that each was told.
-use Rattle.std.proofs.Common.{◌≡◌, ◌⊎◌, ◌∙◌, inl, inr, ℕ, ◌≤◌, Bool, true, false, ◌&&◌, ◌||◌, cond, List, [], ◌∷◌, ◌++◌, length, bytes_eq, Contains, Option, Some, None, option_and_then, refl, subst}
+use Rattle.std.proofs.Common.{◌≡◌, ◌⊎◌, ◌∙◌, inl, inr, ℕ, ◌≤◌, Bool, true, false, ◌&&◌, ◌||◌, cond, List, [], ◌∷◌, ◌++◌, length, bytes_eq, Contains, Option, Some, None, option_and_then, refl, sym, subst}
 use Rattle.std.specs.Prelude.{option_map, Result, Ok, Err, nat_le}
 use Rattle.std.specs.Option.{unwrap_or}
 use Rattle.std.specs.Result.{result_ok}
@@ -31,7 +31,7 @@ use Rattle.sip_model.specs.state.declared.server.Server.{Server}
 use Rattle.sip_model.specs.state.declared.open_request.OpenRequest.{OpenRequest}
 use Rattle.sip_model.specs.state.Dialogs.{dialog_of, addresses_of, answered_dialog}
 use Rattle.sip_model.specs.state.Arrival.{Arrival}
-use Rattle.sip_model.specs.Run.{Link}
+use Rattle.sip_model.specs.Run.{Link, under}
 use Rattle.model_meanings.specs.Dialogs.{IsNamed, Names, NamesFor, Begins, WentThrough, Invite, AnswerToInvite, AnswerWithin, Within, Gives, ByContact, ByRecordRoute, IsAddressOf, OfCaller, OfBranch, OfMessage, HadRequest, AtFirst, Later, WasAccepted, WasTold}
 use Rattle.model_meanings.proofs.Lists.{IsIn, contains_from_in, all_append, all_weaker}
 
@@ -198,27 +198,35 @@ module _ (server : Server) (history : List Link) where
       record { core = h.core; to = h.to; tag = h.tag; core_is = h.core_is; to_is = h.to_is; to_tag_is = h.to_tag_is; name_is = named_alike d id _ _ _ same h.name_is }
 
   -- a message of one is one of the other
-  through_alike : (d id : DialogId) (m : Message) → is_same_dialog d id ≡ true → WentThrough server history id m → WentThrough server history d m
-  through_alike d id _ same (Invite a invite status response begins) = Invite a invite status response (begins_alike d id same a invite status response begins)
-  through_alike d id _ same (AnswerToInvite a invite answer brought is gone names) = AnswerToInvite a invite answer brought is gone (names_for_alike d id invite answer same names)
-  through_alike d id _ same (AnswerWithin a m answer brought names gone) = AnswerWithin a m answer brought (names_alike d id m same names) gone
-  through_alike d id _ same (Within a m brought names sent) = Within a m brought (names_alike d id m same names) sent
+  through_alike : (d id : DialogId) (link : Link) (m : Message) → is_same_dialog d id ≡ true → WentThrough server history id link m → WentThrough server history d link m
+  unfolding begins_alike
+  through_alike d id link _ same (Invite a invite status response begins now) = Invite a invite status response (begins_alike d id same a invite status response begins) now
+  through_alike d id link _ same (AnswerToInvite a invite answer there brought is gone names) = AnswerToInvite a invite answer there brought is gone (names_for_alike d id invite answer same names)
+  through_alike d id link _ same (AnswerWithin a m answer there brought names gone) = AnswerWithin a m answer there brought (names_alike d id m same names) gone
+  through_alike d id link _ same (Within a m brought now names sent) = Within a m brought now (names_alike d id m same names) sent
 
   -- an address of one is one of the other
   pub address_alike : (d id : DialogId) → is_same_dialog d id ≡ true → (address : Addr) → IsAddressOf server history id address → IsAddressOf server history d address
   unfolding begins_alike
   address_alike d id same address (OfCaller a invite status response begins e) = OfCaller a invite status response (begins_alike d id same a invite status response begins) e
   address_alike d id same address (OfBranch a invite status response begins e) = OfBranch a invite status response (begins_alike d id same a invite status response begins) e
-  address_alike d id same address (OfMessage m through gives) = OfMessage m (through_alike d id m same through) gives
+  address_alike d id same address (OfMessage link m through gives) = OfMessage link m (through_alike d id link m same through) gives
 
   -- a request of one is one of the other
   pub request_alike : (d id : DialogId) → is_same_dialog d id ≡ true → (moment : ℕ) → HadRequest server history id moment → HadRequest server history d moment
   request_alike d id same moment (AtFirst a invite status response begins e) = AtFirst a invite status response (begins_alike d id same a invite status response begins) e
   request_alike d id same moment (Later a m brought names sent e) = Later a m brought (names_alike d id m same names) sent e
 
+  -- a step is one of the history, and the server has the configuration of it
+  pub record IsTakenIn (link : Link) : Type 0 where
+    pub is_there : Contains history link
+    pub is_by : under server link.config ≡ server
+
   -- a message's addresses are the dialog's
-  pub addresses_told : (id : DialogId) (m : Message) → WentThrough server history id m → AllByRecursion (IsAddressOf server history id) (addresses_of server m)
-  addresses_told id m through = all_weaker (Gives server m) (IsAddressOf server history id) (λ address gives. OfMessage m through gives) (addresses_of server m) (message_gives server m)
+  pub addresses_told : (link : Link) → IsTakenIn link → (id : DialogId) (m : Message) → WentThrough server history id link m → AllByRecursion (IsAddressOf server history id) (addresses_of server m)
+  addresses_told link taken id m through =
+      all_weaker (Gives server m) (IsAddressOf server history id) (λ address gives. OfMessage link m through (subst (λ (s : Server). Gives s m address) (sym taken.is_by) gives)) (addresses_of server m)
+      (message_gives server m)
 
   -- ---- a dialog that was told
 

@@ -23,17 +23,19 @@ use Rattle.sip_model.specs.context_model.Retransmission.{IsResent, OfAnswer, OfR
 use Rattle.sip_model.specs.steps_model.Effect.{change_packets}
 use Rattle.sip_model.specs.steps_model.Step.{Act, IsStep, originals}
 use Rattle.sip_model.specs.Access.{CameFor}
-use Rattle.sip_model.specs.Run.{Link, IsChain}
-use Rattle.sip_model.specs.Histories.{history_dialogs}
+use Rattle.sip_model.specs.Run.{Link, under, IsChain}
+use Rattle.sip_model.specs.Histories.{step_dialogs, history_dialogs}
 use Rattle.sip_model.specs.Parts.{IsOpening, Answered, Sent, IsChangeAt, ByResponse, ByDeadline, ByFault, ByCancel, IsPart, Stays, Passes, Copies, TurnsAway, Opens, Changes, Resends, Acknowledges, AreParts, One, Two, HasParts}
 use Rattle.model_meanings.specs.Requests.{HasCome}
 use Rattle.model_meanings.specs.Dialogs.{Begins, WasSentOn, WentThrough, Invite, AnswerToInvite, AnswerWithin, Within, IsAddressOf, OfCaller, OfBranch, OfMessage, HadRequest, AtFirst, Later, WasAccepted, WasTold}
 use Rattle.model_meanings.proofs.Lists.{in_from_contains, all_in, all_append, all_weaker}
 use Rattle.model_meanings.proofs.Requests.{all_replaced, later_there, later_sent, later_brought, later_went, later_come, brought_now, sent_now, chain_come}
 use Rattle.model_meanings.proofs.Failures.{KeepsFailures, Refusing, responded_honest, overdue_honest, failed_honest, cancelled_honest, opening_honest, unsent_fail}
+use Rattle.model_meanings.proofs.Telling.{IsTakenIn}
 use Rattle.model_meanings.proofs.Edits.{told_closed}
 use Rattle.model_meanings.proofs.Dialogs.{IsHere, step_told}
 use Rattle.model_meanings.proofs.Same.{known_in_both}
+use Rattle.model_meanings.proofs.Under.{told_under}
 
 -- ---- failures alone are kept
 
@@ -144,20 +146,21 @@ module _ (server : Server) (link : Link) (history : List Link) where
   later_on a m h = record { packet = h.packet; is_there = later_sent link history h.packet h.is_there; is_text = h.is_text; is_of_datagram = h.is_of_datagram }
 
   -- a message of a dialog
-  later_through : (id : DialogId) (m : Message) → WentThrough server history id m → WentThrough server (link ∷ history) id m
-  later_through id _ (Invite a invite status response begins) = Invite a invite status response (later_begins id a invite status response begins)
-  later_through id _ (AnswerToInvite a invite answer brought is gone names) =
-      AnswerToInvite a invite answer (later_brought link history a invite brought) is (later_went link history a.number invite a.from (text_of answer) gone) names
-  later_through id _ (AnswerWithin a m answer brought names gone) =
-      AnswerWithin a m answer (later_brought link history a m brought) names (later_went link history a.number m a.from (text_of answer) gone)
-  later_through id _ (Within a m brought names sent) = Within a m (later_brought link history a m brought) names (later_on a m sent)
+  later_through : (id : DialogId) (own : Link) (m : Message) → WentThrough server history id own m → WentThrough server (link ∷ history) id own m
+  unfolding later_begins later_for
+  later_through id own _ (Invite a invite status response begins now) = Invite a invite status response (later_begins id a invite status response begins) now
+  later_through id own _ (AnswerToInvite a invite answer there brought is gone names) =
+      AnswerToInvite a invite answer (later_there link history own there) (later_brought link history a invite brought) is gone names
+  later_through id own _ (AnswerWithin a m answer there brought names gone) =
+      AnswerWithin a m answer (later_there link history own there) (later_brought link history a m brought) names gone
+  later_through id own _ (Within a m brought now names sent) = Within a m (later_brought link history a m brought) now names sent
 
   -- an address
   later_address : (id : DialogId) (address : Addr) → IsAddressOf server history id address → IsAddressOf server (link ∷ history) id address
   unfolding later_begins later_for
   later_address id address (OfCaller a invite status response begins e) = OfCaller a invite status response (later_begins id a invite status response begins) e
   later_address id address (OfBranch a invite status response begins e) = OfBranch a invite status response (later_begins id a invite status response begins) e
-  later_address id address (OfMessage m through gives) = OfMessage m (later_through id m through) gives
+  later_address id address (OfMessage own m through gives) = OfMessage own m (later_through id own m through) gives
 
   -- a request
   later_request : (id : DialogId) (moment : ℕ) → HadRequest server history id moment → HadRequest server (link ∷ history) id moment
@@ -189,20 +192,25 @@ module _ (server : Server) (link : Link) (history : List Link) where
 
 -- ---- every history
 
+-- the newest step of a history, by its configuration
+pub taken_now : (server : Server) (link : Link) (history : List Link) → IsTakenIn (under server link.config) (link ∷ history) link
+taken_now server link history = record { is_there = Contains-append_left (link ∷ []) history link (0, omega arith, refl); is_by = refl }
+
 module _ (parts : (server : Server) (old : ProxyState) (act : Act) (out : StepOut) (new : ProxyState) → IsStep server old act out new → HasParts server old act out new) where
   -- open requests keep failures alone
   chain_fails : (server : Server) (first : ℕ) (history : List Link) (last : ProxyState) → IsChain server (first_state first) history last → AllKeep last.requests
   chain_fails server first [] last h = subst (λ (s : ProxyState). AllKeep s.requests) (sym h) tt
   chain_fails server first (link ∷ history) last h =
-      let has = parts server link.before link.act link.out link.after h.1 in
+      let has = parts (under server link.config) link.before link.act link.out link.after h.1 in
       subst (λ (s : ProxyState). AllKeep s.requests) (sym h.0)
-      (parts_fail server link.before link.act link.after.moment link.before.requests link.after.requests (originals link.out.packets) _ has.parts (chain_fails server first history link.before h.2))
+      (parts_fail (under server link.config) link.before link.act link.after.moment link.before.requests link.after.requests (originals link.out.packets) _ has.parts (chain_fails server first history link.before h.2))
 
   -- the state before a step
   pub chain_here : (server : Server) (first : ℕ) (link : Link) (history : List Link) → IsChain server (first_state first) history link.before
-      → IsHere server (link ∷ history) link link.before link.act
+      → IsHere (under server link.config) (link ∷ history) link link.before link.act
   chain_here server first link history h = record {
     said = brought_now link history;
+    said_now = λ a bytes m short said. refl;
     came = λ a bytes m status reason r b said start is target. (
       record {
         link = link;
@@ -230,10 +238,13 @@ module _ (parts : (server : Server) (old : ProxyState) (act : Act) (out : StepOu
       → AllByRecursion (WasTold server history) (history_dialogs server (first_state first) history last h)
   chain_told server first [] last h = tt
   chain_told server first (link ∷ history) last h =
-      step_told server (link ∷ history) link (WasTold server (link ∷ history)) (told_closed server (link ∷ history) link) link.before link.act link.out link.after h.1
-      (history_dialogs server (first_state first) history link.before h.2) (chain_here server first link history h.2) (sent_now link history)
-      (all_weaker (WasTold server history) (WasTold server (link ∷ history)) (later_told server link history) (history_dialogs server (first_state first) history link.before h.2)
-      (chain_told server first history link.before h.2))
+      let by : Server = under server link.config in
+      let dialogs : List Dialog = history_dialogs server (first_state first) history link.before h.2 in
+      all_weaker (WasTold by (link ∷ history)) (WasTold server (link ∷ history)) (told_under by server.config (link ∷ history)) (step_dialogs by link.before link.act link.out link.after h.1 dialogs)
+      (step_told by (link ∷ history) link (WasTold by (link ∷ history)) (told_closed by (link ∷ history) link) (taken_now server link history) link.before link.act link.out link.after h.1 dialogs
+      (chain_here server first link history h.2) (sent_now link [])
+      (all_weaker (WasTold server history) (WasTold by (link ∷ history)) (λ d was. told_under server link.config (link ∷ history) d (later_told server link history d was)) dialogs
+      (chain_told server first history link.before h.2)))
 
   -- each known dialog was
   pub known_told : ((server : Server) (first : ℕ) (history : List Link) (last : ProxyState) (h : IsChain server (first_state first) history last)

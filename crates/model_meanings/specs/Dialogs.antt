@@ -1,5 +1,5 @@
 -- Where the dialogs that a proxy knows come from (RFC 3261 12, in this project's profile).
-use Rattle.std.specs.Prelude.{◌≡◌, ◌⊎◌, ◌<◌, ◌≤◌, ◌+◌, ℕ, true, false, List, [], codes, Contains, Some, Ok}
+use Rattle.std.specs.Prelude.{◌≡◌, ◌⊎◌, ◌<◌, ◌≤◌, ◌+◌, ℕ, true, false, List, [], ◌∷◌, codes, Contains, Some, Ok}
 use Rattle.std.specs.Option.{unwrap_or}
 use Rattle.std.specs.List.{AllByRecursion}
 use Rattle.std.specs.Str.{bytes_eq}
@@ -34,7 +34,7 @@ use Rattle.sip_model.specs.context_model.Sending.{onward_as}
 use Rattle.sip_model.specs.verdict_model.Verdict.{is_many, responding}
 use Rattle.sip_model.specs.steps_model.Effect.{method_of}
 use Rattle.sip_model.specs.Access.{CameFor, IsSaidAt}
-use Rattle.sip_model.specs.Run.{Link}
+use Rattle.sip_model.specs.Run.{Link, under}
 use Rattle.sip_model.specs.Lives.{sent_first}
 use Rattle.model_meanings.specs.Requests.{IsBrought, WentToCaller}
 
@@ -85,21 +85,24 @@ pub record WasSentOn (server : Server) (history : List Link) (a : Arrival) (m : 
   pub is_text : packet.bytes ≡ text_of (onward_as server a.number m a.from (onward_uri server.config.own m) 1)
   pub is_of_datagram : packet.ticket.datagram ≡ a.number
 
--- A message of a dialog went through the server: an INVITE that began it; an answer to an INVITE for which it names the dialog, or
--- to a request of the dialog, that went to
--- the caller; or a request or an ACK of it that was sent on.
-pub data WentThrough (server : Server) (history : List Link) (id : DialogId) : Message → Type 0 where
-  Invite : (a : Arrival) (invite : Message) (status : ℕ) (response : Message) → Begins server history a invite status response id
-      → WentThrough server history id invite
-  AnswerToInvite : (a : Arrival) (invite answer : Message) → IsBrought history a invite → bytes_eq (method_of invite.start) (codes "INVITE") ≡ true
-      → WentToCaller history a.number invite a.from (text_of answer) → NamesFor invite answer id → WentThrough server history id answer
-  AnswerWithin : (a : Arrival) (m answer : Message) → IsBrought history a m → Names m id → WentToCaller history a.number m a.from (text_of answer)
-      → WentThrough server history id answer
-  Within : (a : Arrival) (m : Message) → IsBrought history a m → Names m id → WasSentOn server history a m → WentThrough server history id m
+-- A message of a dialog went through the server in a step of a history: an INVITE that began it, in the step in which the response
+-- came with which it did; an answer to an INVITE for which it names the dialog, or to a request of the dialog, in the step in which it
+-- went to the caller; or a request or an ACK of it, in the step that it was taken for and sent on in.
+pub data WentThrough (server : Server) (history : List Link) (id : DialogId) (link : Link) : Message → Type 0 where
+  Invite : (a : Arrival) (invite : Message) (status : ℕ) (response : Message) (begins : Begins server history a invite status response id)
+      → begins.came_for.link ≡ link → WentThrough server history id link invite
+  AnswerToInvite : (a : Arrival) (invite answer : Message) → Contains history link → IsBrought history a invite
+      → bytes_eq (method_of invite.start) (codes "INVITE") ≡ true → WentToCaller (link ∷ []) a.number invite a.from (text_of answer)
+      → NamesFor invite answer id → WentThrough server history id link answer
+  AnswerWithin : (a : Arrival) (m answer : Message) → Contains history link → IsBrought history a m → Names m id
+      → WentToCaller (link ∷ []) a.number m a.from (text_of answer) → WentThrough server history id link answer
+  Within : (a : Arrival) (m : Message) (brought : IsBrought history a m) → brought.link ≡ link → Names m id → WasSentOn server (link ∷ []) a m
+      → WentThrough server history id link m
 
 -- ---- addresses
 
--- A message gives an address: that of the SIP URI of a Contact, or of a Record-Route, which has brackets (RFC 3261 12.1.1, 12.2, 20.10, 20.30).
+-- A message gives a server an address: that of the SIP URI of a Contact, or of a Record-Route, which has brackets, by the host addresses of
+-- its configuration (RFC 3261 12.1.1, 12.2, 20.10, 20.30).
 pub data Gives (server : Server) (m : Message) (address : Addr) : Type 0 where
   ByContact : (field : Field) (item : NameAddr) (uri : Uri) → Contains m.fields field → is_same_name field.name Name.Contact ≡ true
       → name_addr_of field.value ≡ Some item
@@ -111,14 +114,15 @@ pub data Gives (server : Server) (m : Message) (address : Addr) : Type 0 where
       → address_of server.config.addresses uri ≡ Some address → Gives server m address
 
 -- Where an address of a dialog comes from: it is the source of an INVITE that began the dialog, the address of the branch that
--- answered this, or one that a message of the dialog gave.
+-- answered this, or one that a message of the dialog gave, by the configuration of the step in which it went through.
 pub data IsAddressOf (server : Server) (history : List Link) (id : DialogId) (address : Addr) : Type 0 where
   OfCaller : (a : Arrival) (invite : Message) (status : ℕ) (response : Message) → Begins server history a invite status response id → address ≡ a.from
       → IsAddressOf server history id address
   OfBranch : (a : Arrival) (invite : Message) (status : ℕ) (response : Message) (begins : Begins server history a invite status response id)
       → begins.came_for.branch.address ≡ Some address
       → IsAddressOf server history id address
-  OfMessage : (m : Message) → WentThrough server history id m → Gives server m address → IsAddressOf server history id address
+  OfMessage : (link : Link) (m : Message) → WentThrough server history id link m → Gives (under server link.config) m address
+      → IsAddressOf server history id address
 
 -- ---- a dialog
 

@@ -15,3 +15,6 @@ pub mod WrongCopies
 pub mod WrongRecords
 pub mod WrongMoments
 pub mod WrongSilence
+pub mod TwoConfigurations
+pub mod TwoPeriods
+pub mod WrongRules

@@ -3,11 +3,13 @@ use Rattle.std.specs.Prelude.{ℕ, List, []}
 use Rattle.sip_message_form.specs.declared.message.Message.{Message}
 use Rattle.sip_message_form.specs.Text.{text_of}
 use Rattle.sip_hops.specs.Examples.{local}
+use Rattle.sip_config_types.specs.declared.config.Config.{Config}
 use Rattle.sip_audit.specs.declared.record.Record.{Record}
 use Rattle.sip_event.specs.declared.packet.Packet.{Packet}
 use Rattle.sip_event.specs.declared.event.Event.TheVariants.{Datagram}
 use Rattle.sip_model.specs.state.declared.proxy_state.ProxyState.{ProxyState}
 use Rattle.sip_model.specs.state.declared.open_request.OpenRequest.{OpenRequest}
+use Rattle.sip_model.specs.steps_model.Examples.{sample}
 use Rattle.sip_model.specs.steps_model.Step.{Act, Given}
 use Rattle.sip_model.specs.Run.{Link}
 
@@ -19,14 +21,20 @@ knowing_open known number moment requests = record known { moment = moment; next
 abbrev pub saying : ℕ → ℕ → Message → Act
 saying at port m = Given (Datagram at 9 (local port) (text_of m))
 
--- a step from a state, taken for something, at a moment, that hands out packets and records, and leaves a state
-abbrev pub step_of : ProxyState → Act → ℕ → List Packet → List Record → ProxyState → Link
-step_of before act at packets records after = record {
+-- a step while a configuration is in force, from a state, taken for something, at a moment, that hands out packets and records, and
+-- leaves a state
+abbrev pub step_by : Config → ProxyState → Act → ℕ → List Packet → List Record → ProxyState → Link
+step_by config before act at packets records after = record {
+  config = config;
   before = before;
   act = act;
   out = record { at = at; packets = packets; records = records };
   after = after;
 }
+
+-- one of the sample configuration
+abbrev pub step_of : ProxyState → Act → ℕ → List Packet → List Record → ProxyState → Link
+step_of before act at packets records after = step_by sample.config before act at packets records after
 
 -- one without records
 abbrev pub sending : ProxyState → Act → ℕ → List Packet → ProxyState → Link

@@ -4,7 +4,7 @@ ghost use Rattle.sip_dialog.specs.declared.dialog.Dialog.{Dialog};
 ghost use Rattle.sip_model.specs.state.declared.proxy_state.ProxyState.{ProxyState};
 ghost use Rattle.sip_model.specs.state.declared.server.Server.{Server};
 ghost use Rattle.sip_model.specs.state.State.{first_state};
-ghost use Rattle.sip_model.specs.Run.{Link, IsChain};
+ghost use Rattle.sip_model.specs.Run.{Link, IsChain, under};
 ghost use Rattle.model_meanings.specs.Requests.{HasCome};
 ghost use Rattle.sip_message_form.specs.declared.message.Message.{Message};
 ghost use Rattle.sip_uri.specs.declared.addr.Addr.{Addr};
@@ -27,7 +27,8 @@ pub fn open_requests_came()
 
 /// Each known dialog was told: an INVITE came, and a 101 to 299 from a branch of it, which went to its caller, named
 /// the dialog; each of its addresses is the source of such an INVITE, the address of the branch that answered it, or
-/// one that a Contact or a Record-Route of a message of the dialog gave which went through; and one of its requests
+/// one that a Contact or a Record-Route of a message of the dialog gave which went through, by the host addresses of the configuration
+/// in force as it did; and one of its requests
 /// came less than twelve hours ago (RFC 3261 12).
 pub fn known_dialogs_were_told()
     ensures { (server : Server) (first : ℕ) (history : List Link) (last : ProxyState)
@@ -44,7 +45,7 @@ pub fn known_dialogs_were_told()
 pub fn requests_go_where_told()
     ensures { (server : Server) (first : ℕ) (link : Link) (history : List Link) (last : ProxyState)
         → IsChain server (first_state first) (link ∷ history) last
-        → (a : Arrival) (m : Message) (address : Addr) (within : IsWithin server link.before link.act a m address)
+        → (a : Arrival) (m : Message) (address : Addr) (within : IsWithin (under server link.config) link.before link.act a m address)
         → GoesWhereTold server history a.now within.id address }
 {
     known_dialogs_were_told();

@@ -5,4 +5,5 @@ pub mod Alike
 pub mod Reached
 pub mod Steps
 pub mod Runs
+pub mod RunsUnder
 pub mod Faults

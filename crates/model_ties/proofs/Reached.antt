@@ -24,7 +24,7 @@ use Rattle.sip_model.specs.context_model.Opening.{forking, tried, trying}
 use Rattle.sip_model.specs.context_model.Retransmission.{IsResent, OfAnswer, OfRequest, acked_again, acks_again, branch_next, resent_branch}
 use Rattle.sip_model.specs.steps_model.Effect.{change_packets, replaced, upward_packets}
 use Rattle.sip_model.specs.steps_model.Step.{Act, IsStep, IsOverdue, OfSide, OfBranch, originals, retransmissions}
-use Rattle.sip_model.specs.Run.{Link, IsChain}
+use Rattle.sip_model.specs.Run.{Link, under, IsChain}
 use Rattle.sip_model.specs.Parts.{IsOpening, Answered, Sent, IsChangeAt, ByResponse, ByDeadline, ByFault, ByCancel, IsPart, Stays, Passes, Copies, TurnsAway, Opens, Changes, Resends, Acknowledges, AreParts, One, Two, HasParts}
 use Rattle.model_ties.proofs.Lists.{in_from_contains, all_in, all_push}
 use Rattle.model_ties.proofs.Sent.{GoesOneWay}
@@ -284,9 +284,9 @@ module _ (laws : Histories) (server : Server) (first : ℕ) where
   chain_done : (history : List Link) (last : ProxyState) → IsChain server (first_state first) history last → AllByRecursion AreDone last.requests
   chain_done [] last chain = subst (λ (s : ProxyState). AllByRecursion AreDone s.requests) (sym chain) tt
   chain_done (link ∷ history) last chain =
-      let has : HasParts server link.before link.act link.out link.after = laws.parts server link.before link.act link.out link.after chain.1 in
+      let has : HasParts (under server link.config) link.before link.act link.out link.after = laws.parts (under server link.config) link.before link.act link.out link.after chain.1 in
       subst (λ (s : ProxyState). AllByRecursion AreDone s.requests) (sym chain.0)
-      (parts_done server link.before link.act link.after.moment link.before.requests link.after.requests (originals link.out.packets) (retransmissions link.out.packets) has.parts
+      (parts_done (under server link.config) link.before link.act link.after.moment link.before.requests link.after.requests (originals link.out.packets) (retransmissions link.out.packets) has.parts
       (chain_done history link.before chain.2))
 
   -- so a step goes one way

@@ -1,6 +1,8 @@
 -- Two runs, side by side, from their first steps on.
 use Rattle.std.proofs.Common.{◌≡◌, ◌≢◌, ◌⊎◌, inl, inr, ◌∙◌, ℕ, ◌≤◌, ◌==◌, Bool, true, false, List, [], ◌∷◌, ◌++◌, drop, reverse, append-nil, Option, Some, None, refl, sym, ap, ap₂, subst, arith}
 use Rattle.std.proofs.lemmas.Bool.Decides.{nat_tests}
+use Rattle.std.specs.List.{AllByRecursion}
+use Rattle.sip_config_types.specs.declared.config.Config.{Config}
 use Rattle.sip_event.specs.declared.event.Event.{Event}
 use Rattle.sip_event.specs.declared.event.Event.TheVariants.{Datagram, Time, Fault}
 use Rattle.sip_event.specs.declared.event.StepOut.{StepOut}
@@ -9,8 +11,8 @@ use Rattle.sip_model.specs.state.declared.proxy_state.ProxyState.{ProxyState}
 use Rattle.sip_model.specs.state.SameState.{SameState}
 use Rattle.sip_model.specs.state.State.{first_state}
 use Rattle.sip_model.specs.steps_model.Step.{Act, Given, Passing, IsDeadline, IsResend, IsStep, NoneBy, NoneAgainBy, moment_of}
-use Rattle.sip_model.specs.Run.{Link, IsChain, IsPaced, IsRun, IsUpTo, event_moment, event_of, events_of, first_moment, next_moment, steps_of}
-use Rattle.model_ties.specs.Ties.{AreOne, ArePrompt, Due, IsPrompt, Label, PartAtTie, due_of, label_of, labels_of}
+use Rattle.sip_model.specs.Run.{Link, under, IsChain, IsPaced, IsRun, IsUnder, IsUpTo, event_moment, event_of, events_of, first_moment, next_moment, steps_of}
+use Rattle.model_ties.specs.Ties.{AreOne, ArePrompt, Due, IsPrompt, Label, PartAtTie, configurations_of, due_of, label_of, labels_of}
 use Rattle.model_ties.proofs.Lists.{onto, turned_round}
 use Rattle.model_ties.proofs.Firsts.{at_one_moment, nothing_happens}
 use Rattle.model_ties.proofs.Alike.{Sameness, happens_alike, one_due}
@@ -22,6 +24,7 @@ use Rattle.model_ties.proofs.Steps.{one_given}
 -- a step comes next: it begins in a state, and time passes in it up to the first of the events that are left
 record ComesNext (server : Server) (state : ProxyState) (link : Link) (left : List Event) : Type 0 where
   begins : link.before ≡ state
+  configured : IsUnder server.config link
   step : IsStep server link.before link.act link.out link.after
   prompt : IsPrompt server link.before link.act link.out link.after
   paced : IsUpTo (first_moment left None) link.act
@@ -37,13 +40,21 @@ next_is (Given event) events = refl
 next_is (Passing at) events = refl
 
 -- a history, turned round
-turned : (server : Server) (first middle last : ProxyState) (history later : List Link) → IsChain server first history middle → ArePrompt server history → IsPaced (first_moment (events_of later) None) history
-    → Follows server middle later last → Follows server first (onto history later) last
-turned server first middle last [] later chain prompt paced follows = subst (λ (s : ProxyState). Follows server s later last) chain follows
-turned server first middle last (link ∷ history) later chain prompt paced follows =
-    turned server first link.before last history (link ∷ later) chain.2 prompt.1
-    (subst (λ (o : Option ℕ). IsPaced o history) (next_is link.act (events_of later)) paced.1)
-    (record { begins = refl; step = chain.1; prompt = prompt.0; paced = paced.0 }, subst (λ (s : ProxyState). Follows server s later last) chain.0 follows)
+turned : (server : Server) (first middle last : ProxyState) (history later : List Link) → IsChain server first history middle → AllByRecursion (IsUnder server.config) history → ArePrompt server history
+    → IsPaced (first_moment (events_of later) None) history → Follows server middle later last → Follows server first (onto history later) last
+turned server first middle last [] later chain configured prompt paced follows = subst (λ (s : ProxyState). Follows server s later last) chain follows
+turned server first middle last (link ∷ history) later chain configured prompt paced follows =
+    turned server first link.before last history (link ∷ later) chain.2 configured.1 prompt.1
+    (subst (λ (o : Option ℕ). IsPaced o history) (next_is link.act (events_of later)) paced.1) (
+      record {
+        begins = refl;
+        configured = configured.0;
+        step = subst (λ (c : Config). IsStep (under server c) link.before link.act link.out link.after) configured.0 chain.1;
+        prompt = subst (λ (c : Config). IsPrompt (under server c) link.before link.act link.out link.after) configured.0 prompt.0;
+        paced = paced.0;
+      },
+      subst (λ (s : ProxyState). Follows server s later last) chain.0 follows,
+    )
 
 -- its events
 events_turned : (history later : List Link) → events_of (onto history later) ≡ reverse (events_of history) ++ events_of later
@@ -59,9 +70,18 @@ steps_turned [] later = refl
 steps_turned (link ∷ history) later = steps_turned history (link ∷ later) ∙ sym (turned_round link.out (steps_of history) (steps_of later))
 
 -- a chain behind another one
-joined_chain : (server : Server) (first middle last : ProxyState) (history later : List Link) → IsChain server first history middle → IsChain server middle later last → IsChain server first (later ++ history) last
+pub joined_chain : (server : Server) (first middle last : ProxyState) (history later : List Link) → IsChain server first history middle → IsChain server middle later last → IsChain server first (later ++ history) last
 joined_chain server first middle last history [] before behind = subst (λ (s : ProxyState). IsChain server first history s) (sym behind) before
 joined_chain server first middle last history (link ∷ later) before behind = (behind.0, behind.1, joined_chain server first middle link.before history later before behind.2)
+
+-- a chain is one under another configuration
+pub chain_under : (server : Server) (config : Config) (first : ProxyState) (history : List Link) (last : ProxyState) → IsChain server first history last → IsChain (under server config) first history last
+chain_under server config first [] last h = h
+chain_under server config first (link ∷ history) last h = (h.0, h.1, chain_under server config first history link.before h.2)
+
+-- the step of a link, under its own configuration
+own_step : (server : Server) (link : Link) → IsUnder server.config link → IsStep server link.before link.act link.out link.after → IsStep (under server link.config) link.before link.act link.out link.after
+own_step server link is step = subst (λ (c : Config). IsStep (under server c) link.before link.act link.out link.after) (sym is) step
 
 -- ---- what comes next in both
 
@@ -153,35 +173,48 @@ module _ (sameness : Sameness)
 
   -- a step on the way
   walked_on : (walked : List Link) (state : ProxyState) (link : Link) (left : List Event) → IsChain server start walked state → ComesNext server state link left → IsChain server start (link ∷ walked) link.after
-  walked_on walked state link left chain next = (refl, next.step, subst (λ (s : ProxyState). IsChain server start walked s) (sym next.begins) chain)
+  walked_on walked state link left chain next = (refl, own_step server link next.configured next.step, subst (λ (s : ProxyState). IsChain server start walked s) (sym next.begins) chain)
 
   -- from a first state on
   from_first : (walked : List Link) (state : ProxyState) → IsChain server start walked state → IsChain server (first_state first) (walked ++ past) state
   from_first walked state chain = joined_chain server (first_state first) start state past walked reached chain
 
   -- two steps with one label are one
-  one_label : (left right : ProxyState) (act its : Act) (out another : StepOut) (new newer : ProxyState) (walked : List Link) → IsChain server start walked left → SameState left right
-      → IsStep server left act out new → IsStep server right its another newer → (prompt : IsPrompt server left act out new) (prompted : IsPrompt server right its another newer)
-      → label_of server left act out new prompt ≡ label_of server right its another newer prompted → (out ≡ another) × SameState new newer
-  one_label left right (Given event) (Given its) out another new newer walked chain same mine theirs prompt prompted e =
+  one_label : (config : Config) (left right : ProxyState) (act its : Act) (out another : StepOut) (new newer : ProxyState) (walked : List Link) → IsChain server start walked left → SameState left right
+      → IsStep (under server config) left act out new → IsStep (under server config) right its another newer
+      → (prompt : IsPrompt (under server config) left act out new) (prompted : IsPrompt (under server config) right its another newer)
+      → label_of (under server config) left act out new prompt ≡ label_of (under server config) right its another newer prompted → (out ≡ another) × SameState new newer
+  one_label config left right (Given event) (Given its) out another new newer walked chain same mine theirs prompt prompted e =
       let events : event ≡ its = cc in
-      one_given sameness steps_same server left right same event out another new newer
-      (step_one_way histories server first (walked ++ past) left (from_first walked left chain) (Given event) out new mine)
-      mine (subst (λ (x : Event). IsStep server right (Given x) another newer) (sym events) theirs)
-  one_label left right (Given event) (Passing when) out another new newer walked chain same mine theirs prompt prompted e = absurd (cc)
-  one_label left right (Passing at) (Given its) out another new newer walked chain same mine theirs prompt prompted e = absurd (cc)
-  one_label left right (Passing at) (Passing when) out another new newer walked chain same mine theirs prompt prompted e =
-      let at_once : out.at ≡ another.at = at_one_moment server left right at when out another new newer same.requests prompt prompted in
-      let risen = rises server first (record { before = left; act = Passing at; out = out; after = new }) (walked ++ past) new (refl, mine, from_first walked left chain) in
-      let stood = stands server left new (Passing at) out mine in
+      one_given sameness steps_same (under server config) left right same event out another new newer
+      (step_one_way histories (under server config) first (walked ++ past) left (chain_under server config (first_state first) (walked ++ past) left (from_first walked left chain)) (Given event) out new mine)
+      mine (subst (λ (x : Event). IsStep (under server config) right (Given x) another newer) (sym events) theirs)
+  one_label config left right (Given event) (Passing when) out another new newer walked chain same mine theirs prompt prompted e = absurd (cc)
+  one_label config left right (Passing at) (Given its) out another new newer walked chain same mine theirs prompt prompted e = absurd (cc)
+  one_label config left right (Passing at) (Passing when) out another new newer walked chain same mine theirs prompt prompted e =
+      let at_once : out.at ≡ another.at = at_one_moment (under server config) left right at when out another new newer same.requests prompt prompted in
+      let risen = rises server first (record { config = config; before = left; act = Passing at; out = out; after = new }) (walked ++ past) new (refl, mine, from_first walked left chain) in
+      let stood = stands (under server config) left new (Passing at) out mine in
       let moment = same.moment in
-      let moved = happens_alike sameness server right left (sameness.turned left right same) when another newer (omega (arith, at_once, risen, stood, moment)) prompted in
+      let moved = happens_alike sameness (under server config) right left (sameness.turned left right same) when another newer (omega (arith, at_once, risen, stood, moment)) prompted in
       let dues : due_of prompt ≡ due_of prompted = cc in
-      one_due sameness server left at when out another new newer at_once prompt moved.0 (dues ∙ sym moved.1)
+      one_due sameness (under server config) left at when out another new newer at_once prompt moved.0 (dues ∙ sym moved.1)
+
+  -- also where the configuration of the other one is said in other words
+  abbrev OneLabel : Config → (config : Config) (left right : ProxyState) (act its : Act) (out another : StepOut) (new newer : ProxyState) → IsPrompt (under server config) left act out new → Type 0
+  OneLabel other config left right act its out another new newer prompt =
+      IsStep (under server other) right its another newer → (prompted : IsPrompt (under server other) right its another newer)
+      → label_of (under server config) left act out new prompt ≡ label_of (under server other) right its another newer prompted → (out ≡ another) × SameState new newer
+
+  one_label_too : (config other : Config) (left right : ProxyState) (act its : Act) (out another : StepOut) (new newer : ProxyState) (walked : List Link) → IsChain server start walked left → SameState left right
+      → config ≡ other → IsStep (under server config) left act out new → (prompt : IsPrompt (under server config) left act out new) → OneLabel other config left right act its out another new newer prompt
+  one_label_too config other left right act its out another new newer walked chain same is mine prompt =
+      subst (λ (c : Config). OneLabel c config left right act its out another new newer prompt) is
+      (λ theirs prompted e. one_label config left right act its out another new newer walked chain same mine theirs prompt prompted e)
 
   -- the steps that come next in both, and what is left of both behind them if they are the same
   module _ (walked : List Link) (link twin : Link) (one other : List Link) (last end : ProxyState) (here : IsChain server start walked link.before) (begin : SameState link.before twin.before)
-      (step : IsStep server link.before link.act link.out link.after)
+      (step : IsStep server link.before link.act link.out link.after) (is_under : IsUnder server.config link)
       (further : SameState link.after twin.after → events_of one ≡ events_of other → Runs (link ∷ walked) one other last end) where
     -- both are the same
     go_on : events_of one ≡ events_of other → (link.out ≡ twin.out) × SameState link.after twin.after → Runs walked (link ∷ one) (twin ∷ other) last end
@@ -190,7 +223,7 @@ module _ (sameness : Sameness)
     -- the first isn't before the moment of its state
     later : link.before.moment ≤ link.out.at
     later =
-        let risen = rises server first link (walked ++ past) link.after (refl, step, from_first walked link.before here) in
+        let risen = rises server first link (walked ++ past) link.after (refl, own_step server link is_under step, from_first walked link.before here) in
         let at = stands server link.before link.after link.act link.out step in
         omega (arith, risen, at)
 
@@ -214,6 +247,7 @@ module _ (sameness : Sameness)
                 history = walked;
                 state = link.before;
                 chain = here;
+                config = server.config;
                 at = at;
                 out = link.out;
                 new = link.after;
@@ -267,7 +301,7 @@ module _ (sameness : Sameness)
       by_acts walked link twin one other last end
       (subst (λ (s : ProxyState). IsChain server start walked s) (sym h.0.begins) chain)
       (subst (λ (s : ProxyState). SameState s twin.before) (sym h.0.begins) (subst (λ (s : ProxyState). SameState left s) (sym k.0.begins) same))
-      h.0.step
+      h.0.step h.0.configured
       (λ states rest. side_by_side one other (link ∷ walked) link.after twin.after last end (walked_on walked left link (events_of one) chain h.0) states h.1 k.1 rest)
       link.act twin.act e h.0.step k.0.step h.0.prompt k.0.prompt h.0.paced k.0.paced
 
@@ -275,15 +309,16 @@ module _ (sameness : Sameness)
 
   -- two histories with the same labels took the same steps
   pub labels_decide : (history its : List Link) (other_start last end : ProxyState) → SameState start other_start → IsChain server start history last → IsChain server other_start its end → (prompt : ArePrompt server history)
-      → (other_prompt : ArePrompt server its) → labels_of server history prompt ≡ labels_of server its other_prompt → AreOne (steps_of history) (steps_of its) last end
-  labels_decide [] [] other_start last end same chain other_chain prompt other_prompt e =
+      → (other_prompt : ArePrompt server its) → configurations_of history ≡ configurations_of its → labels_of server history prompt ≡ labels_of server its other_prompt → AreOne (steps_of history) (steps_of its) last end
+  labels_decide [] [] other_start last end same chain other_chain prompt other_prompt configs e =
       record { steps_are = refl; state = subst (λ (s : ProxyState). SameState s end) (sym chain) (subst (λ (s : ProxyState). SameState start s) (sym other_chain) same) }
-  labels_decide [] (twin ∷ its) other_start last end same chain other_chain prompt other_prompt e = absurd (cc)
-  labels_decide (link ∷ history) [] other_start last end same chain other_chain prompt other_prompt e = absurd (cc)
-  labels_decide (link ∷ history) (twin ∷ its) other_start last end same chain other_chain prompt other_prompt e =
+  labels_decide [] (twin ∷ its) other_start last end same chain other_chain prompt other_prompt configs e = absurd (cc)
+  labels_decide (link ∷ history) [] other_start last end same chain other_chain prompt other_prompt configs e = absurd (cc)
+  labels_decide (link ∷ history) (twin ∷ its) other_start last end same chain other_chain prompt other_prompt configs e =
       let before : AreOne (steps_of history) (steps_of its) link.before twin.before =
-      labels_decide history its other_start link.before twin.before same chain.2 other_chain.2 prompt.1 other_prompt.1 (ap (drop 1) e) in
-      let step = one_label link.before twin.before link.act twin.act link.out twin.out link.after twin.after history chain.2 before.state chain.1 other_chain.1 prompt.0 other_prompt.0 (label_first (ap head_label e)) in
+      labels_decide history its other_start link.before twin.before same chain.2 other_chain.2 prompt.1 other_prompt.1 (ap (drop 1) configs) (ap (drop 1) e) in
+      let is : link.config ≡ twin.config = cc in
+      let step = one_label_too link.config twin.config link.before twin.before link.act twin.act link.out twin.out link.after twin.after history chain.2 before.state is chain.1 prompt.0 other_chain.1 other_prompt.0 (label_first (ap head_label e)) in
       record {
         steps_are = ap₂ (λ (x : StepOut) (xs : List StepOut). x ∷ xs) step.0 before.steps_are;
         state = subst (λ (s : ProxyState). SameState s end) (sym chain.0) (subst (λ (s : ProxyState). SameState link.after s) (sym other_chain.0) step.1);
@@ -294,7 +329,7 @@ module _ (sameness : Sameness)
       → IsRun server other_start events None others its end → ArePrompt server history → ArePrompt server its → AreOne steps others last end ⊎ PartAtTie server start steps others
   runs_part other_start last end events steps others history its same run other_run prompt other_prompt =
       by_either (side_by_side (onto history []) (onto its []) [] start other_start last end refl same
-      (turned server start last last history [] run.chain prompt run.paced refl) (turned server other_start end end its [] other_run.chain other_prompt other_run.paced refl)
+      (turned server start last last history [] run.chain run.configured prompt run.paced refl) (turned server other_start end end its [] other_run.chain other_run.configured other_prompt other_run.paced refl)
       (told history run.of_events ∙ sym (told its other_run.of_events))) where
         told : (h : List Link) → reverse (events_of h) ≡ events → events_of (onto h []) ≡ events
         told h is = events_turned h [] ∙ append-nil (reverse (events_of h)) ∙ is

@@ -6,6 +6,7 @@ use Rattle.sip_event.specs.declared.packet.Packet.{Packet}
 use Rattle.sip_event.specs.declared.event.StepOut.{StepOut}
 use Rattle.sip_event.specs.declared.event.Event.{Event}
 use Rattle.sip_event.specs.declared.event.Event.TheVariants.{Datagram, Time, Fault}
+use Rattle.sip_config_types.specs.declared.config.Config.{Config}
 use Rattle.sip_model.specs.state.declared.server.Server.{Server}
 use Rattle.sip_model.specs.state.declared.open_request.OpenRequest.{OpenRequest}
 use Rattle.sip_model.specs.state.declared.proxy_state.ProxyState.{ProxyState}
@@ -13,7 +14,7 @@ use Rattle.sip_model.specs.state.SameState.{SameState}
 use Rattle.sip_model.specs.context_model.Branches.{Change}
 use Rattle.sip_model.specs.context_model.Retransmission.{IsResent, OfAnswer, OfRequest}
 use Rattle.sip_model.specs.steps_model.Step.{Act, Given, Passing, IsDeadline, IsResend, IsOverdue, OfSide, OfBranch, NoneBy, NoneAgainBy, moment_of}
-use Rattle.sip_model.specs.Run.{Link, IsChain, steps_of}
+use Rattle.sip_model.specs.Run.{Link, IsChain, steps_of, under}
 
 -- ---- what happens as time passes
 
@@ -51,9 +52,9 @@ IsPrompt server before (Given (Time at)) out after = ⊤
 IsPrompt server before (Given (Fault at ticket)) out after = NoneBy (moment_of before at) before.requests × NoneAgainBy (moment_of before at) before.requests
 IsPrompt server before (Passing at) out after = IsDeadline server before at out after ⊎ IsResend server before at out after
 
--- the same of each step of a history
+-- the same of each step of a history, under the configuration that was in force then
 abbrev pub ArePrompt : Server → List Link → Type 0
-ArePrompt server history = AllByRecursion (λ (link : Link). IsPrompt server link.before link.act link.out link.after) history
+ArePrompt server history = AllByRecursion (λ (link : Link). IsPrompt (under server link.config) link.before link.act link.out link.after) history
 
 -- What a step is taken for: an event, or what is due that happens.
 pub data Label : Type 0 where
@@ -68,7 +69,13 @@ label_of server before (Passing at) out after prompt = Happened (due_of prompt)
 -- what its steps are taken for, the newest first
 abbrev pub labels_of : (server : Server) (history : List Link) → ArePrompt server history → List Label
 labels_of server [] prompt = []
-labels_of server (link ∷ history) prompt = label_of server link.before link.act link.out link.after prompt.0 ∷ labels_of server history prompt.1
+labels_of server (link ∷ history) prompt =
+    label_of (under server link.config) link.before link.act link.out link.after prompt.0 ∷ labels_of server history prompt.1
+
+-- the configurations under which they were taken, the newest first
+abbrev pub configurations_of : List Link → List Config
+configurations_of [] = []
+configurations_of (link ∷ history) = link.config ∷ configurations_of history
 
 -- ---- what two runs have in common
 
@@ -77,20 +84,21 @@ pub record AreOne (steps others : List StepOut) (last end : ProxyState) : Type 0
   pub steps_are : steps ≡ others
   pub state : SameState last end
 
--- Two runs part at a tie: up to some state they took the same steps. There, of what is due at one moment, which is the first at which
--- anything is, each lets something else happen.
+-- Two runs part at a tie: up to some state they took the same steps. There, under the configuration in force, of what is due at one
+-- moment, which is the first at which anything is, each lets something else happen.
 pub record PartAtTie (server : Server) (first : ProxyState) (steps others : List StepOut) : Type 0 where
   pub history : List Link
   pub state : ProxyState
   pub chain : IsChain server first history state
+  pub config : Config
   pub at : ℕ
   pub out : StepOut
   pub new : ProxyState
-  pub happens : IsDeadline server state at out new ⊎ IsResend server state at out new
+  pub happens : IsDeadline (under server config) state at out new ⊎ IsResend (under server config) state at out new
   pub further : List StepOut
   pub other_out : StepOut
   pub other_new : ProxyState
-  pub other_happens : IsDeadline server state at other_out other_new ⊎ IsResend server state at other_out other_new
+  pub other_happens : IsDeadline (under server config) state at other_out other_new ⊎ IsResend (under server config) state at other_out other_new
   pub other_further : List StepOut
   pub at_once : out.at ≡ other_out.at
   pub differ : due_of happens ≢ due_of other_happens

@@ -8,7 +8,8 @@ ghost use Rattle.sip_model.specs.state.State.{first_state};
 ghost use Rattle.sip_model.specs.state.SameState.{SameState};
 ghost use Rattle.sip_model.specs.steps_model.Step.{IsFault, NoneAgainBy, NoneBy, moment_of};
 ghost use Rattle.sip_model.specs.Run.{Link, IsChain, IsRun, steps_of};
-ghost use Rattle.model_ties.specs.Ties.{AreOne, ArePrompt, PartAtTie, labels_of};
+ghost use Rattle.sip_model.specs.Periods.{Period, IsRunUnder};
+ghost use Rattle.model_ties.specs.Ties.{AreOne, ArePrompt, PartAtTie, configurations_of, labels_of};
 
 use sip_dialog::laws::same_dialogs;
 use sip_location::laws::same_bindings;
@@ -43,14 +44,36 @@ pub fn runs_part_at_ties_alone()
     steps_have_parts();
 }
 
-/// The events that are taken, and what happens in between of what is due, decide everything, each in its order: two prompt histories from
-/// states that are the same, to which steps of the model led, whose steps are taken for the same, took the same steps, each with all
-/// that it hands out in the same order and all that it records, and came to states that are the same.
+/// So do two runs over the same periods, each under its configuration: they take the same steps, or they part at a tie.
+pub fn runs_under_part_at_ties_alone()
+    ensures { (server : Server) (first : ℕ) (past : List Link) (start other_start last end : ProxyState) (periods : List Period)
+        (steps others : List StepOut) (history its : List Link)
+        → IsChain server (first_state first) past start → SameState start other_start
+        → IsRunUnder server start periods None steps history last → IsRunUnder server other_start periods None others its end
+        → ArePrompt server history → ArePrompt server its
+        → AreOne steps others last end ⊎ PartAtTie server start steps others }
+{
+    same_bindings();
+    same_dialogs();
+    same_states();
+    dialogs_after_same();
+    moment_rises();
+    steps_same();
+    steps_stand_at_their_moments();
+    requests_can_end();
+    steps_have_parts();
+}
+
+/// The events that are taken, what happens in between of what is due, and the configuration that is in force in each step decide
+/// everything, each in its order: two prompt histories from states that are the same, to which steps of the model led, whose steps are
+/// taken for the same under the same configurations, took the same steps, each with all that it hands out in the same order and all
+/// that it records, and came to states that are the same.
 pub fn order_decides()
     ensures { (server : Server) (first : ℕ) (past : List Link) (start other_start last end : ProxyState) (history its : List Link)
         → IsChain server (first_state first) past start → SameState start other_start
         → IsChain server start history last → IsChain server other_start its end
         → (prompt : ArePrompt server history) → (other_prompt : ArePrompt server its)
+        → configurations_of history ≡ configurations_of its
         → labels_of server history prompt ≡ labels_of server its other_prompt → AreOne (steps_of history) (steps_of its) last end }
 {
     same_bindings();

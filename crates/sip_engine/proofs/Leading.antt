@@ -1,10 +1,13 @@
 -- A step leads on from a state that steps lead to, and is one for a moment that goes back.
-use Rattle.std.proofs.Common.{◌≡◌, ◌∙◌, ◌≤◌, ◌⊎◌, inl, inr, ℕ, List, ◌∷◌, Result, Ok, Err, IfOk, OnErr, refl, sym, subst}
+use Rattle.std.proofs.Common.{◌≡◌, ◌∙◌, ◌≤◌, ◌⊎◌, inl, inr, ℕ, ◌↔◌, List, ◌∷◌, Option, Some, None, Result, Ok, Err, IfOk, OnErr, refl, sym, ap, subst}
 use Rattle.std.proofs.Math.Nat.{le-max_left, max-eq_right}
+use Rattle.sip_config_types.specs.declared.config.Config.{Config}
 use Rattle.sip_event.specs.declared.event.StepOut.{StepOut}
 use Rattle.sip_uri.specs.declared.addr.Addr.{Addr}
 use Rattle.sip_model.specs.steps_model.Effect.{datagram_effect}
 use Rattle.sip_model.specs.steps_model.Step.{Act, Does, Passing, IsDeadline, IsDelivery, IsQuiet, IsResend, IsStep, IsTime, NoneAgainBy, NoneBy, arrival_of, moment_of}
+use Rattle.sip_model.specs.Run.{Link, IsChain, under}
+use Rattle.sip_core.specs.state.State.{first_state}
 use Rattle.sip_core.specs.state.declared.proxy_state.ProxyState.{ProxyState}
 use Rattle.sip_core.specs.state.declared.server.Server.{Server}
 use Rattle.sip_timers.specs.declared.timer.Timer.{Timer}
@@ -18,9 +21,22 @@ pub led_on : (server : Server) (old new : ProxyState) (act : Act) (out : StepOut
 led_on server old new act out h step =
     record {
       first = h.first;
-      history = (record { before = old; act = act; out = out; after = new }) ∷ h.history;
+      history = (record { config = server.config; before = old; act = act; out = out; after = new }) ∷ h.history;
       chain = (refl, step, h.chain);
     }
+
+-- what is no Some is None
+pub none_left : {A : Type 0} (o : Option A) → ((x : A) → o ≡ Some x → ⊥) → o ≡ None
+none_left None none = refl
+none_left (Some x) none = absurd (none x refl)
+
+-- A server that has a state is the same server under another configuration of the same frame: steps lead to that state, too.
+pub reached_under : ((server : Server) (config : Config) (first : ProxyState) (history : List Link) (last : ProxyState) → (IsChain server first history last ↔ IsChain (under server config) first history last))
+    → (server other : Server) (config : Config) (state : ProxyState) → record config { own = server.config.own; realm = server.config.realm } ≡ config → other ≡ record { config = config; word = server.word }
+    → IsReached server state → IsReached other state
+reached_under law server other config state same is h =
+    subst (λ (s : Server). IsReached s state) (ap (λ (k : Config). record { config = k; word = server.word }) same ∙ sym is)
+    (record { first = h.first; history = h.history; chain = (law server config (first_state h.first) h.history state).0 h.chain })
 
 pub stayed : (server : Server) (old new : ProxyState) → IsReached server old → new ≡ old → IsReached server new
 stayed server old new h same = subst (λ (s : ProxyState). IsReached server s) (sym same) h

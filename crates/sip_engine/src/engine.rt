@@ -1,4 +1,4 @@
-ghost use Rattle.std.specs.Prelude.{◌≡◌, ◌≤◌, ◌<◌, ◌^◌, ◌⊎◌, ℕ, [], max, None, Some, Err, MatchOption, IsOk, IfOk, IfErr, IfSome, OnErr};
+ghost use Rattle.std.specs.Prelude.{◌≡◌, ◌≤◌, ◌<◌, ◌^◌, ◌⊎◌, ℕ, [], max, None, Some, Err, MatchOption, IsOk, IfOk, IfErr, IfSome, OnErr, OnOk};
 ghost use Rattle.sip_event.specs.declared.event.Event.TheVariants.{Datagram, Fault};
 ghost use Rattle.sip_engine_open.specs.Faults.{failed_of};
 ghost use Rattle.sip_engine_open.specs.Next.{IsNext};
@@ -10,24 +10,31 @@ ghost use Rattle.sip_model.specs.steps_model.Step.{NoneBefore, NoneBy, moment_of
 ghost use Rattle.sip_core.specs.state.State.{first_state};
 ghost use Rattle.sip_engine.specs.Engine.{IsReached};
 ghost use Rattle.sip_engine.specs.StepError.{refusal_at, refusal_of};
+ghost use Rattle.sip_config_change.specs.Frame.{frame_key_of};
+ghost use Rattle.sip_model.specs.Run.{under};
+ghost use Rattle.sip_engine.specs.declared.change_error.ChangeError.TheVariants as Unchanged;
 ghost use Rattle.sip_engine.specs.declared.error.StepError.TheVariants.{NoMemory};
 
+use crate::change_error::ChangeError;
 use crate::error::StepError;
 use crate::histories::reached_states_are_sound;
 use crate::stepping;
+use sip_config_change::frame_key;
+use sip_config_change::laws::policy_in_the_old_frame_is_new;
 use sip_config_types::Config;
 use sip_core::Judge;
 use sip_core::state::Server;
 use sip_engine_open::proxy::Proxy;
 use sip_event::{Boot, StepOut, Ticket};
 use sip_location::LiveBindings;
+use sip_model::periods::histories_are_under_each;
 use sip_policy::Rules;
 use sip_timers::Timers;
 use sip_uri::{Addr, Aor};
 use std::alloc::{AllocError, Global};
 use std::marker::Model;
 
-/// The server. Each call takes one step, or is refused and changes nothing.
+/// The server. Each call takes one step, or another configuration, or is refused and changes nothing.
 pub struct Engine<T: Timers, R: Rules> {
     alloc: Global,
     judge: Judge<R>,
@@ -73,6 +80,29 @@ impl<T: Timers, R: Rules> Engine<T, R> {
             judge,
             proxy,
         })
+    }
+
+    /// Is under another configuration from now on: the next step judges by it. No step is taken: what is open goes on as it was
+    /// judged, what stands stays, nothing is sent or recorded. Refused with `OtherFrame` where it says of itself something else than
+    /// before, by the first such key (host, port, IP address, own domains, realm); and with `NoMemory`; nothing is changed then.
+    pub fn change(&mut self, config: Config) -> Result<(), ChangeError>
+        ensures refused { IfSome (frame_key_of self.old.server.config config) (λ key. result ≡ Err (Unchanged.OtherFrame key)) }
+        ensures otherwise { frame_key_of self.old.server.config config ≡ None → IfErr result (λ e. e ≡ Unchanged.NoMemory) }
+        ensures unchanged { OnErr result (self.new ≡ self.old) }
+        ensures server { OnOk result (self.new.server ≡ record { config = config; word = self.old.server.word }) }
+        ensures under { OnOk result (self.new.server ≡ under self.old.server config) }
+        ensures state { OnOk result (self.new.state ≡ self.old.state) }
+        ensures timers { OnOk result (self.new.timers ≡ self.old.timers) }
+    {
+        histories_are_under_each();
+        policy_in_the_old_frame_is_new();
+        let old = self.judge.server();
+        if let Some(key) = frame_key(&old.config, &config) {
+            return Err(ChangeError::OtherFrame(key));
+        }
+        let word = old.word;
+        self.judge = Judge::new(self.alloc, Server { config, word })?;
+        Ok(())
     }
 
     /// Its state is one that steps of the model lead to, so that whatever is proved of every history holds here. Does nothing.

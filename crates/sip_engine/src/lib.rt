@@ -2,7 +2,8 @@
 //! are handed in, packets and records are handed out (RFC 3261 10, 16, 17). Each call is exactly one step of the model, or is
 //! refused with nothing changed. A datagram is read, what it belongs to is found, and one step is taken for it, whole or not
 //! at all: the bytes say a message or are dropped; a response finds the branch that it is to; a request finds the open one
-//! with its key, or is new, and is judged (`take_datagram`).
+//! with its key, or is new, and is judged (`take_datagram`). Between two steps another configuration may come into force, and nothing
+//! else changes then (`Engine::change`).
 //!
 //! - Used: `sip_run` over a list of events, `sip_replay` over a script, `sip_loop` over a link.
 //! - Not here: a socket or a clock (`sip_loop_link`).
@@ -15,6 +16,7 @@
 
 mod answering;
 mod asking;
+mod change_error;
 mod configured;
 mod datagram;
 mod delivery_laws;
@@ -32,6 +34,7 @@ mod responses;
 mod served;
 mod stepping;
 
+pub use change_error::ChangeError;
 pub use datagram::take_datagram;
 pub use engine::Engine;
 pub use error::StepError;

@@ -1,26 +1,27 @@
 -- One datagram more that is passed over.
-use Rattle.std.proofs.Common.{◌≡◌, ℕ, ◌+◌, ◌<◌, ◌≤◌, Bool, true, false, not, ◌&&◌, List, ◌∷◌, Option, Some, None, nat_lt, sym, ap, ◌∙◌, arith, add-one}
+use Rattle.std.proofs.Common.{◌≡◌, ℕ, ◌+◌, ◌<◌, ◌≤◌, Bool, true, false, not, ◌&&◌, List, ◌∷◌, Option, None, nat_lt, if◌then◌else◌, sym, ap, ◌∙◌, arith, add-one}
 use Rattle.std.proofs.lemmas.Bool.{lt-ltb, le-ltb}
 use Rattle.std.specs.List.{list_all}
 use Rattle.sip_loop_link.specs.Told.{and_then, counted, left_of}
+use Rattle.sip_loop_link.specs.declared.datagram.Instead.TheVariants.{AskedAgain, HeardNothing}
 use Rattle.sip_loop_link.specs.declared.datagram.Heard.{Heard}
-use Rattle.sip_guard.specs.Guard.{AllowanceState, LinkState, PassesOver, is_within, counted_times, most_passed}
+use Rattle.sip_guard.specs.Guard.{AllowanceState, LinkState, PassesOver, instead_behind, is_within, counted_times, most_passed}
 use Rattle.sip_guard.specs.Unheard.{noted}
 
 -- as long as no more are passed over than may be, the link heard what it had heard before
 pub heard_before : (old new : AllowanceState) (before after : LinkState) (count : ℕ) → PassesOver old new before after count → count < most_passed → after.heard ≡ before.heard
 heard_before old new before after count passes few =
     let less : nat_lt count most_passed ≡ true = lt-ltb count most_passed few in
-    passes.told ∙ ap (λ (again : Bool). left_of again before.heard) less
+    passes.told ∙ ap (λ (less : Bool). left_of (if less then AskedAgain else HeardNothing) before.heard) less
 
 -- behind the last of these, it heard nothing
 pub heard_nothing : (old new : AllowanceState) (before after : LinkState) (count : ℕ) → PassesOver old new before after count → most_passed ≤ count → after.heard ≡ and_then before.heard None
 heard_nothing old new before after count passes many =
     let less : nat_lt count most_passed ≡ false = le-ltb count most_passed many in
-    passes.told ∙ ap (λ (again : Bool). left_of again before.heard) less
+    passes.told ∙ ap (λ (less : Bool). left_of (if less then AskedAgain else HeardNothing) before.heard) less
 
 pub one_passed : (old between new : AllowanceState) (before link after : LinkState) (count : ℕ) (datagram : Heard)
-    → PassesOver old between before link count → count < most_passed → after.heard ≡ left_of (nat_lt (count + 1) most_passed) link.heard
+    → PassesOver old between before link count → count < most_passed → after.heard ≡ left_of (instead_behind (count + 1)) link.heard
     → after.aside ≡ and_then link.aside datagram → after.given ≡ link.given
     → after.waits ≡ link.waits → after.receives ≡ counted link.receives → after.failures ≡ link.failures → is_within between datagram.from.ip ≡ false
     → new ≡ record between { unheard = noted between.unheard datagram.from.ip } → PassesOver old new before after (count + 1)
@@ -29,7 +30,7 @@ one_passed old between new before link after count datagram passes few heard asi
     record {
       passed = datagram ∷ passes.passed;
       number = omega (arith, passes.number);
-      told = heard ∙ ap (left_of (nat_lt (count + 1) most_passed)) (heard_before old between before link count passes few);
+      told = heard ∙ ap (left_of (instead_behind (count + 1))) (heard_before old between before link count passes few);
       aside = aside ∙ ap (λ (list : Option (List Heard)). and_then list datagram) passes.aside;
       given = given ∙ passes.given;
       waits = waits ∙ passes.waits;

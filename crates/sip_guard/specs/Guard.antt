@@ -1,7 +1,9 @@
 -- A link that hears no more of a source than its allowance.
-use Rattle.std.specs.Prelude.{◌≡◌, ◌≤◌, ◌<◌, nat_lt, ℕ, zero, suc, Bool, true, false, not, ◌||◌, max, List, [], ◌∷◌, length, Option, Some, None, Result, Ok, Err, ◌⊎◌}
+use Rattle.std.specs.Prelude.{◌≡◌, ◌≤◌, ◌<◌, nat_lt, ℕ, zero, suc, Bool, true, false, not, ◌||◌, max, List, [], ◌∷◌, length, if◌then◌else◌, Option, Some, None, Result, Ok, Err, ◌⊎◌}
 use Rattle.std.specs.List.{list_all, list_any}
 use Rattle.sip_loop_link.specs.Told.{counted, heard_of, and_then, and_counted, left_of}
+use Rattle.sip_loop_link.specs.declared.datagram.Instead.{Instead}
+use Rattle.sip_loop_link.specs.declared.datagram.Instead.TheVariants.{AskedAgain, HeardNothing}
 use Rattle.sip_loop_link.specs.declared.datagram.Given.{Given}
 use Rattle.sip_loop_link.specs.declared.datagram.Heard.{Heard}
 use Rattle.sip_loop_link.specs.declared.datagram.LinkFault.{LinkFault}
@@ -94,12 +96,16 @@ counted_times (suc n) number = counted (counted_times n number)
 abbrev pub most_passed : ℕ
 most_passed = 64
 
+-- what becomes of the receive that heard the last of so many: the link is asked again, unless they are as many as may be
+abbrev pub instead_behind : ℕ → Instead
+instead_behind count = if nat_lt count most_passed then AskedAgain else HeardNothing
+
 -- The link heard so many datagrams, each beyond the allowance of its source, which isn't heard always; they were counted, set aside and not
 -- handed on, so that the link heard what it had heard before, or nothing behind the last of as many as are passed over at most. The newest first.
 pub record PassesOver (old new : AllowanceState) (before after : LinkState) (count : ℕ) : Type 0 where
   pub passed : List Heard
   pub number : length passed ≡ count
-  pub told : after.heard ≡ left_of (nat_lt count most_passed) before.heard
+  pub told : after.heard ≡ left_of (instead_behind count) before.heard
   pub aside : after.aside ≡ and_passed before.aside passed
   pub given : after.given ≡ before.given
   pub waits : after.waits ≡ before.waits

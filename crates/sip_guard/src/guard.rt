@@ -1,11 +1,12 @@
 ghost use Rattle.std.specs.Prelude.{◌≡◌, true, None, IfOk, IfSome, OnOk, OnErr, option_map};
 ghost use Rattle.sip_loop_link.specs.Told.{counted, heard_of, and_then, GrewBy, IsWritable, SetsAside};
+ghost use Rattle.sip_guard.specs.Guard as Guarding;
 ghost use Rattle.sip_guard.specs.Guard.{allowances_of, told_all, IsBounded, Hears, Guards};
 
 use crate::allowances::Allowances;
 use crate::limit::Limit;
 use crate::unheard::Unheard;
-use sip_loop_link::{Clock, Link, LinkFault, Sending};
+use sip_loop_link::{Clock, Instead, Link, LinkFault, Sending};
 use sip_uri::Addr;
 use std::alloc::{AllocError, Global};
 use std::marker::Model;
@@ -49,6 +50,18 @@ impl<L: Link, C: Clock> Model for Guard<L, C> {
     } };
 }
 
+/// What becomes of the receive that heard the last of so many datagrams which were passed over: the link is asked again, unless they are
+/// as many as may be.
+fn instead_behind(passed: u64) -> Instead
+    ensures { result ≡ Guarding.instead_behind passed }
+{
+    if passed < MOST_PASSED {
+        Instead::AskedAgain
+    } else {
+        Instead::HeardNothing
+    }
+}
+
 /// Asks a link until it heard a datagram within its source's allowance, or nothing.
 fn hear_within<L: Link>(
     link: &mut L,
@@ -76,7 +89,7 @@ fn hear_within<L: Link>(
             return Ok(Some(from));
         }
         passed += 1;
-        link.set_aside(from, passed < MOST_PASSED);
+        link.set_aside(from, instead_behind(passed));
     }
     Ok(None)
 }
@@ -201,9 +214,9 @@ impl<L: Link, C: Clock> Link for Guard<L, C> {
         found
     }
 
-    fn set_aside(&mut self, from: Addr, again: bool)
+    fn set_aside(&mut self, from: Addr, instead: Instead)
         ensures aside { self.old.link.fresh ≡ true
-            → SetsAside (record { from = from; bytes = self.old.link.held }) again self.old.link.heard self.new.link.heard self.old.link.aside self.new.link.aside }
+            → SetsAside (record { from = from; bytes = self.old.link.held }) instead self.old.link.heard self.new.link.heard self.old.link.aside self.new.link.aside }
         ensures allowances { self.new.allowances ≡ self.old.allowances }
         ensures readings { self.new.readings ≡ self.old.readings }
         ensures counted { self.new.receives ≡ self.old.receives }
@@ -211,7 +224,7 @@ impl<L: Link, C: Clock> Link for Guard<L, C> {
         ensures given { self.new.link.given ≡ self.old.link.given }
         ensures waits { self.new.link.waits ≡ self.old.link.waits }
     {
-        self.link.set_aside(from, again);
+        self.link.set_aside(from, instead);
     }
 
     fn bytes(&self) -> &[u8] {

@@ -1,6 +1,6 @@
 -- Where nothing is due by a moment, nothing is by then once the fault of a packet was taken, since what that arms is later; nor once a datagram was
 -- taken, or time passed.
-use Rattle.std.proofs.Common.{ℕ, List, [], ◌∷◌, refl}
+use Rattle.std.proofs.Common.{ℕ, List, ◌∷◌, refl}
 use Rattle.std.specs.List.{AllByRecursion}
 use Rattle.sip_uri.specs.declared.addr.Addr.{Addr}
 use Rattle.sip_event.specs.declared.event.Event.TheVariants.{Datagram, Time}
@@ -38,10 +38,10 @@ AllHaveFired = (server : Server) (first : ℕ) (history : List Link) (last : Pro
 module _ (fired : AllHaveFired) (server : Server) (first : ℕ) (history : List Link) (old new : ProxyState) (at : ℕ) (out : StepOut) (chain : IsChain server (first_state first) history old) where
   pub arrival_leaves_none : (word : ℕ) (from : Addr) (bytes : List ℕ) → IsStep server old (ForEvent (Datagram at word from bytes)) out new → NothingDueBy new.moment new
   arrival_leaves_none word from bytes step =
-      let none = (fired server first (record { before = old; act = ForEvent (Datagram at word from bytes); out = out; after = new } ∷ history) new (refl, step, chain)).0 in
+      let none = (fired server first (record { config = server.config; before = old; act = ForEvent (Datagram at word from bytes); out = out; after = new } ∷ history) new (refl, step, chain)).0 in
       record { none = none.0; none_again = none.1 }
 
   pub silence_leaves_none : IsStep server old (ForEvent (Time at)) out new → NothingDueBy new.moment new
   silence_leaves_none step =
-      let none = (fired server first (record { before = old; act = ForEvent (Time at); out = out; after = new } ∷ history) new (refl, step, chain)).0 in
+      let none = (fired server first (record { config = server.config; before = old; act = ForEvent (Time at); out = out; after = new } ∷ history) new (refl, step, chain)).0 in
       record { none = none.0; none_again = none.1 }

@@ -150,8 +150,8 @@ module _ (server : Server) (old : ProxyState) (packets : List Packet) (place : �
         → Course server old new (sent_at turn (Some p) (drop (place + 1) packets) old.moment) (waiting_at turn waiting new.moment) (told_with others g2 w) (told_with others g2 w2) [] 0 0
     fault_event w2 waiting waits noted whole =
         subst (λ (rs : List Record). Course server old new (sent_at turn (Some p) (drop (place + 1) packets) old.moment) (waiting_at turn waiting new.moment) (told_with others g2 w) (told_with others g2 w2) rs 0 0) taken.no_records
-        (course_event server old new (sent_at turn (Some p) (drop (place + 1) packets) old.moment) (Unsent old.moment p) [] out (record { before = old; act = ForEvent (Fault old.moment p.ticket); out = out; after = new } ∷ []) comes refl
-        (record { chain = (refl, taken.step, refl); paced = (tt, tt); of_events = refl; of_steps = refl }) ((refl, taken.in_turn), tt) (append-nil out.records) taken.sayable
+        (course_event server old new (sent_at turn (Some p) (drop (place + 1) packets) old.moment) (Unsent old.moment p) [] out (record { config = server.config; before = old; act = ForEvent (Fault old.moment p.ticket); out = out; after = new } ∷ []) comes refl
+        (record { chain = (refl, taken.step, refl); paced = (tt, tt); of_events = refl; of_steps = refl; configured = (refl, tt) }) ((refl, taken.in_turn), tt) (append-nil out.records) taken.sayable
         waiting new.moment others.heard g2 others.readings w w2 others.log others.log others.words
         (waits ∙ ap (λ (l : List Packet). drop (place + 1) packets ++ l) (sym (append-nil out.packets))) taken.stands noted whole
         (subst (λ (rs : List Record). Prints others.log.bytes others.log.bytes rs) (sym taken.no_records) (prints_nothing others.log.bytes)) (λ some. absurd (some taken.no_records)) refl)
@@ -183,8 +183,8 @@ module _ (server : Server) (old : ProxyState) (packets : List Packet) (place : �
       course = course_on server old old new (waiting_at turn (drop place packets) old.moment) (sent_at turn (Some p) (drop (place + 1) packets) old.moment)
           (taken_at (sent_at turn (Some p) (drop (place + 1) packets) old.moment) (Unsent old.moment p) [] out)
           (told_with others g w) (told_with others g2 w) (told_with others g2 w2) [] out.records 0 0 0 0 tt (failed given)
-          (course_takes server old new (sent_at turn (Some p) (drop (place + 1) packets) old.moment) (Unsent old.moment p) [] out (record { before = old; act = ForEvent (Fault old.moment p.ticket); out = out; after = new } ∷ []) comes refl
-          (record { chain = (refl, taken.step, refl); paced = (tt, tt); of_events = refl; of_steps = refl }) ((refl, taken.in_turn), tt) (append-nil out.records) taken.sayable
+          (course_takes server old new (sent_at turn (Some p) (drop (place + 1) packets) old.moment) (Unsent old.moment p) [] out (record { config = server.config; before = old; act = ForEvent (Fault old.moment p.ticket); out = out; after = new } ∷ []) comes refl
+          (record { chain = (refl, taken.step, refl); paced = (tt, tt); of_events = refl; of_steps = refl; configured = (refl, tt) }) ((refl, taken.in_turn), tt) (append-nil out.records) taken.sayable
           (told_with others g2 w) (told_with others g2 w2) (told_failed others.heard g2 others.readings w w2 others.log others.words failed_now.0) failed_now refl);
       why = record { cause = Unsent old.moment p; records = out.records; untold = refl };
     }

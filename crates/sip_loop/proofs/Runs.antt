@@ -1,12 +1,13 @@
 -- Runs, one behind the other.
 use Rattle.std.proofs.Common.{◌≡◌, ℕ, List, [], ◌∷◌, ◌++◌, reverse, Option, None, refl, sym, ◌∙◌, ap, ap₂, subst}
 use Rattle.std.proofs.lemmas.List.{reverse-append}
+use Rattle.std.specs.List.{AllByRecursion}
 use Rattle.sip_event.specs.declared.event.Event.{Event}
 use Rattle.sip_event.specs.declared.event.StepOut.{StepOut}
 use Rattle.model_bounds.specs.state.declared.server.Server.{Server}
 use Rattle.model_bounds.specs.state.declared.proxy_state.ProxyState.{ProxyState}
 use Rattle.model_bounds.specs.steps_model.Step.{Act, Given as ForEvent, Passing}
-use Rattle.model_bounds.specs.model.Run.{Link, IsChain, IsPaced, IsRun, IsUpTo, event_of, events_of, next_moment, steps_of}
+use Rattle.model_bounds.specs.model.Run.{Link, IsChain, IsPaced, IsRun, IsUpTo, event_of, events_of, next_moment, steps_of, IsUnder}
 use Rattle.sip_loop.specs.Serving.{AreInTurn}
 
 -- ---- histories
@@ -40,6 +41,10 @@ steps_behind : (history later : List Link) → steps_of (later ++ history) ≡ s
 steps_behind history [] = refl
 steps_behind history (link ∷ later) = ap (λ (l : List StepOut). link.out ∷ l) (steps_behind history later)
 
+configured_on : (server : Server) (history later : List Link) → AllByRecursion (IsUnder server.config) history → AllByRecursion (IsUnder server.config) later → AllByRecursion (IsUnder server.config) (later ++ history)
+configured_on server history [] h k = h
+configured_on server history (link ∷ later) h k = (k.0, configured_on server history later h k.1)
+
 -- a run that is over, and one behind it
 pub run_on : (server : Server) (first middle last : ProxyState) (events more : List Event) (until : Option ℕ) (steps further : List StepOut) (history later : List Link)
     → IsRun server first events None steps history middle → IsRun server middle more until further later last → IsRun server first (events ++ more) until (steps ++ further) (later ++ history) last
@@ -52,11 +57,12 @@ run_on server first middle last events more until steps further history later h 
   of_steps =
       ap reverse (steps_behind history later) ∙ reverse-append (steps_of later) (steps_of history)
       ∙ ap₂ (λ (a b : List StepOut). a ++ b) h.of_steps k.of_steps;
+  configured = configured_on server history later h.configured k.configured;
 }
 
 -- nothing happened yet
 pub run_nothing : (server : Server) (state : ProxyState) (until : Option ℕ) → IsRun server state [] until [] [] state
-run_nothing server state until = record { chain = refl; paced = tt; of_events = refl; of_steps = refl }
+run_nothing server state until = record { chain = refl; paced = tt; of_events = refl; of_steps = refl; configured = tt }
 
 pub in_turn_on : (server : Server) (history later : List Link) → AreInTurn server history → AreInTurn server later → AreInTurn server (later ++ history)
 in_turn_on server history [] h k = h

@@ -173,7 +173,7 @@ module _ (server : Server) (old : ProxyState) (at : ℕ) (none_due : NothingDueB
     asks : Course server old old (waiting_at (Some at) [] old.moment) (asked_at at turn old.moment) (told_by h g r w l ws) (told_by h2 g r w l ws2) [] 0 1
     asks = course_asks server old old.moment at turn h h2 g r w l ws ws2 takes.is_at takes.hears takes.draws
 
-    turns : AreInTurn server (record { before = old; act = ForEvent (event_of_turn turn); out = out; after = middle } ∷ [])
+    turns : AreInTurn server (record { config = server.config; before = old; act = ForEvent (event_of_turn turn); out = out; after = middle } ∷ [])
     turns =
         (in_turn server old middle turn out (subst (λ (n : ℕ). NothingDueBy (moment_of old n) old) (sym (moment_is turn ∙ takes.is_at)) none_due) takes.not_refused, tt)
 
@@ -188,8 +188,8 @@ module _ (server : Server) (old : ProxyState) (at : ℕ) (none_due : NothingDueB
       asks = 1 + 0;
       course = course_on server old old middle (waiting_at (Some at) [] old.moment) (asked_at at turn old.moment) (taken_at (asked_at at turn old.moment) (Brought turn) [] out)
           (told_by h g r w l ws) (told_by h2 g r w l ws2) (told_by h2 g r w2 l ws2) [] out.records 0 1 0 0 tt asks
-          (course_takes server old middle (asked_at at turn old.moment) (Brought turn) [] out (record { before = old; act = ForEvent (event_of_turn turn); out = out; after = middle } ∷ []) comes refl
-          (record { chain = (refl, takes.step, refl); paced = (tt, tt); of_events = refl; of_steps = refl }) turns (append-nil out.records) takes.sayable
+          (course_takes server old middle (asked_at at turn old.moment) (Brought turn) [] out (record { config = server.config; before = old; act = ForEvent (event_of_turn turn); out = out; after = middle } ∷ []) comes refl
+          (record { chain = (refl, takes.step, refl); paced = (tt, tt); of_events = refl; of_steps = refl; configured = (refl, tt) }) turns (append-nil out.records) takes.sayable
           (told_by h2 g r w l ws2) (told_by h2 g r w2 l ws2) (told_failed h2 g r w w2 l ws2 failed.0) failed refl);
       why = record { cause = Brought turn; records = out.records; untold = refl };
     }
@@ -203,8 +203,8 @@ module _ (server : Server) (old : ProxyState) (at : ℕ) (none_due : NothingDueB
       asks = 1 + 0;
       course = course_on server old old middle (waiting_at (Some at) [] old.moment) (asked_at at turn old.moment) (unlogged_at (asked_at at turn old.moment) (Brought turn) [] out)
           (told_by h g r w l ws) (told_by h2 g r w l ws2) (told_by h2 g r w2 l2 ws2) [] out.records 0 1 0 0 tt asks
-          (course_tells server old middle (asked_at at turn old.moment) (Brought turn) [] out (record { before = old; act = ForEvent (event_of_turn turn); out = out; after = middle } ∷ []) comes refl
-          (record { chain = (refl, takes.step, refl); paced = (tt, tt); of_events = refl; of_steps = refl }) turns (append-nil out.records) takes.sayable h2 g r w w2 l l2 ws2 noted whole (prints_untold l.bytes l2.bytes [] failed.0) failed);
+          (course_tells server old middle (asked_at at turn old.moment) (Brought turn) [] out (record { config = server.config; before = old; act = ForEvent (event_of_turn turn); out = out; after = middle } ∷ []) comes refl
+          (record { chain = (refl, takes.step, refl); paced = (tt, tt); of_events = refl; of_steps = refl; configured = (refl, tt) }) turns (append-nil out.records) takes.sayable h2 g r w w2 l l2 ws2 noted whole (prints_untold l.bytes l2.bytes [] failed.0) failed);
       why = by_case why;
     } where
       by_case : ((e ≡ refusals.NoMemory) ⊎ (e ≡ refusals.Audit)) → IsWhy e (unlogged_at (asked_at at turn old.moment) (Brought turn) [] out) middle
@@ -217,8 +217,8 @@ module _ (server : Server) (old : ProxyState) (at : ℕ) (none_due : NothingDueB
     turn_logged w2 l2 noted whole printed sound held =
         course_on server old old middle (waiting_at (Some at) [] old.moment) (asked_at at turn old.moment) (waiting_at None out.packets middle.moment)
         (told_by h g r w l ws) (told_by h2 g r w l ws2) (told_by h2 g r w2 l2 ws2) [] out.records 0 1 0 0 tt asks
-        (course_event server old middle (asked_at at turn old.moment) (Brought turn) [] out (record { before = old; act = ForEvent (event_of_turn turn); out = out; after = middle } ∷ []) comes refl
-        (record { chain = (refl, takes.step, refl); paced = (tt, tt); of_events = refl; of_steps = refl }) turns (append-nil out.records) takes.sayable
+        (course_event server old middle (asked_at at turn old.moment) (Brought turn) [] out (record { config = server.config; before = old; act = ForEvent (event_of_turn turn); out = out; after = middle } ∷ []) comes refl
+        (record { chain = (refl, takes.step, refl); paced = (tt, tt); of_events = refl; of_steps = refl; configured = (refl, tt) }) turns (append-nil out.records) takes.sayable
         out.packets middle.moment h2 g r w w2 l l2 ws2 (sym (append-nil out.packets)) stands noted whole printed sound held)
 
     -- its packets were given to the link

@@ -133,7 +133,7 @@ module _ (server : Server) (ends : DueEnds server) (rises : MomentRises server) 
       → FiresOne server old at out new
   fires_one old new at first history out chain (inl d) = record {
     happens = inl d;
-    rises = rises first (record { before = old; act = Passing at; out = out; after = new }) history new (refl, inr (inl d), chain);
+    rises = rises first (record { config = server.config; before = old; act = Passing at; out = out; after = new }) history new (refl, inr (inl d), chain);
     stands = stands old new (Passing at) out (inr (inl d));
     in_time = d.is_due;
     no_records = d.does.records;
@@ -142,7 +142,7 @@ module _ (server : Server) (ends : DueEnds server) (rises : MomentRises server) 
   }
   fires_one old new at first history out chain (inr d) = record {
     happens = inr d;
-    rises = rises first (record { before = old; act = Passing at; out = out; after = new }) history new (refl, inr (inr d), chain);
+    rises = rises first (record { config = server.config; before = old; act = Passing at; out = out; after = new }) history new (refl, inr (inr d), chain);
     stands = stands old new (Passing at) out (inr (inr d));
     in_time = d.is_due;
     no_records = d.does.records;
@@ -163,7 +163,7 @@ own_at at = record { at = at; packets = []; records = [] }
 
 module _ (server : Server) where
   pub happens_nothing : (state : ProxyState) (at : ℕ) → Happens server state state at []
-  happens_nothing state at = record { history = []; is_run = record { chain = refl; paced = tt; of_events = refl; of_steps = refl }; turns = tt; no_records = refl; stand = tt }
+  happens_nothing state at = record { history = []; is_run = record { chain = refl; paced = tt; of_events = refl; of_steps = refl; configured = tt }; turns = tt; no_records = refl; stand = tt }
 
   at_more : (at : ℕ) (outs : List StepOut) (out : StepOut) → AreAt at outs → out.at ≡ at → AreAt at (outs ++ out ∷ [])
   at_more at [] out all is = (is, tt)
@@ -175,12 +175,13 @@ module _ (server : Server) where
 
   pub happens_more : (old middle new : ProxyState) (at : ℕ) (outs : List StepOut) (out : StepOut) → Happens server old middle at outs → FiresOne server middle at out new → out.at ≡ at → Happens server old new at (outs ++ out ∷ [])
   happens_more old middle new at outs out h fires is = record {
-    history = record { before = middle; act = Passing at; out = out; after = new } ∷ h.history;
+    history = record { config = server.config; before = middle; act = Passing at; out = out; after = new } ∷ h.history;
     is_run = record {
       chain = (refl, inr fires.happens, h.is_run.chain);
       paced = (refl, h.is_run.paced);
       of_events = h.is_run.of_events;
       of_steps = reverse-append (out ∷ []) (steps_of h.history) ∙ ap (λ (l : List StepOut). l ++ out ∷ []) h.is_run.of_steps;
+      configured = (refl, h.is_run.configured);
     };
     turns = (fires.happens, h.turns);
     no_records = records_both outs (out ∷ []) ∙ ap₂ (λ (a b : List Record). a ++ b) h.no_records (append-nil out.records ∙ fires.no_records);
@@ -246,12 +247,13 @@ module _ (server : Server) where
     own = own_at at;
     some = h.some;
     stand = h.happens.stand;
-    history = record { before = new; act = ForEvent (Time at); out = own_at at; after = new } ∷ h.happens.history;
+    history = record { config = server.config; before = new; act = ForEvent (Time at); out = own_at at; after = new } ∷ h.happens.history;
     is_run = record {
       chain = (refl, is_taken new at stands none, h.happens.is_run.chain);
       paced = (tt, h.happens.is_run.paced);
       of_events = reverse-append (Time at ∷ []) (events_of h.happens.history) ∙ ap (λ (l : List Event). l ++ Time at ∷ []) h.happens.is_run.of_events;
       of_steps = reverse-append (own_at at ∷ []) (steps_of h.happens.history) ∙ ap (λ (l : List StepOut). l ++ own_at at ∷ []) h.happens.is_run.of_steps;
+      configured = (refl, h.happens.is_run.configured);
     };
     turns = (record { none_due = none; not_refused = not_refused }, h.happens.turns);
     no_records = records_both h.outs (own_at at ∷ []) ∙ ap₂ (λ (a b : List Record). a ++ b) h.happens.no_records refl;

@@ -1,8 +1,10 @@
 -- What a link over memory heard and set aside.
-use Rattle.std.proofs.Common.{◌≡◌, ℕ, zero, suc, ◌+◌, ◌<◌, ◌≤◌, Bool, true, false, List, [], ◌∷◌, ◌++◌, Option, None, Some, length, map, take, drop, slice_set, slice_index_or, unwrap_or, if◌then◌else◌, refl, sym, ◌∙◌, ap, subst, arith}
+use Rattle.std.proofs.Common.{◌≡◌, ℕ, zero, suc, ◌+◌, ◌<◌, ◌≤◌, Bool, true, false, List, [], ◌∷◌, ◌++◌, Option, None, Some, length, map, take, drop, slice_set, slice_index_or, unwrap_or, refl, sym, ◌∙◌, ap, subst, arith}
 use Rattle.std.proofs.lemmas.List.{append_assoc, append-nil}
 use Rattle.sip_loop_link.specs.Told.{and_then, left_of, SetsAside}
-use Rattle.sip_loop_link.specs.MemoryLink.{IsFresh, aside_by, aside_one, datagram_of, heard_by, heard_one, last_bytes, nothings}
+use Rattle.sip_loop_link.specs.MemoryLink.{IsFresh, aside_by, aside_one, datagram_of, heard_by, heard_one, last_bytes, nothings, silence_of}
+use Rattle.sip_loop_link.specs.declared.datagram.Instead.{Instead}
+use Rattle.sip_loop_link.specs.declared.datagram.Instead.TheVariants.{AskedAgain, HeardNothing}
 use Rattle.sip_loop_link.specs.declared.datagram.Heard.{Heard}
 use Rattle.sip_loop_link.specs.declared.posted.Posted.{Posted}
 use Rattle.sip_loop_link.proofs.Turns.{noted}
@@ -71,18 +73,18 @@ told_apart datagram other front rest e = (
 )
 
 -- what is heard by then
-heard_then : (again : Bool) (front rest : List (Option Heard)) → front ≡ rest → Some (front ++ nothings (if again then 0 else 1)) ≡ left_of again (Some rest)
-heard_then true front rest e = ap Some (append-nil front ∙ e)
-heard_then false front rest e = ap (λ (list : List (Option Heard)). Some (list ++ None ∷ [])) e
+heard_then : (instead : Instead) (front rest : List (Option Heard)) → front ≡ rest → Some (front ++ nothings (silence_of instead)) ≡ left_of instead (Some rest)
+heard_then AskedAgain front rest e = ap Some (append-nil front ∙ e)
+heard_then HeardNothing front rest e = ap (λ (list : List (Option Heard)). Some (list ++ None ∷ [])) e
 
 -- it is none any more of those that were heard
-sets_it_aside : (again : Bool) (other datagram : Heard) (front all : List (Option Heard)) (aside : List Heard) → all ≡ front ++ Some datagram ∷ []
-    → SetsAside other again (Some all) (Some (front ++ nothings (if again then 0 else 1))) (Some aside) (Some (aside ++ datagram ∷ []))
-sets_it_aside again other datagram front all aside e None h = absurd cc
-sets_it_aside again other datagram front all aside e (Some before) h =
+sets_it_aside : (instead : Instead) (other datagram : Heard) (front all : List (Option Heard)) (aside : List Heard) → all ≡ front ++ Some datagram ∷ []
+    → SetsAside other instead (Some all) (Some (front ++ nothings (silence_of instead))) (Some aside) (Some (aside ++ datagram ∷ []))
+sets_it_aside instead other datagram front all aside e None h = absurd cc
+sets_it_aside instead other datagram front all aside e (Some before) h =
     let same : all ≡ before ++ Some other ∷ [] = ap (λ (told : Option (List (Option Heard))). unwrap_or told all) h in
     let both = told_apart datagram other front before (sym e ∙ same) in
-    (heard_then again front before both.0, ap (λ (d : Heard). Some (aside ++ d ∷ [])) both.1)
+    (heard_then instead front before both.0, ap (λ (d : Heard). Some (aside ++ d ∷ [])) both.1)
 
 -- the last of those that were taken, where it was heard
 fresh_last : (list : List Posted) (n : ℕ) (d : Posted) → IsFresh list (suc n) → (slice_index_or list n d).is_aside ≡ false
@@ -117,10 +119,10 @@ fresh_still (posted ∷ list) (suc zero) more fresh = fresh
 fresh_still (posted ∷ list) (suc (suc n)) more fresh = fresh_still list (suc n) more fresh
 
 -- the same link once what it heard last is set aside
-pub set_aside : (list : List Posted) (taken place : ℕ) (d : Posted) (from : Addr) (again : Bool) → taken ≤ length list → place + 1 ≡ taken → IsFresh list taken
-    → SetsAside (record { from = from; bytes = last_bytes [] (take taken list) }) again (Some (heard_by (take taken list) ++ []))
-    (Some (heard_by (take taken (flagged list place d)) ++ nothings (if again then 0 else 1))) (Some (aside_by (take taken list))) (Some (aside_by (take taken (flagged list place d))))
-set_aside list taken place d from again h e fresh =
+pub set_aside : (list : List Posted) (taken place : ℕ) (d : Posted) (from : Addr) (instead : Instead) → taken ≤ length list → place + 1 ≡ taken → IsFresh list taken
+    → SetsAside (record { from = from; bytes = last_bytes [] (take taken list) }) instead (Some (heard_by (take taken list) ++ []))
+    (Some (heard_by (take taken (flagged list place d)) ++ nothings (silence_of instead))) (Some (aside_by (take taken list))) (Some (aside_by (take taken (flagged list place d))))
+set_aside list taken place d from instead h e fresh =
     let same : taken ≡ suc place = omega (arith, e) in
     let below : place < length list = omega (arith, h, e) in
     let kept : (slice_index_or list place d).is_aside ≡ false = fresh_at list taken place d fresh e in
@@ -129,9 +131,9 @@ set_aside list taken place d from again h e fresh =
     let left = heard_by (take taken (flagged list place d)) in
     let heard : heard_by (take taken list) ++ [] ≡ left ++ Some datagram ∷ [] = append-nil (heard_by (take taken list)) ∙ rw same (heard_flag list place d below kept) in
     let aside : aside_by (take taken (flagged list place d)) ≡ aside_by (take taken list) ++ datagram ∷ [] = rw same (aside_flag list place d below kept) in
-    subst (λ (list_aside : List Heard). SetsAside other again (Some (heard_by (take taken list) ++ [])) (Some (left ++ nothings (if again then 0 else 1)))
+    subst (λ (list_aside : List Heard). SetsAside other instead (Some (heard_by (take taken list) ++ [])) (Some (left ++ nothings (silence_of instead)))
     (Some (aside_by (take taken list))) (Some list_aside)) (sym aside)
-    (sets_it_aside again other datagram left (heard_by (take taken list) ++ []) (aside_by (take taken list)) heard)
+    (sets_it_aside instead other datagram left (heard_by (take taken list) ++ []) (aside_by (take taken list)) heard)
 
 -- and the rest of it stays
 pub rest_stays : (list : List Posted) (taken place : ℕ) (d : Posted) → place + 1 ≡ taken

@@ -3,6 +3,8 @@ use Rattle.std.specs.Prelude.{◌≡◌, ℕ, ◌+◌, zero, suc, nat_eq, nat_lt
 use Rattle.std.specs.Prelude.{Ok, Err, if◌then◌else◌}
 use Rattle.std.specs.List.{list_any}
 use Rattle.sip_loop_link.specs.Told.{most, counted}
+use Rattle.sip_loop_link.specs.declared.datagram.Instead.{Instead}
+use Rattle.sip_loop_link.specs.declared.datagram.Instead.TheVariants.{AskedAgain, HeardNothing}
 use Rattle.sip_loop_link.specs.declared.datagram.Heard.{Heard}
 use Rattle.sip_loop_link.specs.declared.datagram.Given.{Given}
 use Rattle.sip_loop_link.specs.declared.datagram.LinkFault.{LinkFault}
@@ -69,6 +71,11 @@ datagram_of posted = posted.datagram
 abbrev pub nothings : ℕ → List (Option Heard)
 nothings zero = []
 nothings (suc n) = None ∷ nothings n
+
+-- how many receives heard nothing behind a datagram that was set aside
+abbrev pub silence_of : Instead → ℕ
+silence_of AskedAgain = 0
+silence_of HeardNothing = 1
 
 -- what was heard of a datagram, and what was set aside, where it was set aside or wasn't
 abbrev pub heard_one : Bool → Heard → List (Option Heard)

@@ -1,5 +1,7 @@
 -- What a link and a clock count, and what they tell, where they tell it.
-use Rattle.std.specs.Prelude.{◌≡◌, ◌≢◌, ◌≤◌, ⊤, ℕ, Bool, true, false, ◌+◌, ◌-◌, ◌^◌, nat_lt, List, [], ◌∷◌, ◌++◌, length, Option, None, Some, if◌then◌else◌}
+use Rattle.std.specs.Prelude.{◌≡◌, ◌≢◌, ◌≤◌, ⊤, ℕ, ◌+◌, ◌-◌, ◌^◌, nat_lt, List, [], ◌∷◌, ◌++◌, length, Option, None, Some, if◌then◌else◌}
+use Rattle.sip_loop_link.specs.declared.datagram.Instead.{Instead}
+use Rattle.sip_loop_link.specs.declared.datagram.Instead.TheVariants.{AskedAgain, HeardNothing}
 use Rattle.sip_loop_link.specs.declared.datagram.Heard.{Heard}
 use Rattle.sip_uri.specs.declared.addr.Addr.{Addr}
 
@@ -40,14 +42,14 @@ GrewBy last old None = ⊤
 GrewBy last None (Some all) = ⊥
 GrewBy last (Some list) (Some all) = all ≡ list ++ last ∷ []
 
--- what was heard before, where it is asked again for what it set aside, or nothing more
-abbrev pub left_of : Bool → Option (List (Option Heard)) → Option (List (Option Heard))
-left_of true before = before
-left_of false before = and_then before None
+-- what is heard of a datagram that is set aside: what was heard before, where the link is asked again for it, or that nothing was
+abbrev pub left_of : Instead → Option (List (Option Heard)) → Option (List (Option Heard))
+left_of AskedAgain before = before
+left_of HeardNothing before = and_then before None
 
 -- A link heard a datagram last, and set it aside: that counts as if it had heard nothing, or not at all, where it is asked again for it;
 -- and it has set aside one more.
-abbrev pub SetsAside : Heard → Bool → Option (List (Option Heard)) → Option (List (Option Heard)) → Option (List Heard) → Option (List Heard) → Type 0
-SetsAside datagram again heard_old heard_new aside_old aside_new =
+abbrev pub SetsAside : Heard → Instead → Option (List (Option Heard)) → Option (List (Option Heard)) → Option (List Heard) → Option (List Heard) → Type 0
+SetsAside datagram instead heard_old heard_new aside_old aside_new =
     (before : Option (List (Option Heard))) → heard_old ≡ and_then before (Some datagram)
-    → (heard_new ≡ left_of again before) × (aside_new ≡ and_then aside_old datagram)
+    → (heard_new ≡ left_of instead before) × (aside_new ≡ and_then aside_old datagram)

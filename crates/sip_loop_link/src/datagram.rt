@@ -16,6 +16,15 @@ pub enum Sending {
     Failed,
 }
 
+/// What becomes of the receive that heard a datagram which is set aside.
+#[derive(Clone, Copy)]
+pub enum Instead {
+    /// It counts as none, since the link is asked again for it.
+    AskedAgain,
+    /// It counts as one that heard nothing.
+    HeardNothing,
+}
+
 /// A datagram that a link heard.
 #[derive(Drop)]
 pub struct Heard {

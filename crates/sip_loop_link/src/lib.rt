@@ -17,7 +17,7 @@ mod steady_clock;
 mod udp_link;
 
 pub use clock::Clock;
-pub use datagram::{Given, Heard, LinkFault, Sending};
+pub use datagram::{Given, Heard, Instead, LinkFault, Sending};
 pub use link::Link;
 pub use memory_clock::MemoryClock;
 pub use memory_link::MemoryLink;

@@ -3,7 +3,7 @@ ghost use Rattle.sip_loop_link.specs.Told.{counted, heard_of, and_then, GrewBy, 
 ghost use Rattle.sip_loop_link.specs.declared.datagram.Heard.{Heard};
 ghost use Rattle.sip_loop_link.specs.declared.datagram.Given.{Given};
 
-use crate::datagram::{LinkFault, Sending};
+use crate::datagram::{Instead, LinkFault, Sending};
 use sip_uri::Addr;
 use std::alloc::AllocError;
 
@@ -43,11 +43,11 @@ pub trait Link: Drop {
         ensures aside { aside self.new ≡ aside self.old }
         ensures waits { waits self.new ≡ waits self.old };
 
-    /// Sets aside the datagram that it heard last, whose source this is: it counts as one that wasn't heard. Where it is asked again for
-    /// it, that receive doesn't count as one that heard nothing either.
-    fn set_aside(&mut self, from: Addr, again: bool)
+    /// Sets aside the datagram that it heard last, whose source this is: it counts as one that wasn't heard, and the receive that heard
+    /// it as one that heard nothing, or as none.
+    fn set_aside(&mut self, from: Addr, instead: Instead)
         ensures aside { fresh self.old ≡ true
-            → SetsAside (record { from = from; bytes = held self.old }) again (heard self.old) (heard self.new) (aside self.old) (aside self.new) }
+            → SetsAside (record { from = from; bytes = held self.old }) instead (heard self.old) (heard self.new) (aside self.old) (aside self.new) }
         ensures counted { receives self.new ≡ receives self.old }
         ensures failures { failures self.new ≡ failures self.old }
         ensures given { given self.new ≡ given self.old }

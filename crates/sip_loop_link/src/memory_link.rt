@@ -1,10 +1,10 @@
-ghost use Rattle.std.specs.Prelude.{◌≡◌, ◌+◌, ◌<◌, ◌≤◌, if◌then◌else◌, ◌∷◌, ◌++◌, [], true, false, length, slice_set, slice_index_or, nat_eq, ◌↔◌, IsTrue, IfOk, IfSome, OnOk, OnErr, Some};
+ghost use Rattle.std.specs.Prelude.{◌≡◌, ◌+◌, ◌<◌, ◌≤◌, ◌∷◌, ◌++◌, [], true, false, length, slice_set, slice_index_or, nat_eq, ◌↔◌, IsTrue, IfOk, IfSome, OnOk, OnErr, Some};
 ghost use Rattle.std.specs.List.{list_any};
 ghost use Rattle.sip_loop_link.specs.Told.{most, counted, heard_of, and_then, GrewBy, IsWritable, SetsAside};
 ghost use Rattle.sip_loop_link.specs.declared.posted.Posted.{Posted};
-ghost use Rattle.sip_loop_link.specs.MemoryLink.{first_from, hearing, next_answer, next_sending, received};
+ghost use Rattle.sip_loop_link.specs.MemoryLink.{first_from, hearing, next_answer, next_sending, received, silence_of};
 
-use crate::datagram::{Given, Heard, LinkFault, MOST_BYTES, Sending};
+use crate::datagram::{Given, Heard, Instead, LinkFault, MOST_BYTES, Sending};
 use crate::link::Link;
 use crate::posted::Posted;
 use sip_text::Bytes;
@@ -85,11 +85,14 @@ fn note_silence(inbox: &mut Vec<Posted>, place: usize, silent: u64) -> Addr
 }
 
 /// How many receives heard nothing behind a datagram that was set aside.
-fn silence(again: bool) -> u64
-    ensures count { result ≡ (if again then 0 else 1) }
+fn silence(instead: Instead) -> u64
+    ensures count { result ≡ silence_of instead }
     ensures few { result ≤ 1 }
 {
-    if again { 0 } else { 1 }
+    match instead {
+        Instead::AskedAgain => 0,
+        Instead::HeardNothing => 1,
+    }
 }
 
 /// Notes that one of the datagrams was set aside.
@@ -226,15 +229,15 @@ impl Link for MemoryLink {
         Ok(self.hear_next())
     }
 
-    fn set_aside(&mut self, from: Addr, again: bool)
+    fn set_aside(&mut self, from: Addr, instead: Instead)
         ensures aside { self.old.fresh ≡ true
-            → SetsAside (record { from = from; bytes = self.old.held }) again (Some self.old.heard) (Some self.new.heard) (Some self.old.aside) (Some self.new.aside) }
+            → SetsAside (record { from = from; bytes = self.old.held }) instead (Some self.old.heard) (Some self.new.heard) (Some self.old.aside) (Some self.new.aside) }
         ensures kept { self.new ≡ record self.old { heard = self.new.heard; fresh = false; aside = self.new.aside } }
     {
         if self.fresh {
             self.fresh = false;
             put_aside(&mut self.inbox, self.taken - 1);
-            self.silent = silence(again);
+            self.silent = silence(instead);
         }
     }
 

@@ -1,7 +1,7 @@
 ghost use Rattle.std.specs.Prelude.{◌≡◌, ◌≤◌, [], length, IfOk, IfSome, IsSome, OnOk, OnErr, None, true};
 ghost use Rattle.sip_loop_link.specs.Told.{counted, most_bytes, IsWritable};
 
-use crate::datagram::{LinkFault, MOST_BYTES, Sending};
+use crate::datagram::{Instead, LinkFault, MOST_BYTES, Sending};
 use crate::link::Link;
 use sip_uri::Addr;
 use std::alloc::{AllocError, Global};
@@ -216,7 +216,7 @@ impl Link for UdpLink {
         found
     }
 
-    fn set_aside(&mut self, _from: Addr, _again: bool)
+    fn set_aside(&mut self, _from: Addr, _instead: Instead)
         ensures { self.new ≡ self.old }
     {}
 

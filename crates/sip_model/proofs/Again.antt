@@ -13,7 +13,7 @@ use Rattle.model_steps.specs.state.SameState.{SameState}
 use Rattle.model_steps.specs.context_model.Branches.{acknowledged}
 use Rattle.model_steps.specs.context_model.Retransmission.{answer_due, resends_of, resends}
 use Rattle.model_steps.specs.Step.{Act, Given, Passing, IsStep, NoneAgainBy, NoneAgainBefore, moment_of}
-use Rattle.sip_model.specs.Run.{Link, IsChain}
+use Rattle.sip_model.specs.Run.{Link, under, IsChain}
 use Rattle.sip_model.specs.Order.{HasFired, FinalAnswer}
 use Rattle.sip_model.proofs.Places.{all_in, all_push, all_replaced}
 use Rattle.sip_model.proofs.Moves.{IsMove, Stays, TurnsAway, Opens, Changes, Resends, Acknowledges, kept_by_moves}
@@ -96,9 +96,9 @@ taken_again server floor old now new finals low taken waits all = all_again floo
 chain_waits : (server : Server) (first : ℕ) (history : List Link) (last : ProxyState) → IsChain server (first_state first) history last → AllByRecursion (IsAgain 0) last.requests
 chain_waits server first [] last h = subst (λ (s : ProxyState). AllByRecursion (IsAgain 0) s.requests) (sym h) tt
 chain_waits server first (link ∷ history) last h =
-    let taken = step_taken server link.before link.act link.out link.after h.1 in
+    let taken = step_taken (under server link.config) link.before link.act link.out link.after h.1 in
     subst (λ (s : ProxyState). AllByRecursion (IsAgain 0) s.requests) (sym h.0)
-    (taken_each server 0 link.before (stands_at link.before link.act link.out) link.after _ (omega arith) taken (chain_waits server first history link.before h.2))
+    (taken_each (under server link.config) 0 link.before (stands_at link.before link.act link.out) link.after _ (omega arith) taken (chain_waits server first history link.before h.2))
 
 -- after a step nothing is to go again before its moment
 step_again : (server : Server) (old : ProxyState) (act : Act) (out : StepOut) (new : ProxyState) → IsStep server old act out new → AllByRecursion (IsAgain 0) old.requests → NoneAgainBefore new.moment new.requests
@@ -112,7 +112,7 @@ pub chain_none_again : (server : Server) (first : ℕ) (history : List Link) (la
 chain_none_again server first [] last h = subst (λ (s : ProxyState). NoneAgainBefore s.moment s.requests) (sym h) tt
 chain_none_again server first (link ∷ history) last h =
     subst (λ (s : ProxyState). NoneAgainBefore s.moment s.requests) (sym h.0)
-    (step_again server link.before link.act link.out link.after h.1 (chain_waits server first history link.before h.2))
+    (step_again (under server link.config) link.before link.act link.out link.after h.1 (chain_waits server first history link.before h.2))
 
 -- the same of each request
 pub chain_again : (server : Server) (first : ℕ) (history : List Link) (last : ProxyState) → IsChain server (first_state first) history last → AllByRecursion (IsAgain last.moment) last.requests
@@ -146,4 +146,4 @@ step_has_fired server old (Passing at) out new h waits = tt
 pub chain_has_fired : (server : Server) (first : ℕ) (history : List Link) (last : ProxyState) → IsChain server (first_state first) history last → AllByRecursion (λ (link : Link). HasFired link.act link.after) history
 chain_has_fired server first [] last h = tt
 chain_has_fired server first (link ∷ history) last h =
-    (step_has_fired server link.before link.act link.out link.after h.1 (chain_waits server first history link.before h.2), chain_has_fired server first history link.before h.2)
+    (step_has_fired (under server link.config) link.before link.act link.out link.after h.1 (chain_waits server first history link.before h.2), chain_has_fired server first history link.before h.2)

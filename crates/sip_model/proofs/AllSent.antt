@@ -13,6 +13,7 @@ use Rattle.sip_event.specs.declared.packet.Packet.{Packet}
 use Rattle.sip_event.specs.declared.packet.Ticket.{Ticket}
 use Rattle.sip_event.specs.declared.event.StepOut.{StepOut}
 use Rattle.sip_event.specs.declared.event.Event.TheVariants.{Datagram, Time, Fault}
+use Rattle.sip_config_types.specs.declared.config.Config.{Config}
 use Rattle.model_steps.specs.state.declared.server.Server.{Server}
 use Rattle.model_steps.specs.state.declared.branch.Branch.{Branch}
 use Rattle.model_steps.specs.state.declared.open_request.OpenRequest.{OpenRequest}
@@ -198,34 +199,34 @@ all_sent : (server : Server) (history : List Link) (state : ProxyState) (act : A
 all_sent server history state act at packets h = record { others = h.others; are_all = h.are_all; are_owed = h.are_owed }
 
 -- a datagram
-datagram_sends : (server : Server) (past : List Link) (old : ProxyState) (at word : ℕ) (from : Addr) (bytes : List ℕ) (out : StepOut) (new : ProxyState) → BestIsMade
-    → let link : Link = record { before = old; act = Given (Datagram at word from bytes); out = out; after = new } in
+datagram_sends : (server : Server) (config : Config) (past : List Link) (old : ProxyState) (at word : ℕ) (from : Addr) (bytes : List ℕ) (out : StepOut) (new : ProxyState) → BestIsMade
+    → let link : Link = record { config = config; before = old; act = Given (Datagram at word from bytes); out = out; after = new } in
     AllByRecursion (IsSteady server (link ∷ past)) old.requests → (o : Option (Message × Bool)) → message_in (reading_of bytes) ≡ o
     → SendsAll server (link ∷ past) old link.act (moment_of old at) (option_map_or (λ x. sent_at_once server (arrival_of old at word from) x.0 x.1) (verdict_in server old (arrival_of old at word from) o) [])
     (option_map_or (λ x. effect_of server (arrival_of old at word from) x.0 x.1 (counted (arrival_of old at word from) old)) (verdict_in server old (arrival_of old at word from) o)
     (nothing (counted (arrival_of old at word from) old))).originals
-datagram_sends server past old at word from bytes out new best steady None says =
+datagram_sends server config past old at word from bytes out new best steady None says =
     own_alone server _ old (Given (Datagram at word from bytes)) (moment_of old at) best steady []
-datagram_sends server past old at word from bytes out new best steady (Some x) says =
-    effect_sends server past (record { before = old; act = Given (Datagram at word from bytes); out = out; after = new }) (arrival_of old at word from) bytes x.0 x.1
+datagram_sends server config past old at word from bytes out new best steady (Some x) says =
+    effect_sends server past (record { config = config; before = old; act = Given (Datagram at word from bytes); out = out; after = new }) (arrival_of old at word from) bytes x.0 x.1
     (record { at = at; word = word; from = from; is_act = refl; is_arrival = refl; says = says }) best steady (message_verdict server old (arrival_of old at word from) x.0 x.1)
     (verdict_fits server old (arrival_of old at word from) x.0 x.1) (message_fits server old (arrival_of old at word from) bytes x.0 x.1 says)
 
 -- any step
-pub step_sends : (server : Server) (past : List Link) (old : ProxyState) (act : Act) (out : StepOut) (new : ProxyState) → BestIsMade → IsStep server old act out new
-    → AllByRecursion (IsSteady server (record { before = old; act = act; out = out; after = new } ∷ past)) old.requests
-    → IsAllSent server (record { before = old; act = act; out = out; after = new } ∷ past) old act out.at (originals out.packets)
-step_sends server past old (Given (Datagram at word from bytes)) out new best step steady =
-    let history : List Link = record { before = old; act = Given (Datagram at word from bytes); out = out; after = new } ∷ past in
+pub step_sends : (server : Server) (config : Config) (past : List Link) (old : ProxyState) (act : Act) (out : StepOut) (new : ProxyState) → BestIsMade → IsStep server old act out new
+    → AllByRecursion (IsSteady server (record { config = config; before = old; act = act; out = out; after = new } ∷ past)) old.requests
+    → IsAllSent server (record { config = config; before = old; act = act; out = out; after = new } ∷ past) old act out.at (originals out.packets)
+step_sends server config past old (Given (Datagram at word from bytes)) out new best step steady =
+    let history : List Link = record { config = config; before = old; act = Given (Datagram at word from bytes); out = out; after = new } ∷ past in
     let own : List Packet = sent_for server old (Given (Datagram at word from bytes)) in
     all_sent server history old (Given (Datagram at word from bytes)) out.at (originals out.packets)
     (subst (λ (moment : ℕ). SendsAll server history old (Given (Datagram at word from bytes)) moment own (originals out.packets)) (sym step.does.at_moment)
     (subst (SendsAll server history old (Given (Datagram at word from bytes)) (moment_of old at) own) (sym step.does.sends)
-    (datagram_sends server past old at word from bytes out new best steady (message_in (reading_of bytes)) refl)))
-step_sends server past old (Given (Time at)) out new best step steady =
+    (datagram_sends server config past old at word from bytes out new best steady (message_in (reading_of bytes)) refl)))
+step_sends server config past old (Given (Time at)) out new best step steady =
     record { others = []; are_all = step.quiet.does.sends; are_owed = ForNone }
-step_sends server past old (Given (Fault at ticket)) out new best step steady =
-    let history : List Link = record { before = old; act = Given (Fault at ticket); out = out; after = new } ∷ past in
+step_sends server config past old (Given (Fault at ticket)) out new best step steady =
+    let history : List Link = record { config = config; before = old; act = Given (Fault at ticket); out = out; after = new } ∷ past in
     let now : ℕ = moment_of old at in
     record {
       others = (fault_effect server now ticket (record old { moment = now })).originals;
@@ -234,12 +235,12 @@ step_sends server past old (Given (Fault at ticket)) out new best step steady =
           subst (λ (moment : ℕ). IsForOpen server history old (Given (Fault at ticket)) moment (fault_effect server now ticket (record old { moment = now })).originals) (sym step.does.at_moment)
           (request_failed server history old (Given (Fault at ticket)) now best steady at ticket refl (record old { moment = now }) (find (λ (r : OpenRequest). r.number == ticket.datagram) old.requests) refl);
     }
-step_sends server past old (Passing at) out new best (inl quiet) steady = record { others = []; are_all = quiet.does.sends; are_owed = ForNone }
-step_sends server past old (Passing at) out new best (inr (inl due)) steady =
-    let history : List Link = record { before = old; act = Passing at; out = out; after = new } ∷ past in
+step_sends server config past old (Passing at) out new best (inl quiet) steady = record { others = []; are_all = quiet.does.sends; are_owed = ForNone }
+step_sends server config past old (Passing at) out new best (inr (inl due)) steady =
+    let history : List Link = record { config = config; before = old; act = Passing at; out = out; after = new } ∷ past in
     record {
       others = change_packets due.change;
       are_all = due.does.sends;
       are_owed = overdue_sends server history old (Passing at) out.at due.request (known_of server history old (Passing at) out.at best steady due.request due.is_open) due.change due.passes;
     }
-step_sends server past old (Passing at) out new best (inr (inr goes)) steady = record { others = []; are_all = goes.does.sends; are_owed = ForNone }
+step_sends server config past old (Passing at) out new best (inr (inr goes)) steady = record { others = []; are_all = goes.does.sends; are_owed = ForNone }

@@ -12,7 +12,7 @@ use Rattle.model_steps.specs.state.State.{first_state}
 use Rattle.model_steps.specs.state.Arrival.{Arrival}
 use Rattle.model_steps.specs.verdict_model.Verdict.{Verdict, Drop, Respond, Copy, AckOn, Cancel, Answer, InDialog, Challenge, Deny, Send, Register, verdict_of}
 use Rattle.model_steps.specs.Step.{Act, Given, Passing, IsStep, arrival_of}
-use Rattle.sip_model.specs.Run.{Link, IsChain}
+use Rattle.sip_model.specs.Run.{Link, under, IsChain}
 use Rattle.sip_model.specs.Parts.{HasParts, next_after}
 use Rattle.sip_model.specs.Histories.{Judged, judged_at, records_of, records_at}
 use Rattle.sip_model.specs.Access.{recorded_by, IsAbove}
@@ -84,17 +84,17 @@ step_numbered server link step =
 pub chain_recorded : (server : Server) (first : ℕ) (history : List Link) (last : ProxyState) → IsChain server (first_state first) history last → AllByRecursion (λ (r : Record). r.number < last.next) (recorded_by history)
 chain_recorded server first [] last chain = tt
 chain_recorded server first (link ∷ history) last chain =
-    let h = step_numbered server link chain.1 in
+    let h = step_numbered (under server link.config) link chain.1 in
     let next : last.next ≡ link.after.next = ap (λ (s : ProxyState). s.next) chain.0 in
     all_append (λ (r : Record). r.number < last.next) link.out.records (recorded_by history)
     (all_weaker (λ (r : Record). (r.number ≡ link.before.next) × (r.number < link.after.next)) (λ (r : Record). r.number < last.next) link.out.records (λ r below. let it = below.1 in omega (arith, it, next)) h.0)
     (all_weaker (λ (r : Record). r.number < link.before.next) (λ (r : Record). r.number < last.next) (recorded_by history) (λ r below. let later = h.1 in omega (arith, below, later, next)) (chain_recorded server first history link.before chain.2))
 
 -- so those of the next step are above all
-pub rising_of_step : (server : Server) (first : ℕ) (link : Link) (history : List Link) → IsStep server link.before link.act link.out link.after → IsChain server (first_state first) history link.before
+pub rising_of_step : (server : Server) (first : ℕ) (link : Link) (history : List Link) → IsStep (under server link.config) link.before link.act link.out link.after → IsChain server (first_state first) history link.before
     → AllByRecursion (IsAbove (recorded_by history)) link.out.records
 rising_of_step server first link history step chain =
     let before = chain_recorded server first history link.before chain in
     all_weaker (λ (r : Record). (r.number ≡ link.before.next) × (r.number < link.after.next)) (IsAbove (recorded_by history)) link.out.records
     (λ r is. all_weaker (λ (other : Record). other.number < link.before.next) (λ (other : Record). other.number < r.number) (recorded_by history) (λ other below. let same = is.0 in omega (arith, below, same)) before)
-    (step_numbered server link step).0
+    (step_numbered (under server link.config) link step).0

@@ -20,7 +20,7 @@ use Rattle.model_steps.specs.state.Arrival.{Arrival}
 use Rattle.model_steps.specs.verdict_model.declared.question.Question.{Question}
 use Rattle.model_steps.specs.verdict_model.Verdict.{Verdict, Drop, Respond, Copy, AckOn, Cancel, Answer, InDialog, Challenge, Deny, Send, Register, verdict_of}
 use Rattle.model_steps.specs.Step.{Act, Given, Passing, moment_of, arrival_of}
-use Rattle.sip_model.specs.Run.{Link, IsChain}
+use Rattle.sip_model.specs.Run.{Link, under, IsChain}
 use Rattle.sip_model.specs.Histories.{asked_in, Judged, judged_at, with_issued, nonces_by, nonces_after, WasChallenged}
 use Rattle.sip_model.proofs.Lists.{all_weaker, all_contains, head_there, tail_there}
 use Rattle.sip_model.proofs.Places.{all_push}
@@ -34,7 +34,7 @@ pub record IsIssued (server : Server) (history : List Link) (word since : ℕ) :
   pub link : Link
   pub there : Contains history link
   pub challenge : Judged
-  pub is_judged : judged_at server link.before link.act ≡ Some challenge
+  pub is_judged : judged_at (under server link.config) link.before link.act ≡ Some challenge
   pub question : Question
   pub is_challenge : challenge.verdict ≡ Challenge question
   pub word_is : challenge.arrival.word ≡ word
@@ -119,9 +119,9 @@ module _ (server : Server) (history : List Link) where
 rows_issued : (server : Server) (history : List Link) → AllByRecursion (IsRowIssued server history) (nonces_after server history)
 rows_issued server [] = tt
 rows_issued server (link ∷ history) =
-    by_judged (judged_at server link.before link.act) refl
+    by_judged (judged_at (under server link.config) link.before link.act) refl
     (all_weaker (IsRowIssued server history) (IsRowIssued server (link ∷ history)) (issued_before server link history) (nonces_after server history) (rows_issued server history)) where
-      by_judged : (o : Option Judged) → judged_at server link.before link.act ≡ o → AllByRecursion (IsRowIssued server (link ∷ history)) (nonces_after server history)
+      by_judged : (o : Option Judged) → judged_at (under server link.config) link.before link.act ≡ o → AllByRecursion (IsRowIssued server (link ∷ history)) (nonces_after server history)
           → AllByRecursion (IsRowIssued server (link ∷ history)) (option_map_or (nonces_by (nonces_after server history)) o (nonces_after server history))
       by_judged None is h = h
       by_judged (Some j) is h =
@@ -151,15 +151,15 @@ judged_now server state (Passing at) out j e = absurd (cc)
 
 -- each datagram of a history was judged no later than its last moment
 judged_before : (server : Server) (first : ℕ) (history : List Link) (last : ProxyState) → IsChain server (first_state first) history last
-    → AllByRecursion (λ (link : Link). IsJudgedBy last.moment (judged_at server link.before link.act)) history
+    → AllByRecursion (λ (link : Link). IsJudgedBy last.moment (judged_at (under server link.config) link.before link.act)) history
 judged_before server first [] last chain = tt
 judged_before server first (link ∷ history) last chain = (
   λ j e.
-      let now = (judged_now server link.before link.act link.out j e).0 in
-      let at : link.after.moment ≡ stands_at link.before link.act link.out = (step_taken server link.before link.act link.out link.after chain.1).is_at in
+      let now = (judged_now (under server link.config) link.before link.act link.out j e).0 in
+      let at : link.after.moment ≡ stands_at link.before link.act link.out = (step_taken (under server link.config) link.before link.act link.out link.after chain.1).is_at in
       let last_is : last.moment ≡ link.after.moment = ap (λ (s : ProxyState). s.moment) chain.0 in
       omega (arith, now, at, last_is),
-  all_weaker (λ (earlier : Link). IsJudgedBy link.before.moment (judged_at server earlier.before earlier.act)) (λ (earlier : Link). IsJudgedBy last.moment (judged_at server earlier.before earlier.act))
+  all_weaker (λ (earlier : Link). IsJudgedBy link.before.moment (judged_at (under server earlier.config) earlier.before earlier.act)) (λ (earlier : Link). IsJudgedBy last.moment (judged_at (under server earlier.config) earlier.before earlier.act))
       (λ earlier h j e. let before = h j e in let rises = moment_of_chain_rises server first link history last chain in omega (arith, before, rises)) history
       (judged_before server first history link.before chain.2),
 )
@@ -170,14 +170,14 @@ is_recent now since h = omega (arith, h)
 
 -- The nonce of a right credential was issued by a challenge of the history before it
 pub challenged_before : (server : Server) (first : ℕ) (link : Link) (history : List Link) (last : ProxyState) → IsChain server (first_state first) (link ∷ history) last
-    → (j : Judged) (q : Question) (name : List ℕ) (c : Credential) → judged_at server link.before link.act ≡ Some j → asked_in j.verdict ≡ Some q → q.proof ≡ Right name c
+    → (j : Judged) (q : Question) (name : List ℕ) (c : Credential) → judged_at (under server link.config) link.before link.act ≡ Some j → asked_in j.verdict ≡ Some q → q.proof ≡ Right name c
     → WasChallenged server history j.arrival.now c.nonce
 challenged_before server first link history last chain j q name c is asked right =
-    let known : IsAskedBy server link.before.nonces (Some j) = subst (IsAskedBy server link.before.nonces) is (act_asked server link.before link.act) in
-    let proof : q.proof ≡ proof_of server.config.realm server.config.users link.before.nonces j.arrival.now j.message =
-    subst (IsAsked server link.before.nonces j.arrival.now j.message) asked known in
-    let answer : IsRightAnswer server.config.realm server.config.users link.before.nonces j.arrival.now j.message name c =
-    right_rests server.config.realm server.config.users link.before.nonces j.arrival.now j.message name c (sym proof ∙ right) in
+    let known : IsAskedBy (under server link.config) link.before.nonces (Some j) = subst (IsAskedBy (under server link.config) link.before.nonces) is (act_asked (under server link.config) link.before link.act) in
+    let proof : q.proof ≡ proof_of server.config.realm link.config.users link.before.nonces j.arrival.now j.message =
+    subst (IsAsked (under server link.config) link.before.nonces j.arrival.now j.message) asked known in
+    let answer : IsRightAnswer server.config.realm link.config.users link.before.nonces j.arrival.now j.message name c =
+    right_rests server.config.realm link.config.users link.before.nonces j.arrival.now j.message name c (sym proof ∙ right) in
     let all : AllByRecursion (IsRowIssued server history) link.before.nonces =
     subst (AllByRecursion (IsRowIssued server history)) (sym (nonces_of_chain server first history link.before chain.2)) (rows_issued server history) in
     let row : IsRowIssued server history answer.row = all_contains (IsRowIssued server history) link.before.nonces answer.row all answer.was_issued in
@@ -191,8 +191,8 @@ challenged_before server first link history last chain j q name c is asked right
       is_its_nonce = answer.is_its_text ∙ ap nonce_text (sym row.word_is);
       is_before =
           let earlier : row.challenge.arrival.now ≤ link.before.moment =
-          all_contains (λ (x : Link). IsJudgedBy link.before.moment (judged_at server x.before x.act)) history row.link (judged_before server first history link.before chain.2) row.there row.challenge row.is_judged in
-          let later : link.before.moment ≤ j.arrival.now = (judged_now server link.before link.act link.out j is).1 in
+          all_contains (λ (x : Link). IsJudgedBy link.before.moment (judged_at (under server x.config) x.before x.act)) history row.link (judged_before server first history link.before chain.2) row.there row.challenge row.is_judged in
+          let later : link.before.moment ≤ j.arrival.now = (judged_now (under server link.config) link.before link.act link.out j is).1 in
           omega (arith, earlier, later);
       is_recent = subst (λ (since : ℕ). j.arrival.now < since + 300000) (sym row.since_is) (is_recent j.arrival.now answer.row.since answer.is_live);
     }

@@ -28,7 +28,7 @@ use Rattle.model_steps.specs.state.Arrival.{Arrival}
 use Rattle.model_steps.specs.verdict_model.declared.question.Question.{Question}
 use Rattle.model_steps.specs.verdict_model.Verdict.{Registered, Verdict, Drop, Respond, Copy, AckOn, Cancel, Answer, InDialog, Challenge, Deny, Send, Register, is_register, question_of, answer_of, registration_by, request_targets, decided, message_verdict, message_in, verdict_in}
 use Rattle.model_steps.specs.Step.{Act, Given, Passing, arrival_of}
-use Rattle.sip_model.specs.Run.{Link, IsChain}
+use Rattle.sip_model.specs.Run.{Link, under, IsChain}
 use Rattle.sip_model.specs.Histories.{asked_in, Judged, judged_at, nonces_by, issues_by, issues_of, right_count, right_counts, AreFalling}
 use Rattle.sip_model.proofs.Judging.{is_by_policy, judged, judged_verdict}
 use Rattle.sip_model.proofs.Followed.{step_nonces}
@@ -178,8 +178,8 @@ kept_of_chain server first word [] last h once =
     subst (λ (s : ProxyState). AreKept word 0 [] s.nonces) (sym h) (nothing_kept word)
 kept_of_chain server first word (link ∷ history) last h once =
     subst (λ (s : ProxyState). AreKept word (issues_of server word (link ∷ history)) (right_counts server word (link ∷ history)) s.nonces) (sym h.0)
-    (subst (AreKept word (issues_of server word (link ∷ history)) (right_counts server word (link ∷ history))) (sym (step_nonces server link.before link.act link.out link.after h.1))
-    (step_kept server word (issues_of server word history) (right_counts server word history) link.before.nonces (judged_at server link.before link.act) (act_asked server link.before link.act) once
+    (subst (AreKept word (issues_of server word (link ∷ history)) (right_counts server word (link ∷ history))) (sym (step_nonces (under server link.config) link.before link.act link.out link.after h.1))
+    (step_kept (under server link.config) word (issues_of server word history) (right_counts server word history) link.before.nonces (judged_at (under server link.config) link.before link.act) (act_asked (under server link.config) link.before link.act) once
     (kept_of_chain server first word history link.before h.2 (not_more _ (issues_of server word history) once))))
 
 -- The counts fall from the newest to the oldest

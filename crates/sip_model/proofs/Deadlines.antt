@@ -14,7 +14,7 @@ use Rattle.model_steps.specs.state.State.{first_state, deadlines, deadlines_of, 
 use Rattle.model_steps.specs.state.SameState.{SameState}
 use Rattle.model_steps.specs.context_model.Branches.{acknowledged, acknowledged_side, was_refused}
 use Rattle.model_steps.specs.Step.{Act, Given, IsStep, NoneBy, NoneBefore, moment_of}
-use Rattle.sip_model.specs.Run.{Link, IsChain}
+use Rattle.sip_model.specs.Run.{Link, under, IsChain}
 use Rattle.sip_model.specs.Order.{FinalAnswer}
 use Rattle.sip_model.proofs.Places.{all_in, all_push, all_weaker, all_replaced}
 use Rattle.sip_model.proofs.Moves.{Resends, IsMove, Stays, TurnsAway, Opens, Changes, Acknowledges, kept_by_moves}
@@ -142,7 +142,7 @@ step_passes_none server old act out new h =
 pub chain_passes_none : (server : Server) (first : ℕ) (history : List Link) (last : ProxyState) → IsChain server (first_state first) history last → NoneBefore last.moment last.requests
 chain_passes_none server first [] last h = subst (λ (s : ProxyState). NoneBefore s.moment s.requests) (sym h) tt
 chain_passes_none server first (link ∷ history) last h =
-    subst (λ (s : ProxyState). NoneBefore s.moment s.requests) (sym h.0) (step_passes_none server link.before link.act link.out link.after h.1)
+    subst (λ (s : ProxyState). NoneBefore s.moment s.requests) (sym h.0) (step_passes_none (under server link.config) link.before link.act link.out link.after h.1)
 
 -- what is later than a moment is from the next one on
 pub later_all : (now : ℕ) (dues : List ℕ) → AllByRecursion (λ due. now < due) dues → AllByRecursion (IsFrom (now + 1)) dues

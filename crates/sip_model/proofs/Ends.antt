@@ -19,7 +19,7 @@ use Rattle.model_steps.specs.context_model.Retransmission.{IsResent, OfAnswer, O
 use Rattle.model_steps.specs.context_model.Branches.{is_same_branch, all_final, best_upward, after_upward, settled, acknowledged, acknowledged_side, was_refused}
 use Rattle.model_steps.specs.state.Arrival.{Arrival}
 use Rattle.model_steps.specs.context_model.Opening.{forking, unsent, tried, trying}
-use Rattle.sip_model.specs.Run.{Link, IsChain}
+use Rattle.sip_model.specs.Run.{Link, under, IsChain}
 use Rattle.sip_model.specs.Order.{CanEnd, FinalAnswer}
 use Rattle.sip_model.proofs.Places.{IsIn, all_in, all_push, all_weaker, all_replaced, contains_from_in}
 use Rattle.sip_model.proofs.Moves.{Resends, IsStarted, IsOpening, Answered, Sent, IsMove, Stays, TurnsAway, Opens, Changes, Acknowledges, kept_by_moves}
@@ -166,9 +166,9 @@ chain_sound : (server : Server) (first : ℕ) (history : List Link) (last : Prox
 chain_sound server first [] last h = subst (λ (s : ProxyState). AllByRecursion IsSound s.requests) (sym h) tt
 chain_sound server first (link ∷ history) last h =
     let now = stands_at link.before link.act link.out in
-    let taken = step_taken server link.before link.act link.out link.after h.1 in
+    let taken = step_taken (under server link.config) link.before link.act link.out link.after h.1 in
     subst (λ (s : ProxyState). AllByRecursion IsSound s.requests) (sym h.0)
-    (kept_by_moves server now (λ requests next. AllByRecursion IsSound requests) (λ requests next after after_next finals. move_sound server now requests next after after_next finals)
+    (kept_by_moves (under server link.config) now (λ requests next. AllByRecursion IsSound requests) (λ requests next after after_next finals. move_sound (under server link.config) now requests next after after_next finals)
     link.before.requests link.before.next link.after.requests link.after.next _ taken.moves (chain_sound server first history link.before h.2))
 
 -- ---- a deadline of each

@@ -26,7 +26,7 @@ use Rattle.sip_targets.specs.Targets.{target_list}
 use Rattle.model_steps.specs.context_model.Opening.{forking, branches_from, dialog_branch, tried, trying}
 use Rattle.model_steps.specs.Effect.{Effect, counted, effect_of, nothing}
 use Rattle.model_steps.specs.Step.{Act, Given, Passing, IsStep, arrival_of, is_failed, failed_branch, failed_request, moment_of}
-use Rattle.sip_model.specs.Run.{Link, IsChain}
+use Rattle.sip_model.specs.Run.{Link, under, IsChain}
 use Rattle.sip_model.specs.Histories.{Judged, judged_at, nonces_by, nonces_after, records_of, records_at, verdict_dialogs, forking_dialogs, branch_dialogs, fault_dialogs, step_dialogs, history_dialogs}
 use Rattle.sip_model.proofs.Steps.{stands_at, step_taken}
 use Rattle.sip_model.proofs.Deadlines.{chain_passes_none}
@@ -93,8 +93,8 @@ step_nonces server old (Passing at) out new (inr (inr goes)) = goes.does.leaves.
 pub nonces_of_chain : (server : Server) (first : ℕ) (history : List Link) (last : ProxyState) → IsChain server (first_state first) history last → last.nonces ≡ nonces_after server history
 nonces_of_chain server first [] last h = ap (λ (s : ProxyState). s.nonces) h
 nonces_of_chain server first (link ∷ history) last h =
-    ap (λ (s : ProxyState). s.nonces) h.0 ∙ step_nonces server link.before link.act link.out link.after h.1
-    ∙ ap (λ (nonces : List Nonce). option_map_or (nonces_by nonces) (judged_at server link.before link.act) nonces) (nonces_of_chain server first history link.before h.2)
+    ap (λ (s : ProxyState). s.nonces) h.0 ∙ step_nonces (under server link.config) link.before link.act link.out link.after h.1
+    ∙ ap (λ (nonces : List Nonce). option_map_or (nonces_by nonces) (judged_at (under server link.config) link.before link.act) nonces) (nonces_of_chain server first history link.before h.2)
 
 -- ---- the audit log
 
@@ -141,9 +141,9 @@ step_records server old (Passing at) out new (inr (inr goes)) = goes.does.record
 
 -- The records of each step are those of its verdict
 pub records_of_chain : (server : Server) (first : ProxyState) (history : List Link) (last : ProxyState) → IsChain server first history last
-    → AllByRecursion (λ (link : Link). link.out.records ≡ records_at server link.before link.act) history
+    → AllByRecursion (λ (link : Link). link.out.records ≡ records_at (under server link.config) link.before link.act) history
 records_of_chain server first [] last h = tt
-records_of_chain server first (link ∷ history) last h = (step_records server link.before link.act link.out link.after h.1, records_of_chain server first history link.before h.2)
+records_of_chain server first (link ∷ history) last h = (step_records (under server link.config) link.before link.act link.out link.after h.1, records_of_chain server first history link.before h.2)
 
 -- ---- dialogs
 
@@ -258,12 +258,12 @@ dialogs_of_chain server first (link ∷ history) last chain =
     let old : ProxyState = link.before in
     let now : ℕ = stands_at old link.act link.out in
     let earlier : List Dialog = history_dialogs server (first_state first) history old chain.2 in
-    let is_at : link.after.moment ≡ now = (step_taken server old link.act link.out link.after chain.1).is_at in
-    let rises : old.moment ≤ link.after.moment = moment_rises server old link.act link.out link.after (chain_passes_none server first history old chain.2) (chain_again server first history old chain.2) chain.1 in
+    let is_at : link.after.moment ≡ now = (step_taken (under server link.config) old link.act link.out link.after chain.1).is_at in
+    let rises : old.moment ≤ link.after.moment = moment_rises (under server link.config) old link.act link.out link.after (chain_passes_none server first history old chain.2) (chain_again server first history old chain.2) chain.1 in
     let before : SameDialogs link.after.moment old.dialogs earlier = dialogs_later old.moment link.after.moment old.dialogs earlier rises (dialogs_of_chain server first history old chain.2) in
-    let after : List Dialog → List Dialog = step_dialogs server old link.act link.out link.after chain.1 in
+    let after : List Dialog → List Dialog = step_dialogs (under server link.config) old link.act link.out link.after chain.1 in
     let both : SameDialogs link.after.moment (after old.dialogs) (after earlier) =
     subst (λ (moment : ℕ). SameDialogs moment (after old.dialogs) (after earlier)) (sym is_at)
-    (step_keeps server old link.act link.out link.after chain.1 old.dialogs earlier (subst (λ (moment : ℕ). SameDialogs moment old.dialogs earlier) is_at before)) in
+    (step_keeps (under server link.config) old link.act link.out link.after chain.1 old.dialogs earlier (subst (λ (moment : ℕ). SameDialogs moment old.dialogs earlier) is_at before)) in
     subst (λ (s : ProxyState). SameDialogs s.moment s.dialogs (after earlier)) (sym chain.0)
-    (dialogs_joined link.after.moment link.after.dialogs (after old.dialogs) (after earlier) (same_step_dialogs server old link.act link.out link.after chain.1) both)
+    (dialogs_joined link.after.moment link.after.dialogs (after old.dialogs) (after earlier) (same_step_dialogs (under server link.config) old link.act link.out link.after chain.1) both)

@@ -5,6 +5,7 @@ use Rattle.std.proofs.lemmas.Bool.Decides.{nat_tests}
 use Rattle.sip_message_form.specs.declared.message.Message.{Message}
 use Rattle.sip_event.specs.declared.packet.Packet.{Packet}
 use Rattle.model_steps.specs.state.declared.resend.Resend.{Resend}
+use Rattle.sip_config_types.specs.declared.config.Config.{Config}
 use Rattle.model_steps.specs.state.declared.server.Server.{Server}
 use Rattle.model_steps.specs.state.declared.branch.Branch.{Branch}
 use Rattle.model_steps.specs.state.declared.open_request.OpenRequest.{OpenRequest}
@@ -15,7 +16,7 @@ use Rattle.model_steps.specs.context_model.Branches.{is_same_branch, is_ready, i
 use Rattle.model_steps.specs.context_model.Opening.{forking, trying, tried}
 use Rattle.model_steps.specs.context_model.Retransmission.{IsResent, OfAnswer, OfRequest, branch_next}
 use Rattle.model_steps.specs.Effect.{change_packets}
-use Rattle.sip_model.specs.Run.{Link, IsChain}
+use Rattle.sip_model.specs.Run.{Link, under, IsChain}
 use Rattle.sip_model.specs.Access.{WasGivenUp}
 use Rattle.sip_model.specs.Parts.{IsBegun, AreBegun, IsOpening, Answered, Sent, IsPart, Stays, Passes, Copies, TurnsAway, Opens, Changes, Resends, Acknowledges, AreParts, One, Two, HasParts}
 use Rattle.sip_model.proofs.Places.{count_cons, none_at, all_push, all_replaced}
@@ -23,8 +24,27 @@ use Rattle.sip_model.proofs.Apart.{TargetsDiffer, goes_to, at_most_one, differ_e
 use Rattle.sip_model.proofs.StepParts.{step_parts}
 use Rattle.sip_model.proofs.Lists.{all_map, all_weaker, all_contains}
 use Rattle.sip_model.proofs.Later.{goes_either}
+use Rattle.sip_model.proofs.Under.{given_up_under, given_up_back}
 use Rattle.sip_model.proofs.Forks.{tried_branches}
 use Rattle.sip_model.proofs.Marking.{IsGivenBranch, IsGivenRequest, IsNearlyGiven, given_up_before, settled_given, given_up_between, change_given}
+
+given_under : (server : Server) (config : Config) (history : List Link) (requests : List OpenRequest) → AllByRecursion (IsGivenRequest server history) requests
+    → AllByRecursion (IsGivenRequest (under server config) history) requests
+given_under server config history requests h = all_weaker (IsGivenRequest server history) (IsGivenRequest (under server config) history)
+    (λ r own. record {
+      branches = all_weaker (IsGivenBranch server history r.number) (IsGivenBranch (under server config) history r.number)
+          (λ b one. record { is_target = one.is_target; was_given_up = λ wants waits. given_up_under server config history r.number (one.was_given_up wants waits) }) r.branches own.branches;
+      differ = own.differ;
+    }) requests h
+
+given_back : (server : Server) (config : Config) (history : List Link) (requests : List OpenRequest) → AllByRecursion (IsGivenRequest (under server config) history) requests
+    → AllByRecursion (IsGivenRequest server history) requests
+given_back server config history requests h = all_weaker (IsGivenRequest (under server config) history) (IsGivenRequest server history)
+    (λ r own. record {
+      branches = all_weaker (IsGivenBranch (under server config) history r.number) (IsGivenBranch server history r.number)
+          (λ b one. record { is_target = one.is_target; was_given_up = λ wants waits. given_up_back server config history r.number (one.was_given_up wants waits) }) r.branches own.branches;
+      differ = own.differ;
+    }) requests h
 
 -- all open requests are so
 abbrev pub AreGiven : Server → List Link → List OpenRequest → Type 0
@@ -160,10 +180,12 @@ module _ (server : Server) (link : Link) (past : List Link) (now : ℕ) where
 pub given_of_chain : (server : Server) (first : ℕ) (history : List Link) (last : ProxyState) → IsChain server (first_state first) history last → AreGiven server history last.requests
 given_of_chain server first [] last chain = subst (λ (s : ProxyState). AreGiven server [] s.requests) (sym chain) tt
 given_of_chain server first (link ∷ history) last chain =
-    let has : HasParts server link.before link.act link.out link.after = step_parts server link.before link.act link.out link.after chain.1 in
+    let has : HasParts (under server link.config) link.before link.act link.out link.after = step_parts (under server link.config) link.before link.act link.out link.after chain.1 in
     subst (λ (s : ProxyState). AreGiven server (link ∷ history) s.requests) (sym chain.0)
-    (parts_given server link history link.after.moment link.before.requests link.after.requests _ _ has.parts
-    (given_before server link history link.before.requests (given_of_chain server first history link.before chain.2)))
+    (given_back server link.config (link ∷ history) link.after.requests
+    (parts_given (under server link.config) link history link.after.moment link.before.requests link.after.requests _ _ has.parts
+    (given_under server link.config (link ∷ history) link.before.requests
+    (given_before server link history link.before.requests (given_of_chain server first history link.before chain.2)))))
 
 -- if a branch is to be cancelled, and has neither its CANCEL nor a final answer, the request of this number was given up
 abbrev pub IsGivenUp : Server → List Link → ℕ → Branch → Type 0
@@ -183,6 +205,7 @@ given_up_of_chain server first history last chain = all_given_up server history 
 
 -- of those before a step, with the step in the history
 pub given_up_in_step : (server : Server) (first : ℕ) (link : Link) (history : List Link) → IsChain server (first_state first) history link.before
-    → AllByRecursion (λ (r : OpenRequest). AllByRecursion (IsGivenUp server (link ∷ history) r.number) r.branches) link.before.requests
+    → AllByRecursion (λ (r : OpenRequest). AllByRecursion (IsGivenUp (under server link.config) (link ∷ history) r.number) r.branches) link.before.requests
 given_up_in_step server first link history chain =
-    all_given_up server (link ∷ history) link.before.requests (given_before server link history link.before.requests (given_of_chain server first history link.before chain))
+    all_given_up (under server link.config) (link ∷ history) link.before.requests
+    (given_under server link.config (link ∷ history) link.before.requests (given_before server link history link.before.requests (given_of_chain server first history link.before chain)))

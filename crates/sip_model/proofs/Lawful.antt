@@ -7,7 +7,7 @@ use Rattle.model_steps.specs.state.declared.server.Server.{Server}
 use Rattle.model_steps.specs.state.declared.proxy_state.ProxyState.{ProxyState}
 use Rattle.model_steps.specs.state.State.{first_state}
 use Rattle.model_steps.specs.Step.{NoneBefore, NoneAgainBefore, originals}
-use Rattle.sip_model.specs.Run.{Link, IsChain, IsRun}
+use Rattle.sip_model.specs.Run.{Link, under, IsChain, IsRun}
 use Rattle.sip_model.specs.Bindings.{bindings_after}
 use Rattle.sip_model.specs.Access.{IsOwed, IsLawful, Access}
 use Rattle.sip_model.specs.Parts.{HasParts}
@@ -27,6 +27,7 @@ use Rattle.sip_model.proofs.Paying.{owed_pays}
 use Rattle.sip_model.proofs.StepParts.{step_parts}
 use Rattle.sip_model.proofs.Audited.{rising_of_step}
 use Rattle.sip_model.proofs.Standing.{stands_of_chain}
+use Rattle.sip_model.proofs.Under.{honest_under}
 use Rattle.sip_model.proofs.Places.{all_weaker}
 use Rattle.sip_model.proofs.Sameness.{serves_same, owed_same}
 
@@ -35,24 +36,24 @@ lawful_of_chain : (server : Server) (first : ℕ) (link : Link) (history : List 
     → IsLawful server history link
 lawful_of_chain server first link history last chain =
     let before : SameBindings link.before.moment link.before.bindings (bindings_after server history) = bindings_of_chain server first history link.before chain.2 in
-    let parts : HasParts server link.before link.act link.out link.after = step_parts server link.before link.act link.out link.after chain.1 in
+    let parts : HasParts (under server link.config) link.before link.act link.out link.after = step_parts (under server link.config) link.before link.act link.out link.after chain.1 in
     record {
       stands = stands_of_chain server first link history last chain;
       bindings = before;
       binds = subst (λ (s : ProxyState). SameBindings s.moment s.bindings (bindings_after server (link ∷ history))) chain.0 (bindings_of_chain server first (link ∷ history) last chain);
-      serves = serves_same server link.before.bindings (bindings_after server history) link.before link.act link.out before (serves_of_step server link.before link.act link.out link.after chain.1);
+      serves = serves_same (under server link.config) link.before.bindings (bindings_after server history) link.before link.act link.out before (serves_of_step (under server link.config) link.before link.act link.out link.after chain.1);
       owed =
-          all_weaker (IsOwed server (link ∷ history) link.before link.act link.before.bindings) (IsOwed server (link ∷ history) link.before link.act (bindings_after server history))
-          (originals link.out.packets) (owed_same server (link ∷ history) link.before link.act link.before.bindings (bindings_after server history) before)
-          (owed_of_step server history link chain.1 (few_of_chain server first history link.before chain.2) (honest_of_chain server first history link.before chain.2));
-      sent = step_sends server history link.before link.act link.out link.after best_made chain.1 (steady_in_step server first link history chain.2);
-      again = step_causes server link.before link.act link.out link.after chain.1;
-      repeats = step_repeats server link.before link.act link.out link.after chain.1;
+          all_weaker (IsOwed (under server link.config) (link ∷ history) link.before link.act link.before.bindings) (IsOwed (under server link.config) (link ∷ history) link.before link.act (bindings_after server history))
+          (originals link.out.packets) (owed_same (under server link.config) (link ∷ history) link.before link.act link.before.bindings (bindings_after server history) before)
+          (owed_of_step (under server link.config) history link chain.1 (few_of_chain server first history link.before chain.2) (honest_under server link.config history link.before.requests (honest_of_chain server first history link.before chain.2)));
+      sent = step_sends (under server link.config) link.config history link.before link.act link.out link.after best_made chain.1 (steady_in_step server first link history chain.2);
+      again = step_causes (under server link.config) link.before link.act link.out link.after chain.1;
+      repeats = step_repeats (under server link.config) link.before link.act link.out link.after chain.1;
       went = went_of_chain server first link history last chain;
-      pays = owed_pays server (link ∷ history) link chain.1 (chain_named server first history link.before chain.2).numbers.differ (steady_in_step server first link history chain.2);
+      pays = owed_pays (under server link.config) (link ∷ history) link chain.1 (chain_named server first history link.before chain.2).numbers.differ (steady_in_step server first link history chain.2);
       none_passed = subst (λ (moment : ℕ). NoneBefore moment link.before.requests) (sym parts.is_at) parts.none_passed;
       none_again = subst (λ (moment : ℕ). NoneAgainBefore moment link.before.requests) (sym parts.is_at) parts.none_again;
-      records = step_records server link.before link.act link.out link.after chain.1;
+      records = step_records (under server link.config) link.before link.act link.out link.after chain.1;
       rise = rising_of_step server first link history chain.1 chain.2;
     }
 

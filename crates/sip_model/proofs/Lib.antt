@@ -44,6 +44,7 @@ pub mod Rising
 pub mod Outcomes
 pub mod FirstDue
 pub mod Passing
+pub mod RunsUnder
 pub mod Sixteen
 pub mod Fit
 pub mod Alike
@@ -71,3 +72,5 @@ pub mod Paying
 pub mod Audited
 pub mod Steady
 pub mod Standing
+mod Under
+mod Chains

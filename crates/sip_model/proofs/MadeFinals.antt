@@ -22,7 +22,7 @@ use Rattle.model_steps.specs.context_model.Opening.{forking, trying, tried}
 use Rattle.model_steps.specs.context_model.Retransmission.{IsResent, OfAnswer, OfRequest}
 use Rattle.model_steps.specs.Effect.{change_packets}
 use Rattle.model_steps.specs.Step.{Act, IsOverdue, OfSide, OfBranch}
-use Rattle.sip_model.specs.Run.{Link, IsChain}
+use Rattle.sip_model.specs.Run.{Link, under, IsChain}
 use Rattle.sip_model.specs.Access.{IsMadeLater}
 use Rattle.sip_model.specs.Parts.{IsChangeAt, ByResponse, ByDeadline, ByFault, ByCancel, IsOpening, Answered, Sent, IsPart, Stays, Passes, Copies, TurnsAway, Opens, Changes, Resends, Acknowledges, AreParts, One, Two, HasParts}
 use Rattle.sip_model.proofs.Places.{all_push, all_replaced}
@@ -236,6 +236,6 @@ pub made_of_chain : (server : Server) (first : ℕ) (history : List Link) (last 
     → AllByRecursion (λ (r : OpenRequest). AllByRecursion (λ (f : Final). f.message ≡ None → (f.status ≡ 408) ⊎ ((f.status ≡ 487) ⊎ (f.status ≡ 503))) r.finals) last.requests
 made_of_chain server first [] last chain = subst (λ (s : ProxyState). AllByRecursion KeepsMadeFinals s.requests) (sym chain) tt
 made_of_chain server first (link ∷ history) last chain =
-    let has : HasParts server link.before link.act link.out link.after = step_parts server link.before link.act link.out link.after chain.1 in
+    let has : HasParts (under server link.config) link.before link.act link.out link.after = step_parts (under server link.config) link.before link.act link.out link.after chain.1 in
     subst (λ (s : ProxyState). AllByRecursion KeepsMadeFinals s.requests) (sym chain.0)
-    (parts_made server link.before link.act link.after.moment link.before.requests link.after.requests _ _ has.parts (made_of_chain server first history link.before chain.2))
+    (parts_made (under server link.config) link.before link.act link.after.moment link.before.requests link.after.requests _ _ has.parts (made_of_chain server first history link.before chain.2))

@@ -12,7 +12,7 @@ use Rattle.model_steps.specs.state.State.{first_state, phase_deadline, is_invite
 use Rattle.model_steps.specs.context_model.Retransmission.{IsResent, OfAnswer, OfRequest}
 use Rattle.model_steps.specs.context_model.Branches.{Change}
 use Rattle.model_steps.specs.Step.{Act, Given, Passing, IsStep, IsOverdue, OfSide, OfBranch, NoneBefore}
-use Rattle.sip_model.specs.Run.{Link, IsChain}
+use Rattle.sip_model.specs.Run.{Link, under, IsChain}
 use Rattle.sip_model.proofs.Places.{in_from_contains, all_in}
 use Rattle.sip_model.proofs.Steps.{stands_at, step_taken}
 use Rattle.sip_model.proofs.Resending.{DueFrom, IsBranchAgain, IsAgain}
@@ -54,4 +54,4 @@ moment_rises server old act out new none again h = subst (λ (moment : ℕ). old
 pub moment_of_chain_rises : (server : Server) (first : ℕ) (link : Link) (history : List Link) (last : ProxyState) → IsChain server (first_state first) (link ∷ history) last → link.before.moment ≤ last.moment
 moment_of_chain_rises server first link history last h =
     subst (λ (s : ProxyState). link.before.moment ≤ s.moment) (sym h.0)
-    (moment_rises server link.before link.act link.out link.after (chain_passes_none server first history link.before h.2) (chain_again server first history link.before h.2) h.1)
+    (moment_rises (under server link.config) link.before link.act link.out link.after (chain_passes_none server first history link.before h.2) (chain_again server first history link.before h.2) h.1)

@@ -16,7 +16,7 @@ use Rattle.model_steps.specs.context_model.Branches.{Change, settled, acknowledg
 use Rattle.model_steps.specs.state.Arrival.{Arrival}
 use Rattle.model_steps.specs.context_model.Opening.{arriving, closing, forking, is_tried, tried, trying}
 use Rattle.model_steps.specs.Effect.{replaced}
-use Rattle.sip_model.specs.Run.{Link, IsChain}
+use Rattle.sip_model.specs.Run.{Link, under, IsChain}
 use Rattle.sip_model.specs.Order.{is_numbered, AreNumbered, FinalAnswer, finals_up, change_finals, reply_finals, forked_finals, step_finals, history_finals, finals_to, IsAccepting, AreOneAnswer}
 use Rattle.sip_model.proofs.Places.{same_number, IsIn, all_in, all_push, all_replaced, counts_in, count_cons, one_at}
 use Rattle.sip_model.proofs.Moves.{Resends, sent_request, IsOpening, Answered, Sent, IsMove, Stays, TurnsAway, Opens, Changes, Acknowledges, finals_by_moves}
@@ -272,11 +272,11 @@ chain_answered server first [] last chain =
     (record { named = chain_named server first [] (first_state first) refl; none_later = λ n high. refl; each_one = λ n. inl (omega arith); fit = tt })
 chain_answered server first (link ∷ history) last chain =
     let now = stands_at link.before link.act link.out in
-    let taken = step_taken server link.before link.act link.out link.after chain.1 in
-    let finals = step_finals server link.before link.act link.out link.after chain.1 in
+    let taken = step_taken (under server link.config) link.before link.act link.out link.after chain.1 in
+    let finals = step_finals (under server link.config) link.before link.act link.out link.after chain.1 in
     let sent = history_finals server (first_state first) history link.before chain.2 in
     subst (λ (s : ProxyState). AreAnswered s.requests s.next (finals ++ sent)) (sym chain.0)
-    (finals_by_moves server now AreAnswered (λ requests next after after_next fs earlier. move_answered server now requests next after after_next fs earlier)
+    (finals_by_moves (under server link.config) now AreAnswered (λ requests next after after_next fs earlier. move_answered (under server link.config) now requests next after after_next fs earlier)
     link.before.requests link.before.next link.after.requests link.after.next finals sent taken.moves (chain_answered server first history link.before chain.2))
 
 -- of each number of a history one final answer went up, or several 2xx to an INVITE

@@ -10,7 +10,7 @@ use Rattle.model_steps.specs.state.declared.proxy_state.ProxyState.{ProxyState}
 use Rattle.model_steps.specs.state.State.{first_state, has_key, is_invite}
 use Rattle.model_steps.specs.context_model.Branches.{acknowledged, acknowledged_side, was_refused}
 use Rattle.model_steps.specs.Effect.{replaced}
-use Rattle.sip_model.specs.Run.{Link, IsChain}
+use Rattle.sip_model.specs.Run.{Link, under, IsChain}
 use Rattle.sip_model.specs.Order.{KeysDiffer, is_numbered, AreNumbered, FinalAnswer}
 use Rattle.sip_model.proofs.Places.{IsIn, count_push, one_at, none_at, count_replaced}
 use Rattle.sip_model.proofs.Moves.{Resends, IsMove, Stays, TurnsAway, Opens, Changes, Acknowledges, kept_by_moves}
@@ -127,7 +127,7 @@ pub chain_named : (server : Server) (first : ℕ) (history : List Link) (last : 
 chain_named server first [] last h =
     subst (λ (s : ProxyState). AreNamed s.requests s.next) (sym h) (record { keys = λ key. omega arith; numbers = record { differ = λ n. omega arith; are_below = λ n high. refl } })
 chain_named server first (link ∷ history) last h =
-    let taken = step_taken server link.before link.act link.out link.after h.1 in
+    let taken = step_taken (under server link.config) link.before link.act link.out link.after h.1 in
     subst (λ (s : ProxyState). AreNamed s.requests s.next) (sym h.0)
-    (kept_by_moves server (stands_at link.before link.act link.out) AreNamed (λ requests next after after_next finals. move_named server (stands_at link.before link.act link.out) requests next after after_next finals)
+    (kept_by_moves (under server link.config) (stands_at link.before link.act link.out) AreNamed (λ requests next after after_next finals. move_named (under server link.config) (stands_at link.before link.act link.out) requests next after after_next finals)
     link.before.requests link.before.next link.after.requests link.after.next _ taken.moves (chain_named server first history link.before h.2))

@@ -11,6 +11,7 @@ use Rattle.sip_event.specs.declared.packet.Packet.{Packet}
 use Rattle.sip_event.specs.declared.packet.Ticket.{Ticket}
 use Rattle.sip_event.specs.declared.event.StepOut.{StepOut}
 use Rattle.sip_event.specs.declared.event.Event.TheVariants.{Datagram, Time, Fault}
+use Rattle.sip_config_types.specs.declared.config.Config.{Config}
 use Rattle.model_steps.specs.state.declared.server.Server.{Server}
 use Rattle.model_steps.specs.state.declared.branch.Branch.{Branch}
 use Rattle.model_steps.specs.state.declared.open_request.OpenRequest.{OpenRequest}
@@ -21,7 +22,7 @@ use Rattle.model_steps.specs.state.Arrival.{Arrival}
 use Rattle.model_steps.specs.verdict_model.Verdict.{message_verdict, message_in, verdict_in}
 use Rattle.model_steps.specs.Effect.{Effect, counted, effect_of, datagram_effect, nothing}
 use Rattle.model_steps.specs.Step.{Act, Given, Passing, Does, IsOverdue, OfSide, OfBranch, IsQuiet, IsDeadline, IsResend, resent, IsStep, originals, moment_of, arrival_of, is_failed, failed_branch, failed_request, fault_effect}
-use Rattle.sip_model.specs.Run.{Link, IsChain}
+use Rattle.sip_model.specs.Run.{Link, under, IsChain}
 use Rattle.sip_model.specs.Access.{CameFor, IsSaidAt, IsOwed}
 use Rattle.sip_model.proofs.Sixteen.{AreFew, few_of_chain}
 use Rattle.sip_model.proofs.Later.{IsLater, later_itself, later_resent, later_honest}
@@ -29,6 +30,7 @@ use Rattle.sip_model.proofs.Lists.{all_find, all_there, head_there}
 use Rattle.sip_model.proofs.Finals.{AreHonest, honest_before}
 use Rattle.sip_model.proofs.Due.{replaced_honest, IsDue, overdue_due, side_due, failed_due}
 use Rattle.sip_model.proofs.Fitting.{IsResponding, message_fits}
+use Rattle.sip_model.proofs.Under.{honest_under, honest_back}
 use Rattle.sip_model.proofs.Effects.{IsGood, nothing_good, changed_good, kept_honest, effect_good}
 
 -- ---- the effects of a step
@@ -39,16 +41,16 @@ pub said_at : (state : ProxyState) (at word : ℕ) (from : Addr) (bytes : List �
 said_at state at word from bytes m short says = record { at = at; word = word; from = from; is_act = refl; is_arrival = refl; says = says }
 
 -- what a datagram does
-datagram_good : (server : Server) (past : List Link) (old : ProxyState) (at word : ℕ) (from : Addr) (bytes : List ℕ) (out : StepOut) (new : ProxyState)
-    → let history : List Link = record { before = old; act = Given (Datagram at word from bytes); out = out; after = new } ∷ past in
+datagram_good : (server : Server) (config : Config) (past : List Link) (old : ProxyState) (at word : ℕ) (from : Addr) (bytes : List ℕ) (out : StepOut) (new : ProxyState)
+    → let history : List Link = record { config = config; before = old; act = Given (Datagram at word from bytes); out = out; after = new } ∷ past in
     ((aor : Aor) → length (live aor (moment_of old at) old.bindings) ≤ 16) → AreHonest server history old.requests
     → IsGood server history old (Given (Datagram at word from bytes)) (datagram_effect server old (arrival_of old at word from) bytes)
-datagram_good server past old at word from bytes out new few h = by_message (message_in (reading_of bytes)) refl where
+datagram_good server config past old at word from bytes out new few h = by_message (message_in (reading_of bytes)) refl where
   act : Act
   act = Given (Datagram at word from bytes)
 
   link : Link
-  link = record { before = old; act = act; out = out; after = new }
+  link = record { config = config; before = old; act = act; out = out; after = new }
 
   a : Arrival
   a = arrival_of old at word from
@@ -140,15 +142,15 @@ resend_good server history old act at out new d h =
     (record { sends = tt; honest = replaced_honest server history d.next old.requests (later_honest server history old act d.request d.next later) h })
 
 -- every step is good
-step_good : (server : Server) (past : List Link) (old : ProxyState) (act : Act) (out : StepOut) (new : ProxyState) → IsStep server old act out new → AreFew old
-    → AreHonest server (record { before = old; act = act; out = out; after = new } ∷ past) old.requests
-    → IsGoodStep server (record { before = old; act = act; out = out; after = new } ∷ past) old act out new
-step_good server past old (Given (Datagram at word from bytes)) out new step few h =
-    does_good server _ old (Given (Datagram at word from bytes)) (moment_of old at) _ out new step.does (datagram_good server past old at word from bytes out new (λ aor. few aor (moment_of old at) (omega arith)) h)
-step_good server past old (Given (Time at)) out new step few h = quiet_good server _ old (Given (Time at)) at out new step.quiet h
-step_good server past old (Given (Fault at ticket)) out new step few h =
+step_good : (server : Server) (config : Config) (past : List Link) (old : ProxyState) (act : Act) (out : StepOut) (new : ProxyState) → IsStep server old act out new → AreFew old
+    → AreHonest server (record { config = config; before = old; act = act; out = out; after = new } ∷ past) old.requests
+    → IsGoodStep server (record { config = config; before = old; act = act; out = out; after = new } ∷ past) old act out new
+step_good server config past old (Given (Datagram at word from bytes)) out new step few h =
+    does_good server _ old (Given (Datagram at word from bytes)) (moment_of old at) _ out new step.does (datagram_good server config past old at word from bytes out new (λ aor. few aor (moment_of old at) (omega arith)) h)
+step_good server config past old (Given (Time at)) out new step few h = quiet_good server _ old (Given (Time at)) at out new step.quiet h
+step_good server config past old (Given (Fault at ticket)) out new step few h =
     does_good server _ old (Given (Fault at ticket)) (moment_of old at) _ out new step.does (failed_good server _ old (Given (Fault at ticket)) h (moment_of old at) ticket)
-step_good server past old (Passing at) out new step few h =
+step_good server config past old (Passing at) out new step few h =
     ⊎_elim (λ quiet. quiet_good server _ old (Passing at) at out new quiet h) (λ due. ⊎_elim (λ deadline. deadline_good server _ old (Passing at) at out new deadline h) (λ goes. resend_good server _ old (Passing at) at out new goes h) due) step
 
 -- ---- a run
@@ -156,16 +158,18 @@ step_good server past old (Passing at) out new step few h =
 -- all that a step sends for the first time is owed, where what was kept before it is honest
 pub owed_of_step : (server : Server) (history : List Link) (link : Link) → IsStep server link.before link.act link.out link.after → AreFew link.before → AreHonest server history link.before.requests
     → AllByRecursion (IsOwed server (link ∷ history) link.before link.act link.before.bindings) (originals link.out.packets)
-owed_of_step server history link step few h = (step_good server history link.before link.act link.out link.after step few (honest_before server link history link.before.requests h)).sends
+owed_of_step server history link step few h = (step_good server link.config history link.before link.act link.out link.after step few (honest_before server link history link.before.requests h)).sends
 
 -- what is kept after a step is honest, where what was kept before it is
 pub honest_of_step : (server : Server) (history : List Link) (link : Link) → IsStep server link.before link.act link.out link.after → AreFew link.before → AreHonest server history link.before.requests
     → AreHonest server (link ∷ history) link.after.requests
-honest_of_step server history link step few h = (step_good server history link.before link.act link.out link.after step few (honest_before server link history link.before.requests h)).honest
+honest_of_step server history link step few h = (step_good server link.config history link.before link.act link.out link.after step few (honest_before server link history link.before.requests h)).honest
 
 -- what is kept at the end of a run is honest
 pub honest_of_chain : (server : Server) (first : ℕ) (history : List Link) (last : ProxyState) → IsChain server (first_state first) history last → AreHonest server history last.requests
 honest_of_chain server first [] last chain = subst (λ (s : ProxyState). AreHonest server [] s.requests) (sym chain) tt
 honest_of_chain server first (link ∷ history) last chain =
     subst (λ (s : ProxyState). AreHonest server (link ∷ history) s.requests) (sym chain.0)
-    (honest_of_step server history link chain.1 (few_of_chain server first history link.before chain.2) (honest_of_chain server first history link.before chain.2))
+    (honest_back server link.config (link ∷ history) link.after.requests
+    (honest_of_step (under server link.config) history link chain.1 (few_of_chain server first history link.before chain.2)
+    (honest_under server link.config history link.before.requests (honest_of_chain server first history link.before chain.2))))

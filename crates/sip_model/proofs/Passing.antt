@@ -12,7 +12,7 @@ use Rattle.model_steps.specs.state.State.{first_state, deadlines}
 use Rattle.model_steps.specs.context_model.Retransmission.{resends}
 use Rattle.model_steps.specs.Effect.{Effect, changed, nothing, datagram_effect}
 use Rattle.model_steps.specs.Step.{Act, Given, Passing, IsStep, NoneBy, NoneAgainBy, IsDeadline, IsResend, moment_of, arrival_of, resent, fault_effect}
-use Rattle.sip_model.specs.Run.{Link, IsChain, events_of, steps_of, event_moment, IsPaced, HasRun}
+use Rattle.sip_model.specs.Run.{Link, IsUnder, IsChain, events_of, steps_of, event_moment, IsPaced, HasRun}
 use Rattle.sip_model.specs.Order.{ByDeadline, deadlines_left}
 use Rattle.sip_model.proofs.Places.{contains_from_in, all_in, all_weaker, sum_replaced}
 use Rattle.sip_model.proofs.Resending.{IsAgain}
@@ -32,6 +32,7 @@ use Rattle.sip_model.proofs.Outcomes.{overdue_first, datagram_marked, fault_mark
 record StandsAt (server : Server) (start : ProxyState) (at most : ℕ) (events : List Event) (t : ℕ) (history : List Link) (state : ProxyState) : Type 0 where
   pub chain : IsChain server start history state
   pub paced : IsPaced (Some at) history
+  pub configured : AllByRecursion (IsUnder server.config) history
   pub of_events : events_of history ≡ events
   pub up_to : max state.moment at ≡ most
   pub low : state.moment ≤ t
@@ -44,6 +45,7 @@ record HasPassed (server : Server) (start : ProxyState) (at most : ℕ) (events 
   pub state : ProxyState
   pub chain : IsChain server start history state
   pub paced : IsPaced (Some at) history
+  pub configured : AllByRecursion (IsUnder server.config) history
   pub of_events : events_of history ≡ events
   pub up_to : max state.moment at ≡ most
   pub none_due : NoneBy most state.requests
@@ -55,6 +57,7 @@ record HasTaken (server : Server) (start : ProxyState) (events : List Event) : T
   pub state : ProxyState
   pub chain : IsChain server start history state
   pub paced : (next : Option ℕ) → IsPaced next history
+  pub configured : AllByRecursion (IsUnder server.config) history
   pub of_events : events_of history ≡ events
 
 -- a step that is taken for something
@@ -130,7 +133,7 @@ module _ (server : Server) (first : ℕ) (base : List Link) (start : ProxyState)
 
   -- a history with one more step
   abbrev stepped : Act → ProxyState → StepOut → ProxyState → List Link → List Link
-  stepped act old out new history = record { before = old; act = act; out = out; after = new } ∷ history
+  stepped act old out new history = record { config = server.config; before = old; act = act; out = out; after = new } ∷ history
 
   -- a step of passing time leads to where nothing is due before its moment
   stands_behind : (at most : ℕ) (events : List Event) (t : ℕ) (history : List Link) (old : ProxyState) (out : StepOut) (new : ProxyState) → StandsAt server start at most events t history old → t ≤ most → new.moment ≡ t
@@ -141,6 +144,7 @@ module _ (server : Server) (first : ℕ) (base : List Link) (start : ProxyState)
       record {
         chain = chain;
         paced = (refl, h.paced);
+        configured = (refl, h.configured);
         of_events = h.of_events;
         up_to = ap (λ (m : ℕ). max m at) is ∙ between old.moment t at most h.low high h.up_to;
         low = omega (arith, is);
@@ -235,6 +239,7 @@ module _ (server : Server) (first : ℕ) (base : List Link) (start : ProxyState)
     state = state;
     chain = h.chain;
     paced = h.paced;
+    configured = h.configured;
     of_events = h.of_events;
     up_to = h.up_to;
     none_due = later_than most t (deadlines state.requests) late (all_due t state.requests h.due);
@@ -256,7 +261,7 @@ module _ (server : Server) (first : ℕ) (base : List Link) (start : ProxyState)
         let same = goes_left at most events t history state h found in
         again _ _ (goes at most events t history state h high found) (omega (arith, same, few)) (goes_fewer at most events t history state h found)
     by_resend due (inr rest) =
-        later (record { chain = h.chain; paced = h.paced; of_events = h.of_events; up_to = h.up_to; low = omega (arith, h.low); due = due; again = rest })
+        later (record { chain = h.chain; paced = h.paced; configured = h.configured; of_events = h.of_events; up_to = h.up_to; low = omega (arith, h.low); due = due; again = rest })
 
     by_deadline : IsOverdueAt server t state.requests ⊎ AllByRecursion (IsDue (t + 1)) state.requests → HasPassed server start at most events
     by_deadline (inl found) = let less = passes_fewer at most events t history state h found in fewer _ _ (passes at most events t history state h high found) (omega (arith, less, few))
@@ -298,6 +303,7 @@ module _ (server : Server) (first : ℕ) (base : List Link) (start : ProxyState)
       let stands : StandsAt server start at (max state.moment at) events state.moment h.history state = record {
         chain = h.chain;
         paced = h.paced (Some at);
+        configured = h.configured;
         of_events = h.of_events;
         up_to = refl;
         low = omega arith;
@@ -318,6 +324,7 @@ module _ (server : Server) (first : ℕ) (base : List Link) (start : ProxyState)
         state = step.new;
         chain = (refl, step.is_step, passed.chain);
         paced = λ next. (tt, passed.paced);
+        configured = (refl, passed.configured);
         of_events = ap (λ (es : List Event). event ∷ es) passed.of_events;
       }
 
@@ -331,11 +338,11 @@ module _ (server : Server) (first : ℕ) (base : List Link) (start : ProxyState)
   -- so each list of events has a run that goes on from there
   pub goes_on : (events : List Event) (until : Option ℕ) → HasRun server start events until
   goes_on events until =
-      let none : HasTaken server start [] = record { history = []; state = start; chain = refl; paced = λ next. tt; of_events = refl } in
+      let none : HasTaken server start [] = record { history = []; state = start; chain = refl; paced = λ next. tt; configured = tt; of_events = refl } in
       let h = take_all events [] none in
       record {
         steps = reverse (steps_of h.history);
         history = h.history;
         last = h.state;
-        is_run = record { chain = h.chain; paced = h.paced until; of_events = ap reverse (h.of_events ∙ append-nil (reverse events)) ∙ reverse-reverse events; of_steps = refl };
+        is_run = record { chain = h.chain; paced = h.paced until; of_events = ap reverse (h.of_events ∙ append-nil (reverse events)) ∙ reverse-reverse events; of_steps = refl; configured = h.configured };
       }

@@ -23,7 +23,7 @@ use Rattle.model_steps.specs.verdict_model.declared.question.Question.{Question}
 use Rattle.model_steps.specs.verdict_model.Verdict.{Bound, Refused, Verdict, Drop, Respond, Copy, AckOn, Cancel, Answer, InDialog, Challenge, Deny, Send, Register, is_register, question_of, answer_of, registration_by, request_targets, decided, message_verdict, message_in, verdict_in, verdict_of}
 use Rattle.model_steps.specs.Effect.{counted, effect_of, nothing}
 use Rattle.model_steps.specs.Step.{Act, Given, Passing, IsStep, arrival_of, is_failed, failed_branch, failed_request, fault_effect, moment_of}
-use Rattle.sip_model.specs.Run.{Link, IsChain}
+use Rattle.sip_model.specs.Run.{Link, under, IsChain}
 use Rattle.sip_model.specs.Bindings.{Arrived, rows_after, after_register, bindings_by, allowed_by, allowed_at, allowed_registers, bindings_after}
 use Rattle.sip_model.proofs.Again.{chain_again}
 use Rattle.sip_model.proofs.Judging.{is_by_policy, judged, judged_verdict}
@@ -82,7 +82,7 @@ after_allowed server rows allowed = option_map_or (λ r. after_register server r
 
 -- a verdict on a message binds what the REGISTER that it lets through makes of the bindings
 abbrev IsFaithful : Server → List Binding → ℕ → Message → Verdict → Type 0
-IsFaithful server rows now m v = bound_by v rows ≡ after_allowed server rows (allowed_by now m v)
+IsFaithful server rows now m v = bound_by v rows ≡ after_allowed server rows (allowed_by server.config now m v)
 
 -- a verdict that isn't policy's lets no REGISTER through, and leaves the bindings
 others_faithful : (server : Server) (rows : List Binding) (now : ℕ) (m : Message) (v : Verdict) → is_by_policy v ≡ false → IsFaithful server rows now m v
@@ -136,7 +136,7 @@ message_faithful server state a bytes m short true said h =
 -- the bindings after a datagram are those that the REGISTER makes which it says and which is let through
 said_binds : (server : Server) (state : ProxyState) (a : Arrival) (bytes : List ℕ) (said : Option (Message × Bool)) → message_in (reading_of bytes) ≡ said
     → (option_map_or (λ x. effect_of server a x.0 x.1 (counted a state)) (verdict_in server state a said) (nothing (counted a state))).state.bindings
-    ≡ after_allowed server state.bindings (option_and_then (λ x. allowed_by a.now x.0 x.1) (verdict_in server state a said))
+    ≡ after_allowed server state.bindings (option_and_then (λ x. allowed_by server.config a.now x.0 x.1) (verdict_in server state a said))
 said_binds server state a bytes None h = refl
 said_binds server state a bytes (Some x) h =
     effect_binds server a x.0 (message_verdict server state a x.0 x.1) (counted a state)
@@ -180,8 +180,8 @@ one_more server (Some r) earlier = refl
 
 -- a REGISTER that a verdict lets through comes at the moment of its datagram: rows that say the same are so after it
 verdict_same : (server : Server) (left right : List Binding) (now : ℕ) (m : Message) (v : Verdict) → SameBindings now left right
-    → SameBindings now (after_allowed server left (allowed_by now m v)) (after_allowed server right (allowed_by now m v))
-verdict_same server left right now m (Register q id outcome) h = register_same server (record { at = now; request = m }) left right h
+    → SameBindings now (after_allowed server left (allowed_by server.config now m v)) (after_allowed server right (allowed_by server.config now m v))
+verdict_same server left right now m (Register q id outcome) h = register_same server (record { config = server.config; at = now; request = m }) left right h
 verdict_same server left right now m Drop h = h
 verdict_same server left right now m (Respond r b status) h = h
 verdict_same server left right now m (Copy r) h = h
@@ -195,7 +195,7 @@ verdict_same server left right now m (Send q id targets) h = h
 
 -- so they are after what a datagram says
 said_same : (server : Server) (now : ℕ) (left right : List Binding) (said : Option (Message × Verdict)) → SameBindings now left right
-    → SameBindings now (after_allowed server left (option_and_then (λ x. allowed_by now x.0 x.1) said)) (after_allowed server right (option_and_then (λ x. allowed_by now x.0 x.1) said))
+    → SameBindings now (after_allowed server left (option_and_then (λ x. allowed_by server.config now x.0 x.1) said)) (after_allowed server right (option_and_then (λ x. allowed_by server.config now x.0 x.1) said))
 said_same server now left right None h = h
 said_same server now left right (Some x) h = verdict_same server left right now x.0 x.1 h
 
@@ -215,15 +215,15 @@ bindings_of_chain server first (link ∷ history) last h =
     let old : ProxyState = link.before in
     let earlier : List Binding = bindings_after server history in
     let now : ℕ = stands_at old link.act link.out in
-    let is_at : link.after.moment ≡ now = (step_taken server old link.act link.out link.after h.1).is_at in
-    let rises : old.moment ≤ link.after.moment = moment_rises server old link.act link.out link.after (chain_passes_none server first history old h.2) (chain_again server first history old h.2) h.1 in
+    let is_at : link.after.moment ≡ now = (step_taken (under server link.config) old link.act link.out link.after h.1).is_at in
+    let rises : old.moment ≤ link.after.moment = moment_rises (under server link.config) old link.act link.out link.after (chain_passes_none server first history old h.2) (chain_again server first history old h.2) h.1 in
     let before : SameBindings link.after.moment old.bindings earlier =
     same_later old.moment link.after.moment old.bindings earlier rises (bindings_of_chain server first history old h.2) in
-    let allowed : Option Arrived = allowed_at server old link.act in
+    let allowed : Option Arrived = allowed_at (under server link.config) old link.act in
     let both : SameBindings link.after.moment (after_allowed server old.bindings allowed) (after_allowed server earlier allowed) =
     subst (λ (moment : ℕ). SameBindings moment (after_allowed server old.bindings allowed) (after_allowed server earlier allowed)) (sym is_at)
-    (allowed_same server old link.act link.out old.bindings earlier (subst (λ (moment : ℕ). SameBindings moment old.bindings earlier) is_at before)) in
+    (allowed_same (under server link.config) old link.act link.out old.bindings earlier (subst (λ (moment : ℕ). SameBindings moment old.bindings earlier) is_at before)) in
     subst (λ (s : ProxyState). SameBindings s.moment s.bindings (bindings_after server (link ∷ history))) (sym h.0)
     (subst (SameBindings link.after.moment link.after.bindings) (sym (one_more server allowed (allowed_registers server history)))
     (same_joined link.after.moment link.after.bindings (after_allowed server old.bindings allowed) (after_allowed server earlier allowed)
-    (step_binds server old link.act link.out link.after h.1) both))
+    (step_binds (under server link.config) old link.act link.out link.after h.1) both))

@@ -8,7 +8,7 @@ use Rattle.model_steps.specs.state.declared.proxy_state.ProxyState.{ProxyState}
 use Rattle.model_steps.specs.state.State.{first_state, has_left}
 use Rattle.model_steps.specs.context_model.Branches.{acknowledged}
 use Rattle.model_steps.specs.Effect.{replaced}
-use Rattle.sip_model.specs.Run.{Link, IsChain}
+use Rattle.sip_model.specs.Run.{Link, under, IsChain}
 use Rattle.sip_model.specs.Order.{AreRising, FinalAnswer}
 use Rattle.sip_model.proofs.Places.{all_push, all_weaker}
 use Rattle.sip_model.proofs.Moves.{IsMove, Stays, TurnsAway, Opens, Changes, Resends, Acknowledges, kept_by_moves}
@@ -86,7 +86,7 @@ move_rising server now requests next after after_next finals (Acknowledges r the
 pub chain_rising : (server : Server) (first : ℕ) (history : List Link) (last : ProxyState) → IsChain server (first_state first) history last → IsRising last.requests last.next
 chain_rising server first [] last h = subst (λ (s : ProxyState). IsRising s.requests s.next) (sym h) (record { rising = tt; below = tt })
 chain_rising server first (link ∷ history) last h =
-    let taken = step_taken server link.before link.act link.out link.after h.1 in
+    let taken = step_taken (under server link.config) link.before link.act link.out link.after h.1 in
     subst (λ (s : ProxyState). IsRising s.requests s.next) (sym h.0)
-    (kept_by_moves server (stands_at link.before link.act link.out) IsRising (λ requests next after after_next finals. move_rising server (stands_at link.before link.act link.out) requests next after after_next finals)
+    (kept_by_moves (under server link.config) (stands_at link.before link.act link.out) IsRising (λ requests next after after_next finals. move_rising (under server link.config) (stands_at link.before link.act link.out) requests next after after_next finals)
     link.before.requests link.before.next link.after.requests link.after.next _ taken.moves (chain_rising server first history link.before h.2))

@@ -27,7 +27,7 @@ use Rattle.model_steps.specs.verdict_model.Sameness.{SameRegistered}
 use Rattle.model_steps.proofs.of_verdict_model.Sameness.{request_targets_same, registration_same, bound_back, refused_back}
 use Rattle.model_steps.specs.Effect.{contact_field, contact_fields, dialogs_after}
 use Rattle.model_steps.specs.Step.{Act, Given, Passing, arrival_of}
-use Rattle.sip_model.specs.Run.{Link}
+use Rattle.sip_model.specs.Run.{Link, under}
 use Rattle.sip_model.specs.Bindings.{Arrived, rows_after, after_register}
 use Rattle.sip_model.specs.Access.{IsSaidAt, decision_on, targets_given, targets_on, requests_to, answer_alone, IsServed, Serves, IsOwed, ToTarget, Answers, Forwards, Acknowledges, Cancels, InKnownDialog}
 
@@ -61,10 +61,10 @@ rows_after_same now left right (Refused status extras) (Refused other_status oth
 pub register_same : (server : Server) (r : Arrived) (left right : List Binding) → SameBindings r.at left right → SameBindings r.at (after_register server r left) (after_register server r right)
 register_same server r left right h = by_core (result_ok (core_of r.request)) where
   by_core : (core : Option CoreFields)
-      → SameBindings r.at (option_map_or (λ c. rows_after left (registration_by server left r.at r.request c)) core left)
-      (option_map_or (λ c. rows_after right (registration_by server right r.at r.request c)) core right)
+      → SameBindings r.at (option_map_or (λ c. rows_after left (registration_by (under server r.config) left r.at r.request c)) core left)
+      (option_map_or (λ c. rows_after right (registration_by (under server r.config) right r.at r.request c)) core right)
   by_core None = h
-  by_core (Some core) = rows_after_same r.at left right _ _ h (registration_same server left right r.at r.request core h)
+  by_core (Some core) = rows_after_same r.at left right _ _ h (registration_same (under server r.config) left right r.at r.request core h)
 
 -- ---- what is served and owed
 

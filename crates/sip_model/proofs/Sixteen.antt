@@ -32,7 +32,7 @@ use Rattle.model_steps.specs.state.State.{first_state}
 use Rattle.model_steps.specs.verdict_model.declared.question.Question.{Question}
 use Rattle.model_steps.specs.verdict_model.Verdict.{Refused, registered_by, is_own_uri, registration_by, targets_by, request_targets}
 use Rattle.model_steps.specs.context_model.Opening.{branches_from}
-use Rattle.sip_model.specs.Run.{Link, IsChain}
+use Rattle.sip_model.specs.Run.{Link, under, IsChain}
 use Rattle.sip_model.specs.Bindings.{Arrived, rows_after, bindings_by, allowed_registers}
 use Rattle.sip_model.proofs.Finals.{IsOfSixteen}
 use Rattle.sip_model.proofs.Registers.{bindings_of_chain}
@@ -66,9 +66,9 @@ few_by : (server : Server) (rs : List Arrived) → HasFew (bindings_by server rs
 few_by server [] = λ aor moment. omega arith
 few_by server (r ∷ rs) = by_core (few_by server rs) (result_ok (core_of r.request)) where
   by_core : HasFew (bindings_by server rs) → (o : Option CoreFields)
-      → HasFew (option_map_or (λ core. rows_after (bindings_by server rs) (registration_by server (bindings_by server rs) r.at r.request core)) o (bindings_by server rs))
+      → HasFew (option_map_or (λ core. rows_after (bindings_by server rs) (registration_by (under server r.config) (bindings_by server rs) r.at r.request core)) o (bindings_by server rs))
   by_core few None = few
-  by_core few (Some core) = few_bound server (bindings_by server rs) r.at r.request core few
+  by_core few (Some core) = few_bound (under server r.config) (bindings_by server rs) r.at r.request core few
 
 -- no address of record has more than 16 bindings that live at a state's moment, or later
 abbrev pub AreFew : ProxyState → Type 0

@@ -5,12 +5,13 @@ use Rattle.model_steps.specs.state.declared.server.Server.{Server}
 use Rattle.model_steps.specs.state.declared.open_request.OpenRequest.{OpenRequest}
 use Rattle.model_steps.specs.state.State.{first_state, is_answering}
 use Rattle.model_steps.specs.context_model.Branches.{all_final}
-use Rattle.sip_model.specs.Run.{Link, IsChain}
+use Rattle.sip_model.specs.Run.{Link, under, IsChain}
 use Rattle.sip_model.proofs.Finals.{AreHonest}
 use Rattle.sip_model.proofs.Owing.{honest_of_chain}
 use Rattle.sip_model.proofs.Ends.{chain_waits}
 use Rattle.sip_model.proofs.GivenUp.{IsGivenUp, given_up_in_step}
 use Rattle.sip_model.proofs.MadeFinals.{IsMadeFinal, made_of_chain}
+use Rattle.sip_model.proofs.Under.{honest_under}
 use Rattle.sip_model.proofs.AllSent.{IsSteady}
 
 -- what is known apart is known together
@@ -26,7 +27,7 @@ all_steady server past history (r ∷ rs) honest waits given made = (
 
 -- before a step
 pub steady_in_step : (server : Server) (first : ℕ) (link : Link) (history : List Link) → IsChain server (first_state first) history link.before
-    → AllByRecursion (IsSteady server (link ∷ history)) link.before.requests
+    → AllByRecursion (IsSteady (under server link.config) (link ∷ history)) link.before.requests
 steady_in_step server first link history chain =
-    all_steady server history (link ∷ history) link.before.requests (honest_of_chain server first history link.before chain) (chain_waits server first history link.before chain)
+    all_steady (under server link.config) history (link ∷ history) link.before.requests (honest_under server link.config history link.before.requests (honest_of_chain server first history link.before chain)) (chain_waits server first history link.before chain)
     (given_up_in_step server first link history chain) (made_of_chain server first history link.before chain)

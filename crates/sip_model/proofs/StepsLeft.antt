@@ -214,7 +214,7 @@ module _ (server : Server) (first : ℕ) (history : List Link) (old new : ProxyS
       let each = passed_parts server out.at d.request d.change d.passes in
       let parts : sum_by parts_left (replaced d.change.request old.requests) + 0 ≤ sum_by parts_left old.requests =
       sum_replaced parts_left 0 d.change.request d.request old.requests there number (named.numbers.differ d.request.number) (omega (arith, each)) in
-      let rises : old.moment ≤ new.moment = moment_of_chain_rises server first (record { before = old; act = Passing at; out = out; after = new }) history new (refl, inr (inl d), chain) in
+      let rises : old.moment ≤ new.moment = moment_of_chain_rises server first (record { config = server.config; before = old; act = Passing at; out = out; after = new }) history new (refl, inr (inl d), chain) in
       by_deadline at old new
       (leaves at old new (replaced d.change.request old.requests) out.at d.does.leaves.requests d.does.leaves.moment rises d.is_due (omega (arith, parts)) (omega (arith, left)))
       (subst (λ (rs : List OpenRequest). sum_by deadlines_left rs + 1 ≤ sum_by deadlines_left old.requests) (sym d.does.leaves.requests) left)
@@ -230,7 +230,7 @@ module _ (server : Server) (first : ℕ) (history : List Link) (old new : ProxyS
       let each = resent_parts server out.at d.request d.packets d.next d.goes in
       let parts : sum_by parts_left (replaced d.next old.requests) + 0 ≤ sum_by parts_left old.requests =
       sum_replaced parts_left 0 d.next d.request old.requests there number (named.numbers.differ d.request.number) (omega (arith, each)) in
-      let rises : old.moment ≤ new.moment = moment_of_chain_rises server first (record { before = old; act = Passing at; out = out; after = new }) history new (refl, inr (inr d), chain) in
+      let rises : old.moment ≤ new.moment = moment_of_chain_rises server first (record { config = server.config; before = old; act = Passing at; out = out; after = new }) history new (refl, inr (inr d), chain) in
       let h : Leaves at old new = leaves at old new (replaced d.next old.requests) out.at d.does.leaves.requests d.does.leaves.moment rises d.is_due (omega (arith, parts)) (omega (arith, left)) in
       by_case h (nat_lt old.moment new.moment) refl rises d.does.leaves.moment there number (named.numbers.differ d.request.number) where
         by_case : Leaves at old new → (t : Bool) → nat_lt old.moment new.moment ≡ t → old.moment ≤ new.moment → new.moment ≡ out.at → IsIn d.request old.requests → d.next.number ≡ d.request.number

@@ -19,6 +19,7 @@ use Rattle.sip_event.specs.declared.packet.Packet.{Packet}
 use Rattle.sip_event.specs.declared.packet.Ticket.{Ticket}
 use Rattle.sip_event.specs.declared.event.StepOut.{StepOut}
 use Rattle.sip_event.specs.declared.event.Event.TheVariants.{Datagram, Time, Fault}
+use Rattle.sip_config_types.specs.declared.config.Config.{Config}
 use Rattle.model_steps.specs.state.declared.server.Server.{Server}
 use Rattle.model_steps.specs.state.declared.branch.Phase.{Phase}
 use Rattle.model_steps.specs.state.declared.branch.Phase.TheVariants.{Unheard, Heard, Cancelled, Done, Ended}
@@ -38,7 +39,7 @@ use Rattle.model_steps.specs.verdict_model.Verdict.{Registered, Bound, Refused, 
 use Rattle.model_steps.specs.context_model.Opening.{branches_from, forking, is_tried, trying, tried, dialog_branch}
 use Rattle.model_steps.specs.Effect.{upward_packets, change_packets, Effect, replaced, changed, nothing, opened, replied, asked, issuing, registering, forked, sending, renewing, counted, method_of, effect_of}
 use Rattle.model_steps.specs.Step.{Act, Given, Passing, Does, IsOverdue, OfSide, OfBranch, IsStep, originals, retransmissions, moment_of, arrival_of, is_failed, failed_branch, failed_request}
-use Rattle.sip_model.specs.Run.{Link, IsChain}
+use Rattle.sip_model.specs.Run.{Link, under, IsChain}
 use Rattle.sip_model.specs.Lives.{first_sending, sent_first}
 use Rattle.sip_model.proofs.Lists.{all_append, all_flat_map, all_weaker, all_contains, all_there}
 use Rattle.sip_model.proofs.Places.{IsIn, in_from_contains, all_in, all_push, all_replaced, found_in}
@@ -48,6 +49,7 @@ use Rattle.sip_model.proofs.Moves.{IsStarted}
 use Rattle.sip_model.proofs.Finals.{IsHonestRequest, AreHonest}
 use Rattle.sip_model.proofs.Verdicts.{Fits, verdict_fits}
 use Rattle.sip_model.proofs.Repeats.{step_repeats}
+use Rattle.sip_model.proofs.Under.{honest_under}
 use Rattle.sip_model.proofs.Owing.{honest_of_chain}
 
 -- ---- lists
@@ -541,23 +543,38 @@ out_more server more sent r h = record {
   by_answer None h = tt
   by_answer (Some a) h = λ e. Contains-append_right more sent (answer_to false r a.text) (h e)
 
+-- which configuration is in force changes nothing of that
+out_under : (server : Server) (config : Config) (sent : List Packet) (requests : List OpenRequest) → AreOut server sent requests → AreOut (under server config) sent requests
+out_under server config sent requests h = all_weaker (IsOut server sent) (IsOut (under server config) sent) (λ r own. record { answer = by_answer r r.answer own.answer; branches = own.branches }) requests h where
+  by_answer : (r : OpenRequest) (o : Option LastAnswer) → IsAnswerOut server sent r o → IsAnswerOut (under server config) sent r o
+  by_answer r None h = tt
+  by_answer r (Some a) h = h
+
+out_back : (server : Server) (config : Config) (sent : List Packet) (requests : List OpenRequest) → AreOut (under server config) sent requests → AreOut server sent requests
+out_back server config sent requests h = all_weaker (IsOut (under server config) sent) (IsOut server sent) (λ r own. record { answer = by_answer r r.answer own.answer; branches = own.branches }) requests h where
+  by_answer : (r : OpenRequest) (o : Option LastAnswer) → IsAnswerOut (under server config) sent r o → IsAnswerOut server sent r o
+  by_answer r None h = tt
+  by_answer r (Some a) h = h
+
 -- what may go again of the requests that are open after a history was sent in it
 out_of_chain : (server : Server) (first : ℕ) (history : List Link) (last : ProxyState) → IsChain server (first_state first) history last → AreOut server (sent_first history) last.requests
 out_of_chain server first [] last chain = subst (λ (s : ProxyState). AreOut server [] s.requests) (sym chain) tt
 out_of_chain server first (link ∷ history) last chain =
     let now : List Packet = originals link.out.packets in
     subst (λ (s : ProxyState). AreOut server (now ++ sent_first history) s.requests) (sym chain.0)
-    (step_out server (now ++ sent_first history) history link.before link.act link.out link.after chain.1 (honest_of_chain server first history link.before chain.2)
+    (out_back server link.config (now ++ sent_first history) link.after.requests
+    (step_out (under server link.config) (now ++ sent_first history) history link.before link.act link.out link.after chain.1 (honest_under server link.config history link.before.requests (honest_of_chain server first history link.before chain.2))
     (all_weaker (Contains now) (Contains (now ++ sent_first history)) (λ p there. Contains-append_left now (sent_first history) p there) now (all_there now))
+    (out_under server link.config (now ++ sent_first history) link.before.requests
     (all_weaker (IsOut server (sent_first history)) (IsOut server (now ++ sent_first history)) (λ r. out_more server now (sent_first history) r) link.before.requests
-    (out_of_chain server first history link.before chain.2)))
+    (out_of_chain server first history link.before chain.2)))))
 
 -- What goes again in a step was sent in the history before it
 pub went_of_chain : (server : Server) (first : ℕ) (link : Link) (history : List Link) (last : ProxyState) → IsChain server (first_state first) (link ∷ history) last
     → AllByRecursion (λ (p : Packet). Contains (sent_first history) (first_sending p)) (retransmissions link.out.packets)
 went_of_chain server first link history last chain =
     let before : AreOut server (sent_first history) link.before.requests = out_of_chain server first history link.before chain.2 in
-    all_weaker (IsRetransmission server link.before.requests) (WentBefore server (sent_first history))
-    (λ p is. all_contains (WentBefore server (sent_first history)) (retransmissions_of server is.request) p
+    all_weaker (IsRetransmission (under server link.config) link.before.requests) (WentBefore server (sent_first history))
+    (λ p is. all_contains (WentBefore server (sent_first history)) (retransmissions_of (under server link.config) is.request) p
     (out_before server (sent_first history) is.request (all_contains (IsOut server (sent_first history)) link.before.requests is.request before is.is_open)) is.is_one)
-    (retransmissions link.out.packets) (step_repeats server link.before link.act link.out link.after chain.1)
+    (retransmissions link.out.packets) (step_repeats (under server link.config) link.before link.act link.out link.after chain.1)

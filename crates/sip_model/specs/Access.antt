@@ -58,7 +58,7 @@ use Rattle.model_steps.specs.context_model.Opening.{arriving, branches_from, dia
 use Rattle.model_steps.specs.context_model.Retransmission.{IsRetransmission, IsResent, answers_again, acked_again, answer_due, branch_due}
 use Rattle.model_steps.specs.Effect.{contact_fields, challenge_status, challenges_to, method_of, ack_packet}
 use Rattle.model_steps.specs.Step.{Act, Given, Passing, NoneBefore, NoneAgainBefore, originals, retransmissions, arrival_of}
-use Rattle.sip_model.specs.Run.{Link, event_moment}
+use Rattle.sip_model.specs.Run.{Link, event_moment, under}
 use Rattle.sip_model.specs.Bindings.{Arrived, bindings_after}
 use Rattle.sip_model.specs.Lives.{sent_first, first_sending}
 use Rattle.sip_model.specs.Histories.{records_at}
@@ -122,7 +122,7 @@ pub record IsAllowedRegister (server : Server) (state : ProxyState) (a : Arrival
   pub is_new : IsNewRequest server state bytes m method core
   pub registers : is_register method ≡ true
   pub is_let_through : rule_of (decision_on server state a.now m method core) ≡ Some id
-  pub is_it : r ≡ record { at = a.now; request = m }
+  pub is_it : r ≡ record { config = server.config; at = a.now; request = m }
 
 -- the one answer of a request that is answered at once
 abbrev pub answer_alone : Server → Arrival → Message → ℕ → List Field → List Packet
@@ -604,16 +604,16 @@ pub record IsLawful (server : Server) (history : List Link) (link : Link) : Type
   pub stands : StandsAt (moment_in history) link.act link.out.at
   pub bindings : SameBindings link.before.moment link.before.bindings (bindings_after server history)
   pub binds : SameBindings link.after.moment link.after.bindings (bindings_after server (link ∷ history))
-  pub serves : Serves server (bindings_after server history) link.before link.act link.out
-  pub owed : AllByRecursion (IsOwed server (link ∷ history) link.before link.act (bindings_after server history)) (originals link.out.packets)
-  pub sent : IsAllSent server (link ∷ history) link.before link.act link.out.at (originals link.out.packets)
-  pub again : GoesAgain server link.before link.act link.out.at (retransmissions link.out.packets)
-  pub repeats : AllByRecursion (IsRetransmission server link.before.requests) (retransmissions link.out.packets)
+  pub serves : Serves (under server link.config) (bindings_after server history) link.before link.act link.out
+  pub owed : AllByRecursion (IsOwed (under server link.config) (link ∷ history) link.before link.act (bindings_after server history)) (originals link.out.packets)
+  pub sent : IsAllSent (under server link.config) (link ∷ history) link.before link.act link.out.at (originals link.out.packets)
+  pub again : GoesAgain (under server link.config) link.before link.act link.out.at (retransmissions link.out.packets)
+  pub repeats : AllByRecursion (IsRetransmission (under server link.config) link.before.requests) (retransmissions link.out.packets)
   pub went : AllByRecursion (λ (p : Packet). Contains (sent_first history) (first_sending p)) (retransmissions link.out.packets)
-  pub pays : (p : Packet) → Owes server link p → Contains link.out.packets p
+  pub pays : (p : Packet) → Owes (under server link.config) link p → Contains link.out.packets p
   pub none_passed : NoneBefore link.out.at link.before.requests
   pub none_again : NoneAgainBefore link.out.at link.before.requests
-  pub records : link.out.records ≡ records_at server link.before link.act
+  pub records : link.out.records ≡ records_at (under server link.config) link.before link.act
   pub rise : AllByRecursion (IsAbove (recorded_by history)) link.out.records
 
 -- every step of a history is lawful by the history before it

@@ -12,12 +12,14 @@ use Rattle.model_steps.specs.state.Arrival.{Arrival}
 use Rattle.model_steps.specs.verdict_model.Verdict.{Registered, Bound, Refused, Verdict, Drop, Respond, Copy, AckOn, Cancel, Answer}
 use Rattle.model_steps.specs.verdict_model.Verdict.{InDialog, Challenge, Deny, Send, Register, registration_by, verdict_of}
 use Rattle.model_steps.specs.Step.{Act, Given, Passing, arrival_of}
-use Rattle.sip_model.specs.Run.{Link}
+use Rattle.sip_config_types.specs.declared.config.Config.{Config}
+use Rattle.sip_model.specs.Run.{Link, under}
 
 -- ---- the bindings that REGISTERs make
 
--- a REGISTER, and the moment at which it came
+-- a REGISTER, the configuration by which it was let through, and the moment at which it came
 pub record Arrived : Type 0 where
+  pub config : Config
   pub at : ℕ
   pub request : Message
 
@@ -28,7 +30,7 @@ rows_after rows (Refused status extras) = rows
 
 -- the rows after one REGISTER; one whose core fields can't be read changes nothing, and none such is let through
 abbrev pub after_register : Server → Arrived → List Binding → List Binding
-after_register server r rows = option_map_or (λ core. rows_after rows (registration_by server rows r.at r.request core))
+after_register server r rows = option_map_or (λ core. rows_after rows (registration_by (under server r.config) rows r.at r.request core))
     (result_ok (core_of r.request)) rows
 
 -- The bindings after some REGISTERs that were let through, the newest first. Nothing else is known here: no transaction, no
@@ -40,22 +42,22 @@ bindings_by server (r ∷ earlier) = after_register server r (bindings_by server
 -- ---- the REGISTERs of a history
 
 -- a REGISTER that was let through
-abbrev pub allowed_by : ℕ → Message → Verdict → Option Arrived
-allowed_by now m (Register q id outcome) = Some (record { at = now; request = m })
-allowed_by now m Drop = None
-allowed_by now m (Respond r b status) = None
-allowed_by now m (Copy r) = None
-allowed_by now m (AckOn address id) = None
-allowed_by now m (Cancel found) = None
-allowed_by now m (Answer status extras) = None
-allowed_by now m (InDialog address id) = None
-allowed_by now m (Challenge q) = None
-allowed_by now m (Deny q id) = None
-allowed_by now m (Send q id targets) = None
+abbrev pub allowed_by : Config → ℕ → Message → Verdict → Option Arrived
+allowed_by config now m (Register q id outcome) = Some (record { config = config; at = now; request = m })
+allowed_by config now m Drop = None
+allowed_by config now m (Respond r b status) = None
+allowed_by config now m (Copy r) = None
+allowed_by config now m (AckOn address id) = None
+allowed_by config now m (Cancel found) = None
+allowed_by config now m (Answer status extras) = None
+allowed_by config now m (InDialog address id) = None
+allowed_by config now m (Challenge q) = None
+allowed_by config now m (Deny q id) = None
+allowed_by config now m (Send q id targets) = None
 
 -- the REGISTER that a datagram lets through, if it does
 abbrev pub allowed_in : Server → ProxyState → Arrival → List ℕ → Option Arrived
-allowed_in server state a bytes = option_and_then (λ x. allowed_by a.now x.0 x.1) (verdict_of server state a bytes)
+allowed_in server state a bytes = option_and_then (λ x. allowed_by server.config a.now x.0 x.1) (verdict_of server state a bytes)
 
 -- the REGISTER that a step lets through, if it does
 abbrev pub allowed_at : Server → ProxyState → Act → Option Arrived
@@ -67,7 +69,7 @@ allowed_at server state (Passing at) = None
 -- those of a history, the newest first
 abbrev pub allowed_registers : Server → List Link → List Arrived
 allowed_registers server [] = []
-allowed_registers server (link ∷ history) = option_to_list (allowed_at server link.before link.act) ++ allowed_registers server history
+allowed_registers server (link ∷ history) = option_to_list (allowed_at (under server link.config) link.before link.act) ++ allowed_registers server history
 
 -- the bindings after a history
 abbrev pub bindings_after : Server → List Link → List Binding

@@ -30,7 +30,7 @@ use Rattle.model_steps.specs.verdict_model.Verdict.{InDialog, Challenge, Deny, S
 use Rattle.model_steps.specs.context_model.Opening.{forking, branches_from, dialog_branch, tried, trying}
 use Rattle.model_steps.specs.Effect.{challenge_status, record_of, dialogs_after}
 use Rattle.model_steps.specs.Step.{Act, Given, Passing, IsStep, is_failed, moment_of, arrival_of}
-use Rattle.sip_model.specs.Run.{Link, IsChain}
+use Rattle.sip_model.specs.Run.{Link, IsChain, under}
 
 -- what policy was asked in a verdict, if it was asked
 abbrev pub asked_in : Verdict → Option Question
@@ -88,7 +88,7 @@ nonces_by nonces j = with_issued j.arrival j.verdict (option_map_or (λ q. used 
 -- the nonces after a history: what its challenges issued, and its right credentials used
 abbrev pub nonces_after : Server → List Link → List Nonce
 nonces_after server [] = []
-nonces_after server (link ∷ history) = option_map_or (nonces_by (nonces_after server history)) (judged_at server link.before link.act)
+nonces_after server (link ∷ history) = option_map_or (nonces_by (nonces_after server history)) (judged_at (under server link.config) link.before link.act)
     (nonces_after server history)
 
 -- a challenge of a history issued the nonce of this text, less than its life of 300,000 ms before a moment (RFC 2617 3.2.1)
@@ -96,7 +96,7 @@ pub record WasChallenged (server : Server) (history : List Link) (now : ℕ) (te
   pub link : Link
   pub is_there : Contains history link
   pub challenge : Judged
-  pub is_judged : judged_at server link.before link.act ≡ Some challenge
+  pub is_judged : judged_at (under server link.config) link.before link.act ≡ Some challenge
   pub question : Question
   pub is_challenge : challenge.verdict ≡ Challenge question
   pub is_its_nonce : text ≡ nonce_text challenge.arrival.word
@@ -195,7 +195,7 @@ abbrev pub history_dialogs : (server : Server) (first : ProxyState) (history : L
     → IsChain server first history last → List Dialog
 history_dialogs server first [] last chain = []
 history_dialogs server first (link ∷ history) last chain =
-    step_dialogs server link.before link.act link.out link.after chain.1 (history_dialogs server first history link.before chain.2)
+    step_dialogs (under server link.config) link.before link.act link.out link.after chain.1 (history_dialogs server first history link.before chain.2)
 
 -- ---- no credential counts twice
 
@@ -216,7 +216,7 @@ issues_by word a (InDialog address id) = 0
 -- how many challenges of a history have a nonce of a word
 abbrev pub issues_of : Server → ℕ → List Link → ℕ
 issues_of server word [] = 0
-issues_of server word (link ∷ history) = option_map_or (λ j. issues_by word j.arrival j.verdict) (judged_at server link.before link.act) 0
+issues_of server word (link ∷ history) = option_map_or (λ j. issues_by word j.arrival j.verdict) (judged_at (under server link.config) link.before link.act) 0
     + issues_of server word history
 
 -- the count of a credential, if it is right and names the nonce of a word
@@ -230,7 +230,7 @@ right_count word Wrong = []
 abbrev pub right_counts : Server → ℕ → List Link → List ℕ
 right_counts server word [] = []
 right_counts server word (link ∷ history) =
-    option_map_or (λ j. option_map_or (λ q. right_count word q.proof) (asked_in j.verdict) []) (judged_at server link.before link.act) []
+    option_map_or (λ j. option_map_or (λ q. right_count word q.proof) (asked_in j.verdict) []) (judged_at (under server link.config) link.before link.act) []
     ++ right_counts server word history
 
 -- numbers of which each is above all that are behind it

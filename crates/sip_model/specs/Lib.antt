@@ -1,5 +1,6 @@
 pub mod Ends
 pub mod Run
+pub mod Periods
 pub mod Bindings
 pub mod Access
 pub mod Order

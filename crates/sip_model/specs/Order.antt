@@ -29,7 +29,7 @@ use Rattle.model_steps.specs.verdict_model.Verdict.{InDialog, Challenge, Deny, S
 use Rattle.model_steps.specs.context_model.Opening.{arriving, forking, branches_from, dialog_branch, tried, trying}
 use Rattle.model_steps.specs.Effect.{challenge_status}
 use Rattle.model_steps.specs.Step.{Act, Given, Passing, IsStep, IsOverdue, NoneBy, NoneAgainBy, is_failed, moment_of, arrival_of}
-use Rattle.sip_model.specs.Run.{Link, IsChain}
+use Rattle.sip_model.specs.Run.{Link, IsChain, under}
 
 -- ---- open requests are told apart
 
@@ -182,7 +182,7 @@ abbrev pub history_finals : (server : Server) (first : ProxyState) (history : Li
     → IsChain server first history last → List FinalAnswer
 history_finals server first [] last chain = []
 history_finals server first (link ∷ history) last chain =
-    step_finals server link.before link.act link.out link.after chain.1 ++ history_finals server first history link.before chain.2
+    step_finals (under server link.config) link.before link.act link.out link.after chain.1 ++ history_finals server first history link.before chain.2
 
 -- those to the request of one number
 abbrev pub finals_to : ℕ → List FinalAnswer → List FinalAnswer

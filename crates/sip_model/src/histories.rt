@@ -23,7 +23,7 @@ ghost use Rattle.sip_message_form.specs.Text.{text_of};
 ghost use Rattle.model_steps.specs.Effect.{contact_fields, datagram_effect, dialogs_after, effect_of};
 ghost use Rattle.sip_event.specs.declared.event.StepOut.{StepOut};
 ghost use Rattle.model_steps.specs.Step.{Act, IsStep};
-ghost use Rattle.sip_model.specs.Run.{Link, IsChain};
+ghost use Rattle.sip_model.specs.Run.{Link, IsChain, under};
 ghost use Rattle.sip_model.specs.Histories.{Judged, judged_at, asked_in, WasChallenged, nonces_after, records_at, history_dialogs};
 ghost use Rattle.sip_model.specs.Histories.{issues_of, right_counts, AreFalling};
 
@@ -84,7 +84,7 @@ pub fn nonces_are_issued_and_used()
 /// nothing for all else.
 pub fn records_are_of_verdicts()
     ensures { (server : Server) (first : ProxyState) (history : List Link) (last : ProxyState)
-        → IsChain server first history last → AllByRecursion (λ (link : Link). link.out.records ≡ records_at server link.before link.act) history }
+        → IsChain server first history last → AllByRecursion (λ (link : Link). link.out.records ≡ records_at (under server link.config) link.before link.act) history }
 {}
 
 /// The known dialogs after a history are what its messages that were sent on made known, told, renewed and
@@ -99,7 +99,7 @@ pub fn dialogs_are_taught()
 pub fn right_was_challenged()
     ensures { (server : Server) (first : ℕ) (link : Link) (history : List Link) (last : ProxyState)
         → IsChain server (first_state first) (link ∷ history) last
-        → (j : Judged) (q : Question) (name : List ℕ) (c : Credential) → judged_at server link.before link.act ≡ Some j → asked_in j.verdict
+        → (j : Judged) (q : Question) (name : List ℕ) (c : Credential) → judged_at (under server link.config) link.before link.act ≡ Some j → asked_in j.verdict
         ≡ Some q → q.proof ≡ Right name c
         → WasChallenged server history j.arrival.now c.nonce }
 {}

@@ -27,7 +27,7 @@ ghost use Rattle.sip_auth.specs.Proof.{is_stale};
 ghost use Rattle.sip_auth.specs.Offer.{HasMd5Alone};
 ghost use Rattle.sip_edit_response.specs.Challenges.{challenge};
 ghost use Rattle.model_steps.specs.Effect.{challenge_name, challenges_to};
-ghost use Rattle.sip_model.specs.Run.{Link, IsChain, IsRun};
+ghost use Rattle.sip_model.specs.Run.{Link, IsChain, IsRun, under};
 ghost use Rattle.sip_model.specs.Bindings.{Arrived, allowed_in};
 ghost use Rattle.sip_model.specs.Access.{IsAllowedRegister, decision_on, targets_on, Owes, Access};
 
@@ -59,7 +59,7 @@ pub fn every_history_has_access()
 /// heard; and to a copy of a request, or of a final response, what went for the first.
 pub fn owed_is_sent()
     ensures { (server : Server) (first : ℕ) (link : Link) (history : List Link) (last : ProxyState)
-        → IsChain server (first_state first) (link ∷ history) last → (p : Packet) → Owes server link p → Contains link.out.packets p }
+        → IsChain server (first_state first) (link ∷ history) last → (p : Packet) → Owes (under server link.config) link p → Contains link.out.packets p }
 {}
 
 /// The targets of a request outside a dialog, in the words of the headline: where the first rule that matches

@@ -10,4 +10,5 @@ pub mod histories;
 pub mod laws;
 pub mod order;
 pub mod parts;
+pub mod periods;
 pub mod runs;

@@ -1,3 +1,4 @@
+pub mod Configuring
 pub mod Noting
 pub mod ReadHeads
 pub mod Recording

@@ -1,7 +1,10 @@
--- What a recorder makes of an event.
-use Rattle.std.specs.Prelude.{◌≡◌, ◌⊎◌, ◌&&◌, ℕ, Bool, true, false, List, Option, Some, None, Result, Ok, Err}
+-- What a recorder makes of an event, and of a configuration.
+use Rattle.std.specs.Prelude.{◌≡◌, ◌⊎◌, ◌&&◌, ◌≤◌, ◌+◌, ℕ, Bool, true, false, List, ◌++◌, length, take, Option, Some, None, Result, Ok, Err}
 use Rattle.std.specs.Io.KnownBytes.{Appends}
 use Rattle.sip_event.specs.declared.event.Event.{Event}
+use Rattle.sip_replay_script.specs.Devices.{WritesFront}
+use Rattle.sip_replay_script.specs.Lines.{IsLine}
+use Rattle.sip_replay_script.specs.Segments.{piece_of, GivesText, SaysConfiguration}
 use Rattle.sip_replay_script.specs.EventText.{event_text, is_sayable}
 use Rattle.sip_record.specs.declared.journal.JournalFault.{JournalFault}
 use Rattle.sip_record.specs.declared.on_fault.OnFault.{OnFault}
@@ -36,3 +39,40 @@ pub record WritesEvent (old new : Option (List ℕ)) (flushed : Type 0) (event :
 -- why it wasn't: no script says the event, or the writer gave up
 abbrev pub CantWrite : Type 0 → Event → Type 0
 CantWrite gave_up event = (is_sayable event ≡ false) ⊎ gave_up
+
+-- ---- a configuration
+
+-- lines that say exactly it were written, and handed on
+pub record WritesConfiguration (old new : Option (List ℕ)) (flushed : Type 0) (configuration : List ℕ) : Type 0 where
+  pub text : List ℕ
+  pub says : SaysConfiguration text configuration
+  pub written : Appends old new text
+  pub handed_on : flushed
+
+-- a front of such lines was written
+pub record FrontOfConfiguration (old new : Option (List ℕ)) (configuration : List ℕ) : Type 0 where
+  pub text : List ℕ
+  pub says : SaysConfiguration text configuration
+  pub written : WritesFront old new text
+
+-- a line gives the first bytes of a text, at least one
+pub record IsFirstPiece (text mark bytes : List ℕ) (count : ℕ) : Type 0 where
+  pub is_line : IsLine (mark ++ bytes)
+  pub gives : piece_of (mark ++ bytes) ≡ Some (take count text)
+  pub some : 1 ≤ count
+  pub within : count ≤ length text
+  pub short : length mark + length bytes ≤ 131074
+
+-- lines that give a text up to its rest were written
+pub record WritesText (old new : Option (List ℕ)) (text rest : List ℕ) : Type 0 where
+  pub done : List ℕ
+  pub lines : List ℕ
+  pub cut : text ≡ done ++ rest
+  pub gives : GivesText lines done
+  pub written : Appends old new lines
+
+-- a front of lines that give it
+pub record FrontOfText (old new : Option (List ℕ)) (text : List ℕ) : Type 0 where
+  pub lines : List ℕ
+  pub gives : GivesText lines text
+  pub written : WritesFront old new lines

@@ -1,11 +1,12 @@
-//! What keeps a record of the events that a server takes, and a recorder that writes each as a line of a script, so that they can
-//! be replayed.
+//! What keeps a record of the events that a server takes, and of the configurations under which it takes them, and a recorder that
+//! writes each event as a line of a script, so that they can be replayed, and each configuration as lines that give its bytes.
 //!
 //! - Used: `sip_loop` tells it each event before the packets of its step go, `sipd_start` makes the file.
 //! - Not here: what reads a record as events (`sip_replay_script`).
 //! - Tried: worked examples in `src/examples.rt`, as contracts that compute; `test_server`.
 #![tactic(auto)]
 
+mod configured;
 pub mod examples;
 mod journal;
 pub mod laws;

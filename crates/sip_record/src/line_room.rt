@@ -8,7 +8,7 @@ use std::marker::Model;
 /// The room for the longest line: what stands in front of a datagram's digits, two digits for each of 65,508 bytes, and LF.
 const ROOM: usize = 131_225;
 
-/// Room that is made once, for the line of any datagram.
+/// Room that is made once, for the line of any datagram, and for a line of a configuration.
 #[derive(Drop)]
 pub(crate) struct LineRoom {
     block: Vec<u8>,
@@ -63,6 +63,34 @@ impl LineRoom {
         let whole = front.len() + 2 * bytes.len();
         self.block.resize(whole, 0).unwrap();
         put_digits(self.block.as_mut_slice(), front.len(), bytes);
+        self.end();
+    }
+
+    /// A line of its own: what it begins with, other bytes, and LF. Takes no memory.
+    pub(crate) fn plain(&mut self, front: &[u8], bytes: &[u8]) -> &[u8]
+        requires { length front.now + length bytes.now ≤ 131224 }
+        ensures { result.now ≡ front.now ++ (bytes.now ++ 10 ∷ []) }
+    {
+        self.set_plain(front, bytes);
+        self.block.as_slice()
+    }
+
+    /// Makes it that line.
+    fn set_plain(&mut self, front: &[u8], bytes: &[u8])
+        requires { length front.now + length bytes.now ≤ 131224 }
+        ensures { self.new ≡ front.now ++ (bytes.now ++ 10 ∷ []) }
+    {
+        self.block.clear();
+        self.block.extend_from_slice(front).unwrap();
+        self.block.extend_from_slice(bytes).unwrap();
+        self.end();
+    }
+
+    /// Ends the line.
+    fn end(&mut self)
+        requires { length self.old ≤ 131224 }
+        ensures { self.new ≡ self.old ++ 10 ∷ [] }
+    {
         self.block.push_reserved(b'\n');
     }
 }

@@ -30,4 +30,8 @@ impl Journal for NoJournal {
     fn failed(&mut self, _at: u64, _ticket: Ticket) -> Result<(), JournalFault> {
         Ok(())
     }
+
+    fn configured(&mut self, _bytes: &[u8]) -> Result<(), JournalFault> {
+        Ok(())
+    }
 }

@@ -2,9 +2,10 @@ ghost use Rattle.std.specs.Prelude.{◌≡◌, ◌⊎◌, ◌∷◌, [], true, f
 ghost use Rattle.sip_event.specs.declared.event.Event.TheVariants.{Datagram, Time, Fault};
 ghost use Rattle.sip_replay_script.specs.Devices.{GaveUp, WritesFront};
 ghost use Rattle.sip_replay_script.specs.EventText.{event_text};
-ghost use Rattle.sip_record.specs.Record.{Notes};
-ghost use Rattle.sip_record.specs.Recorder.{told, answer_of, is_faulted, CantWrite, WritesEvent};
+ghost use Rattle.sip_record.specs.Record.{Notes, NotesConfiguration};
+ghost use Rattle.sip_record.specs.Recorder.{told, answer_of, is_faulted, CantWrite, FrontOfConfiguration, WritesConfiguration, WritesEvent};
 
+use crate::configured::write_configuration;
 use crate::journal::{Journal, JournalFault};
 use crate::line_room::LineRoom;
 use crate::on_fault::OnFault;
@@ -18,9 +19,9 @@ use std::alloc::{AllocError, Global};
 
 /// A record that is kept by a writer: each event is written as a line of a script (a datagram without bytes as two), at once and
 /// whole, and handed on before the call answers, so that it is out of the process before the packets of its step are sent. It takes
-/// memory where it is made, and none for an event. It has failed once its writer gave up, or was told an event that no script says:
-/// a moment of 2^62 or more, a datagram from the port 0, or one of more than 65,508 bytes. From then on it writes nothing, and
-/// answers as `on_fault` says.
+/// memory where it is made, and none for an event. A configuration, whatever its bytes are, is written line by line, and handed on behind
+/// the line with its digest. A recorder has failed once its writer gave up, or was told an event that no script says: a moment of 2^62 or
+/// more, a datagram from the port 0, or one of more than 65,508 bytes. From then on it writes nothing, and answers as `on_fault` says.
 #[derive(Drop)]
 pub struct Recorder<W: TellingWriter + Drop> {
     pub writer: W,
@@ -148,6 +149,31 @@ impl<W: TellingWriter + Drop> Journal for Recorder<W> {
             return self.answer();
         }
         let done = write_fault(&mut self.writer, at, ticket);
+        self.has_failed = !done;
+        self.answer()
+    }
+
+    #[tactic(auto, using(crate::proofs::Configuring::front_of_none))]
+    fn configured(&mut self, bytes: &[u8]) -> Result<(), JournalFault>
+        ensures noted { OnOk result (NotesConfiguration (told self.old.has_failed (W.contents self.old.writer))
+            (told self.new.has_failed (W.contents self.new.writer)) bytes.now) }
+        ensures failed { OnErr result (told self.new.has_failed (W.contents self.new.writer) ≡ None) }
+        ensures whole { OnOk result ((is_faulted self.old.on_fault self.old.has_failed ≡ false)
+            × (is_faulted self.new.on_fault self.new.has_failed ≡ false)) }
+        ensures said { OnErr result (is_faulted self.new.on_fault self.new.has_failed ≡ true) }
+        ensures written { self.new.has_failed ≡ false → WritesConfiguration (W.contents self.old.writer) (W.contents self.new.writer)
+            (W.is_flushed self.new.writer) bytes.now }
+        ensures why { self.new.has_failed ≡ true → (self.old.has_failed ≡ true) ⊎ GaveUp (W.has_failed self.new.writer)
+            (W.called self.new.writer) }
+        ensures part { FrontOfConfiguration (W.contents self.old.writer) (W.contents self.new.writer) bytes.now }
+        ensures kept { self.old.has_failed ≡ true → (self.new.has_failed ≡ true) × (self.new.writer ≡ self.old.writer) }
+        ensures answer { result ≡ answer_of self.old.on_fault self.new.has_failed }
+        ensures on_fault { self.new.on_fault ≡ self.old.on_fault }
+    {
+        if self.has_failed {
+            return self.answer();
+        }
+        let done = write_configuration(&mut self.writer, &mut self.line, bytes);
         self.has_failed = !done;
         self.answer()
     }

@@ -20,7 +20,7 @@ const LONGEST: usize = 65_508;
 
 /// Writes a text whole, and has it handed on.
 #[tactic(auto, using(sip_replay_script::proofs::Fronts::appends_kept, sip_replay_script::proofs::Fronts::front_all, sip_replay_script::proofs::Fronts::front_still))]
-fn write<W: TellingWriter>(writer: &mut W, text: &[u8]) -> Result<(), PrintStop>
+pub(crate) fn write<W: TellingWriter>(writer: &mut W, text: &[u8]) -> Result<(), PrintStop>
     ensures text { OnOk result (Appends (W.contents writer.old) (W.contents writer.new) text.now) }
     ensures handed_on { OnOk result (W.is_flushed writer.new) }
     ensures gave_up { OnErr result (GaveUp (W.has_failed writer.new) (W.called writer.new)) }

@@ -3,12 +3,13 @@ use Rattle.std.proofs.Common.{◌≡◌, ◌≢◌, ◌⊎◌, inl, inr, ◌∙�
 use Rattle.std.proofs.lemmas.List.{reverse-append, reverse-reverse}
 use Rattle.sip_event.specs.declared.event.Event.{Event}
 use Rattle.sip_event.specs.declared.event.StepOut.{StepOut}
+use Rattle.std.specs.List.{AllByRecursion}
 use Rattle.sip_replay_script.specs.Events.{SaysEvent, SaysEvents}
 use Rattle.model_bounds.specs.state.declared.proxy_state.ProxyState.{ProxyState}
 use Rattle.model_bounds.specs.state.declared.server.Server.{Server}
 use Rattle.model_bounds.specs.state.State.{first_state}
 use Rattle.model_bounds.specs.steps_model.Step.{Act, Given, Passing}
-use Rattle.model_bounds.specs.model.Run.{Link, IsChain, IsPaced, IsRun, IsUpTo, event_of, events_of, next_moment, steps_of}
+use Rattle.model_bounds.specs.model.Run.{Link, IsChain, IsPaced, IsRun, IsUnder, IsUpTo, event_of, events_of, next_moment, steps_of}
 use Rattle.model_ties.specs.Ties.{ArePrompt}
 use Rattle.sip_recorded.specs.Recorded.{IsRecorded, RecordsFront}
 
@@ -21,6 +22,7 @@ record Begins (server : Server) (start : ProxyState) (taken : List Event) (histo
   middle : ProxyState
   chain : IsChain server start earlier middle
   paced : IsPaced None earlier
+  configured : AllByRecursion (IsUnder server.config) earlier
   prompt : ArePrompt server earlier
   events_are : events_of earlier ≡ taken
   steps_are : steps_of history ≡ later ++ steps_of earlier
@@ -33,6 +35,7 @@ with_link server start taken link history h = record {
   middle = h.middle;
   chain = h.chain;
   paced = h.paced;
+  configured = h.configured;
   prompt = h.prompt;
   events_are = h.events_are;
   steps_are = ap (λ (steps : List StepOut). link.out ∷ steps) h.steps_are;
@@ -50,15 +53,15 @@ newest next history left taken (Passing at) paced e = inr (left, e)
 newest next history [] taken (Given event) paced e = inl ((tt, paced.1), e)
 newest next history (first ∷ left) taken (Given event) paced e = inr (left, ap (drop 1) e)
 
-begins : (server : Server) (start last : ProxyState) (next : Option ℕ) (left taken : List Event) (history : List Link) → IsChain server start history last → IsPaced next history → ArePrompt server history
+begins : (server : Server) (start last : ProxyState) (next : Option ℕ) (left taken : List Event) (history : List Link) → IsChain server start history last → IsPaced next history → AllByRecursion (IsUnder server.config) history → ArePrompt server history
     → events_of history ≡ left ++ taken → Begins server start taken history
-begins server start last next left taken [] chain paced prompt e =
-    record { earlier = []; later = []; middle = start; chain = refl; paced = tt; prompt = tt; events_are = none_taken left taken e; steps_are = refl }
-begins server start last next left taken (link ∷ history) chain paced prompt e =
-    by_newest (newest next history left taken link.act paced e) (λ more is. begins server start link.before (next_moment next link.act) more taken history chain.2 paced.1 prompt.1 is) where
+begins server start last next left taken [] chain paced configured prompt e =
+    record { earlier = []; later = []; middle = start; chain = refl; paced = tt; configured = tt; prompt = tt; events_are = none_taken left taken e; steps_are = refl }
+begins server start last next left taken (link ∷ history) chain paced configured prompt e =
+    by_newest (newest next history left taken link.act paced e) (λ more is. begins server start link.before (next_moment next link.act) more taken history chain.2 paced.1 configured.1 prompt.1 is) where
       by_newest : ((IsUpTo None link.act × IsPaced (next_moment None link.act) history) × (event_of link.act (events_of history) ≡ taken)) ⊎ ((more : List Event) × (events_of history ≡ more ++ taken))
           → ((more : List Event) → events_of history ≡ more ++ taken → Begins server start taken history) → Begins server start taken (link ∷ history)
-      by_newest (inl is) rest = record { earlier = link ∷ history; later = []; middle = last; chain = chain; paced = is.0; prompt = prompt; events_are = is.1; steps_are = refl }
+      by_newest (inl is) rest = record { earlier = link ∷ history; later = []; middle = last; chain = chain; paced = is.0; configured = configured; prompt = prompt; events_are = is.1; steps_are = refl }
       by_newest (inr is) rest = with_link server start taken link history (rest is.0 is.1)
 
 -- ---- runs and records
@@ -68,7 +71,7 @@ pub front_of : (server : Server) (first : ℕ) (text : List ℕ) (events more : 
     → IsRun server (first_state first) (events ++ more) until steps history last → ArePrompt server history → RecordsFront server first text steps
 front_of server first text events more until steps history last says run prompt =
     let newest_first : events_of history ≡ reverse more ++ reverse events = sym (reverse-reverse (events_of history)) ∙ ap reverse run.of_events ∙ reverse-append events more in
-    let h : Begins server (first_state first) (reverse events) history = begins server (first_state first) last until (reverse more) (reverse events) history run.chain run.paced prompt newest_first in
+    let h : Begins server (first_state first) (reverse events) history = begins server (first_state first) last until (reverse more) (reverse events) history run.chain run.paced run.configured prompt newest_first in
     record {
       front = reverse (steps_of h.earlier);
       further = reverse h.later;
@@ -78,7 +81,7 @@ front_of server first text events more until steps history last says run prompt 
         events = events;
         says = says;
         history = h.earlier;
-        is_run = record { chain = h.chain; paced = h.paced; of_events = ap reverse h.events_are ∙ reverse-reverse events; of_steps = refl };
+        is_run = record { chain = h.chain; paced = h.paced; of_events = ap reverse h.events_are ∙ reverse-reverse events; of_steps = refl; configured = h.configured };
         prompt = h.prompt;
       };
     }

@@ -2,6 +2,7 @@
 use Rattle.std.proofs.Common.{◌≡◌, ◌∙◌, ◌⊎◌, inl, inr, ℕ, List, [], ◌∷◌, ◌++◌, append_assoc, append-nil, drop, Option, Some, None, IfSome, refl, sym, ap, subst}
 use Rattle.std.specs.Io.KnownBytes.{Appends}
 use Rattle.sip_config_types.specs.declared.config.Config.{Config}
+use Rattle.std.specs.List.{AllByRecursion}
 use Rattle.sip_event.specs.declared.event.Event.{Event}
 use Rattle.sip_event.specs.declared.event.Event.TheVariants.{Datagram, Time, Fault}
 use Rattle.sip_event.specs.declared.event.StepOut.{StepOut}
@@ -15,7 +16,7 @@ use Rattle.model_bounds.specs.state.declared.server.Server.{Server}
 use Rattle.model_bounds.specs.state.State.{first_state}
 use Rattle.model_bounds.specs.state.SameState.{SameState}
 use Rattle.model_bounds.specs.steps_model.Step.{Act, Given, Passing}
-use Rattle.model_bounds.specs.model.Run.{Link, IsChain, IsRun, first_moment}
+use Rattle.model_bounds.specs.model.Run.{Link, IsChain, IsRun, first_moment, IsUnder, under}
 use Rattle.model_ties.specs.Ties.{AreOne, ArePrompt, IsPrompt, PartAtTie}
 use Rattle.sip_run.specs.Runs.{AreTurns, IsAtEnd, IsRunOver, IsTurn, IsUnopened}
 use Rattle.sip_run.proofs.RunOn.{run_on}
@@ -38,9 +39,14 @@ prompt_turn server before after (Given (Time at)) out turn = tt
 prompt_turn server before after (Given (Fault at ticket)) out turn = (turn.1.none_due.none, turn.1.none_due.none_again)
 prompt_turn server before after (Passing at) out turn = turn
 
-prompt_turns : (server : Server) (history : List Link) → AreInTurn server history → ArePrompt server history
-prompt_turns server [] turns = tt
-prompt_turns server (link ∷ history) turns = (prompt_turn server link.before link.after link.act link.out turns.0, prompt_turns server history turns.1)
+-- under its own configuration
+under_own : (server : Server) (link : Link) → IsUnder server.config link → IsPrompt server link.before link.act link.out link.after → IsPrompt (under server link.config) link.before link.act link.out link.after
+under_own server link is prompt = subst (λ (c : Config). IsPrompt (under server c) link.before link.act link.out link.after) (sym is) prompt
+
+prompt_turns : (server : Server) (history : List Link) → AllByRecursion (IsUnder server.config) history → AreInTurn server history → ArePrompt server history
+prompt_turns server [] configured turns = tt
+prompt_turns server (link ∷ history) configured turns =
+    (under_own server link configured.0 (prompt_turn server link.before link.after link.act link.out turns.0), prompt_turns server history configured.1 turns.1)
 
 -- one history behind another
 prompt_both : (server : Server) (history later : List Link) → ArePrompt server later → ArePrompt server history → ArePrompt server (later ++ history)
@@ -56,7 +62,7 @@ RunsJoin =
     → IsRun server first (events ++ more) until (steps ++ further) (later ++ history) last
 
 pub nothing_recorded : (server : Server) (first : ℕ) → IsRecorded server first [] [] (first_state first)
-nothing_recorded server first = record { events = []; says = refl; history = []; is_run = record { chain = refl; paced = tt; of_events = refl; of_steps = refl }; prompt = tt }
+nothing_recorded server first = record { events = []; says = refl; history = []; is_run = record { chain = refl; paced = tt; of_events = refl; of_steps = refl; configured = tt }; prompt = tt }
 
 -- a run goes on, over events that a further text says
 recorded_on : RunsJoin → (server : Server) (first : ℕ) (text more : List ℕ) (steps further : List StepOut) (old new : ProxyState) (events : List Event) (history : List Link) → IsRecorded server first text steps old
@@ -79,7 +85,7 @@ pub served_on : RunsJoin → (server : Server) (first : ℕ) (text : List ℕ) (
 served_on join server first text steps further old new front more h replays =
     let grown : more ≡ replays.text = rest_is front more replays.text replays.grown in
     subst (λ (l : List ℕ). IsRecorded server first (text ++ l) (steps ++ further) new) (sym grown)
-    (recorded_on join server first text replays.text steps further old new replays.events replays.history h replays.says replays.is_run (prompt_turns server replays.history replays.turns))
+    (recorded_on join server first text replays.text steps further old new replays.events replays.history h replays.says replays.is_run (prompt_turns server replays.history replays.is_run.configured replays.turns))
 
 -- by going on from a record
 pub resumed_on : RunsJoin → ((events : List Event) (text : List ℕ) → SaysRecord events text → SaysEvents events text)
@@ -95,9 +101,10 @@ prompt_listed server before after (Given (Time at)) out turn = tt
 prompt_listed server before after (Given (Fault at ticket)) out turn = (turn.none_due.none, turn.none_due.none_again)
 prompt_listed server before after (Passing at) out turn = turn
 
-prompt_list : (server : Server) (history : List Link) → AreTurns server history → ArePrompt server history
-prompt_list server [] turns = tt
-prompt_list server (link ∷ history) turns = (prompt_listed server link.before link.after link.act link.out turns.0, prompt_list server history turns.1)
+prompt_list : (server : Server) (history : List Link) → AllByRecursion (IsUnder server.config) history → AreTurns server history → ArePrompt server history
+prompt_list server [] configured turns = tt
+prompt_list server (link ∷ history) configured turns =
+    (under_own server link configured.0 (prompt_listed server link.before link.after link.act link.out turns.0), prompt_list server history configured.1 turns.1)
 
 -- which took all of them
 all_taken : (last : ProxyState) (left : List Event) (history : List Link) → IsAtEnd last left None ⊎ IsUnopened history None → left ≡ []
@@ -114,7 +121,7 @@ run_over server first text events steps over says =
       says = subst (λ (es : List Event). SaysEvents es text) all says;
       history = over.history;
       is_run = subst (λ (es : List Event). IsRun server (first_state first) over.taken (first_moment es None) steps over.history over.last) none over.is_run;
-      prompt = prompt_list server over.history over.turns;
+      prompt = prompt_list server over.history over.is_run.configured over.turns;
     }
 
 -- by replaying
@@ -171,7 +178,7 @@ unserved_on join server first text steps turns old new before after e front more
     (front_of server first (text ++ noted.text) (h.events ++ told) (untold_in unserved.point.stage) (ahead done) (steps ++ gathered steps_taken done) (unserved.serves.history ++ h.history) new
     (says_all h.events told text noted.text h.says (record_says told noted.text noted.says))
     (subst (λ (es : List Event). IsRun server (first_state first) es (ahead done) (steps ++ gathered steps_taken done) (unserved.serves.history ++ h.history) new) events run)
-    (prompt_both server h.history unserved.serves.history (prompt_turns server unserved.serves.history unserved.serves.turns) h.prompt))
+    (prompt_both server h.history unserved.serves.history (prompt_turns server unserved.serves.history unserved.serves.is_run.configured unserved.serves.turns) h.prompt))
 
 -- ---- a record that was cut within an event
 

@@ -50,7 +50,7 @@ comes_nothing server state script = record {
   says = refl;
   says_ahead = refl;
   begins = begins_nothing script;
-  is_run = record { chain = refl; paced = tt; of_events = refl; of_steps = refl };
+  is_run = record { chain = refl; paced = tt; of_events = refl; of_steps = refl; configured = tt };
   prompt = tt;
 }
 

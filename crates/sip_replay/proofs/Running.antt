@@ -33,7 +33,7 @@ pub plays_nothing : (server : Server) (state : ProxyState) (until : Option ℕ) 
 plays_nothing server state until before = record {
   steps = [];
   history = [];
-  is_run = record { chain = refl; paced = tt; of_events = refl; of_steps = refl };
+  is_run = record { chain = refl; paced = tt; of_events = refl; of_steps = refl; configured = tt };
   prompt = tt;
   written = Appends-nil before;
 }
@@ -47,12 +47,13 @@ passing_step : (server : Server) (old mid new : ProxyState) (at : ℕ) (out : St
     → Appends b c (step_text out) → Plays server old new [] (Some at) a c
 passing_step server old mid new at out a b c h happens written = record {
   steps = h.steps ++ out ∷ [];
-  history = record { before = mid; act = Passing at; out = out; after = new } ∷ h.history;
+  history = record { config = server.config; before = mid; act = Passing at; out = out; after = new } ∷ h.history;
   is_run = record {
     chain = (refl, inr happens, h.is_run.chain);
     paced = (refl, h.is_run.paced);
     of_events = h.is_run.of_events;
     of_steps = reverse-append (out ∷ []) (steps_of h.history) ∙ ap (λ l. l ++ out ∷ []) h.is_run.of_steps;
+    configured = (refl, h.is_run.configured);
   };
   prompt = (happens, h.prompt);
   written = subst (λ l. Appends a c l) (sym (printed_more h.steps out)) (Appends-trans a b c (printed h.steps) (step_text out) h.written written);
@@ -69,12 +70,13 @@ event_step : (server : Server) (old mid new : ProxyState) (event : Event) (out :
     → NothingDueBy (moment_of mid (event_moment event)) mid → IsStep server mid (Given event) out new → Appends b c (step_text out) → Plays server old new (event ∷ []) None a c
 event_step server old mid new event out a b c h none step written = record {
   steps = h.steps ++ out ∷ [];
-  history = record { before = mid; act = Given event; out = out; after = new } ∷ h.history;
+  history = record { config = server.config; before = mid; act = Given event; out = out; after = new } ∷ h.history;
   is_run = record {
     chain = (refl, step, h.is_run.chain);
     paced = (tt, h.is_run.paced);
     of_events = reverse-append (event ∷ []) (events_of h.history) ∙ ap (λ l. l ++ event ∷ []) h.is_run.of_events;
     of_steps = reverse-append (out ∷ []) (steps_of h.history) ∙ ap (λ l. l ++ out ∷ []) h.is_run.of_steps;
+    configured = (refl, h.is_run.configured);
   };
   prompt = (prompt_event server mid new event out none, h.prompt);
   written = subst (λ l. Appends a c l) (sym (printed_more h.steps out)) (Appends-trans a b c (printed h.steps) (step_text out) h.written written);

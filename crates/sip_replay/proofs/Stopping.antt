@@ -53,13 +53,14 @@ part_passing : (server : Server) (old mid new : ProxyState) (at : ℕ) (out : St
     → WritesFront b c (step_text out) → PlaysPart server old [] (Some at) a c
 part_passing server old mid new at out a b c h happens front = record {
   steps = h.steps ++ out ∷ [];
-  history = record { before = mid; act = Passing at; out = out; after = new } ∷ h.history;
+  history = record { config = server.config; before = mid; act = Passing at; out = out; after = new } ∷ h.history;
   last = new;
   is_run = record {
     chain = (refl, inr happens, h.is_run.chain);
     paced = (refl, h.is_run.paced);
     of_events = h.is_run.of_events;
     of_steps = reverse-append (out ∷ []) (steps_of h.history) ∙ ap (λ l. l ++ out ∷ []) h.is_run.of_steps;
+    configured = (refl, h.is_run.configured);
   };
   prompt = (happens, h.prompt);
   writes = front_more a b c h.steps out h.written front;
@@ -87,13 +88,14 @@ part_event : (server : Server) (old mid new : ProxyState) (event : Event) (out :
     → NothingDueBy (moment_of mid (event_moment event)) mid → IsStep server mid (Given event) out new → WritesFront b c (step_text out) → PlaysPart server old (event ∷ []) None a c
 part_event server old mid new event out a b c h none step front = record {
   steps = h.steps ++ out ∷ [];
-  history = record { before = mid; act = Given event; out = out; after = new } ∷ h.history;
+  history = record { config = server.config; before = mid; act = Given event; out = out; after = new } ∷ h.history;
   last = new;
   is_run = record {
     chain = (refl, step, h.is_run.chain);
     paced = (tt, h.is_run.paced);
     of_events = reverse-append (event ∷ []) (events_of h.history) ∙ ap (λ l. l ++ event ∷ []) h.is_run.of_events;
     of_steps = reverse-append (out ∷ []) (steps_of h.history) ∙ ap (λ l. l ++ out ∷ []) h.is_run.of_steps;
+    configured = (refl, h.is_run.configured);
   };
   prompt = (prompt_event server mid new event out none, h.prompt);
   writes = front_more a b c h.steps out h.written front;

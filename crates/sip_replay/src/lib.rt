@@ -21,7 +21,7 @@ pub use playback::replay;
 
 /// Of `sip_engine`.
 pub mod engine {
-    pub use sip_run::engine::{Engine, StepError};
+    pub use sip_run::engine::{ChangeError, Engine, StepError};
 }
 
 /// Of `sip_run`.

@@ -69,9 +69,9 @@ begins_so text sample e = record { more = e.tail; begins = e.begins }
 -- ---- text without LF
 
 -- a line that a text without LF begins goes on behind it
-record Front (line text : List ℕ) : Type 0 where
-  more : List ℕ
-  is : line ≡ text ++ more
+pub record Front (line text : List ℕ) : Type 0 where
+  pub more : List ℕ
+  pub is : line ≡ text ++ more
 
 ends_inside : (m more tail : List ℕ) → count_by is_end m ≡ 0 → 10 ∷ tail ≡ m ++ more → m ≡ []
 ends_inside [] more tail none e = refl
@@ -80,7 +80,7 @@ ends_inside (x ∷ m) more tail none e =
     let one : count_by is_end (x ∷ []) ≡ 1 = ap (λ (k : ℕ). count_by is_end (k ∷ [])) (sym here) in
     absurd (let sum : count_by is_end (x ∷ m) ≡ count_by is_end (x ∷ []) + count_by is_end m = ends_add (x ∷ []) m in omega (arith, none, one, sum))
 
-front_of_line : (line tail text more : List ℕ) → count_by is_end text ≡ 0 → line ++ 10 ∷ tail ≡ text ++ more → Front line text
+pub front_of_line : (line tail text more : List ℕ) → count_by is_end text ≡ 0 → line ++ 10 ∷ tail ≡ text ++ more → Front line text
 front_of_line line tail text more none e =
     elim (cut_at line (10 ∷ tail) text more e) [
       | inl c ↦ record { more = c.more; is = c.is }
@@ -179,7 +179,7 @@ cut_line rest c = cut_says rest (line_recorded rest c)
 never : (rest : List ℕ) → ((more : List ℕ) → IsNoEvent (rest ++ more)) → IsCutEvent rest → ⊥
 never rest none c = no_refusal (rest ++ c.more) [] (rest ++ c.more) c.event c.says (append-nil (rest ++ c.more)) (none c.more)
 
-no_line_yet : (rest more : List ℕ) → IsLong rest → HasNoLine (rest ++ more)
+pub no_line_yet : (rest more : List ℕ) → IsLong rest → HasNoLine (rest ++ more)
 no_line_yet rest more l = let long : 200000 < length rest = l.long in ap (count_by is_end) (take-append-le 200001 rest more (omega (arith, long))) ∙ l.unended
 
 long_some : (rest more : List ℕ) → 200000 < length rest → rest ++ more ≢ []

@@ -1,3 +1,4 @@
+pub mod Configurations
 pub mod Devices
 pub mod EventText
 pub mod Events
@@ -5,3 +6,4 @@ pub mod Gathered
 pub mod Lines
 pub mod Recorded
 pub mod Script
+pub mod Segments

@@ -1,5 +1,5 @@
-ghost use Rattle.std.specs.Prelude.{◌≡◌, ◌≢◌, ◌≤◌, ◌<◌, ◌+◌, ◌*◌, ◌++◌, [], true, false, length, take, drop, vec_len, count_by, IfOk};
-ghost use Rattle.std.specs.Prelude.{IfErr, OnOk, MatchOption};
+ghost use Rattle.std.specs.Prelude.{◌≡◌, ◌≢◌, ◌≤◌, ◌<◌, ◌+◌, ◌*◌, ◌++◌, ◌∷◌, [], ℕ, List, true, false, length, take, drop, vec_len, count_by, IfOk};
+ghost use Rattle.std.specs.Prelude.{IfErr, IfSome, IfNone, OnOk, MatchOption};
 ghost use Rattle.std.specs.Io.KnownBytes.{Consumes, Keeps, IsAtEnd};
 ghost use Rattle.sip_replay_script.specs.Devices.{later};
 ghost use Rattle.sip_replay_script.specs.Lines.{is_end, pending, left, BeginsWith, EndsAt, EndsLine, GoesOn, GivesLine, IsOver, IsSpent};
@@ -89,6 +89,23 @@ impl Lines {
                 return Ok(true);
             }
         }
+    }
+
+    /// The next byte, which stays; nothing at the end of the script. `Read` is the only refusal.
+    pub(crate) fn peek<R: TellingReader>(&mut self, reader: &mut R) -> Result<Option<u8>, ReadStop>
+        ensures kept { OnOk result (Keeps (pending self.old (R.remaining reader.old)) (pending self.new (R.remaining reader.new))) }
+        ensures byte { IfOk result (λ found. IfSome found (λ byte. (rest : List ℕ) × (self.new.unread ≡ byte ∷ rest))) }
+        ensures end { IfOk result (λ found. IfNone found (IsAtEnd (pending self.new (R.remaining reader.new)))) }
+        ensures number { self.new.number ≡ self.old.number }
+        ensures fewer { OnOk result (left self.new ≤ left self.old) }
+        ensures stopped { IfErr result (λ stop. (stop ≡ Read) × IsSpent (R.has_failed reader.new) self.new.asks) }
+        ensures asked { later self.new.asks (R.asked reader.new) ≡ later self.old.asks (R.asked reader.old) }
+        ensures less { self.new.asks ≤ self.old.asks }
+    {
+        if !self.fill(reader)? {
+            return Ok(None);
+        }
+        Ok(Some(self.unread()[0]))
     }
 
     /// The bytes that were read and not given yet.
@@ -226,7 +243,7 @@ fn read_some<R: TellingReader>(
 }
 
 /// The place of the first LF.
-fn end_of_line(unread: &[u8]) -> Option<usize>
+pub fn end_of_line(unread: &[u8]) -> Option<usize>
     ensures { MatchOption result (count_by is_end unread.now ≡ 0) (λ place. EndsAt unread.now place) }
 {
     memchr_iter(b'\n', unread).next()

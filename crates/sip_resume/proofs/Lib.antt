@@ -1,4 +1,9 @@
 pub mod Calls
+pub mod Eventwise
+pub mod OfEvents
 pub mod Refused
 pub mod Retaken
 pub mod Running
+pub mod Segmentwise
+pub mod UnderRuns
+pub mod Wholly

@@ -55,7 +55,7 @@ own_stops old new event e same h = subst (λ (s : ProxyState). StepStops (refusa
 
 -- ---- an event that comes next
 
-next_bytes : (a b : Option (List ℕ)) (text : List ℕ) → Consumes a b text → IfSome a (λ bytes. (further : List ℕ) × (bytes ≡ text ++ further))
+pub next_bytes : (a b : Option (List ℕ)) (text : List ℕ) → Consumes a b text → IfSome a (λ bytes. (further : List ℕ) × (bytes ≡ text ++ further))
 next_bytes None b text h = tt
 next_bytes (Some xs) None text h = absurd h
 next_bytes (Some xs) (Some ys) text h = (ys, h)

@@ -22,7 +22,7 @@ prompt_event server mid new (Time at) out none = tt
 prompt_event server mid new (Fault at ticket) out none = (none.none, none.none_again)
 
 -- one history behind another
-prompt_both : (server : Server) (history later : List Link) → ArePrompt server later → ArePrompt server history → ArePrompt server (later ++ history)
+pub prompt_both : (server : Server) (history later : List Link) → ArePrompt server later → ArePrompt server history → ArePrompt server (later ++ history)
 prompt_both server history [] h k = k
 prompt_both server history (link ∷ later) h k = (h.0, prompt_both server history later h.1 k)
 
@@ -30,18 +30,19 @@ prompt_both server history (link ∷ later) h k = (h.0, prompt_both server histo
 
 -- no step yet
 pub runs_nothing : (server : Server) (state : ProxyState) (until : Option ℕ) → Runs server state state [] until
-runs_nothing server state until = record { steps = []; history = []; is_run = record { chain = refl; paced = tt; of_events = refl; of_steps = refl }; prompt = tt }
+runs_nothing server state until = record { steps = []; history = []; is_run = record { chain = refl; paced = tt; of_events = refl; of_steps = refl; configured = tt }; prompt = tt }
 
 -- what is due happens, of the server as it is then
 pub runs_firing : (server then_server : Server) (old mid new : ProxyState) (at : ℕ) (out : StepOut) → then_server ≡ server → Runs server old mid [] (Some at) → Fires then_server mid at out new → Runs server old new [] (Some at)
 runs_firing server then_server old mid new at out same h fires = record {
   steps = h.steps ++ out ∷ [];
-  history = record { before = mid; act = Passing at; out = out; after = new } ∷ h.history;
+  history = record { config = server.config; before = mid; act = Passing at; out = out; after = new } ∷ h.history;
   is_run = record {
     chain = (refl, subst (λ s. IsStep s mid (Passing at) out new) same (inr fires.happens), h.is_run.chain);
     paced = (refl, h.is_run.paced);
     of_events = h.is_run.of_events;
     of_steps = reverse-append (out ∷ []) (steps_of h.history) ∙ ap (λ l. l ++ out ∷ []) h.is_run.of_steps;
+    configured = (refl, h.is_run.configured);
   };
   prompt = (subst (λ s. IsDeadline s mid at out new ⊎ IsResend s mid at out new) same fires.happens, h.prompt);
 }
@@ -55,12 +56,13 @@ event_next : (server : Server) (old mid new : ProxyState) (event : Event) (out :
 event_next server old mid new event out h none step = record {
   runs = record {
     steps = h.steps ++ out ∷ [];
-    history = record { before = mid; act = Given event; out = out; after = new } ∷ h.history;
+    history = record { config = server.config; before = mid; act = Given event; out = out; after = new } ∷ h.history;
     is_run = record {
       chain = (refl, step, h.is_run.chain);
       paced = (tt, h.is_run.paced);
       of_events = reverse-append (event ∷ []) (events_of h.history) ∙ ap (λ l. l ++ event ∷ []) h.is_run.of_events;
       of_steps = reverse-append (out ∷ []) (steps_of h.history) ∙ ap (λ l. l ++ out ∷ []) h.is_run.of_steps;
+      configured = (refl, h.is_run.configured);
     };
     prompt = (prompt_event server mid new event out none, h.prompt);
   };
@@ -95,7 +97,7 @@ pub record RunsOn (server : Server) (old new : ProxyState) (events : List Event)
   pub last_is : newest_step runs.history ≡ last
 
 pub runs_on_nothing : (server : Server) (state : ProxyState) → RunsOn server state state [] None
-runs_on_nothing server state = record { runs = record { steps = []; history = []; is_run = record { chain = refl; paced = tt; of_events = refl; of_steps = refl }; prompt = tt }; last_is = refl }
+runs_on_nothing server state = record { runs = record { steps = []; history = []; is_run = record { chain = refl; paced = tt; of_events = refl; of_steps = refl; configured = tt }; prompt = tt }; last_is = refl }
 
 pub runs_on_one : RunsJoin → (server : Server) (old mid new : ProxyState) (events : List Event) (event : Event) (out : StepOut) → Runs server old mid events None → TakesOwn server mid new event out → RunsOn server old new (events ++ event ∷ []) (Some out)
 runs_on_one join server old mid new events event out h next = record {

@@ -1,2 +1,5 @@
 pub mod Errors
+pub mod RecordErrors
 pub mod Resumes
+pub mod Whole
+pub mod Parts

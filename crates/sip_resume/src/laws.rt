@@ -1,14 +1,18 @@
-ghost use Rattle.std.specs.Prelude.{ℕ, List, None, Option};
+ghost use Rattle.std.specs.Prelude.{◌≡◌, ℕ, List, [], ◌∷◌, ◌++◌, None, Option};
 ghost use Rattle.sip_event.specs.declared.event.Event.{Event};
 ghost use Rattle.sip_event.specs.declared.event.StepOut.{StepOut};
 ghost use Rattle.model_bounds.specs.state.declared.proxy_state.ProxyState.{ProxyState};
 ghost use Rattle.model_bounds.specs.state.declared.server.Server.{Server};
 ghost use Rattle.model_bounds.specs.state.State.{first_state};
-ghost use Rattle.model_bounds.specs.model.Run.{IsRun, Link};
-ghost use Rattle.sip_resume.specs.Resumes.{IsOneRun};
+ghost use Rattle.sip_config_types.specs.declared.config.Config.{Config};
+ghost use Rattle.model_bounds.specs.model.Run.{IsRun, Link, under};
+ghost use Rattle.model_bounds.specs.model.Periods.{IsRunUnder, Period};
+ghost use Rattle.sip_resume.specs.Resumes.{EndsHere, IsOneRun, IsResumed};
+ghost use Rattle.sip_resume.specs.Whole.{IsOneRunUnder, IsRecordResumed};
 
 use model_bounds::bounds::every_history_is_bounded;
 use model_bounds::model::laws::every_run_has_access;
+use model_bounds::model::periods::{runs_under_are_one, under_one_is_a_run};
 use model_bounds::model::runs::runs_join;
 
 /// A run before a restart and the run behind it are one run over all events: a server that was brought to where a record leads
@@ -26,4 +30,29 @@ pub fn restart_is_one_run()
     every_run_has_access();
     every_history_is_bounded();
     runs_join();
+}
+
+/// The same where configurations came into force between two events, and where another one does behind the restart: a run under
+/// configurations, from the start, and one behind it under any configuration, are one run under them all. Each of its steps is lawful
+/// by all that went before it, under the configuration that was in force then.
+pub fn restart_under_is_one_run()
+    ensures { (server : Server) (first : ℕ) (periods : List Period) (config : Config) (state last : ProxyState) (more : List Event)
+        (until : Option ℕ) (steps further : List StepOut) (history later : List Link)
+        → IsRunUnder server (first_state first) periods None steps history state → IsRun (under server config) state more until further later last
+        → IsOneRunUnder server first (periods ++ record { config = config; events = more } ∷ []) until (steps ++ further) (later ++ history) last }
+{
+    runs_under_are_one();
+    under_one_is_a_run();
+    every_history_is_bounded();
+}
+
+/// Of a record that holds no configuration, and was cut in none, this is what `resume` says: the server is the same, and the events led
+/// there.
+pub fn record_of_events_is_resumed()
+    ensures { (server server_then : Server) (old new : ProxyState) (bytes : Option (List ℕ)) (written written_then : Option (Option (List ℕ)))
+        (lines : ℕ) (last : Option StepOut)
+        → (resumed : IsRecordResumed server server_then old new bytes 0 written written_then lines last) → resumed.segments ≡ []
+        → EndsHere resumed.further → IsResumed server old new bytes written written_then lines last × (server_then ≡ server) }
+{
+    under_one_is_a_run();
 }

@@ -11,11 +11,18 @@
 #![tactic(auto)]
 
 mod error;
+mod events;
 pub mod laws;
+mod parts;
+mod record_error;
 mod resuming;
+mod segments;
+mod whole;
 
 pub use error::ResumeError;
+pub use record_error::RecordError;
 pub use resuming::{Resumed, resume};
+pub use whole::resume_record;
 
 /// Of `sip_engine`.
 pub mod engine {

@@ -13,7 +13,7 @@ ghost use Rattle.sip_resume.specs.Resumes.{EndsHere, IsResumed, IsUnresumed, Jou
 ghost use Rattle.sip_resume.specs.declared.error.ResumeError.TheVariants as Refusal;
 
 use crate::error::ResumeError;
-use model_bounds::model::runs::runs_join;
+use crate::events::take_events;
 use sip_event::{Event, StepOut};
 use sip_policy::Rules;
 use sip_record::Journal;
@@ -54,19 +54,19 @@ pub fn resume<T: Timers, R: Rules, I: TellingReader, J: Journal>(
     ensures whole { ¬ (result ≡ Err Refusal.Journal) → J.faulted journal.new ≡ J.faulted journal.old }
     ensures said { result ≡ Err Refusal.Journal → J.faulted journal.new ≡ true }
 {
-    runs_join();
     let mut lines = Lines::new(alloc)?;
-    let mut taken = 0;
-    let mut last = None;
-    while let Some(out) = resume_next(alloc, engine, &mut lines, reader, journal)? {
-        taken = lines.number();
-        last = Some(out);
+    let reached = take_events(alloc, engine, &mut lines, reader, journal)?;
+    if !reached.is_over {
+        return Err(ResumeError::Damaged(lines.number() + 1));
     }
-    Ok(Resumed { lines: taken, last })
+    Ok(Resumed {
+        lines: reached.lines,
+        last: reached.last,
+    })
 }
 
 /// Takes the next event of a record, if a whole one stands there, and gives its own step.
-fn resume_next<T: Timers, R: Rules, I: TellingReader, J: Journal>(
+pub(crate) fn resume_next<T: Timers, R: Rules, I: TellingReader, J: Journal>(
     alloc: Global,
     engine: &mut Engine<T, R>,
     lines: &mut Lines,

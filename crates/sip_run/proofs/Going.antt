@@ -16,7 +16,7 @@ pub goes_nothing : (server : Server) (state : ProxyState) (until : Option ℕ) (
 goes_nothing server state until list = record {
   steps = [];
   history = [];
-  is_run = record { chain = refl; paced = tt; of_events = refl; of_steps = refl };
+  is_run = record { chain = refl; paced = tt; of_events = refl; of_steps = refl; configured = tt };
   turns = tt;
   listed = sym (append-nil list);
 }
@@ -25,12 +25,13 @@ happens_next : (server : Server) (old mid new : ProxyState) (at : ℕ) (out : St
     → c ≡ b ++ out ∷ [] → Goes server old new [] (Some at) a c
 happens_next server old mid new at out a b c h happens more = record {
   steps = h.steps ++ out ∷ [];
-  history = record { before = mid; act = Passing at; out = out; after = new } ∷ h.history;
+  history = record { config = server.config; before = mid; act = Passing at; out = out; after = new } ∷ h.history;
   is_run = record {
     chain = (refl, inr happens, h.is_run.chain);
     paced = (refl, h.is_run.paced);
     of_events = h.is_run.of_events;
     of_steps = reverse-append (out ∷ []) (steps_of h.history) ∙ ap (λ l. l ++ out ∷ []) h.is_run.of_steps;
+    configured = (refl, h.is_run.configured);
   };
   turns = (happens, h.turns);
   listed = more ∙ ap (λ l. l ++ out ∷ []) h.listed ∙ append_assoc a h.steps (out ∷ []);
@@ -46,12 +47,13 @@ event_next : (server : Server) (old mid new : ProxyState) (event : Event) (out :
     → IsStep server mid (Given event) out new → c ≡ b ++ out ∷ [] → Goes server old new (event ∷ []) None a c
 event_next server old mid new event out a b c h turn step more = record {
   steps = h.steps ++ out ∷ [];
-  history = record { before = mid; act = Given event; out = out; after = new } ∷ h.history;
+  history = record { config = server.config; before = mid; act = Given event; out = out; after = new } ∷ h.history;
   is_run = record {
     chain = (refl, step, h.is_run.chain);
     paced = (tt, h.is_run.paced);
     of_events = reverse-append (event ∷ []) (events_of h.history) ∙ ap (λ l. l ++ event ∷ []) h.is_run.of_events;
     of_steps = reverse-append (out ∷ []) (steps_of h.history) ∙ ap (λ l. l ++ out ∷ []) h.is_run.of_steps;
+    configured = (refl, h.is_run.configured);
   };
   turns = (turn, h.turns);
   listed = more ∙ ap (λ l. l ++ out ∷ []) h.listed ∙ append_assoc a h.steps (out ∷ []);
@@ -80,7 +82,7 @@ paced_on until (link ∷ history) h = paced_act until link.act history h
 
 run_on : (server : Server) (old new : ProxyState) (events : List Event) (until : Option ℕ) (steps : List StepOut) (history : List Link) → IsRun server old events None steps history new
     → IsRun server old events until steps history new
-run_on server old new events until steps history h = record { chain = h.chain; paced = paced_on until history h.paced; of_events = h.of_events; of_steps = h.of_steps }
+run_on server old new events until steps history h = record { chain = h.chain; paced = paced_on until history h.paced; of_events = h.of_events; of_steps = h.of_steps; configured = h.configured }
 
 abbrev pub RunsJoin : Type 0
 RunsJoin =

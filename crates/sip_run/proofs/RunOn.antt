@@ -17,4 +17,4 @@ paced_on until [] h = tt
 paced_on until (link ∷ history) h = paced_act until link.act history h
 
 pub run_on : (server : Server) (old new : ProxyState) (events : List Event) (until : Option ℕ) (steps : List StepOut) (history : List Link) → IsRun server old events None steps history new → IsRun server old events until steps history new
-run_on server old new events until steps history h = record { chain = h.chain; paced = paced_on until history h.paced; of_events = h.of_events; of_steps = h.of_steps }
+run_on server old new events until steps history h = record { chain = h.chain; paced = paced_on until history h.paced; of_events = h.of_events; of_steps = h.of_steps; configured = h.configured }

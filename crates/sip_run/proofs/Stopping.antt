@@ -137,7 +137,7 @@ stopped law server then_server first state events start list e same at_first non
 -- there was no server
 nothing_run : AllAreLawful → (server : Server) (first : ℕ) (events : List Event) → IsRunOver server first events [] (Some NoMemory)
 nothing_run law server first events =
-    let nothing : IsRun server (first_state first) [] (first_moment events None) [] [] (first_state first) = record { chain = refl; paced = tt; of_events = refl; of_steps = refl } in
+    let nothing : IsRun server (first_state first) [] (first_moment events None) [] [] (first_state first) = record { chain = refl; paced = tt; of_events = refl; of_steps = refl; configured = tt } in
     record {
       taken = [];
       left = events;

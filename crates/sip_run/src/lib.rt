@@ -21,5 +21,5 @@ pub use taking::{event_moment, take_datagram, take_event};
 
 /// Of `sip_engine`.
 pub mod engine {
-    pub use sip_engine::{Engine, StepError};
+    pub use sip_engine::{ChangeError, Engine, StepError};
 }

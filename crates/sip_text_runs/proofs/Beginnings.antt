@@ -1,7 +1,8 @@
 -- A text at the front of a value, sixteen bytes at a time.
-use Rattle.std.proofs.Common.{◌≡◌, ◌∙◌, ℕ, ◌+◌, ◌-◌, ◌*◌, ◌%◌, ◌^◌, ◌≤◌, eqb, Bool, true, false, not, cond, List, [], ◌∷◌, ◌++◌, map, length, take, drop, w8, refl, sym, ap, ap₂, arith, take-add, take-take, take_all}
+use Rattle.std.proofs.Common.{◌≡◌, ◌∙◌, ℕ, ◌+◌, ◌-◌, ◌*◌, ◌%◌, ◌^◌, ◌≤◌, eqb, Bool, true, false, not, cond, List, [], ◌∷◌, ◌++◌, map, length, take, drop, w8, refl, sym, ap, ap₂, arith, take-add, take-take, take_all, length-drop}
 use Rattle.std.specs.Str.{bytes_eq}
-use Rattle.std.proofs.lemmas.Bool.{not-false, eqb-true}
+use Rattle.std.proofs.lemmas.Bool.{not-false, eqb-true, eq-eqb}
+use Rattle.std.proofs.lemmas.List.{take-append-drop, take-append-le, drop-append-le}
 use Rattle.std.proofs.lemmas.Simd.{length-chunk, length-zip2, mask_l-mod, tops_compared}
 use Rattle.std.proofs.lemmas.Slice.Eq.{bytes_eq-Decides}
 use lib.Lanes.{chunk, zip2, mask_l, top}
@@ -33,6 +34,16 @@ lanes_same left right at in_left in_right none =
     let pairs : length (zip2 differs xs ys) ≡ 16 = length-zip2 differs xs ys even ∙ long in
     same_pairs xs ys even (sym (mask_l-mod (zip2 differs xs ys) 64 (omega (arith, pairs))) ∙ ap (λ m. mask_l m % 2 ^ 64) (sym (tops_compared w8 differs xs ys)) ∙ none)
 
+none_differs : (xs : List ℕ) → mask_l (zip2 differs xs xs) ≡ 0
+none_differs [] = refl
+none_differs (x ∷ xs) = ap₂ (λ (b : Bool) (n : ℕ). cond b 1 0 + 2 * n) (ap not (eq-eqb x x refl)) (none_differs xs)
+
+pub lanes_unset : (left right : List ℕ) (at : ℕ) → take 16 (drop at left) ≡ take 16 (drop at right)
+    → mask_l (map (top 7) (zip2 (λ (x y : ℕ). cond (not (eqb x y)) 255 0) (chunk at 16 left) (chunk at 16 right))) % 2 ^ 64 ≡ 0
+lanes_unset left right at same =
+    let xs : List ℕ = chunk at 16 left in
+    ap (λ ms. mask_l ms % 2 ^ 64) (tops_compared w8 differs xs (chunk at 16 right)) ∙ ap (λ (ys : List ℕ). mask_l (zip2 differs xs ys) % 2 ^ 64) (sym same) ∙ ap (λ (n : ℕ). n % 2 ^ 64) (none_differs xs)
+
 -- ---- what is the same so far
 
 pub same_more : (value text : List ℕ) (seen next : ℕ) → take seen value ≡ take seen text → take 16 (drop seen value) ≡ take 16 (drop seen text) → next ≡ seen + 16 → take next value ≡ take next text
@@ -47,6 +58,13 @@ pub same_all : (value text : List ℕ) (seen last : ℕ) → 16 ≤ length text 
     → take (length text) value ≡ text
 same_all value text seen last long is overlaps so_far back =
     same_more value text last (length text) (same_less value text seen last overlaps so_far) back (omega (arith, is, long)) ∙ take_all (length text) text (omega arith)
+
+-- each part of a text at the front is the same
+pub part_same : (value text : List ℕ) (at : ℕ) → take (length text) value ≡ text → at + 16 ≤ length text → take 16 (drop at value) ≡ take 16 (drop at text)
+part_same value text at same fits =
+    let rest : List ℕ = drop (length text) value in
+    let whole : value ≡ text ++ rest = sym (take-append-drop (length text) value) ∙ ap (λ (w : List ℕ). w ++ rest) same in
+    ap (λ (w : List ℕ). take 16 (drop at w)) whole ∙ ap (take 16) (drop-append-le at text rest (omega arith)) ∙ take-append-le 16 (drop at text) rest (omega (arith, length-drop at text))
 
 -- ---- a few bytes
 

@@ -1,2 +1,3 @@
 pub mod TextRun
+pub mod Name
 pub mod Marks

@@ -1,4 +1,4 @@
-ghost use Rattle.std.specs.Prelude.{◌≡◌, ◌+◌, ◌≤◌, true, length, take, drop};
+ghost use Rattle.std.specs.Prelude.{◌≡◌, ◌↔◌, ◌+◌, ◌≤◌, true, length, take, drop};
 
 use crate::lanes::LANES;
 use std::simd::prelude::*;
@@ -8,18 +8,18 @@ use std::simd::prelude::*;
 fn same_lanes(left: &[u8], right: &[u8], at: usize) -> bool
     requires left { at + 16 ≤ length left.now }
     requires right { at + 16 ≤ length right.now }
-    ensures { result ≡ true → take 16 (drop at left.now) ≡ take 16 (drop at right.now) }
+    ensures { (result ≡ true) ↔ (take 16 (drop at left.now) ≡ take 16 (drop at right.now)) }
 {
     let lanes = u8x16::from_slice(&left[at..]);
     let others = lanes.simd_ne(u8x16::from_slice(&right[at..])).to_bitmask();
     others == 0
 }
 
-/// Whether a value begins with a text. The last bytes of the text are compared at once with some before them. `false` says
-/// nothing. Takes no memory.
+/// Whether a value begins with a text. The last bytes of the text are compared at once with some before them. Takes no
+/// memory.
 #[tactic(auto, using(crate::proofs::Beginnings::same_more, crate::proofs::Beginnings::same_all, crate::proofs::Beginnings::few_same))]
 pub fn begins_with(value: &[u8], text: &[u8]) -> bool
-    ensures { result ≡ true → take (length text.now) value.now ≡ text.now }
+    ensures { (result ≡ true) ↔ (take (length text.now) value.now ≡ text.now) }
 {
     let length = text.len();
     if value.len() < length {

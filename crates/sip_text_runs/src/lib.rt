@@ -1,6 +1,7 @@
 //! How far bytes of one kind go from the front of a text, looked at sixteen at a time: those that may stand in a value of a
-//! field, those from `!` to `~`, and those of a name; and, seen in the same way, whether a value is a list of one item, and
-//! whether it begins with a text. An answer of None or `false` says nothing: then it is looked at byte by byte.
+//! field, those from `!` to `~`, and those of a name; and, seen in the same way, whether a value is plainly a list of one item,
+//! and whether it begins with a text. A value that isn't plainly one item may be one all the same, and a name may end at a
+//! mark further on than is looked: then it is looked at byte by byte.
 //!
 //! - Used: `sip_message` looks over the lines of a head, `sip_own_via` over the front of a Via.
 //! - Not here: what a byte alone tells, and lists that are cut (`sip_text`).

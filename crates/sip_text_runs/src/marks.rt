@@ -1,8 +1,8 @@
 ghost use Rattle.std.specs.Prelude.{◌≡◌, ◌+◌, ◌≤◌, [], ◌∷◌, true, length, Some};
 ghost use Rattle.std.specs.List.{list_all};
-ghost use Rattle.httparse.specs.Pieces.{PassesIn};
+ghost use Rattle.httparse.specs.Pieces.{IsRunIn};
 ghost use Rattle.sip_text.specs.Lists.{cut};
-ghost use Rattle.sip_text_runs.specs.Marks.{is_unmarked};
+ghost use Rattle.sip_text_runs.specs.Marks.{is_unmarked, is_plain_item};
 
 use crate::lanes::{LANES, first_set};
 use std::simd::prelude::*;
@@ -12,7 +12,7 @@ use std::simd::prelude::*;
 #[inline(always)]
 fn unmarked_in_lanes(bytes: &[u8], at: usize) -> usize
     requires { at + 16 ≤ length bytes.now }
-    ensures { PassesIn is_unmarked bytes.now at 16 result }
+    ensures { IsRunIn is_unmarked bytes.now at 16 result }
 {
     let lanes = u8x16::from_slice(&bytes[at..]);
     let commas = lanes.simd_eq(u8x16::splat(b','));
@@ -43,7 +43,7 @@ fn are_few_unmarked(bytes: &[u8]) -> bool
 
 /// Whether no byte cuts a list or begins a quote or a bracket. The last bytes are looked at at once with some before them.
 fn are_unmarked(bytes: &[u8]) -> bool
-    ensures { result ≡ true → list_all is_unmarked bytes.now ≡ true }
+    ensures { result ≡ list_all is_unmarked bytes.now }
 {
     if bytes.len() < LANES {
         return are_few_unmarked(bytes);
@@ -65,10 +65,11 @@ fn are_unmarked(bytes: &[u8]) -> bool
 }
 
 /// Whether a value is seen at once to be a list of one item: it has no comma, no quote and no bracket, or is one pair of
-/// brackets. `false` says nothing. Takes no memory.
+/// brackets, and begins and ends with a byte above the space. `false` says nothing of the list. Takes no memory.
 #[tactic(auto, using(crate::proofs::OneValue::plain_value, crate::proofs::OneValue::bracketed_value))]
 pub fn is_one_value(value: &[u8]) -> bool
-    ensures { result ≡ true → cut value.now ≡ Some (value.now ∷ []) }
+    ensures one { result ≡ true → cut value.now ≡ Some (value.now ∷ []) }
+    ensures plain { result ≡ is_plain_item value.now }
 {
     let length = value.len();
     if length == 0 {

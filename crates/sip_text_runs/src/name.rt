@@ -1,7 +1,8 @@
-ghost use Rattle.std.specs.Prelude.{◌≡◌, ◌<◌, ◌≤◌, true, length, take, slice_index, IfSome};
+ghost use Rattle.std.specs.Prelude.{◌≡◌, ◌<◌, ◌≤◌, ℕ, true, false, length, take, slice_index, IfSome, IfNone};
 ghost use Rattle.std.specs.List.{list_all};
-ghost use Rattle.httparse.specs.Pieces.{PassesIn};
+ghost use Rattle.httparse.specs.Pieces.{IsRunIn};
 ghost use Rattle.sip_text.specs.Words.{is_token_byte};
+ghost use Rattle.sip_text_runs.specs.Name.{is_letter_or_dash, IsNameEnd};
 
 use crate::lanes::{LANES, first_set};
 use sip_text::split_token;
@@ -11,7 +12,7 @@ use std::simd::prelude::*;
 #[inline(always)]
 fn letters_in_lanes(bytes: &[u8]) -> usize
     requires { 16 ≤ length bytes.now }
-    ensures { PassesIn is_token_byte bytes.now 0 16 result }
+    ensures { IsRunIn is_letter_or_dash bytes.now 0 16 result }
 {
     let lanes = u8x16::from_slice(bytes);
     let behind_a = (lanes | u8x16::splat(0x20)) - u8x16::splat(b'a');
@@ -19,14 +20,16 @@ fn letters_in_lanes(bytes: &[u8]) -> usize
     first_set(stops.to_bitmask())
 }
 
-/// Where a mark stands right behind letters and dashes at the front, among the first 16 bytes. None says nothing. Takes no
-/// memory.
+/// Where a mark stands right behind letters and dashes at the front, among the first 16 bytes of at least as many. None where
+/// none stands so. Takes no memory.
 #[inline(always)]
-#[tactic(auto, using(crate::proofs::Names::letters))]
+#[tactic(auto, using(crate::proofs::Names::letters_pass, crate::proofs::Names::letters_token, crate::proofs::Names::at_run))]
 pub fn name_end(bytes: &[u8], mark: u8) -> Option<usize>
     ensures within { IfSome result (λ at. (0 < at) × (at < length bytes.now)) }
     ensures token { IfSome result (λ at. list_all is_token_byte (take at bytes.now) ≡ true) }
     ensures mark { IfSome result (λ at. slice_index bytes.now at ≡ mark) }
+    ensures some { IfSome result (λ at. IsNameEnd bytes.now mark at) }
+    ensures none { IfNone result ((at : ℕ) → ¬ IsNameEnd bytes.now mark at) }
 {
     if bytes.len() < LANES {
         return None;
@@ -47,10 +50,11 @@ pub fn name_end(bytes: &[u8], mark: u8) -> Option<usize>
 /// How many bytes of a token stand at the front of a line: sixteen are looked at at once, which tells where a `:` stands right
 /// behind letters and dashes. Takes no memory.
 #[inline]
-#[tactic(auto, using(crate::proofs::Names::letters, crate::proofs::Names::token))]
+#[tactic(auto, using(crate::proofs::Names::letters_token, crate::proofs::Names::token, crate::proofs::Names::token_stops))]
 pub fn name_length(line: &[u8]) -> usize
     ensures within { result ≤ length line.now }
     ensures token { list_all is_token_byte (take result line.now) ≡ true }
+    ensures stops { result < length line.now → is_token_byte (slice_index line.now result) ≡ false }
 {
     if line.len() >= LANES {
         let run = letters_in_lanes(line);

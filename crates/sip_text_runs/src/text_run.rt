@@ -1,7 +1,7 @@
-ghost use Rattle.std.specs.Prelude.{◌≡◌, ◌+◌, ◌≤◌, true, length, take};
+ghost use Rattle.std.specs.Prelude.{◌≡◌, ◌+◌, ◌<◌, ◌≤◌, true, false, length, take, slice_index};
 ghost use Rattle.std.specs.List.{list_all};
-ghost use Rattle.httparse.specs.Pieces.{PassesIn};
-ghost use Rattle.sip_text_runs.specs.TextRun.{is_text, is_visible};
+ghost use Rattle.httparse.specs.Pieces.{IsRunIn};
+ghost use Rattle.sip_text_runs.specs.TextRun.{is_text, is_text_but_tab, is_visible};
 
 use crate::lanes::{LANES, first_set};
 use std::simd::prelude::*;
@@ -11,7 +11,7 @@ use std::simd::prelude::*;
 #[inline(always)]
 fn text_in_lanes(bytes: &[u8], at: usize) -> usize
     requires { at + 16 ≤ length bytes.now }
-    ensures { PassesIn is_text bytes.now at 16 result }
+    ensures { IsRunIn is_text_but_tab bytes.now at 16 result }
 {
     let lanes = u8x16::from_slice(&bytes[at..]);
     let stops = lanes.simd_lt(u8x16::splat(b' ')) | lanes.simd_eq(u8x16::splat(0x7f));
@@ -21,7 +21,7 @@ fn text_in_lanes(bytes: &[u8], at: usize) -> usize
 /// Whether a byte may stand in a value and is no tab.
 #[inline]
 fn is_text_byte(byte: u8) -> bool
-    ensures { result ≡ true → is_text byte ≡ true }
+    ensures { result ≡ is_text_but_tab byte }
 {
     byte >= b' ' && byte != 0x7f
 }
@@ -31,6 +31,8 @@ fn is_text_byte(byte: u8) -> bool
 pub fn text_length(bytes: &[u8]) -> usize
     ensures within { result ≤ length bytes.now }
     ensures text { list_all is_text (take result bytes.now) ≡ true }
+    ensures run { list_all is_text_but_tab (take result bytes.now) ≡ true }
+    ensures stops { result < length bytes.now → is_text_but_tab (slice_index bytes.now result) ≡ false }
 {
     let mut end = 0;
     'by_lanes: while bytes.len() - end >= LANES {
@@ -51,7 +53,7 @@ pub fn text_length(bytes: &[u8]) -> usize
 #[inline(always)]
 fn visible_in_lanes(bytes: &[u8], at: usize) -> usize
     requires { at + 16 ≤ length bytes.now }
-    ensures { PassesIn is_visible bytes.now at 16 result }
+    ensures { IsRunIn is_visible bytes.now at 16 result }
 {
     let lanes = u8x16::from_slice(&bytes[at..]);
     let stops = (lanes - u8x16::splat(b'!')).simd_ge(u8x16::splat(94));
@@ -61,7 +63,7 @@ fn visible_in_lanes(bytes: &[u8], at: usize) -> usize
 /// Whether a byte is one from `!` to `~`.
 #[inline]
 fn is_visible_byte(byte: u8) -> bool
-    ensures { result ≡ true → is_visible byte ≡ true }
+    ensures { result ≡ is_visible byte }
 {
     (b'!'..=b'~').contains(&byte)
 }
@@ -71,6 +73,7 @@ fn is_visible_byte(byte: u8) -> bool
 pub fn visible_length(bytes: &[u8]) -> usize
     ensures within { result ≤ length bytes.now }
     ensures visible { list_all is_visible (take result bytes.now) ≡ true }
+    ensures stops { result < length bytes.now → is_visible (slice_index bytes.now result) ≡ false }
 {
     let mut end = 0;
     'by_lanes: while bytes.len() - end >= LANES {

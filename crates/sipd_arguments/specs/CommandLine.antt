@@ -1,17 +1,22 @@
 -- The command line: the commands that the program knows, with their options, and what each asks for (this project's profile).
-use Rattle.std.specs.Prelude.{◌≡◌, ⊤, ℕ, pos, ◌^◌, Bool, true, false, ◌&&◌, not, nat_lt, if◌then◌else◌, List, [], ◌∷◌, codes, Option, Some, None, unwrap_or, option_map, option_and_then, is_some, string_bytes}
+use Rattle.std.specs.Prelude.{◌≡◌, ⊤, ℕ, pos, ◌^◌, Bool, true, false, ◌&&◌, not, nat_lt, if◌then◌else◌, List, [], ◌∷◌, codes, Option, Some, None, IfSome, unwrap_or, option_map, option_and_then, is_some, slice_get, string_bytes, Result, Ok, Err, ◌⊎◌}
 use Rattle.std.specs.Str.{bytes_eq}
 use Rattle.std.specs.Str.Parse.{digits_value, without_leading_plus}
 use Rattle.std.specs.Option.{option_map_or}
 use Rattle.std.specs.Borrow.{Bor}
 use Rattle.clap.specs.Words.{App, Row, Rule, Shape, Text, new_app, new_rule, first_of, one_of, subcommand_of}
+use Rattle.clap.specs.Faults.{fault_of}
+use Rattle.clap.specs.Kinds.{IsAmong, Kinds}
 use Rattle.clap.specs.ValueTests.{is_numeral}
 use Rattle.clap.specs.declared.builder.action.ArgAction.TheVariants.{Set, SetTrue}
 use Rattle.clap.specs.declared.builder.value_parser.ValueParser.TheVariants as parsers
+use Rattle.clap.specs.declared.error.kind.ErrorKind.{ErrorKind}
+use Rattle.clap.specs.declared.error.kind.ErrorKind.TheVariants.{DisplayHelp, DisplayVersion}
 use Rattle.sipd_arguments.specs.declared.call.Call.{Call}
 use Rattle.sipd_arguments.specs.declared.call.Call.TheVariants as calls
 use Rattle.sipd_arguments.specs.declared.call.CheckCall.{CheckCall}
 use Rattle.sipd_arguments.specs.declared.call.ReplayCall.{ReplayCall}
+use Rattle.sipd_arguments.specs.declared.call.ReplayCall.TheVariants.{Script, Record}
 use Rattle.sipd_arguments.specs.declared.call.ServeCall.{ServeCall}
 use Rattle.sipd_arguments.specs.declared.call.DecideCall.{DecideCall}
 use Rattle.sipd_arguments.specs.declared.call.ReportCall.{ReportCall}
@@ -22,6 +27,8 @@ use Rattle.sipd_arguments.specs.declared.call.RecordPlace.{RecordPlace}
 use Rattle.sipd_arguments.specs.declared.call.RecordPlace.TheVariants.{File, Folder}
 use Rattle.sipd_arguments.specs.declared.commands.Parsed.{Parsed}
 use Rattle.sipd_arguments.specs.declared.commands.Parsed.TheVariants as parsed
+use Rattle.sipd_arguments.specs.declared.exit.Exit.{Exit}
+use Rattle.sipd_arguments.specs.declared.exit.Exit.TheVariants.{Usage, Memory}
 
 -- ---- the options of each command
 
@@ -57,10 +64,10 @@ abbrev pub command : Text → List Rule → Shape
 command name rules = record (new_app name).top { rules = rules }
 
 abbrev pub check_command : Shape
-check_command = command (codes "check") (needed (option (codes "config")) ∷ flag (codes "show") ∷ [])
+check_command = command (codes "check") (needed (option (codes "config")) ∷ flag (codes "show") ∷ option (codes "against") ∷ [])
 
 abbrev pub replay_command : Shape
-replay_command = command (codes "replay") (option (codes "config") ∷ tied (option (codes "record")) ∷ [])
+replay_command = command (codes "replay") (option (codes "config") ∷ option (codes "record") ∷ [])
 
 -- the words are those of `--record-fault`
 abbrev pub serve_command : Bor (List (Bor Text)) → Shape
@@ -72,6 +79,7 @@ serve_command words = command (codes "serve")
     ∷ among words (option (codes "record-fault"))
     ∷ tied (option (codes "resume"))
     ∷ number_from 1 1000000 (option (codes "per-source"))
+    ∷ flag (codes "reload")
     ∷ [])
 
 abbrev pub decide_command : Shape
@@ -100,12 +108,36 @@ user_command = command (codes "user")
     ∷ tied (flag (codes "sha256"))
     ∷ [])
 
--- the program: one of these commands has to be there
+-- the program without its commands: one has to be there
+abbrev pub no_commands : App
+no_commands = record (new_app (codes "sipd")) { top = record (new_app (codes "sipd")).top { has_version = true; subcommand_required = true } }
+
+-- the program with commands
+abbrev pub with_commands : List Shape → App
+with_commands commands = record { top = record no_commands.top { is_leaf = false }; subs = commands }
+
+-- the program
 abbrev pub program : Bor (List (Bor Text)) → App
-program words = record {
-  top = record (new_app (codes "sipd")).top { is_leaf = false; has_version = true; subcommand_required = true };
-  subs = check_command ∷ replay_command ∷ serve_command words ∷ decide_command ∷ report_command ∷ user_command ∷ [];
-}
+program words = with_commands
+    (check_command ∷ replay_command ∷ serve_command words ∷ decide_command ∷ report_command ∷ user_command ∷ [])
+
+-- the program with one command alone
+abbrev pub alone : Shape → App
+alone only = with_commands (only ∷ [])
+
+-- the command of a name, of those none of whose options is tied to another
+abbrev pub free_command : Text → Option Shape
+free_command name =
+    if bytes_eq name (codes "check") then Some check_command else (if bytes_eq name (codes "replay") then Some replay_command
+    else (if bytes_eq name (codes "decide") then Some decide_command else (if bytes_eq name (codes "report") then Some report_command else None)))
+
+-- the one of these that a command line names, behind the program's own name
+abbrev pub free_command_in : List Text → Option Shape
+free_command_in words = option_and_then free_command (slice_get words 1)
+
+-- what a command line is read by: that one alone, or else all
+abbrev pub app_for : Bor (List (Bor Text)) → List Text → App
+app_for faults words = option_map_or alone (free_command_in words) (program faults)
 
 -- ---- what is said of an option
 
@@ -137,11 +169,16 @@ is_on name rows = option_map_or (λ text. bytes_eq text (codes "true")) (one_of 
 pub record IsCheck (rows : List Row) (call : CheckCall) : Type 0 where
   pub config : string_bytes call.config ≡ needed_text (codes "config") rows
   pub show : call.show ≡ is_on (codes "show") rows
+  pub against : option_map string_bytes call.against ≡ text_at (codes "against") rows
 
--- `replay`
-pub record IsReplay (rows : List Row) (call : ReplayCall) : Type 0 where
-  pub config : option_map string_bytes call.config ≡ text_at (codes "config") rows
-  pub record_file : option_map string_bytes call.«record» ≡ text_at (codes "record") rows
+-- `replay`: a script, or a record with its configuration
+abbrev pub IsReplay : List Row → ReplayCall → Type 0
+IsReplay rows (Script config) = (text_at (codes "record") rows ≡ None) × (option_map string_bytes config ≡ text_at (codes "config") rows)
+IsReplay rows (Record config path) = (text_at (codes "record") rows ≡ Some (string_bytes path)) × (text_at (codes "config") rows ≡ Some (string_bytes config))
+
+-- whether a record is to be replayed without its configuration
+abbrev pub lacks_configuration : List Row → Bool
+lacks_configuration rows = is_some (text_at (codes "record") rows) && not (is_some (text_at (codes "config") rows))
 
 -- where a server is to record: in a new file of a folder, or in a file, going on from another one where that is named
 abbrev pub IsPlace : Option Text → Option Text → Option Text → Option RecordPlace → Type 0
@@ -169,6 +206,7 @@ pub record IsServe (rows : List Row) (call : ServeCall) : Type 0 where
   pub place : IsPlace (text_at (codes "records") rows) (text_at (codes "record") rows) (text_at (codes "resume") rows) call.«record»
   pub fault : call.record_fault ≡ fault_said rows
   pub per_source : call.per_source ≡ number_at 32 (codes "per-source") rows
+  pub reload : call.reload ≡ is_on (codes "reload") rows
 
 -- `decide`
 pub record IsDecide (rows : List Row) (call : DecideCall) : Type 0 where
@@ -206,6 +244,36 @@ IsCall name rows (calls.User call) = (name ≡ codes "user") × IsUser rows call
 abbrev pub IsCallOf : Option (Text × List Row) → Call → Type 0
 IsCallOf None call = ⊥
 IsCallOf (Some named) call = IsCall named.0 named.1 call
+
+-- whether a kind of error is an answer to who asks for help or the version
+abbrev pub asks_text : ErrorKind → Bool
+asks_text DisplayHelp = true
+asks_text DisplayVersion = true
+asks_text kind = false
+
+-- among the first faults of a line is one that asks for a text, or is complained about
+pub record HasFault (asks : Bool) (kinds : Kinds) : Type 0 where
+  pub kind : ErrorKind
+  pub among : IsAmong kind kinds
+  pub is_so : asks_text kind ≡ asks
+
+-- a line that names such a command is a record to be replayed without its configuration
+abbrev pub lacks_in : Option (Text × List Row) → Bool
+lacks_in None = false
+lacks_in (Some named) = bytes_eq named.0 (codes "replay") && lacks_configuration named.1
+
+-- How a line ends in which these are the first faults: it is a call exactly where there is none, and nothing lacks beside it; what is
+-- asked for help or the version is a text, and all else is complained about. Memory may run out.
+abbrev pub EndsBy : Kinds → Bool → Result Parsed Exit → Type 0
+EndsBy kinds lacks (Ok (parsed.Call call)) = (kinds ≡ []) × (lacks ≡ false)
+EndsBy kinds lacks (Ok (parsed.Text text)) = HasFault true kinds
+EndsBy kinds lacks (Err (Usage text)) = ((kinds ≡ []) × (lacks ≡ true)) ⊎ HasFault false kinds
+EndsBy kinds lacks (Err Memory) = ⊤
+EndsBy kinds lacks (Err exit) = ⊥
+
+-- a line that names a command none of whose options is tied to another ends by the first faults of it (`fault_of` of clap)
+abbrev pub EndsExactly : List Text → Result Parsed Exit → Type 0
+EndsExactly words result = IfSome (free_command_in words) (λ only. EndsBy (fault_of (alone only) words) (lacks_in (subcommand_of (alone only) words)) result)
 
 -- what the words of a command line ask for: a call, by the program's commands and options, or a text
 abbrev pub Asks : List Text → Parsed → Type 0

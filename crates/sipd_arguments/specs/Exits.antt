@@ -1,5 +1,5 @@
 -- How the program ends.
-use Rattle.std.specs.Prelude.{ℕ}
+use Rattle.std.specs.Prelude.{ℕ, ⊤}
 use Rattle.std.specs.declared.io.ErrorKind.{ErrorKind}
 use Rattle.std.specs.declared.io.ErrorKind.TheVariants.{AddrInUse, AddrNotAvailable, BrokenPipe, NotFound, OutOfMemory, PermissionDenied, QuotaExceeded, StorageFull}
 use Rattle.sip_config.specs.declared.error.ConfigError.{ConfigError}
@@ -7,7 +7,7 @@ use Rattle.sip_config.specs.declared.error.ConfigError.TheVariants as configurat
 use Rattle.sipd_arguments.specs.declared.device_fault.DeviceFault.{DeviceFault}
 use Rattle.sipd_arguments.specs.declared.device_fault.DeviceFault.TheVariants.{PortTaken, NoSuchAddress, NoFile, NoRightToRead, DiskFull, OutputClosed, Other}
 use Rattle.sipd_arguments.specs.declared.exit.Exit.{Exit}
-use Rattle.sipd_arguments.specs.declared.exit.Exit.TheVariants.{Usage, Configuration, Script, Device, Memory, Stack, Question, NoRecord, OtherConfiguration, NewRecord, Recording}
+use Rattle.sipd_arguments.specs.declared.exit.Exit.TheVariants.{Usage, Configuration, Script, Device, Memory, Stack, Question, NoRecord, OtherConfiguration, OtherFrame, NewRecord, Recording}
 
 -- exit statuses (this project's profile)
 abbrev pub status_of : Exit → ℕ
@@ -20,6 +20,7 @@ status_of (Stack bytes needed) = 5
 status_of (Question text) = 1
 status_of NoRecord = 3
 status_of OtherConfiguration = 3
+status_of OtherFrame = 3
 status_of NewRecord = 4
 status_of Recording = 4
 
@@ -49,3 +50,9 @@ fault_of kind = Other
 abbrev pub exit_of_kind : ErrorKind → Exit
 exit_of_kind OutOfMemory = Memory
 exit_of_kind kind = Device (fault_of kind)
+
+-- why something isn't printed: memory ran out, or the device failed
+abbrev pub IsPrintFault : Exit → Type 0
+IsPrintFault Memory = ⊤
+IsPrintFault (Device fault) = ⊤
+IsPrintFault exit = ⊥

@@ -2,4 +2,5 @@ pub mod Exits
 pub mod Files
 pub mod Summary
 pub mod CommandLine
+pub mod Examples
 pub mod Commands

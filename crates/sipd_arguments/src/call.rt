@@ -16,15 +16,17 @@ pub struct CheckCall {
     pub config: String,
     /// Whether what was understood is printed, or what is wrong.
     pub show: bool,
+    /// The file of the configuration from which a change to it is told; nothing is told of a change, where none is named.
+    pub against: Option<String>,
 }
 
-/// `replay`: a script on standard input is replayed, or a record.
+/// `replay`: what is replayed.
 #[derive(Drop)]
-pub struct ReplayCall {
-    /// The file of the configuration; the sample where none is named.
-    pub config: Option<String>,
-    /// The file of the record, which is replayed with the configuration of a file alone.
-    pub record: Option<String>,
+pub enum ReplayCall {
+    /// The script on standard input, with the configuration of a file; with the sample where none is named.
+    Script { config: Option<String> },
+    /// The record in a file, with the configuration of the file with which it was made.
+    Record { config: String, path: String },
 }
 
 /// What becomes of a server whose record can't be written.
@@ -60,6 +62,8 @@ pub struct ServeCall {
     pub record_fault: RecordFault,
     /// How many datagrams a second are heard from one address.
     pub per_source: Option<u32>,
+    /// Whether the configuration is taken anew when its file changes.
+    pub reload: bool,
 }
 
 /// `decide`: which rule would decide.

@@ -1,13 +1,15 @@
 ghost use Rattle.std.specs.Prelude.{◌≡◌, List, false, map, codes, IfOk, IfErr, string_bytes};
 ghost use Rattle.std.specs.Borrow.{Bor};
-ghost use Rattle.clap.specs.Words.{Text, app_of, rule_of};
+ghost use Rattle.clap.specs.Words.{Text, app_of, kind_of, rule_of};
 ghost use Rattle.sipd_arguments.specs.CommandLine as Definitions;
-ghost use Rattle.sipd_arguments.specs.CommandLine.{Asks};
-ghost use Rattle.sipd_arguments.specs.Commands.{IsCommand, IsComplaint, IsText};
+ghost use Rattle.sipd_arguments.specs.CommandLine.{Asks, EndsExactly, no_commands};
+ghost use Rattle.sipd_arguments.specs.Commands.{Answers, IsCommand, IsComplaint, IsMade};
+ghost use Rattle.sipd_arguments.specs.declared.exit.Exit.TheVariants.{Memory};
+ghost use Rattle.sipd_arguments.specs.declared.matches.Uncalled.TheVariants.{NoMemory};
 
 use crate::call::Call;
 use crate::exit::Exit;
-use crate::matches::call_of;
+use crate::matches::{Uncalled, call_of};
 use clap::error::ErrorKind;
 use clap::{Arg, ArgAction, Command, value_parser};
 use std::alloc::{AllocError, Global};
@@ -18,6 +20,13 @@ const RECORD_FAULTS: &[&str] = &["go-on", "end"];
 /// What is said of that option where no record is made.
 const NO_RECORD: &str =
     "error: '--record-fault <WORD>' is for a record: '--record <FILE>' or '--records <FOLDER>'\n\nFor more information, try '--help'.\n";
+
+/// What is said of a record that is to be replayed without its configuration.
+const NO_CONFIGURATION: &str =
+    "error: the following required arguments were not provided:\n  --config <FILE>\n\nUsage: sipd replay --config <FILE> --record <FILE>\n\nFor more information, try '--help'.\n";
+
+/// What is said of a line that names no command. The parse says so itself.
+const NO_COMMAND: &str = "error: no command\n\nFor more information, try '--help'.\n";
 
 /// What a command line says.
 #[derive(Drop)]
@@ -75,18 +84,22 @@ fn check_command<'a>(alloc: Global) -> Result<Command<'a>, AllocError>
     ensures { IfOk result (IsCommand Definitions.check_command) }
 {
     let show = "Print what was understood, or what is wrong and where";
+    let against = "Tell what a change from this configuration would do";
     Command::new(alloc, "check")
         .about("Checks a configuration")
         .arg(config_argument(alloc).required(true))?
-        .arg(flag(alloc, "show", show))
+        .arg(flag(alloc, "show", show))?
+        .arg(option(alloc, "against", "OLD", against))
 }
 
-/// `--record FILE`, of a record that is there.
-fn old_record_argument<'a>(alloc: Global) -> Result<Arg<'a>, AllocError>
-    ensures { IfOk result (λ arg. (rule_of arg ≡ Definitions.tied (Definitions.option (codes "record"))) × (arg.global ≡ false)) }
+/// `--record FILE`, of a record that is there. That its configuration is named is looked at behind the parse: of options that are tied to
+/// one another the parse doesn't say which lines it takes.
+fn old_record_argument<'a>(alloc: Global) -> Arg<'a>
+    ensures rule { rule_of result ≡ Definitions.option (codes "record") }
+    ensures local { result.global ≡ false }
 {
     let help = "Replay this record of a server instead of standard input, with its configuration";
-    option(alloc, "record", "FILE", help).requires_arg("config")
+    option(alloc, "record", "FILE", help)
 }
 
 fn replay_command<'a>(alloc: Global) -> Result<Command<'a>, AllocError>
@@ -97,7 +110,7 @@ fn replay_command<'a>(alloc: Global) -> Result<Command<'a>, AllocError>
             "Replays a script from standard input, with the sample configuration or that of a file",
         )
         .arg(config_argument(alloc))?
-        .arg(old_record_argument(alloc)?)
+        .arg(old_record_argument(alloc))
 }
 
 /// `--turns N`.
@@ -158,6 +171,7 @@ fn per_source_argument<'a>(alloc: Global) -> Arg<'a>
 fn serve_command<'a>(alloc: Global) -> Result<Command<'a>, AllocError>
     ensures { IfOk result (λ c. (words : Bor (List (Bor Text))) × IsCommand (Definitions.serve_command words) c) }
 {
+    let reload = "Take the configuration anew when its file changes";
     Command::new(alloc, "serve")
         .about("Serves at the address of a configuration")
         .arg(config_argument(alloc).required(true))?
@@ -166,7 +180,8 @@ fn serve_command<'a>(alloc: Global) -> Result<Command<'a>, AllocError>
         .arg(records_argument(alloc)?)?
         .arg(record_fault_argument(alloc))?
         .arg(resume_argument(alloc)?)?
-        .arg(per_source_argument(alloc))
+        .arg(per_source_argument(alloc))?
+        .arg(flag(alloc, "reload", reload))
 }
 
 /// `--minute M`.
@@ -239,14 +254,21 @@ fn user_command<'a>(alloc: Global) -> Result<Command<'a>, AllocError>
         .arg(sha256_argument(alloc)?)
 }
 
-/// The commands that the program knows.
-fn commands<'a>(alloc: Global) -> Result<Command<'a>, AllocError>
-    ensures { IfOk result (λ c. (words : Bor (List (Bor Text))) × (app_of c ≡ Definitions.program words)) }
+/// The program without its commands.
+fn program<'a>(alloc: Global) -> Command<'a>
+    ensures { app_of result ≡ no_commands }
 {
     Command::new(alloc, "sipd")
         .version("0.1.0")
         .about("A SIP registrar and proxy")
         .subcommand_required(true)
+}
+
+/// The commands that the program knows.
+fn commands<'a>(alloc: Global) -> Result<Command<'a>, AllocError>
+    ensures { IfOk result (λ c. (words : Bor (List (Bor Text))) × (app_of c ≡ Definitions.program words)) }
+{
+    program(alloc)
         .subcommand(check_command(alloc)?)?
         .subcommand(replay_command(alloc)?)?
         .subcommand(serve_command(alloc)?)?
@@ -255,10 +277,43 @@ fn commands<'a>(alloc: Global) -> Result<Command<'a>, AllocError>
         .subcommand(user_command(alloc)?)
 }
 
+/// The command of a name, if none of its options is tied to another.
+fn free_command<'a>(alloc: Global, name: &str) -> Result<Option<Command<'a>>, AllocError>
+    ensures { IfOk result (IsMade (Definitions.free_command name.now)) }
+{
+    Ok(match name {
+        "check" => Some(check_command(alloc)?),
+        "replay" => Some(replay_command(alloc)?),
+        "decide" => Some(decide_command(alloc)?),
+        "report" => Some(report_command(alloc)?),
+        _ => None,
+    })
+}
+
+/// The one of these commands that a line names.
+fn free_command_in<'a>(alloc: Global, words: &[String]) -> Result<Option<Command<'a>>, AllocError>
+    ensures { IfOk result (IsMade (Definitions.free_command_in (map string_bytes words.now))) }
+{
+    match words.get(1) {
+        Some(name) => free_command(alloc, name.as_str()),
+        None => Ok(None),
+    }
+}
+
+/// What a line is read by: the command without tied options that it names, alone, or else all. Where no option of a program is tied to
+/// another, the parse says of each line whether it takes it; and what it says to a line of one command doesn't depend on the others.
+fn commands_for<'a>(alloc: Global, words: &[String]) -> Result<Command<'a>, AllocError>
+    ensures { IfOk result (λ c. (faults : Bor (List (Bor Text))) × (app_of c ≡ Definitions.app_for faults (map string_bytes words.now))) }
+{
+    match free_command_in(alloc, words)? {
+        Some(command) => program(alloc).subcommand(command),
+        None => commands(alloc),
+    }
+}
+
 /// Why a command line isn't taken, or the text that it asks for.
 fn answer_to(alloc: Global, e: &clap::Error) -> Result<Parsed, Exit>
-    ensures text { IfOk result IsText }
-    ensures refused { IfErr result IsComplaint }
+    ensures { Answers (kind_of e.now) result }
 {
     let text = e.to_string(alloc)?;
     match e.kind() {
@@ -268,19 +323,43 @@ fn answer_to(alloc: Global, e: &clap::Error) -> Result<Parsed, Exit>
     }
 }
 
+/// A complaint about a line.
+fn usage(alloc: Global, text: &str) -> Exit
+    ensures { IsComplaint result }
+{
+    match String::from_str(alloc, text) {
+        Ok(text) => Exit::Usage(text),
+        Err(_) => Exit::Memory,
+    }
+}
+
+/// What is complained about where what a line says is no call.
+fn complaint(alloc: Global, why: Uncalled) -> Exit
+    ensures complaint { IsComplaint result }
+    ensures memory { why ≡ NoMemory → result ≡ Memory }
+{
+    match why {
+        Uncalled::NoMemory => Exit::Memory,
+        Uncalled::NoRecord => usage(alloc, NO_RECORD),
+        Uncalled::NoConfiguration => usage(alloc, NO_CONFIGURATION),
+        Uncalled::NoCommand => usage(alloc, NO_COMMAND),
+    }
+}
+
 /// What the words say, the program's own name first: a call, by the commands and options that the program has
-/// (`specs/CommandLine`), or the text of help or of the version. Refusals: `Memory`; `Usage`, with a complaint.
+/// (`specs/CommandLine`), or the text of help or of the version. Refusals: `Memory`; `Usage`, with a complaint. Which lines are taken of
+/// `check`, `replay`, `decide` and `report` is said exactly, for each of them.
 pub fn parse(alloc: Global, words: &[String]) -> Result<Parsed, Exit>
     ensures asked { IfOk result (Asks (map string_bytes words.now)) }
     ensures refused { IfErr result IsComplaint }
+    ensures exact { EndsExactly (map string_bytes words.now) result }
 {
-    let matches = match commands(alloc)?.try_get_matches_from(words) {
+    let matches = match commands_for(alloc, words)?.try_get_matches_from(words) {
         Ok(matches) => matches,
         Err(e) => return answer_to(alloc, &e),
     };
-    // A command is required, and the only other one is `help`: so it is a word on the record that stands alone.
-    match call_of(alloc, &matches)? {
-        Some(call) => Ok(Parsed::Call(call)),
-        None => Err(Exit::Usage(String::from_str(alloc, NO_RECORD)?)),
+    match call_of(alloc, &matches) {
+        Ok(call) => Ok(Parsed::Call(call)),
+        Err(why) => Err(complaint(alloc, why)),
     }
 }

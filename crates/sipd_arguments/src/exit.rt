@@ -28,6 +28,8 @@ pub enum Exit {
     NoRecord,
     /// A record was made with another configuration.
     OtherConfiguration,
+    /// A server that runs can't take a configuration in the place of another.
+    OtherFrame,
     /// The file of a new record can't be made.
     NewRecord,
     /// A record couldn't be written, and the server was to end then.
@@ -42,7 +44,7 @@ impl Exit {
         match self {
             Exit::Usage(_) | Exit::Question(_) => 1,
             Exit::Configuration(_) => 2,
-            Exit::Script(_) | Exit::NoRecord | Exit::OtherConfiguration => 3,
+            Exit::Script(_) | Exit::NoRecord | Exit::OtherConfiguration | Exit::OtherFrame => 3,
             Exit::Device(_) | Exit::NewRecord | Exit::Recording => 4,
             Exit::Memory | Exit::Stack { .. } => 5,
         }
@@ -67,6 +69,7 @@ impl fmt::Display for Exit {
             Exit::OtherConfiguration => {
                 write!(f, "sipd: the record was made with another configuration")
             }
+            Exit::OtherFrame => write!(f, "sipd: a server that runs can't take it"),
             Exit::NewRecord => write!(
                 f,
                 "sipd: the record can't be made: its file is there already, or its folder isn't, or may not be written, or has no hard links"

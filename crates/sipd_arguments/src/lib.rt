@@ -3,12 +3,13 @@
 //!
 //! - Used: `sipd_tools`, `sipd_start`, `sipd_command`.
 //! - Not here: the carrying out of what is asked.
-//! - Tried: `test_server`.
+//! - Tried: worked examples in `src/examples.rt`, as contracts that compute; `test_server`.
 #![tactic(auto)]
 
 mod call;
 mod commands;
 mod device_fault;
+pub mod examples;
 mod exit;
 mod files;
 mod matches;

@@ -1,7 +1,8 @@
-ghost use Rattle.std.specs.Prelude.{◌≡◌, codes, IfOk, IfSome, is_some, option_map, string_bytes};
+ghost use Rattle.std.specs.Prelude.{◌≡◌, false, codes, IfErr, IfOk, is_some, option_map, string_bytes};
 ghost use Rattle.clap.specs.Words.{found_of, rows_of, subcommand_rows_of};
 ghost use Rattle.sipd_arguments.specs.CommandLine as Definitions;
 ghost use Rattle.sipd_arguments.specs.CommandLine.{IsCall, IsCallOf, IsPlace};
+ghost use Rattle.sipd_arguments.specs.Commands.{IsUncalled, IsUncalledOf, IsUnreplayed, IsUnserved};
 
 use crate::call::{
     Call, CheckCall, DecideCall, RecordFault, RecordPlace, ReplayCall, ReportCall, ServeCall,
@@ -9,6 +10,28 @@ use crate::call::{
 };
 use clap::ArgMatches;
 use std::alloc::{AllocError, Global};
+
+/// Why what a command line says is no call.
+#[derive(Clone, Copy)]
+pub(crate) enum Uncalled {
+    NoMemory,
+    /// A word on the record stands where there is none.
+    NoRecord,
+    /// A record is to be replayed without its configuration.
+    NoConfiguration,
+    /// No command is named.
+    NoCommand,
+}
+
+impl From<AllocError> for Uncalled {
+    ghost use Rattle.sipd_arguments.specs.declared.matches.Uncalled.TheVariants.{NoMemory};
+
+    ghost from_gives = { λ _ why. why ≡ NoMemory };
+
+    fn from(_e: AllocError) -> Uncalled {
+        Uncalled::NoMemory
+    }
+}
 
 /// The text of an option.
 #[tactic(auto, using(crate::proofs::Found::text_found))]
@@ -63,16 +86,21 @@ fn check_call(alloc: Global, matches: &ArgMatches<'_>) -> Result<CheckCall, Allo
     Ok(CheckCall {
         config: needed_text(alloc, matches, "config")?,
         show: is_on(matches, "show"),
+        against: text_of(alloc, matches, "against")?,
     })
 }
 
-fn replay_call(alloc: Global, matches: &ArgMatches<'_>) -> Result<ReplayCall, AllocError>
-    ensures { IfOk result (Definitions.IsReplay (rows_of (found_of matches.now))) }
+/// What is replayed. A record is replayed with its configuration alone: without one `NoConfiguration` is the refusal.
+fn replay_call(alloc: Global, matches: &ArgMatches<'_>) -> Result<ReplayCall, Uncalled>
+    ensures call { IfOk result (Definitions.IsReplay (rows_of (found_of matches.now))) }
+    ensures refused { IfErr result (IsUnreplayed (rows_of (found_of matches.now))) }
 {
-    Ok(ReplayCall {
-        config: text_of(alloc, matches, "config")?,
-        record: text_of(alloc, matches, "record")?,
-    })
+    let config = text_of(alloc, matches, "config")?;
+    match (text_of(alloc, matches, "record")?, config) {
+        (None, config) => Ok(ReplayCall::Script { config }),
+        (Some(path), Some(config)) => Ok(ReplayCall::Record { config, path }),
+        (Some(_), None) => Err(Uncalled::NoConfiguration),
+    }
 }
 
 /// What becomes of the server where its record can't be written.
@@ -120,15 +148,21 @@ fn lacks_record(matches: &ArgMatches<'_>) -> bool
     has(matches, "record-fault") && !has(matches, "record") && !has(matches, "records")
 }
 
-fn serve_call(alloc: Global, matches: &ArgMatches<'_>) -> Result<ServeCall, AllocError>
-    ensures { IfOk result (Definitions.IsServe (rows_of (found_of matches.now))) }
+/// How phones are served. A word on the record stands beside one alone: else `NoRecord` is the refusal.
+fn serve_call(alloc: Global, matches: &ArgMatches<'_>) -> Result<ServeCall, Uncalled>
+    ensures call { IfOk result (λ call. Definitions.IsServe (rows_of (found_of matches.now)) call × (Definitions.lacks_record (rows_of (found_of matches.now)) ≡ false)) }
+    ensures refused { IfErr result (IsUnserved (rows_of (found_of matches.now))) }
 {
+    if lacks_record(matches) {
+        return Err(Uncalled::NoRecord);
+    }
     Ok(ServeCall {
         config: needed_text(alloc, matches, "config")?,
         turns: number_of(matches, "turns"),
         record: record_place(alloc, matches)?,
         record_fault: record_fault_of(matches),
         per_source: number_of(matches, "per-source"),
+        reload: is_on(matches, "reload"),
     })
 }
 
@@ -167,32 +201,29 @@ fn user_call(alloc: Global, matches: &ArgMatches<'_>) -> Result<UserCall, AllocE
     })
 }
 
-/// What a command with its options asks for; nothing where it isn't one, or a word on the record stands where there is none.
-fn call_named(
-    alloc: Global,
-    name: &str,
-    matches: &ArgMatches<'_>,
-) -> Result<Option<Call>, AllocError>
-    ensures { IfOk result (λ call. IfSome call (IsCall name.now (rows_of (found_of matches.now)))) }
+/// What a command with its options asks for.
+fn call_named(alloc: Global, name: &str, matches: &ArgMatches<'_>) -> Result<Call, Uncalled>
+    ensures call { IfOk result (IsCall name.now (rows_of (found_of matches.now))) }
+    ensures refused { IfErr result (IsUncalled name.now (rows_of (found_of matches.now))) }
 {
-    Ok(match name {
-        "check" => Some(Call::Check(check_call(alloc, matches)?)),
-        "replay" => Some(Call::Replay(replay_call(alloc, matches)?)),
-        "serve" if lacks_record(matches) => None,
-        "serve" => Some(Call::Serve(serve_call(alloc, matches)?)),
-        "decide" => Some(Call::Decide(decide_call(alloc, matches)?)),
-        "report" => Some(Call::Report(report_call(alloc, matches)?)),
-        "user" => Some(Call::User(user_call(alloc, matches)?)),
-        _ => None,
-    })
+    match name {
+        "check" => Ok(Call::Check(check_call(alloc, matches)?)),
+        "replay" => Ok(Call::Replay(replay_call(alloc, matches)?)),
+        "serve" => Ok(Call::Serve(serve_call(alloc, matches)?)),
+        "decide" => Ok(Call::Decide(decide_call(alloc, matches)?)),
+        "report" => Ok(Call::Report(report_call(alloc, matches)?)),
+        "user" => Ok(Call::User(user_call(alloc, matches)?)),
+        _ => Err(Uncalled::NoCommand),
+    }
 }
 
 /// What the command asks for that the words name.
-pub(crate) fn call_of(alloc: Global, matches: &ArgMatches<'_>) -> Result<Option<Call>, AllocError>
-    ensures { IfOk result (λ call. IfSome call (IsCallOf (subcommand_rows_of matches.now))) }
+pub(crate) fn call_of(alloc: Global, matches: &ArgMatches<'_>) -> Result<Call, Uncalled>
+    ensures call { IfOk result (IsCallOf (subcommand_rows_of matches.now)) }
+    ensures refused { IfErr result (IsUncalledOf (subcommand_rows_of matches.now)) }
 {
     match matches.subcommand() {
         Some((name, inner)) => call_named(alloc, name, inner),
-        None => Ok(None),
+        None => Err(Uncalled::NoCommand),
     }
 }

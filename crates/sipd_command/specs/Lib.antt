@@ -1,5 +1,6 @@
 pub mod Exits
 pub mod Printing
+pub mod Reloads
 pub mod Starts
 pub mod Turns
 pub mod Waits

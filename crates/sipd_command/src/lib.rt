@@ -8,6 +8,7 @@
 mod line_printer;
 mod printing;
 mod program;
+mod reloading;
 mod service;
 mod serving;
 mod unheard;

@@ -1,6 +1,7 @@
-ghost use Rattle.std.specs.Prelude.{◌≡◌, ◌++◌, IfOk, OnOk};
+ghost use Rattle.std.specs.Prelude.{◌≡◌, ◌++◌, IfErr, IfOk, OnOk};
 ghost use Rattle.std.specs.Io.KnownBytes.{Appends};
 ghost use Rattle.sip_loop.specs.Printing as Lines;
+ghost use Rattle.sipd_arguments.specs.Exits.{IsPrintFault};
 ghost use Rattle.sipd_command.specs.Printing;
 
 use sip_audit::{Record, line_of};
@@ -23,7 +24,8 @@ fn record_text(alloc: Global, record: &Record) -> Result<Bytes, AllocError>
 
 /// Prints a record's line.
 fn print_record<W: Write>(alloc: Global, record: &Record, output: &mut W) -> Result<(), Exit>
-    ensures { OnOk result (Appends (W.contents output.old) (W.contents output.new) (Lines.record_text «record».now)) }
+    ensures printed { OnOk result (Appends (W.contents output.old) (W.contents output.new) (Lines.record_text «record».now)) }
+    ensures refused { IfErr result IsPrintFault }
 {
     let line = record_text(alloc, record)?;
     print(line.as_slice(), output)
@@ -36,7 +38,8 @@ pub fn print_records<W: Write>(
     records: &[Record],
     output: &mut W,
 ) -> Result<(), Exit>
-    ensures { OnOk result (Appends (W.contents output.old) (W.contents output.new) (Lines.lines_of records.now)) }
+    ensures printed { OnOk result (Appends (W.contents output.old) (W.contents output.new) (Lines.lines_of records.now)) }
+    ensures refused { IfErr result IsPrintFault }
 {
     for record in records {
         print_record(alloc, record, output)?;

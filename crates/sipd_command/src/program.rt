@@ -13,7 +13,6 @@ use sipd_arguments::{
 };
 use sipd_start::open_record;
 use sipd_tools::{check, decide, make_report, make_user};
-use std::alloc::Global;
 use std::io::{Read, Write};
 use std::net::Net;
 use std::random::RandomSource;
@@ -89,13 +88,7 @@ fn replay_record<T: Timers, P: Rules, R: Files + AllocGlobal, W: Write, C: Write
     }
 }
 
-/// How the program ends where a record is to be replayed without its configuration; `parse` lets none such through.
-fn record_alone(alloc: Global) -> Result<Exit, Exit> {
-    let text = String::from_str(alloc, "a record is replayed with --config")?;
-    Ok(Exit::Question(text))
-}
-
-/// Replays a record, or else the script of the input.
+/// Replays the script of the input, or a record.
 fn replay_call<T: Timers, P: Rules, R: Files + AllocGlobal, I: Read, W: Write, C: Write>(
     rt: &R,
     call: &ReplayCall,
@@ -103,13 +96,14 @@ fn replay_call<T: Timers, P: Rules, R: Files + AllocGlobal, I: Read, W: Write, C
     output: &mut W,
     complaints: &mut C,
 ) -> Result<(), Exit> {
-    let config = call.config.as_ref().map(String::as_str);
-    match (config, &call.record) {
-        (Some(config), Some(record)) => {
-            replay_record::<T, P, R, W, C>(rt, config, record.as_str(), output, complaints)
+    match call {
+        ReplayCall::Script { config } => {
+            let config = config.as_ref().map(String::as_str);
+            replay_script::<T, P, R, I, W>(rt, config, input, output)
         }
-        (None, Some(_)) => Err(record_alone(rt.alloc())?),
-        (config, None) => replay_script::<T, P, R, I, W>(rt, config, input, output),
+        ReplayCall::Record { config, path } => {
+            replay_record::<T, P, R, W, C>(rt, config.as_str(), path.as_str(), output, complaints)
+        }
     }
 }
 

@@ -1,14 +1,15 @@
-ghost use Rattle.std.specs.Prelude.{◌≡◌, ◌^◌, ◌-◌, ◌⊎◌, [], false, None, IfErr, IfNone, IfSome, OnOk};
+ghost use Rattle.std.specs.Prelude.{◌≡◌, ◌^◌, ◌-◌, [], false, None, IfErr, IfNone, IfSome, IsSome, OnErr, OnOk};
 ghost use Rattle.std.specs.Io.KnownBytes.{Appends};
 ghost use Rattle.sip_record.specs.Record.{Notes};
-ghost use Rattle.sip_record.specs.Recorder.{told};
-ghost use Rattle.sip_loop.specs.Serving.{kept, told_by};
+ghost use Rattle.sipd_arguments.specs.Exits.{IsPrintFault};
 ghost use Rattle.sipd_command.specs.Exits;
 ghost use Rattle.sipd_command.specs.Printing.{PrintsServed, start_text};
-ghost use Rattle.sipd_command.specs.Turns.{AreTurns, EndsBehindStart, EndsTurn, EndsWithin, IsTurn, IsUnstarted, Serves, ServesCounted};
+ghost use Rattle.sipd_command.specs.Reloads.{IsUnnoted, MayChange};
+ghost use Rattle.sipd_command.specs.Turns.{AreTurns, EndsCounted, EndsEarly, EndsTurn, EndsWithin, IsTurn, Serves, ServesCounted, service_seen};
 ghost use Rattle.sipd_command.specs.Waits;
 
 use crate::line_printer::LinePrinter;
+use crate::reloading::reload;
 use crate::unheard::tell_unheard;
 use rand_core::Rng;
 use sip_audit::Record;
@@ -16,10 +17,12 @@ use sip_guard::Guard;
 use sip_loop::{AuditFault, AuditLog, ServeError, serve};
 use sip_loop_link::{Clock, Link};
 use sip_policy::Rules;
+use sip_record::JournalFault;
 use sip_replay::engine::Engine;
 use sip_timers::Timers;
 use sip_uri::Addr;
 use sipd_arguments::{DeviceFault, Exit};
+use sipd_reload::{Watch, WatchedFile};
 use sipd_start::{Unrecorded, WatchedJournal};
 use std::alloc::Global;
 use std::io::Write;
@@ -35,12 +38,24 @@ const SECOND: u64 = 1000;
 
 /// A server, and what drives it.
 #[derive(Drop)]
-pub struct Service<T: Timers, P: Rules, L: Link, C: Clock, J: WatchedJournal, N: Rng + Drop> {
+pub struct Service<
+    T: Timers,
+    P: Rules,
+    L: Link,
+    C: Clock,
+    J: WatchedJournal,
+    N: Rng + Drop,
+    F: WatchedFile,
+> {
     pub engine: Engine<T, P>,
     pub link: Guard<L, C>,
     pub journal: J,
     pub clock: C,
     pub words: N,
+    /// What looks at the configuration's file, where it may change while the service runs.
+    pub watch: Option<Watch<F>>,
+    /// The port that is bound.
+    pub port: u16,
     pub said: Said,
 }
 
@@ -141,6 +156,29 @@ fn say_fault<J: WatchedJournal, M: Write>(journal: &mut J, said: &mut Said, comp
     }
 }
 
+/// Lets the configuration change, where its file is watched. The journal's fault is the only refusal.
+fn change<T: Timers, P: Rules, F: WatchedFile, J: WatchedJournal, M: Write>(
+    alloc: Global,
+    engine: &mut Engine<T, P>,
+    port: u16,
+    watch: &mut Option<Watch<F>>,
+    journal: &mut J,
+    now: u64,
+    complaints: &mut M,
+) -> Result<(), JournalFault>
+    ensures changed { OnOk result (MayChange port now engine.old.server engine.new.server watch.old watch.new (J.written journal.old) (J.written journal.new)) }
+    ensures unnoted { OnErr result (IfSome watch.old (λ watched. IsUnnoted port now engine.old.server engine.new.server watched)) }
+    ensures watched { OnErr result (IsSome watch.old) }
+    ensures failed { OnErr result (J.written journal.new ≡ None) }
+    ensures state { engine.new.state ≡ engine.old.state }
+    ensures timers { engine.new.timers ≡ engine.old.timers }
+{
+    match watch {
+        Some(watch) => reload(alloc, engine, port, watch, journal, now, complaints),
+        None => Ok(()),
+    }
+}
+
 /// Says what wasn't heard, once a minute at most.
 fn say_unheard<L: Link, C: Clock, M: Write>(
     link: &mut Guard<L, C>,
@@ -167,25 +205,38 @@ fn do_turn<
     C: Clock,
     J: WatchedJournal,
     N: Rng + Drop,
+    F: WatchedFile,
     O: Write + Drop,
     M: Write,
 >(
     alloc: Global,
-    service: &mut Service<T, P, L, C, J, N>,
+    service: &mut Service<T, P, L, C, J, N, F>,
     printer: &mut LinePrinter<O>,
     complaints: &mut M,
 ) -> Result<(), Exit>
-    ensures server { service.new.engine.server ≡ service.old.engine.server }
     ensures failed { OnOk result (printer.new.has_failed ≡ printer.old.has_failed) }
-    ensures turn { OnOk result (IsTurn service.old.engine.server service.old.engine.state service.new.engine.state
-        (record { devices = told_by service.old.link.link.heard service.old.link.link.given (C.readings service.old.clock) (kept (J.written service.old.journal) (J.faulted service.old.journal)) (kept (told printer.old.has_failed (O.contents printer.old.output)) printer.old.has_failed) (N.stream service.old.words); waits = service.old.link.link.waits })
-        (record { devices = told_by service.new.link.link.heard service.new.link.link.given (C.readings service.new.clock) (kept (J.written service.new.journal) (J.faulted service.new.journal)) (kept (told printer.new.has_failed (O.contents printer.new.output)) printer.new.has_failed) (N.stream service.new.words); waits = service.new.link.link.waits })) }
-    ensures ended { IfErr result (EndsTurn service.old.engine.server service.old.engine.state service.new.engine.state
-        (record { devices = told_by service.old.link.link.heard service.old.link.link.given (C.readings service.old.clock) (kept (J.written service.old.journal) (J.faulted service.old.journal)) (kept (told printer.old.has_failed (O.contents printer.old.output)) printer.old.has_failed) (N.stream service.old.words); waits = service.old.link.link.waits })
-        (record { devices = told_by service.new.link.link.heard service.new.link.link.given (C.readings service.new.clock) (kept (J.written service.new.journal) (J.faulted service.new.journal)) (kept (told printer.new.has_failed (O.contents printer.new.output)) printer.new.has_failed) (N.stream service.new.words); waits = service.new.link.link.waits }) printer.new.fault) }
+    ensures turn { OnOk result (IsTurn
+        (service_seen service.old.engine service.old.port service.old.watch service.old.link (C.readings service.old.clock) (J.written service.old.journal) (J.faulted service.old.journal) (N.stream service.old.words) printer.old.has_failed (O.contents printer.old.output))
+        (service_seen service.new.engine service.new.port service.new.watch service.new.link (C.readings service.new.clock) (J.written service.new.journal) (J.faulted service.new.journal) (N.stream service.new.words) printer.new.has_failed (O.contents printer.new.output))) }
+    ensures ended { IfErr result (EndsTurn
+        (service_seen service.old.engine service.old.port service.old.watch service.old.link (C.readings service.old.clock) (J.written service.old.journal) (J.faulted service.old.journal) (N.stream service.old.words) printer.old.has_failed (O.contents printer.old.output))
+        (service_seen service.new.engine service.new.port service.new.watch service.new.link (C.readings service.new.clock) (J.written service.new.journal) (J.faulted service.new.journal) (N.stream service.new.words) printer.new.has_failed (O.contents printer.new.output)) printer.new.fault) }
 {
     let now = service.clock.now();
     look(&mut service.journal, &mut service.said, now);
+    let changed = change(
+        alloc,
+        &mut service.engine,
+        service.port,
+        &mut service.watch,
+        &mut service.journal,
+        now,
+        complaints,
+    );
+    if changed.is_err() {
+        say_fault(&mut service.journal, &mut service.said, complaints);
+        return Err(Exit::Recording);
+    }
     let wait = wait_before(service.engine.next_due(), now);
     service.link.wait(wait);
     let served = serve(
@@ -214,23 +265,23 @@ fn do_turns<
     C: Clock,
     J: WatchedJournal,
     N: Rng + Drop,
+    F: WatchedFile,
     O: Write + Drop,
     M: Write,
 >(
     alloc: Global,
-    service: &mut Service<T, P, L, C, J, N>,
+    service: &mut Service<T, P, L, C, J, N, F>,
     turns: u64,
     printer: &mut LinePrinter<O>,
     complaints: &mut M,
 ) -> Result<(), Exit>
-    ensures server { service.new.engine.server ≡ service.old.engine.server }
     ensures failed { OnOk result (printer.new.has_failed ≡ printer.old.has_failed) }
-    ensures turns { OnOk result (AreTurns turns service.old.engine.server service.old.engine.state service.new.engine.state
-        (record { devices = told_by service.old.link.link.heard service.old.link.link.given (C.readings service.old.clock) (kept (J.written service.old.journal) (J.faulted service.old.journal)) (kept (told printer.old.has_failed (O.contents printer.old.output)) printer.old.has_failed) (N.stream service.old.words); waits = service.old.link.link.waits })
-        (record { devices = told_by service.new.link.link.heard service.new.link.link.given (C.readings service.new.clock) (kept (J.written service.new.journal) (J.faulted service.new.journal)) (kept (told printer.new.has_failed (O.contents printer.new.output)) printer.new.has_failed) (N.stream service.new.words); waits = service.new.link.link.waits })) }
-    ensures ended { IfErr result (EndsWithin turns service.old.engine.server service.old.engine.state service.new.engine.state
-        (record { devices = told_by service.old.link.link.heard service.old.link.link.given (C.readings service.old.clock) (kept (J.written service.old.journal) (J.faulted service.old.journal)) (kept (told printer.old.has_failed (O.contents printer.old.output)) printer.old.has_failed) (N.stream service.old.words); waits = service.old.link.link.waits })
-        (record { devices = told_by service.new.link.link.heard service.new.link.link.given (C.readings service.new.clock) (kept (J.written service.new.journal) (J.faulted service.new.journal)) (kept (told printer.new.has_failed (O.contents printer.new.output)) printer.new.has_failed) (N.stream service.new.words); waits = service.new.link.link.waits }) printer.new.fault) }
+    ensures turns { OnOk result (AreTurns turns
+        (service_seen service.old.engine service.old.port service.old.watch service.old.link (C.readings service.old.clock) (J.written service.old.journal) (J.faulted service.old.journal) (N.stream service.old.words) printer.old.has_failed (O.contents printer.old.output))
+        (service_seen service.new.engine service.new.port service.new.watch service.new.link (C.readings service.new.clock) (J.written service.new.journal) (J.faulted service.new.journal) (N.stream service.new.words) printer.new.has_failed (O.contents printer.new.output))) }
+    ensures ended { IfErr result (EndsWithin turns
+        (service_seen service.old.engine service.old.port service.old.watch service.old.link (C.readings service.old.clock) (J.written service.old.journal) (J.faulted service.old.journal) (N.stream service.old.words) printer.old.has_failed (O.contents printer.old.output))
+        (service_seen service.new.engine service.new.port service.new.watch service.new.link (C.readings service.new.clock) (J.written service.new.journal) (J.faulted service.new.journal) (N.stream service.new.words) printer.new.has_failed (O.contents printer.new.output)) printer.new.fault) }
 {
     for _ in 0..turns {
         do_turn(alloc, service, printer, complaints)?;
@@ -246,6 +297,7 @@ fn print_start<O: Write + Drop>(
 ) -> Result<(), Exit>
     ensures printed { OnOk result (Appends (O.contents printer.old.output) (O.contents printer.new.output) (start_text address records.now)) }
     ensures failed { OnOk result (printer.new.has_failed ≡ false) }
+    ensures refused { IfErr result IsPrintFault }
 {
     printer.print_serving(address)?;
     match printer.print(records) {
@@ -263,28 +315,25 @@ fn serve_on<
     C: Clock,
     J: WatchedJournal,
     N: Rng + Drop,
+    F: WatchedFile,
     O: Write + Drop,
     M: Write,
 >(
     alloc: Global,
-    service: &mut Service<T, P, L, C, J, N>,
+    service: &mut Service<T, P, L, C, J, N, F>,
     served: &Serving<'_>,
     turns: u64,
     printer: &mut LinePrinter<O>,
     complaints: &mut M,
 ) -> Result<(), Exit>
-    ensures server { service.new.engine.server ≡ service.old.engine.server }
-    ensures served { OnOk result (Serves served.now.address served.now.decided.now turns service.old.engine.server service.old.engine.state service.new.engine.state
-        (record { devices = told_by service.old.link.link.heard service.old.link.link.given (C.readings service.old.clock) (kept (J.written service.old.journal) (J.faulted service.old.journal)) (kept (told printer.old.has_failed (O.contents printer.old.output)) printer.old.has_failed) (N.stream service.old.words); waits = service.old.link.link.waits })
-        (record { devices = told_by service.new.link.link.heard service.new.link.link.given (C.readings service.new.clock) (kept (J.written service.new.journal) (J.faulted service.new.journal)) (kept (told printer.new.has_failed (O.contents printer.new.output)) printer.new.has_failed) (N.stream service.new.words); waits = service.new.link.link.waits })
+    ensures served { OnOk result (Serves served.now.address served.now.decided.now turns
+        (service_seen service.old.engine service.old.port service.old.watch service.old.link (C.readings service.old.clock) (J.written service.old.journal) (J.faulted service.old.journal) (N.stream service.old.words) printer.old.has_failed (O.contents printer.old.output))
+        (service_seen service.new.engine service.new.port service.new.watch service.new.link (C.readings service.new.clock) (J.written service.new.journal) (J.faulted service.new.journal) (N.stream service.new.words) printer.new.has_failed (O.contents printer.new.output))
         (O.contents printer.old.output) (O.contents printer.new.output)) }
-    ensures ended { IfErr result (λ exit. IsUnstarted service.old.engine.state service.new.engine.state
-        (record { devices = told_by service.old.link.link.heard service.old.link.link.given (C.readings service.old.clock) (kept (J.written service.old.journal) (J.faulted service.old.journal)) (kept (told printer.old.has_failed (O.contents printer.old.output)) printer.old.has_failed) (N.stream service.old.words); waits = service.old.link.link.waits })
-        (record { devices = told_by service.new.link.link.heard service.new.link.link.given (C.readings service.new.clock) (kept (J.written service.new.journal) (J.faulted service.new.journal)) (kept (told printer.new.has_failed (O.contents printer.new.output)) printer.new.has_failed) (N.stream service.new.words); waits = service.new.link.link.waits })
-        ⊎ EndsBehindStart served.now.address served.now.decided.now turns service.old.engine.server service.old.engine.state service.new.engine.state
-        (record { devices = told_by service.old.link.link.heard service.old.link.link.given (C.readings service.old.clock) (kept (J.written service.old.journal) (J.faulted service.old.journal)) (kept (told printer.old.has_failed (O.contents printer.old.output)) printer.old.has_failed) (N.stream service.old.words); waits = service.old.link.link.waits })
-        (record { devices = told_by service.new.link.link.heard service.new.link.link.given (C.readings service.new.clock) (kept (J.written service.new.journal) (J.faulted service.new.journal)) (kept (told printer.new.has_failed (O.contents printer.new.output)) printer.new.has_failed) (N.stream service.new.words); waits = service.new.link.link.waits })
-        (O.contents printer.old.output) printer.new.fault exit) }
+    ensures ended { IfErr result (EndsEarly served.now.address served.now.decided.now turns
+        (service_seen service.old.engine service.old.port service.old.watch service.old.link (C.readings service.old.clock) (J.written service.old.journal) (J.faulted service.old.journal) (N.stream service.old.words) printer.old.has_failed (O.contents printer.old.output))
+        (service_seen service.new.engine service.new.port service.new.watch service.new.link (C.readings service.new.clock) (J.written service.new.journal) (J.faulted service.new.journal) (N.stream service.new.words) printer.new.has_failed (O.contents printer.new.output))
+        (O.contents printer.old.output) printer.new.fault) }
 {
     print_start(served.address, served.decided, printer)?;
     do_turns(alloc, service, turns, printer, complaints)
@@ -298,21 +347,26 @@ fn serve_counted<
     C: Clock,
     J: WatchedJournal,
     N: Rng + Drop,
+    F: WatchedFile,
     O: Write + Drop,
     M: Write,
 >(
     alloc: Global,
-    service: &mut Service<T, P, L, C, J, N>,
+    service: &mut Service<T, P, L, C, J, N, F>,
     served: &Serving<'_>,
     turns: u32,
     printer: &mut LinePrinter<O>,
     complaints: &mut M,
 ) -> Result<(), Exit>
-    ensures served { OnOk result (ServesCounted served.now.address served.now.decided.now turns service.old.engine.server service.old.engine.state service.new.engine.state
-        (record { devices = told_by service.old.link.link.heard service.old.link.link.given (C.readings service.old.clock) (kept (J.written service.old.journal) (J.faulted service.old.journal)) (kept (told printer.old.has_failed (O.contents printer.old.output)) printer.old.has_failed) (N.stream service.old.words); waits = service.old.link.link.waits })
-        (record { devices = told_by service.new.link.link.heard service.new.link.link.given (C.readings service.new.clock) (kept (J.written service.new.journal) (J.faulted service.new.journal)) (kept (told printer.new.has_failed (O.contents printer.new.output)) printer.new.has_failed) (N.stream service.new.words); waits = service.new.link.link.waits })
+    ensures served { OnOk result (ServesCounted served.now.address served.now.decided.now turns
+        (service_seen service.old.engine service.old.port service.old.watch service.old.link (C.readings service.old.clock) (J.written service.old.journal) (J.faulted service.old.journal) (N.stream service.old.words) printer.old.has_failed (O.contents printer.old.output))
+        (service_seen service.new.engine service.new.port service.new.watch service.new.link (C.readings service.new.clock) (J.written service.new.journal) (J.faulted service.new.journal) (N.stream service.new.words) printer.new.has_failed (O.contents printer.new.output))
         (O.contents printer.old.output) (O.contents printer.new.output)) }
     ensures printed { OnOk result (PrintsServed served.now.address served.now.decided.now turns (O.contents printer.old.output) (O.contents printer.new.output)) }
+    ensures ended { IfErr result (EndsCounted served.now.address served.now.decided.now turns
+        (service_seen service.old.engine service.old.port service.old.watch service.old.link (C.readings service.old.clock) (J.written service.old.journal) (J.faulted service.old.journal) (N.stream service.old.words) printer.old.has_failed (O.contents printer.old.output))
+        (service_seen service.new.engine service.new.port service.new.watch service.new.link (C.readings service.new.clock) (J.written service.new.journal) (J.faulted service.new.journal) (N.stream service.new.words) printer.new.has_failed (O.contents printer.new.output))
+        (O.contents printer.old.output) printer.new.fault) }
 {
     serve_on(
         alloc,
@@ -335,28 +389,33 @@ pub fn serve_turns<
     C: Clock,
     J: WatchedJournal,
     N: Rng + Drop,
+    F: WatchedFile,
     O: Write + Drop,
     M: Write,
 >(
     alloc: Global,
-    service: &mut Service<T, P, L, C, J, N>,
+    service: &mut Service<T, P, L, C, J, N, F>,
     served: &Serving<'_>,
     printer: &mut LinePrinter<O>,
     complaints: &mut M,
 ) -> Result<(), Exit>
     ensures served { IfSome served.now.turns (λ turns. OnOk result (ServesCounted served.now.address served.now.decided.now turns
-        service.old.engine.server service.old.engine.state service.new.engine.state
-        (record { devices = told_by service.old.link.link.heard service.old.link.link.given (C.readings service.old.clock) (kept (J.written service.old.journal) (J.faulted service.old.journal)) (kept (told printer.old.has_failed (O.contents printer.old.output)) printer.old.has_failed) (N.stream service.old.words); waits = service.old.link.link.waits })
-        (record { devices = told_by service.new.link.link.heard service.new.link.link.given (C.readings service.new.clock) (kept (J.written service.new.journal) (J.faulted service.new.journal)) (kept (told printer.new.has_failed (O.contents printer.new.output)) printer.new.has_failed) (N.stream service.new.words); waits = service.new.link.link.waits })
+        (service_seen service.old.engine service.old.port service.old.watch service.old.link (C.readings service.old.clock) (J.written service.old.journal) (J.faulted service.old.journal) (N.stream service.old.words) printer.old.has_failed (O.contents printer.old.output))
+        (service_seen service.new.engine service.new.port service.new.watch service.new.link (C.readings service.new.clock) (J.written service.new.journal) (J.faulted service.new.journal) (N.stream service.new.words) printer.new.has_failed (O.contents printer.new.output))
         (O.contents printer.old.output) (O.contents printer.new.output))) }
     ensures printed { IfSome served.now.turns (λ turns. OnOk result (PrintsServed served.now.address served.now.decided.now turns (O.contents printer.old.output) (O.contents printer.new.output))) }
-    ensures ended { IfNone served.now.turns (IfErr result (λ exit. IsUnstarted service.old.engine.state service.new.engine.state
-        (record { devices = told_by service.old.link.link.heard service.old.link.link.given (C.readings service.old.clock) (kept (J.written service.old.journal) (J.faulted service.old.journal)) (kept (told printer.old.has_failed (O.contents printer.old.output)) printer.old.has_failed) (N.stream service.old.words); waits = service.old.link.link.waits })
-        (record { devices = told_by service.new.link.link.heard service.new.link.link.given (C.readings service.new.clock) (kept (J.written service.new.journal) (J.faulted service.new.journal)) (kept (told printer.new.has_failed (O.contents printer.new.output)) printer.new.has_failed) (N.stream service.new.words); waits = service.new.link.link.waits })
-        ⊎ EndsBehindStart served.now.address served.now.decided.now (2 ^ 64 - 1) service.old.engine.server service.old.engine.state service.new.engine.state
-        (record { devices = told_by service.old.link.link.heard service.old.link.link.given (C.readings service.old.clock) (kept (J.written service.old.journal) (J.faulted service.old.journal)) (kept (told printer.old.has_failed (O.contents printer.old.output)) printer.old.has_failed) (N.stream service.old.words); waits = service.old.link.link.waits })
-        (record { devices = told_by service.new.link.link.heard service.new.link.link.given (C.readings service.new.clock) (kept (J.written service.new.journal) (J.faulted service.new.journal)) (kept (told printer.new.has_failed (O.contents printer.new.output)) printer.new.has_failed) (N.stream service.new.words); waits = service.new.link.link.waits })
-        (O.contents printer.old.output) printer.new.fault exit)) }
+    ensures ended { IfSome served.now.turns (λ turns. IfErr result (EndsCounted served.now.address served.now.decided.now turns
+        (service_seen service.old.engine service.old.port service.old.watch service.old.link (C.readings service.old.clock) (J.written service.old.journal) (J.faulted service.old.journal) (N.stream service.old.words) printer.old.has_failed (O.contents printer.old.output))
+        (service_seen service.new.engine service.new.port service.new.watch service.new.link (C.readings service.new.clock) (J.written service.new.journal) (J.faulted service.new.journal) (N.stream service.new.words) printer.new.has_failed (O.contents printer.new.output))
+        (O.contents printer.old.output) printer.new.fault)) }
+    ensures endless { IfNone served.now.turns (OnOk result (Serves served.now.address served.now.decided.now (2 ^ 64 - 1)
+        (service_seen service.old.engine service.old.port service.old.watch service.old.link (C.readings service.old.clock) (J.written service.old.journal) (J.faulted service.old.journal) (N.stream service.old.words) printer.old.has_failed (O.contents printer.old.output))
+        (service_seen service.new.engine service.new.port service.new.watch service.new.link (C.readings service.new.clock) (J.written service.new.journal) (J.faulted service.new.journal) (N.stream service.new.words) printer.new.has_failed (O.contents printer.new.output))
+        (O.contents printer.old.output) (O.contents printer.new.output))) }
+    ensures ended_endless { IfNone served.now.turns (IfErr result (EndsEarly served.now.address served.now.decided.now (2 ^ 64 - 1)
+        (service_seen service.old.engine service.old.port service.old.watch service.old.link (C.readings service.old.clock) (J.written service.old.journal) (J.faulted service.old.journal) (N.stream service.old.words) printer.old.has_failed (O.contents printer.old.output))
+        (service_seen service.new.engine service.new.port service.new.watch service.new.link (C.readings service.new.clock) (J.written service.new.journal) (J.faulted service.new.journal) (N.stream service.new.words) printer.new.has_failed (O.contents printer.new.output))
+        (O.contents printer.old.output) printer.new.fault)) }
 {
     match served.turns {
         Some(turns) => serve_counted(alloc, service, served, turns, printer, complaints),

@@ -1,4 +1,4 @@
-ghost use Rattle.std.specs.Prelude.{◌≡◌, IfOk, IfSome, OnOk};
+ghost use Rattle.std.specs.Prelude.{◌≡◌, is_some, IfOk, IfSome, OnOk};
 ghost use Rattle.sip_guard.specs.Guard.{link_told};
 ghost use Rattle.sipd_start.specs.Boots.{behind_secret};
 ghost use Rattle.sipd_command.specs.Printing.{PrintsServed};
@@ -15,9 +15,11 @@ use sip_loop_link::{Clock, Link, SteadyClock, UdpLink};
 use sip_policy::Rules;
 use sip_record::NoJournal;
 use sip_replay::engine::Engine;
+use sip_text::Bytes;
 use sip_timers::Timers;
 use sip_uri::Addr;
-use sipd_arguments::{DeviceFault, Exit, ServeCall, config_of_bytes, stated_in};
+use sipd_arguments::{DeviceFault, Exit, ServeCall, Stated, config_of_bytes, stated_in};
+use sipd_reload::{PathFile, Watch, WatchedFile};
 use sipd_start::{Beginning, Begun, WatchedJournal, begin, check_stack, new_boot, secret};
 use std::alloc::{AllocError, Global};
 use std::io::{ErrorKind, Write};
@@ -110,23 +112,34 @@ fn clock_from<'a, R: rt::Clock, M: Write>(
 
 /// The service of a start: over its link a guard hears so many datagrams a second from one address as are asked for, and hops always.
 /// The guard's keys are drawn first.
-fn service_of<T: Timers, P: Rules, L: Link, C: Clock, J: WatchedJournal, N: Rng + Drop>(
+fn service_of<
+    T: Timers,
+    P: Rules,
+    L: Link,
+    C: Clock,
+    J: WatchedJournal,
+    N: Rng + Drop,
+    F: WatchedFile,
+>(
     alloc: Global,
     start: Start<L, N>,
     engine: Engine<T, P>,
     journal: J,
-    watch: C,
+    aside: C,
     clock: C,
-) -> Result<Service<T, P, L, C, J, N>, AllocError>
+    watch: Option<Watch<F>>,
+) -> Result<Service<T, P, L, C, J, N, F>, AllocError>
     ensures engine { IfOk result (λ service. service.engine ≡ engine) }
     ensures journal { IfOk result (λ service. service.journal ≡ journal) }
     ensures clock { IfOk result (λ service. service.clock ≡ clock) }
     ensures words { IfOk result (λ service. N.stream service.words ≡ behind_secret (N.stream start.words)) }
     ensures guard { IfOk result (λ service. service.link ≡ guard_over start.hops.items start.per_source (link_told (L.heard start.link) (L.fresh start.link) (L.aside start.link)
-        (L.given start.link) (L.held start.link) (L.waits start.link) (L.receives start.link) (L.failures start.link)) (C.readings watch)) }
+        (L.given start.link) (L.held start.link) (L.waits start.link) (L.receives start.link) (L.failures start.link)) (C.readings aside)) }
+    ensures watch { IfOk result (λ service. (service.watch ≡ watch) × (service.port ≡ start.address.port)) }
 {
     let Start {
         link,
+        address,
         hops,
         mut words,
         per_source,
@@ -134,13 +147,15 @@ fn service_of<T: Timers, P: Rules, L: Link, C: Clock, J: WatchedJournal, N: Rng 
     } = start;
     let limit = per_source.and_then(Limit::of_rate);
     let keys = secret(&mut words);
-    let link = Guard::new(alloc, keys, link, watch, limit, hops)?;
+    let link = Guard::new(alloc, keys, link, aside, limit, hops)?;
     Ok(Service {
         engine,
         link,
         journal,
         clock,
         words,
+        watch,
+        port: address.port,
         said: Said::new(),
     })
 }
@@ -153,6 +168,7 @@ fn serve_with<
     L: Link,
     J: WatchedJournal,
     N: Rng + Drop,
+    F: WatchedFile,
     W: Write + Drop,
     M: Write,
 >(
@@ -161,6 +177,7 @@ fn serve_with<
     engine: Engine<T, P>,
     journal: J,
     decided: &[Record],
+    watch: Option<Watch<F>>,
     printer: &mut LinePrinter<W>,
     complaints: &mut M,
 ) -> Result<(), Exit>
@@ -173,8 +190,8 @@ fn serve_with<
         decided,
         turns: start.turns,
     };
-    let watch = SteadyClock::new(rt);
-    let mut service = service_of(alloc, start, engine, journal, watch, clock)?;
+    let aside = SteadyClock::new(rt);
+    let mut service = service_of(alloc, start, engine, journal, aside, clock, watch)?;
     serve_turns(alloc, &mut service, &serving, printer, complaints)
 }
 
@@ -184,12 +201,14 @@ fn serve_recorded<
     P: Rules,
     R: Files + rt::Clock + AllocGlobal,
     L: Link,
+    F: WatchedFile,
     W: Write + Drop,
     M: Write,
 >(
     beginning: &Beginning<'_, R>,
     rt: &R,
     mut start: Start<L, StdRng>,
+    watch: Option<Watch<F>>,
     printer: &mut LinePrinter<W>,
     complaints: &mut M,
 ) -> Result<(), Exit> {
@@ -203,13 +222,34 @@ fn serve_recorded<
         None => &[],
     };
     if let Some(record) = record {
-        return serve_with(rt, start, engine, record, decided, printer, complaints);
+        return serve_with(
+            rt, start, engine, record, decided, watch, printer, complaints,
+        );
     }
     let _ = writeln!(
         complaints,
         "sipd: the record can't be written; nothing is recorded"
     );
-    serve_with(rt, start, engine, NoJournal, decided, printer, complaints)
+    serve_with(
+        rt, start, engine, NoJournal, decided, watch, printer, complaints,
+    )
+}
+
+/// What looks at the configuration's file while it serves, where that is asked for: what the file stated is in force.
+fn watch_of<'a, R: Files + AllocGlobal>(
+    rt: &'a R,
+    call: &'a ServeCall,
+    stated: &Stated,
+) -> Result<Option<Watch<PathFile<'a, R>>>, AllocError>
+    ensures asked { IfOk result (λ watch. is_some watch ≡ call.now.reload) }
+    ensures in_force { IfOk result (λ watch. IfSome watch (λ w. w.in_force ≡ stated.now.bytes.items)) }
+{
+    if !call.reload {
+        return Ok(None);
+    }
+    let in_force = Bytes::copy(rt.alloc(), stated.bytes.as_slice())?;
+    let file = PathFile::new(rt, call.config.as_str());
+    Ok(Some(Watch::new(file, in_force, 0)))
 }
 
 /// Serves with the configuration of a file.
@@ -227,15 +267,32 @@ pub fn serve_file<
     let link = bind(rt, address_of(&config))?;
     let words: StdRng = rand::make_rng(rt)?;
     let mut start = start_of(alloc, call, &config, link, words)?;
+    let watch = watch_of(rt, call, &stated)?;
     let mut printer = LinePrinter::new(alloc, output);
     match &call.record {
         None => {
             let engine = Engine::<T, P>::open(alloc, config, new_boot(&mut start.words))?;
-            serve_with(rt, start, engine, NoJournal, &[], &mut printer, complaints)
+            serve_with(
+                rt,
+                start,
+                engine,
+                NoJournal,
+                &[],
+                watch,
+                &mut printer,
+                complaints,
+            )
         }
         Some(place) => {
             let beginning = Beginning::new(rt, &stated, place, call.record_fault)?;
-            serve_recorded::<T, P, R, _, _, M>(&beginning, rt, start, &mut printer, complaints)
+            serve_recorded::<T, P, R, _, _, _, M>(
+                &beginning,
+                rt,
+                start,
+                watch,
+                &mut printer,
+                complaints,
+            )
         }
     }
 }

@@ -93,9 +93,12 @@ patterns_text rule = who_text rule.who ++ codes ", " ++ operation_text rule.oper
 abbrev pub conditions_text : Rule → List ℕ
 conditions_text rule = patterns_text rule ++ window_text rule.window
 
+-- what a rule says: when it decides, and how
+abbrev pub rule_text : List Hop → Rule → List ℕ
+rule_text hops rule = conditions_text rule ++ codes ": " ++ verdict_text hops rule.verdict
+
 abbrev pub rule_line : List Hop → Rule → List ℕ
-rule_line hops rule = numbered (codes "rule ") rule.id (codes ": ") ++ conditions_text rule ++ codes ": " ++ verdict_text hops rule.verdict
-    ++ codes "\n"
+rule_line hops rule = numbered (codes "rule ") rule.id (codes ": ") ++ rule_text hops rule ++ codes "\n"
 
 -- ---- the whole
 

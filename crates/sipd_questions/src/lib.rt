@@ -30,6 +30,7 @@ pub use deciding::decision_text;
 pub use error::QuestionError;
 pub use password::password_in;
 pub use question::Question;
-pub use showing::show;
+pub use showing::{patterns_text, put_signed, rule_text, show};
+pub use telling::{put_address, put_number};
 pub use user::{Digests, added_user, user_table};
 pub use warning::digest_warning;

@@ -20,8 +20,8 @@ fn put_both(text: &mut Bytes, first: &[u8], second: &[u8]) -> Result<(), AllocEr
     text.extend(second)
 }
 
-/// Adds a whole number in decimal.
-fn put_signed(text: &mut Bytes, number: i16) -> Result<(), AllocError>
+/// Adds a whole number in decimal. `AllocError` is the only refusal.
+pub fn put_signed(text: &mut Bytes, number: i16) -> Result<(), AllocError>
     ensures { OnOk result (text.new ≡ text.old ++ Definitions.signed number) }
 {
     if number < 0 {
@@ -225,13 +225,38 @@ fn put_conditions(text: &mut Bytes, rule: &Rule) -> Result<(), AllocError>
     put_window(text, rule.window)
 }
 
+/// Adds when a rule decides, and how.
+fn put_rule_text(text: &mut Bytes, hops: &[Hop], rule: &Rule) -> Result<(), AllocError>
+    ensures { OnOk result (text.new ≡ text.old ++ Definitions.rule_text hops.now rule.now) }
+{
+    put_conditions(text, rule)?;
+    text.extend(b": ")?;
+    put_verdict(text, hops, rule.verdict)
+}
+
+/// What a rule says, without its number: who, what, for whom, when, and what happens. `AllocError` is the only refusal.
+pub fn rule_text(alloc: Global, hops: &[Hop], rule: &Rule) -> Result<Bytes, AllocError>
+    ensures { IfOk result (λ text. text ≡ Definitions.rule_text hops.now rule.now) }
+{
+    let mut text = Bytes::new(alloc);
+    put_rule_text(&mut text, hops, rule)?;
+    Ok(text)
+}
+
+/// For which requests a rule is: who, what and for whom. `AllocError` is the only refusal.
+pub fn patterns_text(alloc: Global, rule: &Rule) -> Result<Bytes, AllocError>
+    ensures { IfOk result (λ text. text ≡ Definitions.patterns_text rule.now) }
+{
+    let mut text = Bytes::new(alloc);
+    put_patterns(&mut text, rule)?;
+    Ok(text)
+}
+
 fn put_rule(text: &mut Bytes, hops: &[Hop], rule: &Rule) -> Result<(), AllocError>
     ensures { OnOk result (text.new ≡ text.old ++ Definitions.rule_line hops.now rule.now) }
 {
     put_number(text, b"rule ", u64::from(rule.id), b": ")?;
-    put_conditions(text, rule)?;
-    text.extend(b": ")?;
-    put_verdict(text, hops, rule.verdict)?;
+    put_rule_text(text, hops, rule)?;
     text.push(b'\n')
 }
 

@@ -13,8 +13,8 @@ use sip_text::Bytes;
 use sip_uri::{Addr, Aor, addr_text};
 use std::alloc::{AllocError, Global};
 
-/// Adds a number, and what stands before and behind it.
-pub(crate) fn put_number(
+/// Adds a number, and what stands before and behind it. `AllocError` is the only refusal.
+pub fn put_number(
     text: &mut Bytes,
     before: &[u8],
     number: u64,
@@ -99,8 +99,8 @@ fn put_aor(text: &mut Bytes, before: &[u8], aor: &Aor) -> Result<(), AllocError>
     text.extend(aor.host.as_slice())
 }
 
-/// Adds an address with its port.
-pub(crate) fn put_address(alloc: Global, text: &mut Bytes, address: Addr) -> Result<(), AllocError>
+/// Adds an address with its port. `AllocError` is the only refusal.
+pub fn put_address(alloc: Global, text: &mut Bytes, address: Addr) -> Result<(), AllocError>
     ensures { OnOk result (text.new ≡ text.old ++ Addresses.addr_text address) }
 {
     text.extend(addr_text(alloc, address)?.as_slice())

@@ -92,6 +92,7 @@ unread_at bytes digest whole (exits.Stack limit needed) h = tt
 unread_at bytes digest whole (exits.Question text) h = tt
 unread_at bytes digest whole exits.NewRecord h = tt
 unread_at bytes digest whole exits.Recording h = tt
+unread_at bytes digest whole exits.OtherFrame h = tt
 
 pub unread_so : (bytes digest : List ℕ) (whole : Option (List ℕ)) (exit : Exit) (stop : Stop) → stop ≡ unread exit → IsRefusedFrom whole digest exit → IsNotResumed bytes digest whole stop
 unread_so bytes digest whole exit stop is h =

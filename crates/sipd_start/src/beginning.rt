@@ -150,15 +150,15 @@ fn make<'a, R: Files + AllocGlobal>(
 /// Gives the new record its name, if all that was taken stands in it.
 fn name<'a, R: Files + AllocGlobal>(
     beginning: &Beginning<'a, R>,
-    mut record: Recorder<RecordFile<'a, R>>,
+    mut recorder: Recorder<RecordFile<'a, R>>,
 ) -> Result<Recorder<RecordFile<'a, R>>, Exit>
     ensures { IfOk result (λ r. r.has_failed ≡ false) }
 {
-    if record.has_failed() {
+    if recorder.has_failed() {
         return Err(Exit::Recording);
     }
-    name_part(beginning.rt, &beginning.place, &mut record.writer)?;
-    Ok(record)
+    name_part(beginning.rt, &beginning.place, &mut recorder.writer)?;
+    Ok(recorder)
 }
 
 /// The record with which a server goes on: the one that was made; or none, where it can't be written and the server is to go on
@@ -238,7 +238,7 @@ fn go_on_alone<'a, T: Timers, P: Rules, R: Files + AllocGlobal, I: TellingReader
 fn go_on_recorded<'a, T: Timers, P: Rules, R: Files + AllocGlobal, I: TellingReader + Drop>(
     beginning: &Beginning<'a, R>,
     mut engine: Engine<T, P>,
-    mut record: Recorder<RecordFile<'a, R>>,
+    mut recorder: Recorder<RecordFile<'a, R>>,
     mut old: OldRecord<I>,
 ) -> Result<GoneOn<'a, T, P, R>, Stop>
     ensures server { IfOk result (λ gone_on. gone_on.begun.engine.server ≡ engine.server) }
@@ -249,11 +249,11 @@ fn go_on_recorded<'a, T: Timers, P: Rules, R: Files + AllocGlobal, I: TellingRea
     ensures stops { IfErr result (StopsAt engine.server engine.state (I.remaining old.events)) }
 {
     let alloc = beginning.rt.alloc();
-    match resume(alloc, &mut engine, &mut old.events, &mut record) {
+    match resume(alloc, &mut engine, &mut old.events, &mut recorder) {
         Ok(Resumed { lines, last }) => {
             let begun = Begun {
                 engine,
-                record: settle(beginning, name(beginning, record))?,
+                record: settle(beginning, name(beginning, recorder))?,
                 last,
             };
             Ok(GoneOn { begun, lines })

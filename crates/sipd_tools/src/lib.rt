@@ -2,8 +2,8 @@
 //! made.
 //!
 //! - Used: `sipd_command`.
-//! - Not here: what is said (`sipd_mistakes`, `sipd_questions`, `sipd_report`).
-//! - Tried: `test_server`, `tests/mistakes.py`, `tests/faults.py`.
+//! - Not here: what is said (`sipd_mistakes`, `sipd_questions`, `sipd_changes`, `sipd_report`).
+//! - Tried: `test_server`, `tests/mistakes.py`, `tests/changes.py`, `tests/faults.py`.
 #![tactic(auto)]
 
 mod tools;

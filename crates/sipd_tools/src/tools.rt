@@ -1,10 +1,12 @@
 use sip_config::{ConfigError, read_config};
+use sip_config_types::Config;
 use sip_policy::minute_of;
 use sip_text::Bytes;
 use sipd_arguments::{
     CheckCall, DecideCall, DeviceFault, Exit, ReportCall, UserCall, bytes_in, config_of,
     config_of_bytes, print, summary_of,
 };
+use sipd_changes::{can_be_taken, changes_of, told};
 use sipd_mistakes::{explain, explain_encoding};
 use sipd_questions::{
     Digests, Question, QuestionError, added_user, decision_text, digest_warning, password_in, show,
@@ -205,8 +207,42 @@ fn show_config<W: Write>(alloc: Global, bytes: &[u8], output: &mut W) -> Result<
     }
 }
 
-/// Checks the configuration of a file, and prints how much it has, or all that was understood. Beside the first it complains
-/// of users with different digests.
+/// The configuration of a file, from which a change is told; where it is refused, that is complained of.
+fn config_before<R: Files + AllocGlobal, C: Write>(
+    rt: &R,
+    path: &str,
+    complaints: &mut C,
+) -> Result<Config, Exit> {
+    match config_of(rt, Some(path)) {
+        Ok(config) => Ok(config),
+        Err(exit) => {
+            let _ = writeln!(complaints, "sipd: of --against");
+            Err(exit)
+        }
+    }
+}
+
+/// Prints what a change from the configuration of a file would do. A server that runs has to be able to take it.
+fn tell_changes<R: Files + AllocGlobal, W: Write, C: Write>(
+    rt: &R,
+    path: &str,
+    new: &Config,
+    output: &mut W,
+    complaints: &mut C,
+) -> Result<(), Exit> {
+    let alloc = rt.alloc();
+    let old = config_before(rt, path, complaints)?;
+    let changes = changes_of(alloc, &old, new)?;
+    print(told(alloc, &changes)?.as_slice(), output)?;
+    if can_be_taken(changes.as_slice()) {
+        Ok(())
+    } else {
+        Err(Exit::OtherFrame)
+    }
+}
+
+/// Checks the configuration of a file, and prints how much it has, all that was understood, or what a change to it would do. Beside
+/// the first it complains of users with different digests.
 pub fn check<R: Files + AllocGlobal, W: Write, C: Write>(
     rt: &R,
     call: &CheckCall,
@@ -216,9 +252,15 @@ pub fn check<R: Files + AllocGlobal, W: Write, C: Write>(
     let alloc = rt.alloc();
     let bytes = bytes_in(rt, call.config.as_str())?;
     if call.show {
-        return show_config(alloc, bytes.as_slice(), output);
+        show_config(alloc, bytes.as_slice(), output)?;
+    }
+    if call.show && call.against.is_none() {
+        return Ok(());
     }
     let config = config_of_bytes(alloc, bytes.as_slice())?;
+    if let Some(path) = &call.against {
+        return tell_changes(rt, path.as_str(), &config, output, complaints);
+    }
     print(summary_of(alloc, &config)?.as_slice(), output)?;
     complain(alloc, &digest_warning(alloc, &config)?, complaints)
 }

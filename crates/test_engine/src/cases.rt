@@ -2,6 +2,7 @@
 //! limits, faults of devices, many requests, and want of memory. A case asks predicates that own few values, and
 //! answers whether it held.
 
+mod changing;
 mod datagrams;
 mod devices;
 mod driving;
@@ -12,6 +13,7 @@ mod memory;
 mod replay;
 mod runs;
 
+use changing::{another_realm_is_refused, change_keeps_what_stands};
 use engine::{binding_of_a_register, printed_error};
 use faults::{failing_reads, failing_writes};
 use limits::time_and_number_limits;
@@ -26,6 +28,16 @@ pub fn tell_all<R: Print + AllocGlobal>(rt: &R) -> io::Result<()> {
     let alloc = rt.alloc();
     tell(rt, "binding_of_a_register", binding_of_a_register(alloc))?;
     tell(rt, "printed_error", printed_error(alloc))?;
+    tell(
+        rt,
+        "change_keeps_what_stands",
+        change_keeps_what_stands(alloc),
+    )?;
+    tell(
+        rt,
+        "another_realm_is_refused",
+        another_realm_is_refused(alloc),
+    )?;
     tell(rt, "time_and_number_limits", time_and_number_limits(alloc))?;
     tell(rt, "failing_reads", failing_reads(alloc))?;
     tell(rt, "failing_writes", failing_writes(alloc))?;

@@ -150,6 +150,10 @@ impl Journal for Full {
     fn failed(&mut self, _at: u64, _ticket: Ticket) -> Result<(), JournalFault> {
         Err(JournalFault)
     }
+
+    fn configured(&mut self, _bytes: &[u8]) -> Result<(), JournalFault> {
+        Err(JournalFault)
+    }
 }
 
 /// A datagram can't be recorded: its event was taken, and nothing was sent.

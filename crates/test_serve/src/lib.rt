@@ -3,6 +3,7 @@
 #![tactic(auto)]
 
 mod clocks;
+mod configurations;
 mod counting;
 mod datagrams;
 mod failing;
@@ -12,6 +13,7 @@ mod resuming;
 mod trial;
 
 use clocks::{clock_goes_back, clock_jumps};
+use configurations::{configurations_read, configurations_refused, configurations_written};
 use failing::{
     both_sends_fail, closed_log, copy_fails_beside_another, final_send_fails, full_record,
     numbers_worn, receive_fails, trying_send_fails,
@@ -43,6 +45,9 @@ pub fn tell_all<R: Print + AllocGlobal + Net>(rt: &R) -> io::Result<()> {
     tell(rt, "cut_record", cut_record(alloc))?;
     tell(rt, "damaged_record", damaged_record(alloc))?;
     tell(rt, "damaged_dot", damaged_dot(alloc))?;
+    tell(rt, "configurations_written", configurations_written(alloc))?;
+    tell(rt, "configurations_read", configurations_read(alloc))?;
+    tell(rt, "configurations_refused", configurations_refused(alloc))?;
     tell(rt, "loopback", loopback(rt, alloc))?;
     tell(rt, "call_on_loopback", call_on_loopback(rt, alloc))
 }

@@ -29,6 +29,20 @@ Content-Length: 0\r\n\
 \r\n\
 ";
 
+/// Another one without credentials.
+pub const REGISTER_LATER: &[u8] = b"\
+REGISTER sip:host.com SIP/2.0\r\n\
+Via: SIP/2.0/UDP 127.0.0.1:5062;branch=z9hG4bKreg3\r\n\
+Max-Forwards: 70\r\n\
+From: <sip:Mufasa@host.com>;tag=a1\r\n\
+To: <sip:Mufasa@host.com>\r\n\
+Call-ID: c1@127.0.0.1\r\n\
+CSeq: 3 REGISTER\r\n\
+Contact: <sip:Mufasa@127.0.0.1:5062>\r\n\
+Content-Length: 0\r\n\
+\r\n\
+";
+
 /// A script of both.
 pub const REGISTERED_SCRIPT: &[u8] = b"\
 datagram 1000 127.0.0.1:5062 00000000000000000000000000000001\n\

@@ -7,7 +7,7 @@ use sip_uri::Aor;
 use std::alloc::Global;
 
 /// Whether Mufasa has one binding, the one that the second REGISTER made.
-fn is_bound(alloc: Global, engine: &Server) -> bool {
+pub fn is_bound(alloc: Global, engine: &Server) -> bool {
     let Ok(user) = Bytes::copy(alloc, b"Mufasa") else {
         return false;
     };

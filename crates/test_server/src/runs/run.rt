@@ -111,14 +111,7 @@ fn replay_on_lists<R: Files + AllocGlobal>(
 ) -> Result<(), Exit> {
     let mut input = script;
     match parse(rt.alloc(), words)? {
-        Parsed::Call(
-            Call::Replay(
-                ReplayCall {
-                    config,
-                    record: None,
-                },
-            ),
-        ) => {
+        Parsed::Call(Call::Replay(ReplayCall::Script { config })) => {
             let path = config.as_ref().map(String::as_str);
             replay_script::<ListTimers, ListRules, R, &[u8], Vec<u8>>(rt, path, &mut input, output)
         }

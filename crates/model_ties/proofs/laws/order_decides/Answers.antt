@@ -2,7 +2,7 @@ use Rattle.model_ties.proofs.Runs.{labels_decide}
 use Rattle.model_ties.proofs.laws.order_decides.Goals as goal
 
 pub returns : goal.returns
-returns c = λ server first past start other_start last end history its reached same chain other_chain prompt other_prompt e.
+returns c = λ server first past start other_start last end history its reached same chain other_chain prompt other_prompt configs e.
     labels_decide
     (record {
       bindings_later = c.same_bindings.ensures.later;
@@ -15,4 +15,4 @@ returns c = λ server first past start other_start last end history its reached 
     c.steps_same.ensures
     (record { parts = c.steps_have_parts.ensures; waits = c.requests_can_end.ensures.waits })
     c.steps_stand_at_their_moments.ensures c.moment_rises.ensures
-    server first past start reached history its other_start last end same chain other_chain prompt other_prompt e
+    server first past start reached history its other_start last end same chain other_chain prompt other_prompt configs e

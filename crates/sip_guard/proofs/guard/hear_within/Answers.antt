@@ -1,6 +1,7 @@
 use Rattle.std.proofs.Common.{◌≡◌, Some, sym, ap, ◌∙◌, arith, Option, List}
-use Rattle.sip_loop_link.specs.Told.{and_then, heard_of}
+use Rattle.sip_loop_link.specs.Told.{and_then, heard_of, left_of}
 use Rattle.sip_loop_link.specs.declared.datagram.Heard.{Heard}
+use Rattle.sip_loop_link.specs.declared.datagram.Instead.{Instead}
 use Rattle.sip_uri.specs.declared.addr.Addr.{Addr}
 use Rattle.sip_guard.proofs.Passing.{one_passed}
 use Rattle.sip_guard.proofs.guard.hear_within.Goals as goal
@@ -18,7 +19,7 @@ loop-passed-preserved g c =
           (record { heard = L.heard c.args.link.now; fresh = L.fresh c.args.link.now; aside = L.aside c.args.link.now; given = L.given c.args.link.now; held = L.held c.args.link.now; waits = L.waits c.args.link.now; receives = L.receives c.args.link.now; failures = L.failures c.args.link.now })
           (record { heard = told; fresh = L.fresh c.loop-passed.link; aside = L.aside c.loop-passed.link; given = L.given c.loop-passed.link; held = L.held c.loop-passed.link; waits = L.waits c.loop-passed.link; receives = L.receives c.loop-passed.link; failures = L.failures c.loop-passed.link })
           (record { heard = L.heard c.set_aside.new.self; fresh = L.fresh c.set_aside.new.self; aside = L.aside c.set_aside.new.self; given = L.given c.set_aside.new.self; held = L.held c.set_aside.new.self; waits = L.waits c.set_aside.new.self; receives = L.receives c.set_aside.new.self; failures = L.failures c.set_aside.new.self })
-          c.loop-passed.passed datagram c.loop-passed.invariant.0 c.loop-passed-test.true aside.0 (aside.1 ∙ ap (λ (list : Option (List Heard)). and_then list datagram) c.in_ok-from.ensures.aside)
+          c.loop-passed.passed datagram c.loop-passed.invariant.0 c.loop-passed-test.true (aside.0 ∙ ap (λ (instead : Instead). left_of instead told) c.instead_behind.ensures) (aside.1 ∙ ap (λ (list : Option (List Heard)). and_then list datagram) c.in_ok-from.ensures.aside)
           (c.set_aside.ensures.given ∙ c.in_ok-from.ensures.given) (c.set_aside.ensures.waits ∙ c.in_ok-from.ensures.waits) (c.set_aside.ensures.counted ∙ c.in_ok-from.ensures.counted) (c.set_aside.ensures.failures ∙ c.in_ok-from.ensures.ok)
           (sym c.admit.ensures.within ∙ c.if-admit.false) (c.admit.ensures.beyond c.if-admit.false),
       omega (arith, c.loop-passed-test.true),

@@ -1,7 +1,7 @@
 use Rattle.std.proofs.Common.{refl, arith}
 use Rattle.std.proofs.lemmas.Simd.{zip2_splat, length-chunk}
 use lib.Lanes.{chunk}
-use Rattle.httparse.proofs.LaneLemmas.{joined, passes_in}
+use Rattle.httparse.proofs.LaneLemmas.{joined, run_in}
 use Rattle.sip_text_runs.specs.Marks.{is_unmarked}
 use Rattle.sip_text_runs.proofs.marks.unmarked_in_lanes.Goals as goal
 
@@ -9,5 +9,5 @@ pub returns : goal.returns
 returns c =
     let v = chunk c.args.at 16 c.args.bytes.now in
     let long = length-chunk c.args.at 16 c.args.bytes.now c.requires in
-    passes_in is_unmarked c.args.bytes.now c.args.at 16 _ _ c.requires (omega arith) c.type_inv.bytes c.first_set.ensures _
+    run_in is_unmarked c.args.bytes.now c.args.at 16 _ _ c.requires (omega arith) c.type_inv.bytes c.first_set.ensures _
     (joined _ _ _ v (joined _ _ _ v (zip2_splat _ v 16 44 long) (zip2_splat _ v 16 34 long)) (zip2_splat _ v 16 60 long)) refl

@@ -1,16 +1,16 @@
 use Rattle.std.proofs.Common.{◌-◌, length}
-use Rattle.sip_text_runs.specs.TextRun.{is_text}
+use Rattle.sip_text_runs.specs.TextRun.{is_text_but_tab}
 use Rattle.sip_text_runs.proofs.TextRuns.{PassesBefore}
 use Rattle.sip_text_runs.proofs.text_run.text_length.Given as goal
 
 abbrev pub invariant-by_lanes : goal.invariant-by_lanes
-invariant-by_lanes l = PassesBefore is_text l.bytes l.end
+invariant-by_lanes l = PassesBefore is_text_but_tab l.bytes l.end
 
 abbrev pub decreases-by_lanes : goal.decreases-by_lanes
 decreases-by_lanes l = length l.bytes - l.end
 
 abbrev pub invariant-loop-end : goal.invariant-loop-end
-invariant-loop-end l = PassesBefore is_text l.bytes l.end
+invariant-loop-end l = PassesBefore is_text_but_tab l.bytes l.end
 
 abbrev pub decreases-loop-end : goal.decreases-loop-end
 decreases-loop-end l = length l.bytes - l.end

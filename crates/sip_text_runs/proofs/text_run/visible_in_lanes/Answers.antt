@@ -1,7 +1,7 @@
 use Rattle.std.proofs.Common.{ℕ, leb, cond, refl, arith}
 use Rattle.std.proofs.lemmas.Simd.{zip2_splat, length-chunk}
 use lib.Lanes.{chunk}
-use Rattle.httparse.proofs.LaneLemmas.{joined, splat_is, passes_in}
+use Rattle.httparse.proofs.LaneLemmas.{joined, splat_is, run_in}
 use Rattle.sip_text_runs.specs.TextRun.{is_visible}
 use Rattle.sip_text_runs.proofs.text_run.visible_in_lanes.Goals as goal
 
@@ -9,5 +9,5 @@ pub returns : goal.returns
 returns c =
     let v = chunk c.args.at 16 c.args.bytes.now in
     let long = length-chunk c.args.at 16 c.args.bytes.now c.requires in
-    passes_in is_visible c.args.bytes.now c.args.at 16 _ _ c.requires (omega arith) c.type_inv.bytes c.first_set.ensures _
+    run_in is_visible c.args.bytes.now c.args.at 16 _ _ c.requires (omega arith) c.type_inv.bytes c.first_set.ensures _
     (joined (λ a b. cond (leb a b) 255 0) _ _ v (splat_is v 16 94 long) (zip2_splat {Y = ℕ} _ v 16 33 long)) refl

@@ -1,7 +1,4 @@
-use Rattle.std.proofs.Common.{◌∙◌, ap, true}
 use Rattle.std.proofs.lemmas.Result.{IfOk-weaker}
-use Rattle.clap.specs.Words.{App}
-use Rattle.clap.specs.Simple.{app_of_fields}
 use Rattle.sipd_arguments.proofs.Building.{placed}
 use Rattle.sipd_arguments.proofs.commands.commands.Goals as goal
 
@@ -15,8 +12,7 @@ returns c =
           (placed _ _ _ _ _
           (placed _ _ _ _ _
           (placed _ _ _ _ _
-          (ap app_of_fields c.subcommand_required.ensures ∙ ap (λ (a : App). record a { top = record a.top { subcommand_required = true } })
-          (ap app_of_fields c.about.ensures ∙ ap app_of_fields c.version.ensures ∙ ap (λ (a : App). record a { top = record a.top { has_version = true } }) c.new.ensures.app))
+          c.program.ensures
           c.in_ok-check_command.ensures c.in_ok-subcommand.ensures)
           c.in_ok-replay_command.ensures c.in_ok-subcommand-2.ensures)
           c.in_ok-serve_command.ensures.1 c.in_ok-subcommand-3.ensures)

@@ -12,4 +12,4 @@ returns c =
     (added _ _ _ _ _
     (begun _ (codes "replay") (ap app_of_fields c.about.ensures ∙ c.new.ensures.app) (ap (λ (f : Command-F Command). f.has_globals) c.about.ensures ∙ c.new.ensures.local))
     c.in_ok-arg.ensures c.config_argument.ensures.rule c.config_argument.ensures.local)
-    h c.in_ok-old_record_argument.ensures.0 c.in_ok-old_record_argument.ensures.1) c.arg-2.ensures
+    h c.old_record_argument.ensures.rule c.old_record_argument.ensures.local) c.arg-2.ensures

@@ -9,9 +9,10 @@ use Rattle.sipd_arguments.proofs.commands.serve_command.Goals as goal
 
 pub returns : goal.returns
 returns c =
-    IfOk-weaker c.arg-7.result _ _ (λ r h. (
+    IfOk-weaker c.arg-8.result _ _ (λ r h. (
       c.record_fault_argument.ensures.rule.0,
       added _ _ r _ _
+          (added _ _ _ _ _
           (added _ _ _ _ _
           (added _ _ _ _ _
           (added _ _ _ _ _
@@ -25,5 +26,6 @@ returns c =
           c.in_ok-arg-4.ensures c.in_ok-records_argument.ensures.0 c.in_ok-records_argument.ensures.1)
           c.in_ok-arg-5.ensures c.record_fault_argument.ensures.rule.1 c.record_fault_argument.ensures.local)
           c.in_ok-arg-6.ensures c.in_ok-resume_argument.ensures.0 c.in_ok-resume_argument.ensures.1)
-          h c.per_source_argument.ensures.rule c.per_source_argument.ensures.local,
-    )) c.arg-7.ensures
+          c.in_ok-arg-7.ensures c.per_source_argument.ensures.rule c.per_source_argument.ensures.local)
+          h c.flag.ensures.rule c.flag.ensures.local,
+    )) c.arg-8.ensures

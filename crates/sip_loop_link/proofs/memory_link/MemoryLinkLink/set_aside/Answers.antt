@@ -25,7 +25,7 @@ returns-then-self-clause-aside c =
     let fresh = c.self.invariant.3 c.if-self.true in
     let some : 1 ≤ inside.taken = taken_some list inside.taken fresh.0 in
     let place : (inside.taken - 1) + 1 ≡ inside.taken = omega (arith, some) in
-    rw (sym c.self.view_is, c.put_aside.ensures d, fresh.1, c.silence-self-inside.ensures.count) (λ e. set_aside list inside.taken (inside.taken - 1) d c.args.from c.args.again c.self.invariant.0 place fresh.0)
+    rw (sym c.self.view_is, c.put_aside.ensures d, fresh.1, c.silence-self-inside.ensures.count) (λ e. set_aside list inside.taken (inside.taken - 1) d c.args.from c.args.instead c.self.invariant.0 place fresh.0)
 
 pub returns-then-self-clause-kept : goal.returns-then-self-clause-kept
 returns-then-self-clause-kept c =

@@ -1,0 +1,3 @@
+pub mod FrameKey
+pub mod Frame
+pub mod Examples

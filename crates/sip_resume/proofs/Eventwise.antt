@@ -1,0 +1,156 @@
+-- The events of a record, one behind the other, up to a configuration or the end.
+use Rattle.std.proofs.Common.{◌≡◌, ℕ, ◌+◌, ◌≤◌, ◌<◌, List, [], ◌∷◌, ◌++◌, Option, None, Some, refl, sym, ◌∙◌, ap, subst, arith, cond}
+use Rattle.std.specs.Prelude.{IfSome, count_by}
+use Rattle.std.specs.Io.KnownBytes.{Keeps}
+use Rattle.std.proofs.KnownBytes.{Consumes-nil, Consumes-trans}
+use Rattle.std.proofs.lemmas.List.Sums.{sum_by-append}
+use Rattle.sip_event.specs.declared.event.Event.{Event}
+use Rattle.sip_event.specs.declared.event.StepOut.{StepOut}
+use Rattle.model_bounds.specs.state.declared.server.Server.{Server}
+use Rattle.model_bounds.specs.state.declared.proxy_state.ProxyState.{ProxyState}
+use Rattle.sip_replay_script.specs.Lines.{Reading, is_end, left, pending}
+use Rattle.sip_replay_script.specs.Recorded.{IsDamagedRecord}
+use Rattle.sip_replay_script.specs.Configurations.{ComesNext, IsDamagedConfiguration}
+use Rattle.sip_replay_script.specs.declared.upcoming.Upcoming.{Upcoming}
+use Rattle.sip_replay_script.specs.declared.upcoming.Upcoming.TheVariants as upcoming
+use Rattle.sip_replay_script.proofs.RecordTexts.{record_all, record_one}
+use Rattle.sip_replay_script.proofs.Written.{keeps_consumes}
+use Rattle.sip_record.specs.Record.{Notes}
+use Rattle.sip_record.proofs.Noting.{notes_nothing, notes_both}
+use Rattle.sip_resume.specs.Resumes.{EndsHere, IsNext, JournalAt, ResumeStops, TakesNext}
+use Rattle.sip_resume.specs.Parts.{NextStops, SaysNoneAt, EndsAt, TakesEvents}
+use Rattle.sip_resume.specs.declared.error.ResumeError.{ResumeError}
+use Rattle.sip_resume.specs.declared.error.ResumeError.TheVariants as errors
+use Rattle.sip_resume.proofs.Running.{RunsJoin, runs_on_nothing, runs_on_one}
+
+-- ---- what is known of bytes that stay
+
+pub if_kept : (X : List ℕ → Type 0) (a b : Option (List ℕ)) → Keeps a b → IfSome b X → IfSome a X
+if_kept X None b kept h = tt
+if_kept X (Some xs) None kept h = absurd kept
+if_kept X (Some xs) (Some ys) kept h = subst X kept h
+
+next_kept : (a b : Option (List ℕ)) (event : Event) → Keeps a b → IsNext b event → IsNext a event
+next_kept a b event kept h = record { text = h.text; says = h.says; begins = if_kept (λ bytes. (further : List ℕ) × (bytes ≡ h.text ++ further)) a b kept h.begins }
+
+stops_kept : (server : Server) (old new : ProxyState) (spent : Type 0) (a b : Option (List ℕ)) (lines : ℕ) (written : Option (Option (List ℕ))) (e : ResumeError) → Keeps a b → ResumeStops server old new spent b lines written e
+    → ResumeStops server old new spent a lines written e
+stops_kept server old new spent a b lines written errors.NoMemory kept h = h
+stops_kept server old new spent a b lines written (errors.Damaged line) kept h = (h.0, if_kept IsDamagedRecord a b kept h.1, h.2)
+stops_kept server old new spent a b lines written errors.Read kept h = h
+stops_kept server old new spent a b lines written errors.Step kept h = record { event = h.event; next = next_kept a b h.event kept h.next; runs = h.runs; refused = h.refused }
+stops_kept server old new spent a b lines written errors.Journal kept h = record { event = h.event; next = next_kept a b h.event kept h.next; runs = h.runs; failed = h.failed }
+
+none_at : (rest : Option (List ℕ)) (e : ResumeError) → IfSome rest IsDamagedConfiguration → SaysNoneAt rest e
+none_at rest errors.NoMemory h = tt
+none_at rest (errors.Damaged line) h = h
+none_at rest errors.Read h = tt
+none_at rest errors.Step h = tt
+none_at rest errors.Journal h = tt
+
+-- ---- the next event, behind a look at it
+
+pub taken_behind : (server : Server) (old new : ProxyState) (part mid rest : Reading) (before middle after : Option (List ℕ)) (written written_then : Option (Option (List ℕ))) (out : StepOut) → Keeps (pending part before) (pending mid middle)
+    → mid.number ≡ part.number → left mid ≤ left part → TakesNext server old new mid rest middle after written written_then out → TakesNext server old new part rest before after written written_then out
+taken_behind server old new part mid rest before middle after written written_then out kept number fewer h = record {
+  event = h.event;
+  gives = record {
+    given = record {
+      text = h.gives.given.text;
+      says = h.gives.given.says;
+      consumes = keeps_consumes (pending part before) (pending mid middle) (pending rest after) h.gives.given.text kept h.gives.given.consumes;
+      number = h.gives.given.number ∙ ap (λ n. n + count_by is_end h.gives.given.text) number;
+      fewer = less_behind (left rest) (left mid) (left part) h.gives.given.fewer fewer;
+    };
+    recorded = h.gives.recorded;
+  };
+  takes = h.takes;
+  noted = h.noted;
+} where
+  less_behind : (a b c : ℕ) → a < b → b ≤ c → a < c
+  less_behind a b c h k = omega (arith, h, k)
+
+pub ends_behind : (old new : ProxyState) (part mid : Reading) (before middle : Option (List ℕ)) (written written_then : Option (Option (List ℕ))) → Keeps (pending part before) (pending mid middle) → new ≡ old → IfSome (pending mid middle) EndsHere
+    → written_then ≡ written → EndsAt old new part before written written_then
+ends_behind old new part mid before middle written written_then kept same ends noted = record { state = same; ends = if_kept EndsHere (pending part before) (pending mid middle) kept ends; noted = noted }
+
+pub stops_behind : (server : Server) (old new : ProxyState) (spent : Type 0) (part mid : Reading) (before middle : Option (List ℕ)) (written written_then : Option (Option (List ℕ))) (e : ResumeError) → Keeps (pending part before) (pending mid middle)
+    → mid.number ≡ part.number → IfSome (pending part before) IsDamagedConfiguration → ResumeStops server old new spent (pending mid middle) mid.number written_then e → JournalAt written written_then e
+    → NextStops server old new spent (pending part before) part.number written written_then e
+stops_behind server old new spent part mid before middle written written_then e kept number none h told = record {
+  why = subst (λ (n : ℕ). ResumeStops server old new spent (pending part before) n written_then e) number (stops_kept server old new spent (pending part before) (pending mid middle) mid.number written_then e kept h);
+  told = told;
+  none = none_at (pending part before) e none;
+}
+
+-- ---- events so far
+
+pub counts_add : (text more : List ℕ) → count_by is_end (text ++ more) ≡ count_by is_end text + count_by is_end more
+counts_add text more = sum_by-append (λ b. cond (is_end b) 1 0) text more
+
+pub numbers_add : (old mid new : ℕ) (text more : List ℕ) → mid ≡ old + count_by is_end text → new ≡ mid + count_by is_end more → new ≡ old + count_by is_end (text ++ more)
+numbers_add old mid new text more h1 h2 = let sum : count_by is_end (text ++ more) ≡ count_by is_end text + count_by is_end more = counts_add text more in omega (arith, h1, h2, sum)
+
+pub events_nothing : (server : Server) (state : ProxyState) (before : Option (List ℕ)) (lines : ℕ) (written : Option (Option (List ℕ))) → TakesEvents server state state before before lines lines written written None
+events_nothing server state before lines written =
+    let none = runs_on_nothing server state in
+    record {
+      events = [];
+      text = [];
+      says = refl;
+      consumes = Consumes-nil before;
+      counted = omega arith;
+      runs = none.runs;
+      last_is = none.last_is;
+      noted = notes_nothing written;
+    }
+
+pub events_more : RunsJoin → (server : Server) (first mid new : ProxyState) (part rest : Reading) (before middle after : Option (List ℕ)) (lines half_lines : ℕ) (written half whole : Option (Option (List ℕ))) (last : Option StepOut) (out : StepOut)
+    → half_lines ≡ part.number → TakesEvents server first mid before (pending part middle) lines half_lines written half last → TakesNext server mid new part rest middle after half whole out
+    → TakesEvents server first new before (pending rest after) lines rest.number written whole (Some out)
+events_more join server first mid new part rest before middle after lines half_lines written half whole last out is h next =
+    let run = runs_on_one join server first mid new h.events next.event out h.runs next.takes in
+    record {
+      events = h.events ++ next.event ∷ [];
+      text = h.text ++ next.gives.given.text;
+      says = record_all h.events (next.event ∷ []) h.text next.gives.given.text h.says (record_one next.gives.given.text next.event next.gives.recorded);
+      consumes = Consumes-trans before (pending part middle) (pending rest after) h.text next.gives.given.text h.consumes next.gives.given.consumes;
+      counted = numbers_add lines half_lines rest.number h.text next.gives.given.text h.counted (next.gives.given.number ∙ ap (λ n. n + count_by is_end next.gives.given.text) (sym is));
+      runs = run.runs;
+      last_is = run.last_is;
+      noted = notes_both record_all written half whole h.events (next.event ∷ []) h.noted next.noted;
+    }
+
+-- the events that were taken before are told, unless the journal has failed
+pub noted_at : (written half whole : Option (Option (List ℕ))) (events : List Event) (e : ResumeError) → Notes written half events → JournalAt half whole e → Notes written whole events
+noted_at written half whole events errors.NoMemory h told = subst (λ (o : Option (Option (List ℕ))). Notes written o events) (sym told) h
+noted_at written half whole events (errors.Damaged line) h told = subst (λ (o : Option (Option (List ℕ))). Notes written o events) (sym told) h
+noted_at written half whole events errors.Read h told = subst (λ (o : Option (Option (List ℕ))). Notes written o events) (sym told) h
+noted_at written half whole events errors.Step h told = subst (λ (o : Option (Option (List ℕ))). Notes written o events) (sym told) h
+noted_at written half whole events errors.Journal h told = subst (λ (o : Option (Option (List ℕ))). Notes written o events) (sym told) tt
+
+-- ---- in the loop
+
+pub events_begun : (server : Server) (state : ProxyState) (before : Option (List ℕ)) (lines taken : ℕ) (written : Option (Option (List ℕ))) → taken ≡ lines → TakesEvents server state state before before lines taken written written None
+events_begun server state before lines taken written is = subst (λ (n : ℕ). TakesEvents server state state before before lines n written written None) (sym is) (events_nothing server state before lines written)
+
+-- of the server as it is then
+pub events_next : RunsJoin → (server then_server : Server) (first mid new : ProxyState) (part rest : Reading) (before middle after : Option (List ℕ)) (lines half_lines taken : ℕ) (written half whole : Option (Option (List ℕ))) (last : Option StepOut) (out : StepOut) → then_server ≡ server
+    → half_lines ≡ part.number → taken ≡ rest.number → TakesEvents server first mid before (pending part middle) lines half_lines written half last → TakesNext then_server mid new part rest middle after half whole out
+    → TakesEvents server first new before (pending rest after) lines taken written whole (Some out)
+events_next join server then_server first mid new part rest before middle after lines half_lines taken written half whole last out same is took h next =
+    subst (λ (n : ℕ). TakesEvents server first new before (pending rest after) lines n written whole (Some out)) (sym took)
+    (events_more join server first mid new part rest before middle after lines half_lines written half whole last out is h (subst (λ (s : Server). TakesNext s mid new part rest middle after half whole out) same next))
+
+pub still_left : (n : ℕ) → n ≤ n
+still_left n = omega arith
+
+pub less_left : (new mid old : ℕ) → new < mid → mid ≤ old → new ≤ old
+less_left new mid old h k = omega (arith, h, k)
+
+-- what comes next may be an event, of which nothing was passed
+pub event_kept : (next : Upcoming) (old new : Reading) (before after : Option (List ℕ)) → next ≡ upcoming.Event → ComesNext next old new before after → Keeps (pending old before) (pending new after)
+event_kept next old new before after is h = let known : ComesNext upcoming.Event old new before after = subst (λ (n : Upcoming). ComesNext n old new before after) is h in known.0
+
+pub next_fewer : (server : Server) (old new : ProxyState) (part rest : Reading) (before after : Option (List ℕ)) (written written_then : Option (Option (List ℕ))) (out : StepOut) → TakesNext server old new part rest before after written written_then out → left rest < left part
+next_fewer server old new part rest before after written written_then out h = h.gives.given.fewer

@@ -1,0 +1,299 @@
+-- A configuration of a record, and the events behind it.
+use Rattle.std.proofs.Common.{◌≡◌, inl, inr, ℕ, ◌<◌, ◌≤◌, Bool, true, Ok, Err, List, [], ◌∷◌, ◌++◌, Option, None, Some, refl, sym, ◌∙◌, subst, arith, append-nil}
+use Rattle.std.specs.Prelude.{IfNone, IfSome}
+use Rattle.std.specs.Io.KnownBytes.{IsAtEnd, Keeps}
+use Rattle.std.proofs.KnownBytes.{Consumes-nil, Consumes-trans}
+use Rattle.sip_event.specs.declared.event.StepOut.{StepOut}
+use Rattle.sip_config_types.specs.declared.config.Config.{Config}
+use Rattle.sip_run.specs.engine.Engine.{Engine}
+use Rattle.model_bounds.specs.state.declared.server.Server.{Server}
+use Rattle.model_bounds.specs.state.declared.proxy_state.ProxyState.{ProxyState}
+use Rattle.model_bounds.specs.model.Run.{under}
+use Rattle.sip_replay_script.specs.Lines.{Reading, IsOver, left, pending}
+use Rattle.sip_replay_script.specs.Recorded.{IsDamagedRecord}
+use Rattle.sip_replay_script.specs.Segments.{Segment, SaysSegments}
+use Rattle.sip_replay_script.specs.Configurations.{IsCutConfiguration, IsDamagedConfiguration, GivesConfiguration, IsLongConfiguration}
+use Rattle.sip_replay_script.proofs.Written.{keeps_consumes}
+use Rattle.sip_record.specs.Record.{Notes, NotesConfiguration, NotesSegments, GrewKnown}
+use Rattle.sip_record.proofs.Noting.{SegmentBegins as SegmentTextBegins}
+use Rattle.sip_segments.specs.declared.stop.SegmentStop.{SegmentStop}
+use Rattle.sip_segments.specs.declared.stop.SegmentStop.TheVariants as stops
+use Rattle.sip_segments.specs.Stated.{States, StatesNone}
+use Rattle.sip_segments.specs.Stops.{NextIs, SegmentStops, StatesOther}
+use Rattle.sip_segments.specs.Takes.{TakesConfiguration}
+use Rattle.sip_resume.specs.Resumes.{EndsHere}
+use Rattle.sip_resume.specs.RecordErrors.{end_of, record_error_of}
+use Rattle.sip_resume.specs.Whole.{EndsWhole, IsDamagedWhole, RecordStops}
+use Rattle.sip_resume.specs.Parts.{EventsStop, NextStops, ReachesEnd, ReachesNext, SegmentsStop, TakesEvents, TakesSegments, UnbegunStops}
+use Rattle.sip_resume.specs.declared.error.ResumeError.{ResumeError}
+use Rattle.sip_resume.specs.declared.error.ResumeError.TheVariants as events
+use Rattle.sip_resume.specs.declared.record_error.RecordError.{RecordError}
+use Rattle.sip_resume.specs.declared.record_error.RecordError.TheVariants as errors
+use Rattle.sip_resume.proofs.Eventwise.{if_kept, noted_at, numbers_add}
+use Rattle.sip_resume.proofs.Refused.{next_bytes}
+use Rattle.sip_resume.proofs.Running.{runs_nothing}
+use Rattle.sip_resume.proofs.UnderRuns.{runs_none, runs_one}
+
+-- ---- where no configuration is taken
+
+empty_of : (a b : Option (List ℕ)) → Keeps a b → IsAtEnd b → IfSome a EndsWhole
+empty_of None b k e = tt
+empty_of (Some xs) None k e = absurd k
+empty_of (Some xs) (Some ys) k e = inl (inl (sym k ∙ e))
+
+over_ends : {X : Type 0} (found : Option X) (old new : Reading) (before after : Option (List ℕ)) → IfNone found (IsOver old new before after) → IfNone found (IfSome (pending old before) EndsWhole)
+over_ends None old new before after h = empty_of (pending old before) (pending new after) h.kept h.at_end
+over_ends (Some x) old new before after h = tt
+
+cut_ends : (rest : Option (List ℕ)) → IfSome rest IsCutConfiguration → IfSome rest EndsWhole
+cut_ends None h = tt
+cut_ends (Some rest) h = inr h
+
+-- the record ends there
+pub ends_so : (server : Server) (longest : ℕ) (F : Type 0) (script : Option (List ℕ)) (lines : ℕ) (stop : SegmentStop) (u : Unit {0}) → SegmentStops server longest F script lines stop → Ok u ≡ end_of stop → IfSome script EndsWhole
+ends_so server longest F script lines stops.NoMemory u h e = absurd cc
+ends_so server longest F script lines (stops.Damaged line) u h e = absurd cc
+ends_so server longest F script lines (stops.Cut line) u h e = cut_ends script h.0
+ends_so server longest F script lines stops.Read u h e = absurd cc
+ends_so server longest F script lines (stops.TooLong line) u h e = absurd cc
+ends_so server longest F script lines (stops.NoConfiguration line why) u h e = absurd cc
+ends_so server longest F script lines (stops.OtherFrame line key) u h e = absurd cc
+
+-- or why no segment begins
+pub stops_so : (server : Server) (longest : ℕ) (F : Type 0) (script : Option (List ℕ)) (lines : ℕ) (stop : SegmentStop) (e : RecordError) → SegmentStops server longest F script lines stop → Err e ≡ end_of stop → UnbegunStops server longest F script lines e
+stops_so server longest F script lines stops.NoMemory e h same = let this : errors.NoMemory ≡ e = cc in subst (λ (x : RecordError). UnbegunStops server longest F script lines x) this tt
+stops_so server longest F script lines (stops.Damaged line) e h same = let this : errors.Damaged line ≡ e = cc in subst (λ (x : RecordError). UnbegunStops server longest F script lines x) this h
+stops_so server longest F script lines (stops.Cut line) e h same = absurd cc
+stops_so server longest F script lines stops.Read e h same = let this : errors.Read ≡ e = cc in subst (λ (x : RecordError). UnbegunStops server longest F script lines x) this h
+stops_so server longest F script lines (stops.TooLong line) e h same = let this : errors.TooLong line ≡ e = cc in subst (λ (x : RecordError). UnbegunStops server longest F script lines x) this h
+stops_so server longest F script lines (stops.NoConfiguration line why) e h same = let this : errors.NoConfiguration line why ≡ e = cc in subst (λ (x : RecordError). UnbegunStops server longest F script lines x) this h
+stops_so server longest F script lines (stops.OtherFrame line key) e h same = let this : errors.OtherFrame line key ≡ e = cc in subst (λ (x : RecordError). UnbegunStops server longest F script lines x) this h
+
+-- ---- no segment
+
+known_nothing : (old : Option (List ℕ)) → GrewKnown (SaysSegments []) old old
+known_nothing None = tt
+known_nothing (Some all) = record { text = []; says = refl; grown = sym (append-nil all) }
+
+pub noted_none : (old : Option (Option (List ℕ))) → NotesSegments old old []
+noted_none None = tt
+noted_none (Some old) = known_nothing old
+
+abbrev pub segments_nothing : (server : Server) (state : ProxyState) (before : Option (List ℕ)) (lines : ℕ) (written : Option (Option (List ℕ))) → TakesSegments server server state state before before lines lines written written None
+segments_nothing server state before lines written = record {
+  segments = [];
+  text = [];
+  periods = [];
+  says = refl;
+  consumes = Consumes-nil before;
+  counted = omega arith;
+  stated = tt;
+  runs = runs_none server state;
+  last_is = refl;
+  in_force = refl;
+  is_under = refl;
+  noted = noted_none written;
+}
+
+reaches_over : (server : Server) (state : ProxyState) (known : Option (List ℕ)) (part rest : Reading) (after : Option (List ℕ)) (written : Option (Option (List ℕ))) → IfSome known EndsWhole
+    → ReachesNext server server state state known part rest after written written part.number None true
+reaches_over server state known part rest after written ends = record {
+  left_then = known;
+  takes = segments_nothing server state known part.number written;
+  over = λ e. ends;
+  kept = λ e. absurd cc;
+  no_event = λ e. absurd cc;
+  number = λ e. absurd cc;
+  fewer = λ e. absurd cc;
+}
+
+pub reaches_end : (old new : Engine) (known : Option (List ℕ)) (part rest : Reading) (before after : Option (List ℕ)) (written : Option (Option (List ℕ))) (lines : ℕ) (last : Option StepOut) (is_over : Bool) → Keeps known (pending part before) → new ≡ old
+    → IfSome (pending part before) EndsWhole → lines ≡ part.number → last ≡ None → is_over ≡ true → ReachesNext old.server new.server old.state new.state known part rest after written written lines last is_over
+reaches_end old new known part rest before after written lines last is_over kept same ends number none over =
+    subst (λ (e : Engine). ReachesNext old.server e.server old.state e.state known part rest after written written lines last is_over) (sym same)
+    (subst (λ (n : ℕ). ReachesNext old.server old.server old.state old.state known part rest after written written n last is_over) (sym number)
+    (subst (λ (out : Option StepOut). ReachesNext old.server old.server old.state old.state known part rest after written written part.number out is_over) (sym none)
+    (subst (λ (b : Bool). ReachesNext old.server old.server old.state old.state known part rest after written written part.number None b) (sym over)
+    (reaches_over old.server old.state known part rest after written (if_kept EndsWhole known (pending part before) kept ends)))))
+
+-- ---- why none begins
+
+both_none : (rest : Option (List ℕ)) → IfSome rest IsDamagedRecord → IfSome rest IsDamagedConfiguration → IfSome rest IsDamagedWhole
+both_none None h k = tt
+both_none (Some rest) h k = record { no_event = h; no_configuration = k }
+
+unbegun_stops : (server : Server) (state : ProxyState) (longest : ℕ) (F : Type 0) (rest : Option (List ℕ)) (lines : ℕ) (written : Option (Option (List ℕ))) (e : RecordError) → IfSome rest IsDamagedRecord → UnbegunStops server longest F rest lines e
+    → RecordStops server server state state longest F rest lines written e
+unbegun_stops server state longest F rest lines written errors.NoMemory none h = (refl, (None, runs_nothing server state None))
+unbegun_stops server state longest F rest lines written (errors.Damaged line) none h = record { in_force = refl; state = refl; why = both_none rest none h.0; at = h.1 }
+unbegun_stops server state longest F rest lines written errors.Read none h = (refl, refl, h)
+unbegun_stops server state longest F rest lines written errors.Step none h = absurd h
+unbegun_stops server state longest F rest lines written errors.Journal none h = absurd h
+unbegun_stops server state longest F rest lines written (errors.TooLong line) none h = record { in_force = refl; state = refl; why = h.0; at = h.1 }
+unbegun_stops server state longest F rest lines written (errors.NoConfiguration line why) none h = record { in_force = refl; state = refl; why = h.0; at = h.1 }
+unbegun_stops server state longest F rest lines written (errors.OtherFrame line key) none h = record { in_force = refl; state = refl; why = h.0; at = h.1 }
+
+is_next_kept : (known script : Option (List ℕ)) (Is : List ℕ → Type 0) → Keeps known script → NextIs script Is → NextIs known Is
+is_next_kept known script Is kept h = record {
+  configuration = h.configuration;
+  next = record { text = h.next.text; says = h.next.says; begins = if_kept (λ bytes. (further : List ℕ) × (bytes ≡ h.next.text ++ further)) known script kept h.next.begins };
+  is = h.is;
+}
+
+unbegun_kept : (server : Server) (longest : ℕ) (F : Type 0) (known script : Option (List ℕ)) (lines : ℕ) (e : RecordError) → Keeps known script → UnbegunStops server longest F script lines e → UnbegunStops server longest F known lines e
+unbegun_kept server longest F known script lines errors.NoMemory kept h = tt
+unbegun_kept server longest F known script lines (errors.Damaged line) kept h = (if_kept IsDamagedConfiguration known script kept h.0, h.1)
+unbegun_kept server longest F known script lines errors.Read kept h = h
+unbegun_kept server longest F known script lines errors.Step kept h = absurd h
+unbegun_kept server longest F known script lines errors.Journal kept h = absurd h
+unbegun_kept server longest F known script lines (errors.TooLong line) kept h = (if_kept (IsLongConfiguration longest) known script kept h.0, h.1)
+unbegun_kept server longest F known script lines (errors.NoConfiguration line why) kept h = (is_next_kept known script (λ bytes. StatesNone bytes why) kept h.0, h.1)
+unbegun_kept server longest F known script lines (errors.OtherFrame line key) kept h = (is_next_kept known script (λ bytes. StatesOther server bytes key) kept h.0, h.1)
+
+pub unbegun : (old new : Engine) (longest : ℕ) (F : Type 0) (known script : Option (List ℕ)) (lines : ℕ) (written : Option (Option (List ℕ))) (e : RecordError) → Keeps known script → new ≡ old → IfSome known IsDamagedRecord
+    → UnbegunStops old.server longest F script lines e → SegmentsStop old.server new.server old.state new.state longest F known lines written written e
+unbegun old new longest F known script lines written e kept same none h =
+    subst (λ (x : Engine). SegmentsStop old.server x.server old.state x.state longest F known lines written written e) (sym same)
+    (record {
+      rest = known;
+      reached = old.state;
+      in_force = old.server;
+      lines_then = lines;
+      half = written;
+      last = None;
+      takes = segments_nothing old.server old.state known lines written;
+      why = unbegun_stops old.server old.state longest F known lines written e none (unbegun_kept old.server longest F known script lines e kept h);
+      noted = noted_none written;
+    })
+
+-- ---- a segment
+
+abbrev pub SegmentSaid : Type 0
+SegmentSaid = SegmentTextBegins
+
+abbrev pub SegmentNoted : Type 0
+SegmentNoted =
+    (old mid new : Option (Option (List ℕ))) (segment : Segment) → NotesConfiguration old mid segment.configuration → Notes mid new segment.events → NotesSegments old new (segment ∷ [])
+
+-- of the server as it was before
+abbrev segment_under : SegmentSaid → SegmentNoted → (server in_force : Server) (config : Config) (old new : ProxyState) (known : Option (List ℕ)) (part half : Reading) (before middle rest : Option (List ℕ)) (written told whole : Option (Option (List ℕ))) (text : List ℕ) (lines : ℕ) (last : Option StepOut)
+    → Keeps known (pending part before) → GivesConfiguration part half before middle text → States text config → in_force ≡ record { config = config; word = server.word } → in_force ≡ under server config → NotesConfiguration written told text
+    → TakesEvents (under server config) old new (pending half middle) rest half.number lines told whole last → TakesSegments server in_force old new known rest part.number lines written whole last
+segment_under said noted server in_force config old new known part half before middle rest written told whole text lines last kept gives states is is_under configured h = record {
+  segments = record { configuration = text; events = h.events } ∷ [];
+  text = gives.text ++ h.text;
+  periods = record { config = config; events = h.events } ∷ [];
+  says = said (record { configuration = text; events = h.events }) gives.text h.text gives.says h.says;
+  consumes = Consumes-trans known (pending half middle) rest gives.text h.text (keeps_consumes known (pending part before) (pending half middle) gives.text kept gives.consumes) h.consumes;
+  counted = numbers_add part.number half.number lines gives.text h.text gives.number h.counted;
+  stated = (record { states = states; same = refl }, tt);
+  runs = runs_one server config old new h.events h.runs;
+  last_is = h.last_is;
+  in_force = is;
+  is_under = is_under;
+  noted = noted written told whole (record { configuration = text; events = h.events }) configured h.noted;
+}
+
+-- events that the changed server takes are taken by the server under that configuration
+events_under : (old mid : Engine) (config : Config) (new : ProxyState) (before rest : Option (List ℕ)) (lines lines_then : ℕ) (written written_then : Option (Option (List ℕ))) (last : Option StepOut) → mid.server ≡ under old.server config → mid.state ≡ old.state
+    → TakesEvents mid.server mid.state new before rest lines lines_then written written_then last → TakesEvents (under old.server config) old.state new before rest lines lines_then written written_then last
+events_under old mid config new before rest lines lines_then written written_then last is same h =
+    subst (λ (s : Server). TakesEvents s old.state new before rest lines lines_then written written_then last) is
+    (subst (λ (s : ProxyState). TakesEvents mid.server s new before rest lines lines_then written written_then last) same h)
+
+segment_of : SegmentSaid → SegmentNoted → (old mid : Engine) (new : ProxyState) (known : Option (List ℕ)) (part half : Reading) (before middle rest : Option (List ℕ)) (written told whole : Option (Option (List ℕ))) (text : List ℕ) (lines : ℕ) (last : Option StepOut)
+    → Keeps known (pending part before) → TakesConfiguration old mid part half before middle text → NotesConfiguration written told text → TakesEvents mid.server mid.state new (pending half middle) rest half.number lines told whole last
+    → TakesSegments old.server mid.server old.state new known rest part.number lines written whole last
+segment_of said noted old mid new known part half before middle rest written told whole text lines last kept taken configured h =
+    segment_under said noted old.server mid.server taken.taken.config old.state new known part half before middle rest written told whole text lines last kept taken.gives taken.taken.states taken.taken.changes.server taken.taken.changes.is_under configured
+    (events_under old mid taken.taken.config new (pending half middle) rest half.number lines told whole last taken.taken.changes.is_under taken.taken.changes.state h)
+
+pub reaches_next : SegmentSaid → SegmentNoted → (old mid : Engine) (then_server : Server) (new : ProxyState) (known : Option (List ℕ)) (part half rest : Reading) (before middle after : Option (List ℕ)) (written told whole : Option (Option (List ℕ))) (text : List ℕ) (lines : ℕ)
+    (last : Option StepOut) (is_over : Bool) → Keeps known (pending part before) → then_server ≡ mid.server → TakesConfiguration old mid part half before middle text → NotesConfiguration written told text → ReachesEnd mid.server mid.state new half rest middle after told whole lines last is_over
+    → ReachesNext old.server then_server old.state new known part rest after written whole lines last is_over
+reaches_next said noted old mid then_server new known part half rest before middle after written told whole text lines last is_over kept same taken configured h =
+    subst (λ (s : Server). ReachesNext old.server s old.state new known part rest after written whole lines last is_over) (sym same)
+    (record {
+      left_then = h.left_then;
+      takes = segment_of said noted old mid new known part half before middle h.left_then written told whole text lines last kept taken configured h.takes;
+      over = λ e. events_end h.left_then (h.over e);
+      kept = h.kept;
+      no_event = h.no_event;
+      number = h.number;
+      fewer = λ e. less_behind (left rest) (left half) (left part) (h.fewer e) taken.gives.fewer;
+    })
+  where
+    less_behind : (a b c : ℕ) → a ≤ b → b < c → a < c
+    less_behind a b c h k = omega (arith, h, k)
+
+    events_end : (rest : Option (List ℕ)) → IfSome rest EndsHere → IfSome rest EndsWhole
+    events_end None h = tt
+    events_end (Some rest) h = inl h
+
+-- ---- why no more of it is taken
+
+-- the journal failed behind the configuration
+pub untold : (old mid : Engine) (longest : ℕ) (F : Type 0) (known : Option (List ℕ)) (part half : Reading) (before middle : Option (List ℕ)) (written told : Option (Option (List ℕ))) (text : List ℕ) (e : RecordError) → Keeps known (pending part before) → e ≡ errors.Journal → told ≡ None
+    → TakesConfiguration old mid part half before middle text → SegmentsStop old.server mid.server old.state mid.state longest F known part.number written told e
+untold old mid longest F known part half before middle written told text e kept is failed taken =
+    subst (λ (x : RecordError). SegmentsStop old.server mid.server old.state mid.state longest F known part.number written told x) (sym is)
+    (record {
+      rest = known;
+      reached = old.state;
+      in_force = old.server;
+      lines_then = part.number;
+      half = written;
+      last = None;
+      takes = segments_nothing old.server old.state known part.number written;
+      why = inr (record {
+        config = taken.taken.config;
+        next = record {
+          configuration = text;
+          next = record { text = taken.gives.text; says = taken.gives.says; begins = next_bytes known (pending half middle) taken.gives.text (keeps_consumes known (pending part before) (pending half middle) taken.gives.text kept taken.gives.consumes) };
+          is = taken.taken.states;
+        };
+        in_force = taken.taken.changes.server;
+        state = taken.taken.changes.state;
+        failed = failed;
+      });
+      noted = subst (λ (o : Option (Option (List ℕ))). NotesSegments written o []) (sym failed) tt;
+    })
+
+-- why an event isn't taken
+pub event_stops : (server : Server) (old new : ProxyState) (longest : ℕ) (F : Type 0) (rest : Option (List ℕ)) (lines : ℕ) (half whole : Option (Option (List ℕ))) (e : ResumeError) → NextStops server old new F rest lines half whole e
+    → RecordStops server server old new longest F rest lines whole (record_error_of e)
+event_stops server old new longest F rest lines half whole events.NoMemory h = (refl, h.why)
+event_stops server old new longest F rest lines half whole (events.Damaged line) h = record { in_force = refl; state = h.why.0; why = both_none rest h.why.1 h.none; at = h.why.2 }
+event_stops server old new longest F rest lines half whole events.Read h = (refl, h.why.0, h.why.1)
+event_stops server old new longest F rest lines half whole events.Step h = (refl, h.why)
+event_stops server old new longest F rest lines half whole events.Journal h = inl (refl, h.why)
+
+stopped_under : SegmentSaid → SegmentNoted → (server in_force : Server) (config : Config) (old reached new : ProxyState) (longest : ℕ) (F : Type 0) (known : Option (List ℕ)) (part half : Reading) (before middle rest : Option (List ℕ)) (written told so_far whole : Option (Option (List ℕ)))
+    (text : List ℕ) (lines : ℕ) (last : Option StepOut) (refusal : ResumeError) → Keeps known (pending part before) → GivesConfiguration part half before middle text → States text config → in_force ≡ record { config = config; word = server.word } → in_force ≡ under server config
+    → NotesConfiguration written told text → TakesEvents (under server config) old reached (pending half middle) rest half.number lines told so_far last → NextStops in_force reached new F rest lines so_far whole refusal
+    → SegmentsStop server in_force old new longest F known part.number written whole (record_error_of refusal)
+stopped_under said noted server in_force config old reached new longest F known part half before middle rest written told so_far whole text lines last refusal kept gives states is is_under configured h stops = record {
+  rest = rest;
+  reached = reached;
+  in_force = in_force;
+  lines_then = lines;
+  half = so_far;
+  last = last;
+  takes = segment_under said noted server in_force config old reached known part half before middle rest written told so_far text lines last kept gives states is is_under configured h;
+  why = event_stops in_force reached new longest F rest lines so_far whole refusal stops;
+  noted = noted written told whole (record { configuration = text; events = h.events }) configured (noted_at told so_far whole h.events refusal h.noted stops.told);
+}
+
+pub stopped_behind : SegmentSaid → SegmentNoted → (old mid : Engine) (then_server : Server) (new : ProxyState) (longest : ℕ) (F : Type 0) (known : Option (List ℕ)) (part half : Reading) (before middle : Option (List ℕ)) (written told whole : Option (Option (List ℕ))) (text : List ℕ)
+    (refusal : ResumeError) (e : RecordError) → Keeps known (pending part before) → e ≡ record_error_of refusal → then_server ≡ mid.server → TakesConfiguration old mid part half before middle text → NotesConfiguration written told text
+    → EventsStop mid.server mid.state new F (pending half middle) half.number told whole refusal → SegmentsStop old.server then_server old.state new longest F known part.number written whole e
+stopped_behind said noted old mid then_server new longest F known part half before middle written told whole text refusal e kept is same taken configured h =
+    subst (λ (x : RecordError). SegmentsStop old.server then_server old.state new longest F known part.number written whole x) (sym is)
+    (subst (λ (s : Server). SegmentsStop old.server s old.state new longest F known part.number written whole (record_error_of refusal)) (sym same)
+    (stopped_under said noted old.server mid.server taken.taken.config old.state h.reached new longest F known part half before middle h.rest written told h.half whole text h.lines_then h.last refusal kept taken.gives taken.taken.states taken.taken.changes.server
+    taken.taken.changes.is_under configured (events_under old mid taken.taken.config h.reached (pending half middle) h.rest half.number h.lines_then told h.half h.last taken.taken.changes.is_under taken.taken.changes.state h.takes) h.stops))
+
+-- what holds where no more comes
+pub none_waits : {P : Type 0} {X : Type 0} (found : Option X) → found ≡ None → IfNone found P → P
+none_waits None e h = h
+none_waits (Some x) e h = absurd cc

@@ -1,0 +1,37 @@
+-- Why a server isn't brought to where a record with its configurations leads.
+use Rattle.std.specs.Prelude.{ℕ, Result, Ok, Err}
+use Rattle.sip_segments.specs.declared.stop.SegmentStop.{SegmentStop}
+use Rattle.sip_segments.specs.declared.stop.SegmentStop.TheVariants as stops
+use Rattle.sip_resume.specs.declared.error.ResumeError.{ResumeError}
+use Rattle.sip_resume.specs.declared.error.ResumeError.TheVariants as events
+use Rattle.sip_resume.specs.declared.record_error.RecordError.{RecordError}
+use Rattle.sip_resume.specs.declared.record_error.RecordError.TheVariants.{NoMemory, Damaged, Read, Step, Journal, TooLong, NoConfiguration, OtherFrame}
+
+-- this project's profile
+abbrev pub number_of_error : RecordError → ℕ
+number_of_error NoMemory = 1
+number_of_error (Damaged line) = 2
+number_of_error Read = 3
+number_of_error Step = 4
+number_of_error Journal = 5
+number_of_error (TooLong line) = 6
+number_of_error (NoConfiguration line e) = 7
+number_of_error (OtherFrame line key) = 8
+
+-- where events are refused
+abbrev pub record_error_of : ResumeError → RecordError
+record_error_of events.NoMemory = NoMemory
+record_error_of (events.Damaged line) = Damaged line
+record_error_of events.Read = Read
+record_error_of events.Step = Step
+record_error_of events.Journal = Journal
+
+-- whether a record ends where no configuration is taken, or why it isn't taken further
+abbrev pub end_of : SegmentStop → Result (Unit {0}) RecordError
+end_of stops.NoMemory = Err NoMemory
+end_of (stops.Damaged line) = Err (Damaged line)
+end_of (stops.Cut line) = Ok tt
+end_of stops.Read = Err Read
+end_of (stops.TooLong line) = Err (TooLong line)
+end_of (stops.NoConfiguration line e) = Err (NoConfiguration line e)
+end_of (stops.OtherFrame line key) = Err (OtherFrame line key)

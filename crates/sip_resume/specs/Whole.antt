@@ -1,0 +1,158 @@
+-- A server that takes a whole record again: events, and the configurations that came into force between them.
+use Rattle.std.specs.Prelude.{◌≡◌, ◌⊎◌, ◌+◌, ⊤, ℕ, List, [], ◌∷◌, ◌++◌, count_by, Option, None, Some, IfSome}
+use Rattle.sip_event.specs.declared.event.Event.{Event}
+use Rattle.sip_event.specs.declared.event.StepOut.{StepOut}
+use Rattle.sip_config_types.specs.declared.config.Config.{Config}
+use Rattle.model_bounds.specs.state.declared.server.Server.{Server}
+use Rattle.model_bounds.specs.state.declared.proxy_state.ProxyState.{ProxyState}
+use Rattle.model_bounds.specs.state.State.{first_state}
+use Rattle.model_bounds.specs.model.Run.{Link}
+use Rattle.model_bounds.specs.model.Periods.{IsRunUnder, Period}
+use Rattle.model_bounds.specs.model.Access.{Access}
+use Rattle.model_bounds.specs.Bounds.{IsBounded}
+use Rattle.model_ties.specs.Ties.{ArePrompt}
+use Rattle.sip_replay_script.specs.Lines.{is_end}
+use Rattle.sip_replay_script.specs.Recorded.{IsDamagedRecord}
+use Rattle.sip_replay_script.specs.Segments.{SaysWhole, Segment}
+use Rattle.sip_replay_script.specs.Configurations.{IsCutConfiguration, IsDamagedConfiguration, IsLongConfiguration}
+use Rattle.sip_record.specs.Record.{Notes, NotesSegments}
+use Rattle.sip_segments.specs.Stated.{States, StatesNone}
+use Rattle.sip_segments.specs.Stops.{NextIs, StatesOther}
+use Rattle.sip_resume.specs.Resumes.{EndsHere, PassesTime, RefusesNext, TakesUntold, newest_step}
+use Rattle.sip_resume.specs.declared.record_error.RecordError.{RecordError}
+use Rattle.sip_resume.specs.declared.record_error.RecordError.TheVariants.{NoMemory, Damaged, Read, Step, Journal, TooLong, NoConfiguration, OtherFrame}
+
+-- ---- what segments say
+
+-- a segment's text states its period's configuration, and its events are the period's
+pub record IsStated (segment : Segment) (period : Period) : Type 0 where
+  pub states : States segment.configuration period.config
+  pub same : period.events ≡ segment.events
+
+-- the same of each segment, in their order
+abbrev pub AreStated : List Segment → List Period → Type 0
+AreStated [] [] = ⊤
+AreStated [] (period ∷ periods) = ⊥
+AreStated (segment ∷ segments) [] = ⊥
+AreStated (segment ∷ segments) (period ∷ periods) = IsStated segment period × AreStated segments periods
+
+-- the configuration that is in force behind some periods, where one was before
+abbrev pub config_behind : Config → List Period → Config
+config_behind config [] = config
+config_behind config (period ∷ periods) = config_behind period.config periods
+
+-- ---- what a server does with them
+
+-- These periods have a run from one state to another, in which time passes only where something that is due happens, and all that is due
+-- by the moment of an event happens before it, by the configuration that is in force then.
+pub record RunsUnder (server : Server) (old new : ProxyState) (periods : List Period) : Type 0 where
+  pub steps : List StepOut
+  pub history : List Link
+  pub is_run : IsRunUnder server old periods None steps history new
+  pub prompt : ArePrompt server history
+
+-- A server takes events under the configuration that was in force, and those of each segment under the one that its text states; the last
+-- of these is in force then.
+pub record TakesWhole (server server_then : Server) (old new : ProxyState) (events : List Event) (segments : List Segment) : Type 0 where
+  pub periods : List Period
+  pub stated : AreStated segments periods
+  pub runs : RunsUnder server old new (record { config = server.config; events = events } ∷ periods)
+  pub in_force : server_then ≡ record { config = config_behind server.config periods; word = server.word }
+
+-- the journal was told these events, and then these segments
+pub record NotesWhole (written written_then : Option (Option (List ℕ))) (events : List Event) (segments : List Segment) : Type 0 where
+  pub between : Option (Option (List ℕ))
+  pub told : Notes written between events
+  pub told_then : NotesSegments between written_then segments
+
+-- ---- a record that is taken whole
+
+-- a record ends here: nothing is left, or the front of what says one event or one configuration, of which the rest was cut off
+abbrev pub EndsWhole : List ℕ → Type 0
+EndsWhole rest = EndsHere rest ⊎ IsCutConfiguration rest
+
+-- What is to come of a record, where it is known, is a text that says events and segments, and behind it nothing, or the front of what says one
+-- more event or configuration. The server took them in their order: the state is where a run under these configurations leads, and the last
+-- of them is in force; the journal was told them; so many lines were given by then; and that is the last step of the run, which is the last
+-- event's own, since time passes only up to that event.
+pub record IsRecordResumed (server server_then : Server) (old new : ProxyState) (record_bytes : Option (List ℕ)) (lines : ℕ)
+    (written written_then : Option (Option (List ℕ))) (lines_then : ℕ) (last : Option StepOut) : Type 0 where
+  pub text : List ℕ
+  pub further : List ℕ
+  pub events : List Event
+  pub segments : List Segment
+  pub whole : IfSome record_bytes (λ bytes. bytes ≡ text ++ further)
+  pub says : SaysWhole events segments text
+  pub ends : EndsWhole further
+  pub takes : TakesWhole server server_then old new events segments
+  pub noted : NotesWhole written written_then events segments
+  pub counted : lines_then ≡ lines + count_by is_end text
+  pub last_is : newest_step takes.runs.history ≡ last
+
+-- ---- a record that isn't taken further
+
+-- the configuration that comes next is in force, and the journal wasn't told it, since it failed
+pub record ChangesUntold (server server_then : Server) (old new : ProxyState) (rest : Option (List ℕ))
+    (written : Option (Option (List ℕ))) : Type 0 where
+  pub config : Config
+  pub next : NextIs rest (λ bytes. States bytes config)
+  pub in_force : server_then ≡ record { config = config; word = server.word }
+  pub state : new ≡ old
+  pub failed : written ≡ None
+
+-- what comes next isn't taken, and the server is as it was
+pub record IsUntaken (server server_then : Server) (old new : ProxyState) (Why : Type 0) (lines line : ℕ) : Type 0 where
+  pub in_force : server_then ≡ server
+  pub state : new ≡ old
+  pub why : Why
+  pub at : line ≡ lines + 1
+
+-- what is left begins with no text that says an event or a configuration, and is no front of one
+pub record IsDamagedWhole (rest : List ℕ) : Type 0 where
+  pub no_event : IsDamagedRecord rest
+  pub no_configuration : IsDamagedConfiguration rest
+
+-- Why nothing more is taken of what is still to come of a record, behind so many lines, by a server under the configuration in force, and how it
+-- stands then: memory ran out, wherever it was as time passed; or it is as it was, since what is left is damaged, the reader stopped, or the
+-- configuration that comes next is too long, none, or another server's; or it refuses the step of the event that comes next; or the journal
+-- failed behind an event or a configuration.
+abbrev pub RecordStops : Server → Server → ProxyState → ProxyState → ℕ → Type 0 → Option (List ℕ) → ℕ → Option (Option (List ℕ)) → RecordError → Type 0
+RecordStops server server_then old new longest spent rest lines written NoMemory = (server_then ≡ server) × PassesTime server old new
+RecordStops server server_then old new longest spent rest lines written (Damaged line) =
+    IsUntaken server server_then old new (IfSome rest IsDamagedWhole) lines line
+RecordStops server server_then old new longest spent rest lines written Read = (server_then ≡ server) × (new ≡ old) × spent
+RecordStops server server_then old new longest spent rest lines written Step = (server_then ≡ server) × RefusesNext server old new rest
+RecordStops server server_then old new longest spent rest lines written Journal =
+    ((server_then ≡ server) × TakesUntold server old new rest written) ⊎ ChangesUntold server server_then old new rest written
+RecordStops server server_then old new longest spent rest lines written (TooLong line) =
+    IsUntaken server server_then old new (IfSome rest (IsLongConfiguration longest)) lines line
+RecordStops server server_then old new longest spent rest lines written (NoConfiguration line e) =
+    IsUntaken server server_then old new (NextIs rest (λ bytes. StatesNone bytes e)) lines line
+RecordStops server server_then old new longest spent rest lines written (OtherFrame line key) =
+    IsUntaken server server_then old new (NextIs rest (λ bytes. StatesOther server bytes key)) lines line
+
+-- It was refused behind some of its events and configurations, by which the server had come to a state, under the last of them; the journal was
+-- told them, unless it has failed.
+pub record IsRecordUnresumed (server server_then : Server) (old new : ProxyState) (longest : ℕ) (spent : Type 0)
+    (record_bytes : Option (List ℕ)) (lines : ℕ) (written written_then : Option (Option (List ℕ))) (e : RecordError) : Type 0 where
+  pub text : List ℕ
+  pub events : List Event
+  pub segments : List Segment
+  pub rest : Option (List ℕ)
+  pub reached : ProxyState
+  pub in_force : Server
+  pub says : SaysWhole events segments text
+  pub whole : IfSome record_bytes (λ bytes. (further : List ℕ) × (rest ≡ Some further) × (bytes ≡ text ++ further))
+  pub takes : TakesWhole server in_force old reached events segments
+  pub noted : NotesWhole written written_then events segments
+  pub why : RecordStops in_force server_then reached new longest spent rest (lines + count_by is_end text) written_then e
+
+-- ---- a run goes on
+
+-- A run from the start over periods: each of its steps is lawful by its history and the configuration in force then, as `Access` says, and it is
+-- bounded, as `IsBounded` says.
+pub record IsOneRunUnder (server : Server) (first : ℕ) (periods : List Period) (until : Option ℕ) (steps : List StepOut) (history : List Link)
+    (last : ProxyState) : Type 0 where
+  pub is_run : IsRunUnder server (first_state first) periods until steps history last
+  pub access : Access server history
+  pub bounded : IsBounded server history

@@ -1,0 +1,91 @@
+ghost use Rattle.std.specs.Prelude.{◌≡◌, true, IfOk, IfErr};
+ghost use Rattle.sip_replay_script.specs.Devices.{later};
+ghost use Rattle.sip_replay_script.specs.Lines.{pending, IsSpent};
+ghost use Rattle.sip_resume.specs.Parts.{EventsStop, GoesTo, NextStops, ReachesEnd};
+ghost use Rattle.sip_resume.specs.declared.error.ResumeError.TheVariants as Refusal;
+
+use crate::error::ResumeError;
+use crate::parts::{Next, Reached};
+use crate::resuming::resume_next;
+use model_bounds::model::runs::runs_join;
+use sip_policy::Rules;
+use sip_record::Journal;
+use sip_replay_script::{Lines, TellingReader, Upcoming, look_ahead};
+use sip_run::engine::Engine;
+use sip_timers::Timers;
+use std::alloc::Global;
+
+/// Takes the next event of a record, if a whole one stands there.
+fn take_next<T: Timers, R: Rules, I: TellingReader, J: Journal>(
+    alloc: Global,
+    engine: &mut Engine<T, R>,
+    lines: &mut Lines,
+    reader: &mut I,
+    journal: &mut J,
+) -> Result<Next, ResumeError>
+    ensures server { engine.new.server ≡ engine.old.server }
+    ensures next { IfOk result (GoesTo engine.old.server engine.old.state engine.new.state lines.old lines.new (I.remaining reader.old)
+        (I.remaining reader.new) (J.written journal.old) (J.written journal.new)) }
+    ensures refused { IfErr result (NextStops engine.old.server engine.old.state engine.new.state
+        (IsSpent (I.has_failed reader.new) lines.new.asks) (pending lines.old (I.remaining reader.old)) lines.old.number
+        (J.written journal.old) (J.written journal.new)) }
+    ensures whole { ¬ (result ≡ Err Refusal.Journal) → J.faulted journal.new ≡ J.faulted journal.old }
+    ensures said { result ≡ Err Refusal.Journal → J.faulted journal.new ≡ true }
+    ensures asked { later lines.new.asks (I.asked reader.new) ≡ later lines.old.asks (I.asked reader.old) }
+{
+    match look_ahead(lines, reader) {
+        Ok(Upcoming::Over) => Ok(Next::End),
+        Ok(Upcoming::Configuration) => Ok(Next::Configuration),
+        Ok(Upcoming::Event) => match resume_next(alloc, engine, lines, reader, journal)? {
+            Some(out) => Ok(Next::Taken(out)),
+            None => Ok(Next::End),
+        },
+        Err(_) => Err(ResumeError::Read),
+    }
+}
+
+/// Takes the events of a record up to its end, or to where no event begins.
+pub(crate) fn take_events<T: Timers, R: Rules, I: TellingReader, J: Journal>(
+    alloc: Global,
+    engine: &mut Engine<T, R>,
+    lines: &mut Lines,
+    reader: &mut I,
+    journal: &mut J,
+) -> Result<Reached, ResumeError>
+    ensures server { engine.new.server ≡ engine.old.server }
+    ensures taken { IfOk result (λ reached. ReachesEnd engine.old.server engine.old.state engine.new.state lines.old lines.new
+        (I.remaining reader.old) (I.remaining reader.new) (J.written journal.old) (J.written journal.new) reached.lines reached.last
+        reached.is_over) }
+    ensures refused { IfErr result (EventsStop engine.old.server engine.old.state engine.new.state
+        (IsSpent (I.has_failed reader.new) lines.new.asks) (pending lines.old (I.remaining reader.old)) lines.old.number
+        (J.written journal.old) (J.written journal.new)) }
+    ensures whole { ¬ (result ≡ Err Refusal.Journal) → J.faulted journal.new ≡ J.faulted journal.old }
+    ensures said { result ≡ Err Refusal.Journal → J.faulted journal.new ≡ true }
+    ensures asked { later lines.new.asks (I.asked reader.new) ≡ later lines.old.asks (I.asked reader.old) }
+{
+    runs_join();
+    let mut taken = lines.number();
+    let mut last = None;
+    'events: loop {
+        match take_next(alloc, engine, lines, reader, journal)? {
+            Next::Taken(out) => {
+                taken = lines.number();
+                last = Some(out);
+            }
+            Next::Configuration => {
+                return Ok(Reached {
+                    lines: taken,
+                    last,
+                    is_over: false,
+                });
+            }
+            Next::End => {
+                return Ok(Reached {
+                    lines: taken,
+                    last,
+                    is_over: true,
+                });
+            }
+        }
+    }
+}

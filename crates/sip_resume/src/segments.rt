@@ -1,0 +1,95 @@
+ghost use Rattle.std.specs.Prelude.{◌≡◌, ℕ, List, Option, true, IfOk, IfErr, IfSome, IfNone, OnErr};
+ghost use Rattle.std.specs.Io.KnownBytes.{Keeps};
+ghost use Rattle.sip_replay_script.specs.Devices.{later};
+ghost use Rattle.sip_replay_script.specs.Lines.{pending, IsSpent};
+ghost use Rattle.sip_replay_script.specs.Recorded.{IsDamagedRecord};
+ghost use Rattle.sip_segments.specs.Takes.{TakesConfiguration};
+ghost use Rattle.sip_resume.specs.RecordErrors;
+ghost use Rattle.sip_resume.specs.Whole.{EndsWhole};
+ghost use Rattle.sip_resume.specs.Parts.{ReachesNext, SegmentsStop, UnbegunStops};
+ghost use Rattle.sip_resume.specs.declared.record_error.RecordError.TheVariants as Refusal;
+
+use crate::events::take_events;
+use crate::parts::Reached;
+use crate::record_error::RecordError;
+use sip_policy::Rules;
+use sip_record::Journal;
+use sip_record::laws::noted_segments_join;
+use sip_replay_script::laws::segments_join;
+use sip_replay_script::{Lines, TellingReader};
+use sip_run::engine::Engine;
+use sip_segments::{SegmentStop, take_configuration};
+use sip_text::Buffer;
+use sip_timers::Timers;
+use std::alloc::Global;
+
+/// Whether a record ends where no configuration is taken.
+fn end_of(stop: SegmentStop) -> Result<(), RecordError>
+    ensures { result ≡ RecordErrors.end_of stop }
+{
+    match stop {
+        SegmentStop::NoMemory => Err(RecordError::NoMemory),
+        SegmentStop::Damaged(line) => Err(RecordError::Damaged(line)),
+        SegmentStop::Cut(_) => Ok(()),
+        SegmentStop::Read => Err(RecordError::Read),
+        SegmentStop::TooLong(line) => Err(RecordError::TooLong(line)),
+        SegmentStop::NoConfiguration(line, e) => Err(RecordError::NoConfiguration(line, e)),
+        SegmentStop::OtherFrame(line, key) => Err(RecordError::OtherFrame(line, key)),
+    }
+}
+
+/// Takes the next configuration of a record, in force from now on; none where the record ends, or was cut in it.
+fn begin_segment<T: Timers, R: Rules, I: TellingReader>(
+    alloc: Global,
+    engine: &mut Engine<T, R>,
+    lines: &mut Lines,
+    reader: &mut I,
+    longest: usize,
+) -> Result<Option<Buffer>, RecordError>
+    ensures taken { IfOk result (λ found. IfSome found (λ text. TakesConfiguration engine.old engine.new lines.old lines.new
+        (I.remaining reader.old) (I.remaining reader.new) text)) }
+    ensures over { IfOk result (λ found. IfNone found (IfSome (pending lines.old (I.remaining reader.old)) EndsWhole)) }
+    ensures waits { IfOk result (λ found. IfNone found (engine.new ≡ engine.old)) }
+    ensures refused { IfErr result (UnbegunStops engine.old.server longest (IsSpent (I.has_failed reader.new) lines.new.asks)
+        (pending lines.old (I.remaining reader.old)) lines.old.number) }
+    ensures unchanged { OnErr result (engine.new ≡ engine.old) }
+    ensures asked { later lines.new.asks (I.asked reader.new) ≡ later lines.old.asks (I.asked reader.old) }
+{
+    match take_configuration(alloc, engine, lines, reader, longest) {
+        Ok(found) => Ok(found),
+        Err(stop) => {
+            end_of(stop)?;
+            Ok(None)
+        }
+    }
+}
+
+/// Takes the next configuration of a record and tells it, and then the events behind it. What is still to come was so before it was looked at.
+pub(crate) fn take_segment<T: Timers, R: Rules, I: TellingReader, J: Journal>(
+    alloc: Global,
+    engine: &mut Engine<T, R>,
+    lines: &mut Lines,
+    reader: &mut I,
+    longest: usize,
+    journal: &mut J,
+) -> Result<Reached, RecordError>
+    ensures taken { (before : Option (List ℕ)) → Keeps before (pending lines.old (I.remaining reader.old))
+        → IfOk result (λ reached. ReachesNext engine.old.server engine.new.server engine.old.state engine.new.state before lines.old
+        lines.new (I.remaining reader.new) (J.written journal.old) (J.written journal.new) reached.lines reached.last reached.is_over) }
+    ensures refused { (before : Option (List ℕ)) → Keeps before (pending lines.old (I.remaining reader.old))
+        → IfSome before IsDamagedRecord → IfErr result (SegmentsStop engine.old.server engine.new.server engine.old.state engine.new.state
+        longest (IsSpent (I.has_failed reader.new) lines.new.asks) before lines.old.number (J.written journal.old) (J.written journal.new)) }
+    ensures whole { ¬ (result ≡ Err Refusal.Journal) → J.faulted journal.new ≡ J.faulted journal.old }
+    ensures said { result ≡ Err Refusal.Journal → J.faulted journal.new ≡ true }
+    ensures asked { later lines.new.asks (I.asked reader.new) ≡ later lines.old.asks (I.asked reader.old) }
+{
+    segments_join();
+    noted_segments_join();
+    let before = lines.number();
+    let Some(text) = begin_segment(alloc, engine, lines, reader, longest)? else {
+        return Ok(Reached::over(before));
+    };
+    journal.configured(text.as_slice())?;
+    let reached = take_events(alloc, engine, lines, reader, journal)?;
+    Ok(reached)
+}

@@ -1,0 +1,3 @@
+pub mod Stated
+pub mod Stops
+pub mod Takes

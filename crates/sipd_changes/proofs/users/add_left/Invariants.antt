@@ -1,0 +1,11 @@
+use Rattle.std.proofs.Common.{◌≡◌, ◌++◌, take}
+use Rattle.std.specs.List.{flat_map, list_any}
+use Rattle.std.specs.Str.{bytes_eq}
+use Rattle.sipd_changes.specs.declared.change.Change.TheVariants.{Leaves}
+use Rattle.sipd_changes.specs.Changes.{unless}
+use Rattle.sipd_changes.proofs.users.add_left.Given as goal
+
+-- the groups so far are told
+abbrev pub invariant-loop-group : goal.invariant-loop-group
+invariant-loop-group l =
+    l.changes ≡ l.fn.changes ++ flat_map (λ group. unless (list_any (bytes_eq group) l.now.groups) (Leaves l.now.name group)) (take l.group-index l.groups)

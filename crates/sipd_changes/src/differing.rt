@@ -1,0 +1,111 @@
+ghost use Rattle.std.specs.Prelude.{◌≡◌, ◌==◌, ◌++◌, not, IfOk, OnOk};
+ghost use Rattle.std.specs.List.{list_any};
+ghost use Rattle.std.specs.Ordering.{int_eq};
+ghost use Rattle.sipd_changes.specs.declared.change.Change.TheVariants as Changed;
+ghost use Rattle.sipd_changes.specs.Changes as Definitions;
+
+use crate::change::Change;
+use crate::places::{add_hops, add_rows};
+use crate::rules::add_rules;
+use crate::users::add_users;
+use sip_config_change::FrameKey;
+use sip_config_types::Config;
+use sip_text::Items;
+use std::alloc::{AllocError, Global};
+
+/// Adds that a key of the frame differs, unless it stays.
+fn add_key(changes: &mut Items<Change>, stays: bool, key: FrameKey) -> Result<(), AllocError>
+    ensures { OnOk result (changes.new ≡ changes.old ++ Definitions.unless stays (Changed.Frame key)) }
+{
+    if stays {
+        Ok(())
+    } else {
+        changes.push(Change::Frame(key))
+    }
+}
+
+fn add_frame(changes: &mut Items<Change>, old: &Config, new: &Config) -> Result<(), AllocError>
+    ensures { OnOk result (changes.new ≡ changes.old ++ Definitions.frame_changes old.now new.now) }
+{
+    add_key(changes, FrameKey::Host.is_kept(old, new), FrameKey::Host)?;
+    add_key(changes, FrameKey::Port.is_kept(old, new), FrameKey::Port)?;
+    add_key(
+        changes,
+        FrameKey::Address.is_kept(old, new),
+        FrameKey::Address,
+    )?;
+    add_key(
+        changes,
+        FrameKey::Domains.is_kept(old, new),
+        FrameKey::Domains,
+    )?;
+    add_key(changes, FrameKey::Realm.is_kept(old, new), FrameKey::Realm)
+}
+
+/// Adds that the port that is bound differs, unless it stays.
+fn add_port(changes: &mut Items<Change>, before: u16, now: u16) -> Result<(), AllocError>
+    ensures { OnOk result (changes.new ≡ changes.old ++ Definitions.unless (before == now) (Changed.BoundPort before now)) }
+{
+    if before == now {
+        Ok(())
+    } else {
+        changes.push(Change::BoundPort { before, now })
+    }
+}
+
+fn add_offset(changes: &mut Items<Change>, before: i16, now: i16) -> Result<(), AllocError>
+    ensures { OnOk result (changes.new ≡ changes.old ++ Definitions.unless (int_eq before now) (Changed.Offset before now)) }
+{
+    if before == now {
+        Ok(())
+    } else {
+        changes.push(Change::Offset { before, now })
+    }
+}
+
+fn add_head(changes: &mut Items<Change>, old: &Config, new: &Config) -> Result<(), AllocError>
+    ensures { OnOk result (changes.new ≡ changes.old ++ Definitions.head_changes old.now new.now) }
+{
+    add_frame(changes, old, new)?;
+    add_port(changes, old.bound_port, new.bound_port)?;
+    add_offset(changes, old.offset, new.offset)
+}
+
+/// What two configurations differ in, in the order of the file: of users, hops, hosts and rules first what stands in the new one,
+/// then what goes. Users and hops are found by their names, hosts by name and port, rules by their numbers; of these the order of
+/// rules alone counts. `AllocError` is the only refusal.
+pub fn changes_of(alloc: Global, old: &Config, new: &Config) -> Result<Items<Change>, AllocError>
+    ensures { IfOk result (λ changes. changes ≡ Definitions.changes_of old.now new.now) }
+{
+    let mut changes = Items::new(alloc);
+    add_head(&mut changes, old, new)?;
+    add_users(&mut changes, &old.users, &new.users)?;
+    add_hops(&mut changes, old.hops.as_slice(), new.hops.as_slice())?;
+    add_rows(
+        &mut changes,
+        old.addresses.as_slice(),
+        new.addresses.as_slice(),
+    )?;
+    add_rules(alloc, &mut changes, old, new)?;
+    Ok(changes)
+}
+
+/// Whether a change is of what can't change while a server runs.
+fn needs_restart(change: &Change) -> bool
+    ensures { result ≡ Definitions.needs_restart change.now }
+{
+    matches!(change, Change::Frame(_) | Change::BoundPort { .. })
+}
+
+fn some_need_restart(changes: &[Change]) -> bool
+    ensures { result ≡ list_any Definitions.needs_restart changes.now }
+{
+    changes.iter().any(|change| needs_restart(change))
+}
+
+/// Whether a server that runs can take them. Takes no memory.
+pub fn can_be_taken(changes: &[Change]) -> bool
+    ensures { result ≡ Definitions.can_be_taken changes.now }
+{
+    !some_need_restart(changes)
+}

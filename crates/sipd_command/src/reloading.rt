@@ -1,0 +1,157 @@
+ghost use Rattle.std.specs.Prelude.{◌≡◌, ◌⊎◌, true, false, None, IfErr, OnErr, OnOk};
+ghost use Rattle.sipd_command.specs.Reloads.{IsReloaded, IsUnder, IsUnnoted, IsUntakable, Takes};
+ghost use Rattle.sipd_command.specs.declared.reloading.NotTaken.TheVariants as Reason;
+
+use sip_config::ConfigError;
+use sip_config_change::FrameKey;
+use sip_policy::Rules;
+use sip_record::{Journal, JournalFault};
+use sip_replay::engine::{ChangeError, Engine};
+use sip_segments::read_config_bytes;
+use sip_text::Bytes;
+use sip_timers::Timers;
+use sipd_reload::{FileFault, Look, Watch, WatchedFile};
+use std::alloc::Global;
+use std::fmt;
+use std::io::Write;
+
+/// Why bytes that the configuration's file holds aren't taken.
+#[derive(Clone, Copy)]
+pub(crate) enum NotTaken {
+    /// Memory ran out.
+    NoMemory,
+    /// They state no configuration.
+    Refused(ConfigError),
+    /// By this key the server would be another one to others.
+    OtherFrame(FrameKey),
+    /// They name another port to bind.
+    OtherPort,
+}
+
+impl fmt::Display for NotTaken {
+    fn fmt<W: fmt::Write>(&self, f: &mut fmt::Formatter<W>) -> fmt::Result {
+        match self {
+            NotTaken::NoMemory => write!(f, "out of memory"),
+            NotTaken::Refused(e) => write!(f, "{e}"),
+            NotTaken::OtherFrame(key) => { write!(f, "{key} can't change while the server runs") }
+            NotTaken::OtherPort => write!(f, "address can't change while the server runs"),
+        }
+    }
+}
+
+/// Has a server that has bound this port be under the configuration that bytes state.
+fn change_to<T: Timers, P: Rules>(
+    alloc: Global,
+    engine: &mut Engine<T, P>,
+    port: u16,
+    bytes: &[u8],
+) -> Result<(), NotTaken>
+    ensures under { OnOk result (IsUnder port bytes.now engine.old.server engine.new.server) }
+    ensures refused { IfErr result (λ why. (why ≡ Reason.NoMemory) ⊎ IsUntakable engine.old.server port bytes.now) }
+    ensures unchanged { OnErr result (engine.new ≡ engine.old) }
+    ensures state { engine.new.state ≡ engine.old.state }
+    ensures timers { engine.new.timers ≡ engine.old.timers }
+{
+    let config = match read_config_bytes(alloc, bytes) {
+        Ok(config) => config,
+        Err(ConfigError::NoMemory) => return Err(NotTaken::NoMemory),
+        Err(e) => return Err(NotTaken::Refused(e)),
+    };
+    if config.bound_port != port {
+        return Err(NotTaken::OtherPort);
+    }
+    match engine.change(config) {
+        Ok(()) => Ok(()),
+        Err(ChangeError::NoMemory) => Err(NotTaken::NoMemory),
+        Err(ChangeError::OtherFrame(key)) => Err(NotTaken::OtherFrame(key)),
+    }
+}
+
+/// Says why a file can't be read; what was in force stays.
+fn say_unread<M: Write>(fault: FileFault, complaints: &mut M) {
+    let text = match fault {
+        FileFault::NoMemory =>
+            "sipd: no memory for the configuration's file; what was in force stays\n",
+        FileFault::Gone => "sipd: the configuration's file is gone; what was in force stays\n",
+        FileFault::TooLong =>
+            "sipd: the configuration's file is too long; what was in force stays\n",
+        FileFault::Device =>
+            "sipd: the configuration's file can't be read; what was in force stays\n",
+    };
+    let _ = complaints.write_all(text.as_bytes());
+}
+
+/// Says why the file's configuration isn't taken; what was in force stays.
+fn say_not_taken<M: Write>(alloc: Global, why: NotTaken, complaints: &mut M) {
+    let Ok(text) = why.to_string(alloc) else {
+        let _ = complaints.write_all(
+            b"sipd: the configuration's file isn't taken: out of memory\n",
+        );
+        return;
+    };
+    let _ = complaints.write_all(b"sipd: the configuration's file isn't taken: ");
+    let _ = complaints.write_all(text.as_bytes());
+    let _ = complaints.write_all(b"; what was in force stays\n");
+}
+
+/// Takes bytes that were offered, or refuses them; the journal is told of what is in force from then on. Its fault is the only refusal.
+#[allow(clippy::too_many_arguments)]
+fn take_offered<T: Timers, P: Rules, F: WatchedFile, J: Journal, M: Write>(
+    alloc: Global,
+    engine: &mut Engine<T, P>,
+    port: u16,
+    watch: &mut Watch<F>,
+    journal: &mut J,
+    bytes: Bytes,
+    complaints: &mut M,
+) -> Result<(), JournalFault>
+    ensures takes { OnOk result (Takes port bytes engine.old.server engine.new.server watch.old watch.new (J.written journal.old) (J.written journal.new)) }
+    ensures unnoted { OnErr result (IsUnder port bytes engine.old.server engine.new.server × (J.written journal.new ≡ None)) }
+    ensures state { engine.new.state ≡ engine.old.state }
+    ensures timers { engine.new.timers ≡ engine.old.timers }
+    ensures whole { OnOk result (J.faulted journal.new ≡ J.faulted journal.old) }
+    ensures said { OnErr result (J.faulted journal.new ≡ true) }
+{
+    match change_to(alloc, engine, port, bytes.as_slice()) {
+        Ok(()) => {
+            journal.configured(bytes.as_slice())?;
+            watch.take(bytes);
+            let _ = complaints.write_all(b"sipd: the configuration's file is in force\n");
+        }
+        Err(NotTaken::NoMemory) => say_not_taken(alloc, NotTaken::NoMemory, complaints),
+        Err(why) => {
+            watch.refuse(bytes);
+            say_not_taken(alloc, why, complaints);
+        }
+    }
+    Ok(())
+}
+
+/// Looks at the configuration's file, once a second at most, and does what that comes to. The journal's fault is the only refusal.
+pub(crate) fn reload<T: Timers, P: Rules, F: WatchedFile, J: Journal, M: Write>(
+    alloc: Global,
+    engine: &mut Engine<T, P>,
+    port: u16,
+    watch: &mut Watch<F>,
+    journal: &mut J,
+    now: u64,
+    complaints: &mut M,
+) -> Result<(), JournalFault>
+    ensures reloaded { OnOk result (IsReloaded port now engine.old.server engine.new.server watch.old watch.new (J.written journal.old) (J.written journal.new)) }
+    ensures unnoted { OnErr result (IsUnnoted port now engine.old.server engine.new.server watch.old × (J.written journal.new ≡ None)) }
+    ensures state { engine.new.state ≡ engine.old.state }
+    ensures timers { engine.new.timers ≡ engine.old.timers }
+    ensures whole { OnOk result (J.faulted journal.new ≡ J.faulted journal.old) }
+    ensures said { OnErr result (J.faulted journal.new ≡ true) }
+{
+    match watch.look(now) {
+        Look::Nothing | Look::Unsettled => Ok(()),
+        Look::Unread(fault) => {
+            say_unread(fault, complaints);
+            Ok(())
+        }
+        Look::Settled(bytes) => take_offered(
+            alloc, engine, port, watch, journal, bytes, complaints,
+        ),
+    }
+}

@@ -1,0 +1,40 @@
+//! What a serving program needs to notice, between two turns, that the file of its configuration holds other bytes which are to be
+//! taken: a file as a trait, with one of the system and one over memory, and a watch of it.
+//!
+//! - Used: `sipd_command` asks it once a turn, where a service is to take its configuration anew.
+//! - Not here: what the bytes say, and what is done with them.
+//! - Tried: worked examples in `src/examples.rt`, as contracts that compute; `test_kinds`, on memory, with each allocation refused.
+//!
+//! ```text
+//! match watch.look(now) {
+//!     Look::Settled(bytes) => watch.take(bytes),
+//!     Look::Nothing | Look::Unsettled | Look::Unread(_) => {}
+//! }
+//! ```
+#![tactic(auto)]
+
+pub mod examples;
+mod file_fault;
+mod file_state;
+pub mod laws;
+mod limits;
+mod look;
+mod memory_file;
+mod path_file;
+mod reading;
+mod seen;
+mod sight;
+mod stamp;
+mod told;
+mod watch;
+mod watched_file;
+
+pub use file_fault::FileFault;
+pub use file_state::FileState;
+pub use look::Look;
+pub use memory_file::MemoryFile;
+pub use path_file::PathFile;
+pub use stamp::Stamp;
+pub use told::Told;
+pub use watch::Watch;
+pub use watched_file::WatchedFile;

@@ -1,0 +1,80 @@
+ghost use Rattle.std.specs.Prelude.{◌≡◌, ◌≤◌, None, Ok, Err, IfOk, length};
+ghost use Rattle.std.specs.Fs.{metadata_len, file_type, IsFile};
+ghost use Rattle.sipd_reload.specs.File.{most_bytes};
+
+use crate::file_fault::FileFault;
+use crate::limits::{MOST_BYTES, short_stamp};
+use crate::reading::read_all;
+use crate::stamp::Stamp;
+use crate::watched_file::WatchedFile;
+use sip_text::Bytes;
+use std::fs;
+use std::fs::{Metadata, OpenFile};
+use std::os::unix::fs::MetadataExt;
+use std::rt::Files;
+
+/// The file of a path. It tells nothing of what it answers, since what a file holds no clause can say.
+#[derive(Drop)]
+pub struct PathFile<'a, R> {
+    rt: &'a R,
+    path: &'a str,
+}
+
+impl<'a, R> PathFile<'a, R> {
+    /// The file of this path, whatever it is by then.
+    pub fn new(rt: &'a R, path: &'a str) -> Self {
+        PathFile { rt, path }
+    }
+}
+
+/// The stamp of a file of which the system says this. What is no regular file isn't read: reading it may take for ever.
+fn stamp_of(found: &Metadata) -> Result<Stamp, FileFault>
+    ensures length { IfOk result (λ stamp. stamp.length ≡ metadata_len found.now) }
+    ensures plain { IfOk result (λ _. IsFile (file_type found.now)) }
+    ensures short { IfOk result (λ stamp. stamp.length ≤ most_bytes) }
+{
+    if !found.is_file() {
+        return Err(FileFault::Device);
+    }
+    short_stamp(Ok(Stamp {
+        inode: found.ino(),
+        seconds: u64::try_from(found.ctime()).unwrap_or(0),
+        nanoseconds: u64::try_from(found.ctime_nsec()).unwrap_or(0),
+        length: found.len(),
+    }))
+}
+
+/// How many bytes of an open file are to be expected.
+fn room_for<F: OpenFile>(file: &F) -> usize
+    ensures { result ≤ most_bytes }
+{
+    match file.metadata() {
+        Ok(found) => found.len().min(MOST_BYTES as u64) as usize,
+        Err(_) => 0,
+    }
+}
+
+impl<'a, R: Files + AllocGlobal> WatchedFile for PathFile<'a, R> {
+    ghost told = { λ _. None };
+
+    fn stamp(&mut self) -> Result<Stamp, FileFault>
+        ensures short { IfOk result (λ stamp. stamp.length ≤ most_bytes) }
+    {
+        match fs::metadata(self.rt, self.path) {
+            Ok(found) => stamp_of(&found),
+            Err(e) => Err(FileFault::of_kind(e.kind())),
+        }
+    }
+
+    fn read(&mut self) -> Result<Bytes, FileFault>
+        ensures short { IfOk result (λ bytes. length bytes ≤ most_bytes) }
+    {
+        match fs::File::open(self.rt, self.path) {
+            Ok(mut file) => {
+                let room = room_for(&file);
+                read_all(self.rt.alloc(), &mut file, room)
+            }
+            Err(e) => Err(FileFault::of_kind(e.kind())),
+        }
+    }
+}
