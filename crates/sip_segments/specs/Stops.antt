@@ -1,7 +1,6 @@
 -- Why the next configuration of a record isn't taken.
 use Rattle.std.specs.Prelude.{◌≡◌, ◌+◌, ⊤, ℕ, List, ◌++◌, Option, Some, IfSome}
 use Rattle.sip_config_types.specs.declared.config.Config.{Config}
-use Rattle.sip_config.specs.declared.error.ConfigError.{ConfigError}
 use Rattle.sip_config_change.specs.declared.key.FrameKey.{FrameKey}
 use Rattle.sip_config_change.specs.Frame.{frame_key_of}
 use Rattle.sip_engine.specs.state.declared.server.Server.{Server}
@@ -50,14 +49,34 @@ SegmentStops server longest spent rest lines (TooLong line) = IfSome rest (IsLon
 SegmentStops server longest spent rest lines (NoConfiguration line e) = NextIs rest (λ bytes. StatesNone bytes e) × (line ≡ lines + 1)
 SegmentStops server longest spent rest lines (OtherFrame line key) = NextIs rest (λ bytes. StatesOther server bytes key) × (line ≡ lines + 1)
 
+-- and why none is read of it
+abbrev pub ReadStops : ℕ → Type 0 → Option (List ℕ) → ℕ → SegmentStop → Type 0
+ReadStops longest spent rest lines NoMemory = ⊤
+ReadStops longest spent rest lines (Damaged line) = IfSome rest IsDamagedConfiguration × (line ≡ lines + 1)
+ReadStops longest spent rest lines (Cut line) = IfSome rest IsCutConfiguration × (line ≡ lines + 1)
+ReadStops longest spent rest lines Read = spent
+ReadStops longest spent rest lines (TooLong line) = IfSome rest (IsLongConfiguration longest) × (line ≡ lines + 1)
+ReadStops longest spent rest lines (NoConfiguration line e) = NextIs rest (λ bytes. StatesNone bytes e) × (line ≡ lines + 1)
+ReadStops longest spent rest lines (OtherFrame line key) = ⊥
+
 -- ---- inside
 
--- why it isn't under what bytes state that were read, whose first line is this one
-abbrev pub ChangeStops : Server → List ℕ → ℕ → SegmentStop → Type 0
-ChangeStops server bytes first NoMemory = ⊤
-ChangeStops server bytes first (Damaged line) = ⊥
-ChangeStops server bytes first (Cut line) = ⊥
-ChangeStops server bytes first Read = ⊥
-ChangeStops server bytes first (TooLong line) = ⊥
-ChangeStops server bytes first (NoConfiguration line e) = StatesNone bytes e × (line ≡ first)
-ChangeStops server bytes first (OtherFrame line key) = StatesOther server bytes key × (line ≡ first)
+-- why bytes that were read, whose first line is this one, state none
+abbrev pub TextStops : List ℕ → ℕ → SegmentStop → Type 0
+TextStops bytes first NoMemory = ⊤
+TextStops bytes first (Damaged line) = ⊥
+TextStops bytes first (Cut line) = ⊥
+TextStops bytes first Read = ⊥
+TextStops bytes first (TooLong line) = ⊥
+TextStops bytes first (NoConfiguration line e) = StatesNone bytes e × (line ≡ first)
+TextStops bytes first (OtherFrame line key) = ⊥
+
+-- why a server isn't under a configuration, whose first line is this one
+abbrev pub ChangeStops : Server → Config → ℕ → SegmentStop → Type 0
+ChangeStops server config first NoMemory = ⊤
+ChangeStops server config first (Damaged line) = ⊥
+ChangeStops server config first (Cut line) = ⊥
+ChangeStops server config first Read = ⊥
+ChangeStops server config first (TooLong line) = ⊥
+ChangeStops server config first (NoConfiguration line e) = ⊥
+ChangeStops server config first (OtherFrame line key) = (frame_key_of server.config config ≡ Some key) × (line ≡ first)

@@ -24,3 +24,8 @@ pub record Changes (old new : Engine) (text : List ℕ) : Type 0 where
 pub record TakesConfiguration (old new : Engine) (part rest : Reading) (before after : Option (List ℕ)) (text : List ℕ) : Type 0 where
   pub gives : GivesConfiguration part rest before after text
   pub taken : Changes old new text
+
+-- the next text of the record says these bytes, and they state that configuration
+pub record GivesStated (part rest : Reading) (before after : Option (List ℕ)) (text : List ℕ) (config : Config) : Type 0 where
+  pub gives : GivesConfiguration part rest before after text
+  pub states : States text config

@@ -14,6 +14,6 @@ mod reading;
 mod stop;
 mod taking;
 
-pub use reading::read_config_bytes;
+pub use reading::{Held, read_config_bytes, read_configuration};
 pub use stop::SegmentStop;
 pub use taking::take_configuration;

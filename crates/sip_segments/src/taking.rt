@@ -2,14 +2,14 @@ ghost use Rattle.std.specs.Prelude.{◌≡◌, ◌≤◌, length, IfOk, IfErr, I
 ghost use Rattle.sip_replay_script.specs.Devices.{later};
 ghost use Rattle.sip_replay_script.specs.Lines.{pending, IsOver, IsSpent};
 ghost use Rattle.sip_segments.specs.Stops.{ChangeStops, SegmentStops};
-ghost use Rattle.sip_segments.specs.Takes.{Changes, TakesConfiguration};
+ghost use Rattle.sip_segments.specs.Takes.{ChangesTo, TakesConfiguration};
 
-use crate::reading::read_config_bytes;
+use crate::reading::{Held, read_configuration};
 use crate::stop::SegmentStop;
-use sip_config::ConfigError;
+use sip_config_types::Config;
 use sip_engine::{ChangeError, Engine};
 use sip_policy::Rules;
-use sip_replay_script::{Lines, TellingReader, next_configuration};
+use sip_replay_script::{Lines, TellingReader};
 use sip_text::Buffer;
 use sip_timers::Timers;
 use std::alloc::Global;
@@ -38,31 +38,24 @@ pub fn take_configuration<T: Timers, R: Rules, I: TellingReader>(
     ensures less { lines.new.asks ≤ lines.old.asks }
 {
     let first = lines.number() + 1;
-    let text = match next_configuration(alloc, lines, reader, longest) {
-        Ok(Some(text)) => text,
-        Ok(None) => return Ok(None),
-        Err(stop) => return Err(SegmentStop::unread(stop, first)),
+    let Some(held) = read_configuration(alloc, lines, reader, longest)? else {
+        return Ok(None);
     };
-    change_to(alloc, engine, text.as_slice(), first)?;
+    let Held { text, config } = held;
+    change_to(engine, config, first)?;
     Ok(Some(text))
 }
 
-/// Has a server be under the configuration that a text states, whose first line is this one.
+/// Has a server be under a configuration, whose first line is this one.
 fn change_to<T: Timers, R: Rules>(
-    alloc: Global,
     engine: &mut Engine<T, R>,
-    text: &[u8],
+    config: Config,
     first: u64,
 ) -> Result<(), SegmentStop>
-    ensures changed { OnOk result (Changes engine.old engine.new text.now) }
-    ensures refused { IfErr result (ChangeStops engine.old.server text.now first) }
+    ensures changed { OnOk result (ChangesTo engine.old engine.new config) }
+    ensures refused { IfErr result (ChangeStops engine.old.server config first) }
     ensures unchanged { OnErr result (engine.new ≡ engine.old) }
 {
-    let config = match read_config_bytes(alloc, text) {
-        Ok(config) => config,
-        Err(ConfigError::NoMemory) => return Err(SegmentStop::NoMemory),
-        Err(e) => return Err(SegmentStop::NoConfiguration(first, e)),
-    };
     match engine.change(config) {
         Ok(()) => Ok(()),
         Err(ChangeError::NoMemory) => Err(SegmentStop::NoMemory),

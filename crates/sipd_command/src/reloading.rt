@@ -95,7 +95,6 @@ fn say_not_taken<M: Write>(alloc: Global, why: NotTaken, complaints: &mut M) {
 }
 
 /// Takes bytes that were offered, or refuses them; the journal is told of what is in force from then on. Its fault is the only refusal.
-#[allow(clippy::too_many_arguments)]
 fn take_offered<T: Timers, P: Rules, F: WatchedFile, J: Journal, M: Write>(
     alloc: Global,
     engine: &mut Engine<T, P>,

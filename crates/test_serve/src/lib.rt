@@ -19,7 +19,7 @@ use failing::{
     numbers_worn, receive_fails, trying_send_fails,
 };
 use on_loopback::{call_on_loopback, loopback};
-use resuming::{call_goes_on, cut_record, damaged_dot, damaged_record};
+use resuming::{call_goes_on, changed_record, cut_record, damaged_dot, damaged_record};
 use std::io;
 use std::net::Net;
 use test_forms::tell;
@@ -48,6 +48,7 @@ pub fn tell_all<R: Print + AllocGlobal + Net>(rt: &R) -> io::Result<()> {
     tell(rt, "configurations_written", configurations_written(alloc))?;
     tell(rt, "configurations_read", configurations_read(alloc))?;
     tell(rt, "configurations_refused", configurations_refused(alloc))?;
+    tell(rt, "changed_record", changed_record(alloc))?;
     tell(rt, "loopback", loopback(rt, alloc))?;
     tell(rt, "call_on_loopback", call_on_loopback(rt, alloc))
 }

@@ -3,9 +3,11 @@
 use crate::datagrams::{Datagram, INVITE_1, INVITE_2, TRYING};
 use crate::failing::called;
 use crate::trial::over_memory;
+use sip_config::ConfigError;
+use sip_config_change::FrameKey;
 use sip_loop_link::Sending;
 use sip_loop_link::Sending::Went;
-use sip_resume::ResumeError;
+use sip_resume::{RecordError, ResumeError};
 use std::alloc::{AllocError, Global};
 
 /// One moment at which nothing is due yet, and that of the first copies.
@@ -116,4 +118,61 @@ pub fn damaged_dot(alloc: Global) -> bool {
         b"time 5\ndatagram 6 127.0.0.1:5082 00000000000000000000000000000001\n/\ndatagram 7 127.0.0.1:5082 00000000000000000000000000000002\n.\n",
         2,
     )
+}
+
+/// A configuration with the frame of the sample, as a record holds it, of 11 lines.
+const CONFIGURED: &[u8] =
+    b"= version = 1\n= realm = \"testrealm@host.com\"\n= host = \"sip.host.com\"\n= port = 5060\n= address = \"127.0.0.1:5060\"\n= domains = [\"host.com\"]\n= \n= [[user]]\n= name = \"alice\"\n= a1 = \"11111111111111111111111111111111\"\nconfiguration 879ca4df1cc2c48eef2f3cca07f4d024f56cb8f7ff40f2ee061c229083d8354f\n";
+
+/// One in another realm.
+const OTHER_REALM: &[u8] =
+    b"= version = 1\n= realm = \"office\"\n= host = \"sip.host.com\"\n= port = 5060\n= address = \"127.0.0.1:5060\"\n= domains = [\"host.com\"]\n= \n= [[user]]\n= name = \"alice\"\n= a1 = \"11111111111111111111111111111111\"\nconfiguration 062e3e168f8d55cbd1160b528154fb131c39462569028ba8c383eea5125381a3\n";
+
+/// One of a version that isn't known.
+const NO_VERSION: &[u8] =
+    b"= version = 3\nconfiguration a6302849064e016e520e513a22aef99a2d874333e7fcbf0b2c2260cb6ffb42f6\n";
+
+/// What a record of these parts comes to, whose configurations have at most so many bytes; and whether all of it was told.
+fn taken_whole(
+    alloc: Global,
+    parts: &[&[u8]],
+    longest: usize,
+) -> Result<(Result<u64, RecordError>, bool), AllocError> {
+    let mut record = Vec::new(alloc);
+    for part in parts {
+        record.extend_from_slice(part)?;
+    }
+    let mut trial = over_memory(alloc, 1, &[], &[], &[], &LATER)?;
+    let outcome = trial.resume_record(record.as_slice(), longest);
+    Ok((outcome, trial.recorded() == record.as_slice()))
+}
+
+/// Whether a record with a second part behind one line is refused so.
+fn is_refused(alloc: Global, second: &[u8], longest: usize, wanted: RecordError) -> bool {
+    taken_whole(alloc, &[b"time 5\n", second], longest) == Ok((Err(wanted), false))
+}
+
+/// A record that holds configurations is taken under them, and told as it stands; one that was cut within a configuration is taken up to
+/// it. It is refused with the line where a configuration is damaged, too long, none, or another server's.
+pub fn changed_record(alloc: Global) -> bool {
+    taken_whole(
+        alloc,
+        &[b"time 5\n", CONFIGURED, b"time 7\n", CONFIGURED],
+        1_000,
+    ) == Ok((Ok(24), true))
+        && taken_whole(alloc, &[b"time 5\n", &CONFIGURED[..40]], 1_000) == Ok((Ok(1), false))
+        && is_refused(alloc, b"= a\ntime 7\n", 1_000, RecordError::Damaged(2))
+        && is_refused(alloc, CONFIGURED, 100, RecordError::TooLong(2))
+        && is_refused(
+            alloc,
+            NO_VERSION,
+            1_000,
+            RecordError::NoConfiguration(2, ConfigError::BadValue),
+        )
+        && is_refused(
+            alloc,
+            OTHER_REALM,
+            1_000,
+            RecordError::OtherFrame(2, FrameKey::Realm),
+        )
 }

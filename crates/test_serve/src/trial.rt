@@ -7,7 +7,8 @@ use sip_loop::{AuditLog, NoAudit, ServeError, serve};
 use sip_loop_link::{Given, Link, MemoryClock, MemoryLink, Sending};
 use sip_policy_index::IndexedRules;
 use sip_record::{Journal, OnFault, Recorder};
-use sip_resume::{ResumeError, resume};
+use sip_replay_script::Lines;
+use sip_resume::{RecordError, ResumeError, resume, resume_record};
 use sip_timers_wheel::WheelTimers;
 use std::alloc::{AllocError, Global};
 
@@ -89,6 +90,22 @@ impl<L: Link> Trial<L> {
     /// Takes the events of a record; how many of its lines were taken.
     pub fn resume(&mut self, mut record: &[u8]) -> Result<u64, ResumeError> {
         let resumed = resume(self.alloc, &mut self.engine, &mut record, &mut self.record)?;
+        Ok(resumed.lines)
+    }
+
+    /// Takes a record that may hold configurations, of at most so many bytes each; how many of its lines were taken.
+    pub fn resume_record(&mut self, mut record: &[u8], longest: usize) -> Result<u64, RecordError> {
+        let Ok(mut lines) = Lines::new(self.alloc) else {
+            return Err(RecordError::NoMemory);
+        };
+        let resumed = resume_record(
+            self.alloc,
+            &mut self.engine,
+            &mut lines,
+            &mut record,
+            longest,
+            &mut self.record,
+        )?;
         Ok(resumed.lines)
     }
 

@@ -1,14 +1,10 @@
-use Rattle.std.proofs.Common.{◌≡◌, arith, refl}
+use Rattle.std.proofs.Common.{arith, refl}
 use Rattle.sip_config_change.specs.Frame.{frame_key_of}
 use Rattle.sip_segments.proofs.Stopping.{other_key}
 use Rattle.sip_segments.proofs.taking.change_to.Goals as goal
 
 pub returns-in-Err-OtherFrame-clause-refused : goal.returns-in-Err-OtherFrame-clause-refused
 returns-in-Err-OtherFrame-clause-refused g c = (
-  record {
-    config = c.in-Ok.config;
-    states = c.in-Ok.ensures.stated;
-    other = other_key c.change.result (frame_key_of c.args.engine.now.server.config c.in-Ok.config) c.in-Err-OtherFrame.key (grind (arith, c.in-Err-OtherFrame.is, c.in-Err-OtherFrame.field-0-is)) c.change.ensures.refused c.change.ensures.otherwise;
-  },
+  other_key c.change.result (frame_key_of c.args.engine.now.server.config c.args.config) c.in-Err-OtherFrame.key (grind (arith, c.in-Err-OtherFrame.is, c.in-Err-OtherFrame.field-0-is)) c.change.ensures.refused c.change.ensures.otherwise,
   refl,
 )
